@@ -1,0 +1,278 @@
+//! Reads the text of an audio decision list (AES31-3) as a project.
+//!
+//! By now a list is of one plain form: 48000 samples and 25 frames a second, a source index whose files lie in the
+//! list's own folder, and an event list of cuts from the first channel of a source to the first channel.
+#![tactic(auto)]
+
+ghost use Rattle.std.specs.Prelude.{◌≡◌, ◌≤◌, length, All, IfErr, IfOk, IsTrue};
+ghost use Rattle.list_terms.specs.Project.{ListProject};
+ghost use Rattle.list_terms.specs.WrittenText.{text_of_project};
+ghost use Rattle.work_terms.specs.Refusals.{Gives, is_memory};
+ghost use Rattle.adlread.specs.Fault.{Reads, line_of, refusal};
+ghost use Rattle.adlread.specs.PlainList.{IsPlainEvent, project_of, sequence, text_value};
+ghost use Rattle.adlread.specs.Written.{IsPlainProject};
+
+mod bytes;
+mod fault;
+mod line;
+mod lines;
+mod sections;
+
+pub use adlmodel::Project;
+pub use fault::AdlFault;
+use lines::Lines;
+use sampletime::Separators;
+use sections::{event_list, source_index};
+use std::alloc::Global;
+
+/// The project that a list spells, or the first line that is at fault. What follows the line `</ADL>` is ignored.
+///
+/// Lines end with LF or with CR LF; the last one may lack its end. The text that a plain project is written as is read
+/// as that project.
+pub fn read(alloc: Global, text: &[u8]) -> Result<Project, AdlFault>
+    ensures exact { Gives (λ p. p) refusal (λ r. r.number) result (text_value text.now) }
+    ensures written { (p : ListProject) → IsPlainProject p → text.now ≡ text_of_project p
+        → Gives (λ q. q) refusal (λ r. r.number) result (Ok p) }
+    ensures plain { IfOk result (λ p. All IsPlainEvent p.events) }
+    ensures few { IfOk result (λ p. length p.events ≤ 32767) }
+    ensures memory_line { IfErr result (λ f. IsTrue (is_memory (refusal f).number) → line_of f ≡ 0) }
+{
+    let mut lines = Lines::new(text);
+    read_project(alloc, &mut lines)
+}
+
+/// Reads the lines of a list.
+#[tactic(auto, unfolding(crate::specs::PlainList::project_of))]
+fn read_project(alloc: Global, lines: &mut Lines<'_>) -> Result<Project, AdlFault>
+    ensures { Reads (λ p. p) result (project_of lines.old) }
+{
+    lines.expect(b"<ADL>")?;
+    expect_sequence(lines)?;
+    let sources = source_index(alloc, lines)?;
+    let (events, separators) = event_list(alloc, lines)?;
+    lines.expect(b"</ADL>")?;
+    let separators = separators.unwrap_or(Separators::DEFAULT);
+    Ok(Project::new(sources, events, separators))
+}
+
+/// Reads the section of the sequence.
+#[tactic(auto, unfolding(crate::specs::PlainList::sequence))]
+fn expect_sequence(lines: &mut Lines<'_>) -> Result<(), AdlFault>
+    ensures { Reads (λ _. lines.new) result (sequence lines.old) }
+{
+    lines.expect(b"<SEQUENCE>")?;
+    lines.expect(b"(SEQ_SAMPLE_RATE) S48000")?;
+    lines.expect(b"(SEQ_FRAME_RATE) 25")?;
+    lines.expect(b"</SEQUENCE>")
+}
+
+#[cfg(test)]
+mod tests {
+    use super::*;
+    use adlmodel::{Channels, Event, Fade};
+    use sampletime::SampleTime;
+    use std::alloc::AllocError;
+    use std::process::Abort;
+    use std::test::Fail;
+
+    const SAMPLE: &str = "<ADL>
+<SEQUENCE>
+(SEQ_SAMPLE_RATE) S48000
+(SEQ_FRAME_RATE) 25
+</SEQUENCE>
+<SOURCE_INDEX>
+(Index) 0001 (F) \"URL:file://localhost/A.wav\" _ 00.00.00.00/0000 _
+</SOURCE_INDEX>
+<EVENT_LIST>
+(Entry) 0001 (Cut) I 0001 1 1 00.00.00.00/0000 01.00.00.00/0000 01.00.00.00/0004
+</EVENT_LIST>
+</ADL>
+";
+
+    const SOURCE: &str = "(Index) 0001 (F) \"URL:file://localhost/A.wav\" _ 00.00.00.00/0000 _";
+
+    const ENTRY: &str =
+        "(Entry) 0001 (Cut) I 0001 1 1 00.00.00.00/0000 01.00.00.00/0000 01.00.00.00/0004";
+
+    /// The sample list with these lines as its sources and entries, each with its end.
+    fn list(alloc: Global, sources: &str, entries: &str) -> Result<String, AllocError> {
+        format!(in alloc;
+            "<ADL>\n<SEQUENCE>\n(SEQ_SAMPLE_RATE) S48000\n(SEQ_FRAME_RATE) 25\n</SEQUENCE>\n\
+            <SOURCE_INDEX>\n{sources}</SOURCE_INDEX>\n<EVENT_LIST>\n{entries}</EVENT_LIST>\n</ADL>\n"
+        )
+    }
+
+    /// The line at fault of the sample list with this line as its entry.
+    fn fault_with_entry(alloc: Global, entry: &str) -> Result<Option<AdlFault>, AllocError> {
+        let source = format!(in alloc; "{SOURCE}\n")?;
+        let entry = format!(in alloc; "{entry}\n")?;
+        let text = list(alloc, source.as_str(), entry.as_str())?;
+        Ok(read(alloc, text.as_bytes()).err())
+    }
+
+    fn time(samples: u64) -> Result<SampleTime, Fail> {
+        Ok(SampleTime::new(samples).ok_or("no time")?)
+    }
+
+    fn assert_sample(rt: &impl Abort, project: &Project) -> Result<(), Fail> {
+        assert_eq!(rt; project.sources().len(), 1);
+        let source = &project.sources()[0];
+        assert_eq!(rt; source.number(), 1);
+        assert_eq!(rt; source.name(), "A.wav");
+        assert_eq!(rt; source.start(), SampleTime::ZERO);
+        let mono = Channels { first: 1, last: 1 };
+        let none = Fade {
+            length: SampleTime::ZERO,
+        };
+        let event = Event {
+            number: 1,
+            index: 1,
+            source: mono,
+            dest: mono,
+            source_in: SampleTime::ZERO,
+            dest_in: time(172_800_000)?,
+            dest_out: time(172_800_004)?,
+            rise: none,
+            fall: none,
+        };
+        assert_eq!(rt; project.events(), [event].as_slice());
+        assert_eq!(rt; project.separators(), Separators::DEFAULT);
+        Ok(())
+    }
+
+    #[test]
+    fn the_sample_list_is_read(rt: HostRuntime) -> Result<(), Fail> {
+        let alloc = rt.alloc();
+        assert_sample(&rt, &read(alloc, SAMPLE.as_bytes())?)?;
+        let mut text = String::new(alloc);
+        for line in SAMPLE.lines() {
+            text.push_str(line)?;
+            text.push_str("\r\n")?;
+        }
+        assert_sample(&rt, &read(alloc, text.as_bytes())?)?;
+        assert_sample(&rt, &read(alloc, SAMPLE.trim_end().as_bytes())?)?;
+        let text = format!(in alloc; "{SAMPLE}<ADL>\nmore")?;
+        assert_sample(&rt, &read(alloc, text.as_bytes())?)?;
+        Ok(())
+    }
+
+    #[test]
+    fn a_list_without_entries_has_the_standard_separators(rt: HostRuntime) -> Result<(), Fail> {
+        let text = list(rt.alloc(), "", "")?;
+        let project = read(rt.alloc(), text.as_bytes())?;
+        assert!(rt; project.sources().is_empty() && project.events().is_empty());
+        assert_eq!(rt; project.separators(), Separators::DEFAULT);
+        Ok(())
+    }
+
+    #[test]
+    fn separators_are_those_of_the_first_destination_in(rt: HostRuntime) -> Result<(), Fail> {
+        let alloc = rt.alloc();
+        let text = list(
+            alloc,
+            "",
+            "(Entry) 0007 (Cut) I 0012 1 1 00.00.00.00/0000 01:00:00:00|0000 01.00.00.00/0004\n\
+             (Entry) 0002 (Cut) I 0012 1 1 00.00.00.00/0000 01=00=00=00=0000 24.00.00.00/0000\n",
+        )?;
+        let project = read(alloc, text.as_bytes())?;
+        assert_eq!(rt; project.separators().bytes(), *b":::|");
+        assert_eq!(rt; project.events().len(), 2);
+        assert_eq!(rt; project.events()[1].number, 2);
+        assert_eq!(rt; project.events()[1].index, 12);
+        assert_eq!(rt; project.events()[1].dest_out, SampleTime::DAY);
+        Ok(())
+    }
+
+    #[test]
+    fn an_entry_that_differs_is_told_by_its_line(rt: HostRuntime) -> Result<(), Fail> {
+        let alloc = rt.alloc();
+        let fault = Some(AdlFault::Unsupported { line: 10 });
+        assert_eq!(rt; fault_with_entry(alloc, ENTRY)?, None);
+        for entry in [
+            "(Entry) 0001 (Cut) I 0001 2 1 00.00.00.00/0000 01.00.00.00/0000 01.00.00.00/0004",
+            "(Entry) 0001 (Cut) I 0001 1 2 00.00.00.00/0000 01.00.00.00/0000 01.00.00.00/0004",
+            "(Entry) 0001 (Cut) I 0001 1 1 00.00.00.00/1920 01.00.00.00/0000 01.00.00.00/0004",
+            "(Entry) 0001 (Cut) I 0001 1 1 00.00.00.00/0000 01.00.00.00/1920 01.00.00.00/0004",
+            "(Entry) 0001 (Cut) I 0001 1 1 00.00.00.00/0000 01.00.00.00/0000 01.00.00.00/1920",
+            "(Entry) 0000 (Cut) I 0001 1 1 00.00.00.00/0000 01.00.00.00/0000 01.00.00.00/0004",
+            "(Entry) 0001 (Cut) I 0000 1 1 00.00.00.00/0000 01.00.00.00/0000 01.00.00.00/0004",
+            "(Entry) 001 (Cut) I 0001 1 1 00.00.00.00/0000 01.00.00.00/0000 01.00.00.00/0004",
+            "(Entry) 0001 (Cut) I 0001 1 1 00.00.00.00/0000 01.00.00.00/0000 01.00.00.00/0004 ",
+            "(Entry) 0001 (Cut) I 0001 1 1 00.00.00.00/0000 01.00.00.00/0000  01.00.00.00/0004",
+            "(Entry) 0001 (Cut) I 0001 1 1 00.00.00.00/0000 01.00.00.00/0000 01.00.00.00/0004\r\r",
+            "",
+        ] {
+            assert_eq!(rt; fault_with_entry(alloc, entry)?, fault, "{entry}");
+        }
+        Ok(())
+    }
+
+    #[test]
+    fn a_number_is_told_where_it_comes_again(rt: HostRuntime) -> Result<(), Fail> {
+        let alloc = rt.alloc();
+        let twice = format!(in alloc; "{SOURCE}\n{SOURCE}\n")?;
+        let text = list(alloc, twice.as_str(), "")?;
+        assert_eq!(rt;
+            read(alloc, text.as_bytes()).err(),
+            Some(AdlFault::Unsupported { line: 8 })
+        );
+        let entry =
+            "(Entry) 0003 (Cut) I 0001 1 1 00.00.00.00/0000 01.00.00.00/0000 01.00.00.00/0004";
+        let entries = format!(in alloc; "{ENTRY}\n{entry}\n{ENTRY}\n")?;
+        let text = list(alloc, "", entries.as_str())?;
+        assert_eq!(rt;
+            read(alloc, text.as_bytes()).err(),
+            Some(AdlFault::Unsupported { line: 11 })
+        );
+        Ok(())
+    }
+
+    #[test]
+    fn missing_lines_are_told_at_the_last_one(rt: HostRuntime) {
+        let alloc = rt.alloc();
+        for (text, line) in [
+            ("", 1),
+            ("<ADL>", 1),
+            ("<ADL>\n", 1),
+            ("<ADL>\r\n<SEQUENCE>\r\n", 2),
+            ("<adl>\n<SEQUENCE>\n", 1),
+            ("<ADL>\r", 1),
+            ("\n", 1),
+            ("<ADL>\n\n", 2),
+        ] {
+            let fault = read(alloc, text.as_bytes()).err();
+            assert_eq!(rt; fault, Some(AdlFault::Unsupported { line }), "{text}");
+        }
+    }
+
+    #[test]
+    fn each_prefix_is_told_at_its_last_line(rt: HostRuntime) {
+        let text = SAMPLE.as_bytes();
+        let whole = text.len() - 1;
+        for end in 0..whole {
+            let front = &text[..end];
+            let ends = front.iter().filter(|byte| **byte == b'\n').count() as u64;
+            let last = if front.ends_with(b"\n") {
+                ends
+            } else {
+                ends.saturating_add(1)
+            };
+            let fault = read(rt.alloc(), front).err();
+            assert_eq!(rt; fault, Some(AdlFault::Unsupported { line: last }), "{end}");
+        }
+        assert_eq!(rt; read(rt.alloc(), &text[..whole]).err(), None);
+    }
+
+    #[test]
+    fn a_fault_tells_its_number_and_line(rt: HostRuntime) -> Result<(), Fail> {
+        let fault = AdlFault::Unsupported { line: 10 };
+        assert_eq!(rt; (fault.number(), fault.line()), (13, 10));
+        assert_eq!(rt;
+            (AdlFault::Memory.number(), AdlFault::Memory.line()),
+            (18, 0)
+        );
+        let text = format!(in rt.alloc(); "{fault}")?;
+        assert_eq!(rt; text.as_str(), "line 10: this isn't supported");
+        Ok(())
+    }
+}

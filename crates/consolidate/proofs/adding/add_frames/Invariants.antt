@@ -1,0 +1,18 @@
+use Rattle.std.proofs.Common.{◌≡◌, ◌≤◌, ◌-◌, length, List, ℕ, ◌+◌, ◌^◌, ◌<◌, [], IsTrue, IsSome, string_bytes, Bool}
+use Rattle.std.specs.Prelude.{Option, unwrap_or}
+use Rattle.consolidate.specs.Sums.{samples_from, AreWithin}
+use Rattle.consolidate.proofs.Shelves.{IsKept}
+use Rattle.consolidate.proofs.Summing.{HaveGrown, AreSameFrom}
+use Rattle.consolidate.proofs.adding.add_frames.Given as goal
+
+abbrev pub invariant-loop-done : goal.invariant-loop-done
+invariant-loop-done g l =
+    (l.done ≤ length l.sums)
+    × IsKept (g.S.Shelf.stored) (g.S.Shelf.honest) (g.S.Shelf.failures) (g.S.Shelf.failed_at) l.initial.shelf l.shelf
+    × AreSameFrom l.done l.initial.sums l.sums
+    × ((bound : ℕ) → AreWithin bound l.initial.sums → AreWithin (bound + 2 ^ 47) l.sums)
+    × (IsTrue (g.S.Shelf.honest l.shelf) → (0 < l.done → IsSome (g.S.Shelf.stored l.shelf (string_bytes l.file.name)))
+    × HaveGrown (samples_from (unwrap_or (g.S.Shelf.stored l.shelf (string_bytes l.file.name)) []) l.file.place l.frame) l.done l.initial.sums l.sums)
+
+abbrev pub decreases-loop-done : goal.decreases-loop-done
+decreases-loop-done g l = length l.initial.sums - l.done

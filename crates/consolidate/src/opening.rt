@@ -1,0 +1,42 @@
+// Opens the project of a list: its text, its files and its entries are without a fault.
+ghost use Rattle.std.specs.Prelude.{◌≡◌, ◌≢◌, ◌≤◌, ℕ, List, length, Err, IsTrue, IsOk, IfOk, IfErr, IsErrAnd, MatchResult, Ok, Some};
+ghost use Rattle.std.specs.List.{All};
+ghost use Rattle.work_terms.specs.Disk.{HasCause};
+ghost use Rattle.work_terms.specs.Refusals.{IsDue, Refusal, turn_of};
+ghost use Rattle.list_terms.specs.Accepted.{project_fault};
+ghost use Rattle.adlread.specs.PlainList.{IsPlainEvent, text_value};
+ghost use Rattle.consolidate.specs.Faults.{refusal_of};
+ghost use Rattle.consolidate.specs.Rendering.{IsOpened};
+
+use crate::Fault;
+use crate::binding::bind;
+use crate::checking::check;
+use crate::prepared::Opened;
+use adlread::read;
+use shelf::Shelf;
+use std::alloc::Global;
+
+/// Reads the list, binds its used indexes, and checks its entries.
+pub fn open_project<S: Shelf>(alloc: Global, list: &[u8], shelf: &mut S) -> Result<Opened, Fault>
+    ensures opened { IsTrue (S.honest shelf.old) → MatchResult result
+        (λ opened. IsOpened list.now (S.stored shelf.old) opened)
+        (λ fault. IsDue (refusal_of fault) (project_fault (text_value list.now) (S.stored shelf.old))) }
+    ensures spelt { IfOk result (λ opened. text_value list.now ≡ Ok opened.project) }
+    ensures plain { IfOk result (λ opened. All IsPlainEvent opened.project.events) }
+    ensures few { IfOk result (λ opened. length opened.project.events ≤ 32767) }
+    ensures bad_text { (refusal : Refusal) → text_value list.now ≡ Err refusal → IfErr result (λ fault. IsDue (refusal_of fault) (Some refusal)) }
+    ensures turn { IfErr result (λ fault. turn_of (refusal_of fault) ≤ 3) }
+    ensures stored { S.stored shelf.new ≡ S.stored shelf.old }
+    ensures honest { S.honest shelf.new ≡ S.honest shelf.old }
+    ensures cause { HasCause (S.failures shelf.old) (S.failures shelf.new)
+        (IfErr result (λ fault. (refusal_of fault).number ≢ 22)) (IsErrAnd result (λ fault. (refusal_of fault).number ≡ 22)) }
+    ensures keeps { (n : List ℕ) → S.failed_at shelf.old n → S.failed_at shelf.new n }
+{
+    let project = match read(alloc, list) {
+        Ok(project) => project,
+        Err(fault) => return Err(Fault::List(fault)),
+    };
+    let bound = bind(alloc, &project, shelf)?;
+    check(&bound, project.events())?;
+    Ok(Opened { project, bound })
+}

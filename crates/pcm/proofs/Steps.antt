@@ -1,0 +1,48 @@
+-- One sample more is read, or written.
+use Rattle.std.proofs.Common.{◌≡◌, ℕ, ◌+◌, ◌*◌, ◌/◌, ◌^◌, ◌<◌, ◌≤◌, List, ◌++◌, length, take, drop, set, get_or, refl, sym, ap, ◌∙◌, arith, length-append}
+use Rattle.std.specs.Prelude.{ℤ, pos, negsuc}
+use Rattle.std.specs.Int.{w16, w32, cast_signed, cast_unsigned}
+use Rattle.std.specs.List.{flat_map}
+use Rattle.std.proofs.lemmas.Bool.Decides.{nat_tests}
+use Rattle.std.proofs.lemmas.Int.{ints}
+use Rattle.std.proofs.lemmas.List.{append_assoc, append-nil, length-take-le, take_at, take_more, take_more_set}
+use Rattle.std.proofs.lemmas.List.Concat.{flat_map-append}
+use borrow.Rule.Slice.PartMut.{post_of, put_mid}
+use Rattle.byteorder.specs.Endian.{low_bytes, twos_complement}
+use Rattle.sound_terms.specs.Waves.{sample_bytes, sample_of}
+use Rattle.pcm.specs.Samples.{samples_in, FitsDepth}
+use Rattle.pcm.specs.Laws.{length-sample_bytes, samples_in_more}
+
+-- the two ways to read 16 bits as a signed number
+pub signed16 : (x : ℕ) → x < 256 ^ 2 → cast_signed w16 x ≡ twos_complement 2 x
+signed16 x below = grind (arith, ints, nat_tests)
+
+-- the bits of a sample of 16 bits
+pub bits16 : (sample : ℤ) → FitsDepth 16 sample → cast_unsigned w16 sample ≡ low_bytes w32 2 sample
+bits16 (pos n) fits = grind (arith, ints)
+bits16 (negsuc n) fits = grind (arith, ints)
+
+pub one_read : (depth i : ℕ) (bytes : List ℕ) (samples : List ℤ) (sample : ℤ) → i < length samples
+    → sample ≡ sample_of depth (drop (i * (depth / 8)) bytes)
+    → take i samples ≡ samples_in depth i bytes
+    → take (i + 1) (set samples i sample) ≡ samples_in depth (i + 1) bytes
+one_read depth i bytes samples sample below read before =
+    rw (take_more_set samples i sample below, before, read, samples_in_more depth i bytes) refl
+
+-- the word is written over the bytes from its place on, k of them
+pub one_written : (depth i k : ℕ) (samples : List ℤ) (bytes new behind : List ℕ) → i < length samples
+    → i * (depth / 8) ≤ length bytes
+    → new ≡ sample_bytes depth (get_or samples i (pos 0)) ++ behind
+    → take (i * (depth / 8)) bytes ≡ flat_map (sample_bytes depth) (take i samples)
+    → take ((i + 1) * (depth / 8)) (put_mid (i * (depth / 8)) k bytes new) ≡ flat_map (sample_bytes depth) (take (i + 1) samples)
+one_written depth i k samples bytes new behind below room written before =
+    let front = take (i * (depth / 8)) bytes in
+    let word = sample_bytes depth (get_or samples i (pos 0)) in
+    let rest = post_of (i * (depth / 8)) k bytes in
+    let regroup : front ++ (new ++ rest) ≡ (front ++ word) ++ (behind ++ rest) =
+    ap (λ (l : List ℕ). front ++ (l ++ rest)) written
+    ∙ ap (λ (l : List ℕ). front ++ l) (append_assoc word behind rest)
+    ∙ sym (append_assoc front word (behind ++ rest)) in
+    let whole : length (front ++ word) ≡ (i + 1) * (depth / 8) =
+    length-append front word ∙ rw (length-take-le (i * (depth / 8)) bytes room, length-sample_bytes depth (get_or samples i (pos 0))) (omega arith) in
+    rw (regroup, take_at (front ++ word) (behind ++ rest) ((i + 1) * (depth / 8)) whole, before, take_more samples i (pos 0) below, flat_map-append, append-nil) refl

@@ -1,0 +1,12 @@
+-- The samples of RIFF WAVE: two's complement in depth / 8 bytes, the lowest byte first.
+use Rattle.std.specs.Prelude.{ℕ, zero, suc, ◌-◌, ◌/◌, ◌^◌, ℤ, pos, neg_ℤ, ◌≤ℤ◌, ◌<ℤ◌, List, [], ◌∷◌, drop}
+use Rattle.sound_terms.specs.Waves.{sample_of}
+
+-- the first n samples of these bytes
+abbrev pub samples_in : ℕ → ℕ → List ℕ → List ℤ
+samples_in depth zero bytes = []
+samples_in depth (suc n) bytes = sample_of depth bytes ∷ samples_in depth n (drop (depth / 8) bytes)
+
+-- the sample is one of this depth
+abbrev pub FitsDepth : ℕ → ℤ → Type 0
+FitsDepth depth sample = (neg_ℤ (pos (2 ^ (depth - 1))) ≤ℤ sample) × (sample <ℤ pos (2 ^ (depth - 1)))

@@ -1,0 +1,161 @@
+-- One more chunk behind those that were seen.
+use Rattle.std.proofs.Common.{◌≡◌, ℕ, ◌+◌, ◌<◌, ◌≤◌, Bool, true, false, ◌&&◌, ◌||◌, List, [], ◌∷◌, ◌++◌, Option, None, Some, Result, Ok, Err, OnErr, option_map, refl, sym, ap, subst, ◌∙◌, arith, codes, bytes_eq, is_some, if◌then◌else◌, nat_lt}
+use Rattle.std.proofs.lemmas.Bool.Decides.{nat_tests}
+use Rattle.std.specs.Option.{option_or}
+use Rattle.std.specs.List.{list_any}
+use Rattle.std.proofs.lemmas.List.{append-nil, append_assoc}
+use Rattle.std.proofs.lemmas.List.Folds.{find-append}
+use Rattle.std.proofs.lemmas.Slice.Eq.{bytes_eq-Decides}
+use Rattle.std.proofs.Math.Bool.{or_assoc}
+use Rattle.sound_terms.specs.declared.Span.{Span}
+use Rattle.sound_terms.specs.Chunks.{Chunk, counted_ids, first_of, chunk_fault, first_fault, has_others}
+use Rattle.sound_terms.specs.Sounds.{span_of}
+use Rattle.riff.specs.declared.wave.Found.{Found}
+use Rattle.riff.specs.Walk.{IsFoundIn, chunk_at}
+
+-- faults from the left, in two parts
+pub first_fault-append : (end : ℕ) (before xs ys : List Chunk)
+    → first_fault end before (xs ++ ys) ≡ option_or (first_fault end before xs) (first_fault end (before ++ xs) ys)
+first_fault-append end before [] ys = rw append-nil
+first_fault-append end before (x ∷ xs) ys = by_fault (chunk_fault end before x) refl (first_fault-append end (before ++ x ∷ []) xs ys) where
+  by_fault : (fault : Option ℕ) → chunk_fault end before x ≡ fault
+      → first_fault end (before ++ x ∷ []) (xs ++ ys)
+      ≡ option_or (first_fault end (before ++ x ∷ []) xs) (first_fault end ((before ++ x ∷ []) ++ xs) ys)
+      → first_fault end before (x ∷ (xs ++ ys)) ≡ option_or (first_fault end before (x ∷ xs)) (first_fault end (before ++ x ∷ xs) ys)
+  by_fault None none rest = rw none (rest ∙ rw append_assoc)
+  by_fault (Some number) some rest = rw some
+
+-- other chunks, in two parts
+pub has_others-append : (before xs ys : List Chunk)
+    → has_others before (xs ++ ys) ≡ (has_others before xs || has_others (before ++ xs) ys)
+has_others-append before [] ys = rw append-nil
+has_others-append before (x ∷ xs) ys = rw (has_others-append (before ++ x ∷ []) xs ys, append_assoc, or_assoc)
+
+map-option_or : (a b : Option Chunk) → option_map span_of (option_or a b) ≡ option_or (option_map span_of a) (option_map span_of b)
+map-option_or None b = refl
+map-option_or (Some chunk) b = refl
+
+-- the first of an id, in two parts
+span-append : (id : List ℕ) (xs ys : List Chunk)
+    → option_map span_of (first_of id (xs ++ ys)) ≡ option_or (option_map span_of (first_of id xs)) (option_map span_of (first_of id ys))
+span-append id xs ys = rw find-append (map-option_or _ _)
+
+fault-one : (end : ℕ) (before : List Chunk) (chunk : Chunk) → first_fault end before (chunk ∷ []) ≡ chunk_fault end before chunk
+fault-one end before chunk = by_fault (chunk_fault end before chunk) refl where
+  by_fault : (fault : Option ℕ) → chunk_fault end before chunk ≡ fault → first_fault end before (chunk ∷ []) ≡ chunk_fault end before chunk
+  by_fault None none = rw none
+  by_fault (Some number) some = rw some
+
+fault-more : (end : ℕ) (chunks : List Chunk) (chunk : Chunk) → first_fault end [] chunks ≡ None
+    → first_fault end [] (chunks ++ chunk ∷ []) ≡ chunk_fault end chunks chunk
+fault-more end chunks chunk none = rw (first_fault-append end [] chunks (chunk ∷ []), none) (fault-one end chunks chunk)
+
+-- what is found in one more chunk that has no fault
+pub one_more : (end : ℕ) (chunks : List Chunk) (found : Found) (chunk : Chunk) (next : Found) → IsFoundIn end chunks found
+    → chunk_fault end chunks chunk ≡ None
+    → next.format ≡ option_or found.format (option_map span_of (first_of (codes "fmt ") (chunk ∷ [])))
+    → next.bext ≡ option_or found.bext (option_map span_of (first_of (codes "bext") (chunk ∷ [])))
+    → next.sound ≡ option_or found.sound (option_map span_of (first_of (codes "data") (chunk ∷ [])))
+    → next.others ≡ (found.others || has_others chunks (chunk ∷ []))
+    → IsFoundIn end (chunks ++ chunk ∷ []) next
+one_more end chunks found chunk next known fine format bext sound others = record {
+  faultless = fault-more end chunks chunk known.faultless ∙ fine;
+  format = format ∙ rw (known.format, span-append (codes "fmt ") chunks (chunk ∷ []));
+  bext = bext ∙ rw (known.bext, span-append (codes "bext") chunks (chunk ∷ []));
+  sound = sound ∙ rw (known.sound, span-append (codes "data") chunks (chunk ∷ []));
+  others = others ∙ rw (known.others, has_others-append [] chunks (chunk ∷ []));
+}
+
+-- one of the three ids, where it was seen and where it wasn't
+abbrev pub IsCounted : List ℕ → Type 0
+IsCounted id = list_any (bytes_eq id) counted_ids ≡ true
+
+never : (b : Bool) → if◌then◌else◌ {A = Option ℕ} (b && false) (Some 26) None ≡ None
+never true = refl
+never false = refl
+
+pub fine_counted : (chunks : List Chunk) (id : List ℕ) (contents : Span) (left : ℕ) → IsCounted id
+    → (option_map span_of (first_of id chunks) ≡ None → contents.length ≤ left)
+    → chunk_fault (contents.at + left) chunks (chunk_at id contents) ≡ None
+fine_counted chunks id contents left counted inside = by_first (first_of id chunks) refl where
+  by_first : (first : Option Chunk) → first_of id chunks ≡ first → chunk_fault (contents.at + left) chunks (chunk_at id contents) ≡ None
+  by_first None none =
+      let within : contents.length ≤ left = inside (ap (option_map span_of) none) in
+      let no : nat_lt (contents.at + left) (contents.at + contents.length) ≡ false = grind (arith, nat_tests) in
+      rw no
+  by_first (Some chunk) some = rw (counted, some) (never _)
+
+-- a chunk that counts and passes the end, behind chunks without a fault
+cut_at : (chunks : List Chunk) (id : List ℕ) (contents : Span) (left : ℕ) → IsCounted id
+    → option_map span_of (first_of id chunks) ≡ None → left < contents.length
+    → chunk_fault (contents.at + left) chunks (chunk_at id contents) ≡ Some 26
+cut_at chunks id contents left counted none past = by_first (first_of id chunks) refl where
+  by_first : (first : Option Chunk) → first_of id chunks ≡ first → chunk_fault (contents.at + left) chunks (chunk_at id contents) ≡ Some 26
+  by_first None is_none =
+      let yes : nat_lt (contents.at + left) (contents.at + contents.length) ≡ true = grind (arith, nat_tests) in
+      rw (yes, counted, is_none)
+  by_first (Some chunk) some = let no : Some (span_of chunk) ≡ None = sym (ap (option_map span_of) some) ∙ none in cc
+
+pub cut_behind : (chunks : List Chunk) (found : Found) (one id : List ℕ) (contents : Span) (left : ℕ)
+    → IsFoundIn (contents.at + left) chunks found → IsCounted one → bytes_eq id one ≡ true
+    → option_map span_of (first_of one chunks) ≡ None → left < contents.length
+    → first_fault (contents.at + left) [] (chunks ++ chunk_at id contents ∷ []) ≡ Some 26
+cut_behind chunks found one id contents left known counted same none past =
+    fault-more _ chunks _ known.faultless
+    ∙ subst (λ x. chunk_fault (contents.at + left) chunks (chunk_at x contents) ≡ Some 26) (sym ((bytes_eq-Decides id one).0 same))
+    (cut_at chunks one contents left counted none past)
+
+some-map : (first : Option Chunk) → is_some (option_map span_of first) ≡ is_some first
+some-map None = refl
+some-map (Some chunk) = refl
+
+-- one that counts is another chunk where its id was seen
+others_counted : (chunks : List Chunk) (id : List ℕ) (contents : Span) → IsCounted id → bytes_eq id (codes "JUNK") ≡ false
+    → has_others chunks (chunk_at id contents ∷ []) ≡ is_some (option_map span_of (first_of id chunks))
+others_counted chunks id contents counted no_junk = rw (counted, no_junk) (last _ ∙ sym (some-map (first_of id chunks))) where
+  last : (b : Bool) → ((b && true) || false) ≡ b
+  last true = refl
+  last false = refl
+
+none-or : (slot : Option Span) → slot ≡ option_or slot None
+none-or None = refl
+none-or (Some span) = refl
+
+-- what is found in one more chunk that counts, at each of the three ids: its slot holds the first
+pub format_more : (chunks : List Chunk) (found : Found) (id : List ℕ) (contents : Span) (left : ℕ) (slot : Option Span) (taken : Bool)
+    → IsFoundIn (contents.at + left) chunks found → bytes_eq id (codes "fmt ") ≡ true
+    → slot ≡ option_or found.format (Some contents) → taken ≡ is_some found.format → (found.format ≡ None → contents.length ≤ left)
+    → IsFoundIn (contents.at + left) (chunks ++ chunk_at id contents ∷ []) (record found { format = slot; others = found.others || taken })
+format_more chunks found id contents left slot taken known same first seen inside =
+    subst (λ x. IsFoundIn (contents.at + left) (chunks ++ chunk_at x contents ∷ []) (record found { format = slot; others = found.others || taken }))
+    (sym ((bytes_eq-Decides id (codes "fmt ")).0 same))
+    (one_more _ _ _ _ _ known (fine_counted chunks (codes "fmt ") contents left refl (λ none. inside (known.format ∙ none)))
+    first (none-or _) (none-or _)
+    (ap (λ b. found.others || b) (seen ∙ ap is_some known.format ∙ sym (others_counted chunks (codes "fmt ") contents refl refl))))
+
+pub bext_more : (chunks : List Chunk) (found : Found) (id : List ℕ) (contents : Span) (left : ℕ) (slot : Option Span) (taken : Bool)
+    → IsFoundIn (contents.at + left) chunks found → bytes_eq id (codes "bext") ≡ true
+    → slot ≡ option_or found.bext (Some contents) → taken ≡ is_some found.bext → (found.bext ≡ None → contents.length ≤ left)
+    → IsFoundIn (contents.at + left) (chunks ++ chunk_at id contents ∷ []) (record found { bext = slot; others = found.others || taken })
+bext_more chunks found id contents left slot taken known same first seen inside =
+    subst (λ x. IsFoundIn (contents.at + left) (chunks ++ chunk_at x contents ∷ []) (record found { bext = slot; others = found.others || taken }))
+    (sym ((bytes_eq-Decides id (codes "bext")).0 same))
+    (one_more _ _ _ _ _ known (fine_counted chunks (codes "bext") contents left refl (λ none. inside (known.bext ∙ none)))
+    (none-or _) first (none-or _)
+    (ap (λ b. found.others || b) (seen ∙ ap is_some known.bext ∙ sym (others_counted chunks (codes "bext") contents refl refl))))
+
+pub sound_more : (chunks : List Chunk) (found : Found) (id : List ℕ) (contents : Span) (left : ℕ) (slot : Option Span) (taken : Bool)
+    → IsFoundIn (contents.at + left) chunks found → bytes_eq id (codes "data") ≡ true
+    → slot ≡ option_or found.sound (Some contents) → taken ≡ is_some found.sound → (found.sound ≡ None → contents.length ≤ left)
+    → IsFoundIn (contents.at + left) (chunks ++ chunk_at id contents ∷ []) (record found { sound = slot; others = found.others || taken })
+sound_more chunks found id contents left slot taken known same first seen inside =
+    subst (λ x. IsFoundIn (contents.at + left) (chunks ++ chunk_at x contents ∷ []) (record found { sound = slot; others = found.others || taken }))
+    (sym ((bytes_eq-Decides id (codes "data")).0 same))
+    (one_more _ _ _ _ _ known (fine_counted chunks (codes "data") contents left refl (λ none. inside (known.sound ∙ none)))
+    (none-or _) (none-or _) first
+    (ap (λ b. found.others || b) (seen ∙ ap is_some known.sound ∙ sym (others_counted chunks (codes "data") contents refl refl))))
+
+-- what holds anyway holds at an error
+pub OnErr_always : {T E : Type 0} (result : Result T E) {P : Type 0} → P → OnErr result P
+OnErr_always (Ok x) holds = tt
+OnErr_always (Err fault) holds = holds

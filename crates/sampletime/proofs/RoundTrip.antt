@@ -1,0 +1,102 @@
+-- A time text and its samples, there and back.
+use Rattle.std.proofs.Common.{◌≡◌, ℕ, ◌/◌, ◌%◌, ◌≤◌, List, [], ◌∷◌, Option, Some, None, IfSome, Bool, true, false, ◌&&◌, if◌then◌else◌, IsTrue, refl, sym, ap, arith}
+use Rattle.sampletime.specs.TimeCode.{day, are_separators, is_in_day, two_digits, four_digits, time_of_parts, samples_of, samples_of_parts, text_of}
+use Rattle.sampletime.proofs.Digits.{two_digits-of, four_digits-of, two_digits-again, four_digits-again}
+use Rattle.sampletime.proofs.Fields.{is_in_day-of, samples_of_parts-of, fields-again}
+
+-- fields in the day, between separators, are a time
+time_of_parts-in_day :
+    (h m s f r : ℕ) (separators : List ℕ) → is_in_day 25 h m s f r ≡ true → are_separators separators ≡ true
+    → time_of_parts 25 (Some h) (Some m) (Some s) (Some f) (Some r) separators ≡ Some (samples_of_parts 25 h m s f r, separators)
+time_of_parts-in_day h m s f r separators i e = rw (i, e)
+
+samples_of-text_of :
+    (t : ℕ) (separators : List ℕ) → t ≤ day → IsTrue (are_separators separators)
+    → samples_of 25 (text_of 25 t separators) ≡ Some (t, separators)
+samples_of-text_of t (a ∷ b ∷ c ∷ d ∷ []) h i =
+    let eh = two_digits-of (t / 172800000) (omega arith) in
+    let em = two_digits-of (t / 2880000 % 60) (omega arith) in
+    let es = two_digits-of (t / 48000 % 60) (omega arith) in
+    let ef = two_digits-of (t / 1920 % 25) (omega arith) in
+    let er = four_digits-of (t % 1920) (omega arith) in
+    let e = time_of_parts-in_day (t / 172800000) (t / 2880000 % 60) (t / 48000 % 60) (t / 1920 % 25) (t % 1920)
+    (a ∷ b ∷ c ∷ d ∷ []) (is_in_day-of t h) i in
+    let et = samples_of_parts-of t in
+    cc
+samples_of-text_of t _ h i = cc
+
+-- parts that have a time are numbers, in the day
+record HaveTime (h' m' s' f' r' : Option ℕ) (separators : List ℕ) (t : ℕ) (separators' : List ℕ) : Type 0 where
+  hours : ℕ
+  minutes : ℕ
+  seconds : ℕ
+  frames : ℕ
+  remainder : ℕ
+  hours_is : h' ≡ Some hours
+  minutes_is : m' ≡ Some minutes
+  seconds_is : s' ≡ Some seconds
+  frames_is : f' ≡ Some frames
+  remainder_is : r' ≡ Some remainder
+  in_day : is_in_day 25 hours minutes seconds frames remainder ≡ true
+  samples : t ≡ samples_of_parts 25 hours minutes seconds frames remainder
+  same : separators' ≡ separators
+
+chosen : (b b' : Bool) (x y : ℕ × List ℕ) → (if b && b' then Some x else None) ≡ Some y → (b ≡ true) × (x ≡ y)
+chosen true true x y e = (refl, cc)
+chosen true false x y e = cc
+chosen false b' x y e = cc
+
+time_of_parts-again :
+    (h m s f r : Option ℕ) (separators : List ℕ) (t : ℕ) (separators' : List ℕ)
+    → time_of_parts 25 h m s f r separators ≡ Some (t, separators') → HaveTime h m s f r separators t separators'
+time_of_parts-again (Some h) (Some m) (Some s) (Some f) (Some r) separators t separators' e =
+    let p = chosen (is_in_day 25 h m s f r) (are_separators separators) (samples_of_parts 25 h m s f r, separators) (t, separators') e in
+    let q = p.1 in
+    record {
+      hours = h;
+      minutes = m;
+      seconds = s;
+      frames = f;
+      remainder = r;
+      hours_is = refl;
+      minutes_is = refl;
+      seconds_is = refl;
+      frames_is = refl;
+      remainder_is = refl;
+      in_day = p.0;
+      samples = ap (λ x. x.0) (sym q);
+      same = ap (λ x. x.1) (sym q);
+    }
+time_of_parts-again None m s f r separators t separators' e = cc
+time_of_parts-again (Some h) None s f r separators t separators' e = cc
+time_of_parts-again (Some h) (Some m) None f r separators t separators' e = cc
+time_of_parts-again (Some h) (Some m) (Some s) None r separators t separators' e = cc
+time_of_parts-again (Some h) (Some m) (Some s) (Some f) None separators t separators' e = cc
+
+text_of-samples_of :
+    (text : List ℕ) (t : ℕ) (separators : List ℕ) → samples_of 25 text ≡ Some (t, separators)
+    → text ≡ text_of 25 t separators
+text_of-samples_of (h ∷ h' ∷ a ∷ m ∷ m' ∷ b ∷ s ∷ s' ∷ c ∷ f ∷ f' ∷ d ∷ r ∷ r' ∷ r'' ∷ r''' ∷ []) t separators e =
+    let p = time_of_parts-again (two_digits (h ∷ h' ∷ [])) (two_digits (m ∷ m' ∷ [])) (two_digits (s ∷ s' ∷ [])) (two_digits (f ∷ f' ∷ []))
+    (four_digits (r ∷ r' ∷ r'' ∷ r''' ∷ [])) (a ∷ b ∷ c ∷ d ∷ []) t separators e in
+    let eh = two_digits-again h h' p.hours p.hours_is in
+    let em = two_digits-again m m' p.minutes p.minutes_is in
+    let es = two_digits-again s s' p.seconds p.seconds_is in
+    let ef = two_digits-again f f' p.frames p.frames_is in
+    let er = four_digits-again r r' r'' r''' p.remainder p.remainder_is in
+    let fields = fields-again t p.hours p.minutes p.seconds p.frames p.remainder p.in_day p.samples in
+    rw p.same cc
+text_of-samples_of _ t separators e = cc
+
+-- what a text is read as is written as that text
+pub text_is_again :
+    (text : List ℕ) (time : Option (ℕ × List ℕ)) → time ≡ samples_of 25 text
+    → IfSome time (λ p. text ≡ text_of 25 p.0 p.1)
+text_is_again text None e = tt
+text_is_again text (Some p) e = text_of-samples_of text p.0 p.1 (sym e)
+
+-- what a time is written as is read as that time
+pub time_is_again :
+    (text : List ℕ) (t : ℕ) (separators : List ℕ) → text ≡ text_of 25 t separators → t ≤ day → IsTrue (are_separators separators)
+    → samples_of 25 text ≡ Some (t, separators)
+time_is_again text t separators e h i = rw e (samples_of-text_of t separators h i)

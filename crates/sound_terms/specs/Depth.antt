@@ -1,0 +1,9 @@
+-- The bits of a sample.
+use Rattle.std.specs.Prelude.{ℕ}
+use Rattle.sound_terms.specs.declared.Depth.{Depth}
+use Rattle.sound_terms.specs.declared.Depth.TheVariants.{Sixteen, TwentyFour, ThirtyTwo}
+
+abbrev pub bits_of : Depth → ℕ
+bits_of Sixteen = 16
+bits_of TwentyFour = 24
+bits_of ThirtyTwo = 32
