@@ -6,7 +6,7 @@ ghost use Rattle.sound_terms.specs.Mix.{contribution_of};
 ghost use Rattle.list_terms.specs.Binding.{Binding};
 ghost use Rattle.list_terms.specs.Accepted.{entry_fault, event_fault, reading_of};
 ghost use Rattle.adlread.specs.PlainList.{IsPlainEvent};
-ghost use Rattle.consolidate.specs.Bound.{Represents};
+ghost use Rattle.consolidate.specs.Bound.{HoldsOfFile, Represents};
 ghost use Rattle.consolidate.specs.Faults.{refusal_of};
 ghost use Rattle.consolidate.specs.Stretches.{IsInside, IsPlayed, LiesWithin, NamesFile};
 ghost use Rattle.consolidate.specs.Sums.{AreMix, AreWithin, GrowBy};
@@ -101,6 +101,7 @@ pub fn mix<S: Shelf>(
     ensures honest { S.honest shelf.new ≡ S.honest shelf.old }
     ensures cause { HasCause (S.failures shelf.old) (S.failures shelf.new)
         (IfErr result (λ fault. (refusal_of fault).number ≢ 22)) (IsErrAnd result (λ fault. (refusal_of fault).number ≡ 22)) }
+    ensures failed { IfErr result (λ fault. (refusal_of fault).number ≡ 22 → HoldsOfFile (S.failed_at shelf.new) (refusal_of fault).place) }
     ensures keeps { (n : List ℕ) → S.failed_at shelf.old n → S.failed_at shelf.new n }
 {
     let mut sums = vec![in alloc; 0; samples].map_err(|_| Fault::RenderMemory)?;

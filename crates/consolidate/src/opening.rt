@@ -5,6 +5,7 @@ ghost use Rattle.work_terms.specs.Disk.{HasCause};
 ghost use Rattle.work_terms.specs.Refusals.{IsDue, Refusal, turn_of};
 ghost use Rattle.list_terms.specs.Accepted.{project_fault};
 ghost use Rattle.adlread.specs.PlainList.{IsPlainEvent, text_value};
+ghost use Rattle.consolidate.specs.Bound.{HoldsOfFile};
 ghost use Rattle.consolidate.specs.Faults.{refusal_of};
 ghost use Rattle.consolidate.specs.Rendering.{IsOpened};
 
@@ -30,6 +31,7 @@ pub fn open_project<S: Shelf>(alloc: Global, list: &[u8], shelf: &mut S) -> Resu
     ensures honest { S.honest shelf.new ≡ S.honest shelf.old }
     ensures cause { HasCause (S.failures shelf.old) (S.failures shelf.new)
         (IfErr result (λ fault. (refusal_of fault).number ≢ 22)) (IsErrAnd result (λ fault. (refusal_of fault).number ≡ 22)) }
+    ensures failed { IfErr result (λ fault. (refusal_of fault).number ≡ 22 → HoldsOfFile (S.failed_at shelf.new) (refusal_of fault).place) }
     ensures keeps { (n : List ℕ) → S.failed_at shelf.old n → S.failed_at shelf.new n }
 {
     let project = match read(alloc, list) {

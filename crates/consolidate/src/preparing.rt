@@ -7,7 +7,7 @@ ghost use Rattle.work_terms.specs.Refusals.{IsDue, Refusal};
 ghost use Rattle.list_terms.specs.Binding.{Binding};
 ghost use Rattle.list_terms.specs.Accepted.{event_fault};
 ghost use Rattle.adlread.specs.PlainList.{IsPlainEvent, text_value};
-ghost use Rattle.consolidate.specs.Bound.{Represents};
+ghost use Rattle.consolidate.specs.Bound.{HoldsOfFile, Represents};
 ghost use Rattle.consolidate.specs.Faults.{refusal_of};
 ghost use Rattle.consolidate.specs.Rendering.{HasRange, IsMixed, IsPrepared, Reports, length_fault, render_refusal};
 ghost use Rattle.consolidate.specs.Sums.{AreWithin};
@@ -38,6 +38,7 @@ fn mix_project<S: Shelf>(alloc: Global, opened: Opened, shelf: &mut S) -> Result
     ensures honest { S.honest shelf.new ≡ S.honest shelf.old }
     ensures cause { HasCause (S.failures shelf.old) (S.failures shelf.new)
         (IfErr result (λ fault. (refusal_of fault).number ≢ 22)) (IsErrAnd result (λ fault. (refusal_of fault).number ≡ 22)) }
+    ensures failed { IfErr result (λ fault. (refusal_of fault).number ≡ 22 → HoldsOfFile (S.failed_at shelf.new) (refusal_of fault).place) }
     ensures keeps { (n : List ℕ) → S.failed_at shelf.old n → S.failed_at shelf.new n }
 {
     let Opened { project, bound } = opened;
@@ -71,6 +72,7 @@ pub fn prepare<S: Shelf>(alloc: Global, list: &[u8], shelf: &mut S) -> Result<Pr
     ensures honest { S.honest shelf.new ≡ S.honest shelf.old }
     ensures cause { HasCause (S.failures shelf.old) (S.failures shelf.new)
         (IfErr result (λ fault. (refusal_of fault).number ≢ 22)) (IsErrAnd result (λ fault. (refusal_of fault).number ≡ 22)) }
+    ensures failed { IfErr result (λ fault. (refusal_of fault).number ≡ 22 → HoldsOfFile (S.failed_at shelf.new) (refusal_of fault).place) }
     ensures keeps { (n : List ℕ) → S.failed_at shelf.old n → S.failed_at shelf.new n }
 {
     let opened = open_project(alloc, list, shelf)?;

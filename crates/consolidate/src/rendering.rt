@@ -3,6 +3,7 @@ ghost use Rattle.std.specs.Prelude.{◌≡◌, ◌≢◌, ℕ, List, Err, Some, 
 ghost use Rattle.work_terms.specs.Disk.{HasCause, IsUntouched};
 ghost use Rattle.work_terms.specs.Refusals.{Answers, IsDue, Refusal};
 ghost use Rattle.adlread.specs.PlainList.{text_value};
+ghost use Rattle.consolidate.specs.Bound.{HoldsOfFile};
 ghost use Rattle.consolidate.specs.Faults.{refusal_of};
 ghost use Rattle.consolidate.specs.Rendering.{IsRendered, Reports, render_refusal};
 
@@ -54,6 +55,10 @@ pub fn render<S: Shelf, B: Bench>(
         (IfErr result (λ fault. (refusal_of fault).number ≢ 22)) (IsErrAnd result (λ fault. (refusal_of fault).number ≡ 22)) }
     ensures cause_of_62 { HasCause (B.failures bench.old) (B.failures bench.new)
         (IfErr result (λ fault. (refusal_of fault).number ≢ 62)) (IsErrAnd result (λ fault. (refusal_of fault).number ≡ 62)) }
+
+    // Where a device failed, it failed at the file that is named.
+    ensures failed_source { IfErr result (λ fault. (refusal_of fault).number ≡ 22 → HoldsOfFile (S.failed_at shelf.new) (refusal_of fault).place) }
+    ensures failed_output { IfErr result (λ fault. (refusal_of fault).number ≡ 62 → HoldsOfFile (B.failed_at bench.new) (refusal_of fault).place) }
 {
     let prepared = prepare(alloc, list, shelf)?;
     match write_rendering(bench, &prepared.header, &prepared.sums) {
