@@ -1,5 +1,5 @@
 -- The plain form of a project: a header of two lines, each source a file in the list's own folder, no notices.
-use Rattle.std.specs.Prelude.{ℕ, Bool, false, ◌&&◌, ◌||◌, ◌==◌, List, [], ◌∷◌, ◌++◌, None, Some, codes}
+use Rattle.std.specs.Prelude.{ℕ, Bool, false, ◌&&◌, ◌||◌, ◌==◌, List, [], ◌∷◌, ◌++◌, Option, None, Some, codes}
 use Rattle.std.specs.Char.{is_ascii_alphabetic, is_ascii_alphanumeric}
 use Rattle.std.specs.List.{list_all}
 use Rattle.sound_terms.specs.declared.Event.{Event}
@@ -25,10 +25,10 @@ url_of_name name = codes "URL:file://localhost/" ++ name
 unfoldable pub no_uid : List ℕ
 no_uid = codes "_"
 
--- a source over the file of this name, whose first frame is at this time; its length isn't told
-abbrev pub plain_source_of : ℕ → List ℕ → ℕ → Source
-plain_source_of number name start =
-    record { number = number; url = url_of_name name; uid = no_uid; start = Some start; length = None }
+-- a source over the file of this name, whose first frame is at this time, of the length that is told
+abbrev pub plain_source_of : ℕ → List ℕ → ℕ → Option ℕ → Source
+plain_source_of number name start length =
+    record { number = number; url = url_of_name name; uid = no_uid; start = Some start; length = length }
 
 -- 48000 samples and 25 frames a second, and no other section
 unfoldable pub plain_header : Header

@@ -1,7 +1,7 @@
 //! The project that an audio decision list spells: its sources and its events.
 //!
 //! By now a project is of the plain form. It has 48000 samples and 25 frames a second, each source is a file in the
-//! list's own folder with the time of its first frame, and the list has no other section.
+//! list's own folder with the time of its first frame and a length or none, and the list has no other section.
 #![tactic(auto)]
 
 ghost use Rattle.std.specs.Bool.{OnTrue};
@@ -38,12 +38,14 @@ fn is_name_byte(byte: u8) -> bool
     byte.is_ascii_alphanumeric() || byte == b'.'
 }
 
-/// A line of the source index: the number that entries name it by, the file, and the time of the file's first frame.
+/// A line of the source index: the number that entries name it by, the file, the time of the file's first frame, and
+/// the length where the line tells one. Nothing rests on the length; it is kept so that it can be written again.
 #[derive(Debug, Drop)]
 pub struct Source {
     number: u32,
     name: String,
     start: SampleTime,
+    length: Option<SampleTime>,
 }
 
 impl Model for Source {
@@ -53,21 +55,23 @@ impl Model for Source {
 
     ghost Value = { list.Source };
 
-    ghost view = { λ s. plain_source_of s.number (string_bytes s.name) s.start };
+    ghost view = { λ s. plain_source_of s.number (string_bytes s.name) s.start s.length };
 
     ghost invariant = { λ s. IsTrue (is_plain_name (string_bytes s.name)) };
 }
 
 impl Source {
-    /// The source of this number over the file of this name in the list's folder, whose first frame is at `start`.
-    pub fn new(number: u32, name: String, start: SampleTime) -> Self
+    /// The source of this number over the file of this name in the list's folder, whose first frame is at `start`, and
+    /// of this length where one is told.
+    pub fn new(number: u32, name: String, start: SampleTime, length: Option<SampleTime>) -> Self
         requires { IsTrue (plain.is_plain_name (string_bytes name)) }
-        ensures { result ≡ plain_source_of number (string_bytes name) start }
+        ensures { result ≡ plain_source_of number (string_bytes name) start length }
     {
         Source {
             number,
             name,
             start,
+            length,
         }
     }
 
@@ -90,6 +94,13 @@ impl Source {
         ensures { self.now.start ≡ Some result }
     {
         self.start
+    }
+
+    /// The length that its line tells; `None` where the line tells none.
+    pub fn length(&self) -> Option<SampleTime>
+        ensures { result ≡ self.now.length }
+    {
+        self.length
     }
 }
 
@@ -179,10 +190,11 @@ mod tests {
         let start = SampleTime::new(172_800_000).ok_or("no time")?;
         let name = String::from_str(rt.alloc(), "A.wav")?;
         assert!(rt; is_plain_name(name.as_bytes()));
-        let source = Source::new(7, name, start);
+        let source = Source::new(7, name, start, Some(SampleTime::DAY));
         assert_eq!(rt; source.number(), 7);
         assert_eq!(rt; source.name(), "A.wav");
         assert_eq!(rt; source.start(), start);
+        assert_eq!(rt; source.length(), Some(SampleTime::DAY));
         Ok(())
     }
 
@@ -190,7 +202,7 @@ mod tests {
     fn a_project_gives_its_lists(rt: HostRuntime) -> Result<(), Fail> {
         let name = String::from_str(rt.alloc(), "B2.wav")?;
         assert!(rt; is_plain_name(name.as_bytes()));
-        let sources = vec![in rt.alloc(); Source::new(2, name, SampleTime::ZERO)]?;
+        let sources = vec![in rt.alloc(); Source::new(2, name, SampleTime::ZERO, None)]?;
         let mono = Channels { first: 1, last: 1 };
         let event = Event {
             number: 3,
@@ -208,6 +220,7 @@ mod tests {
         let project = Project::new(sources, events, separators);
         assert_eq!(rt; project.sources().len(), 1);
         assert_eq!(rt; project.sources()[0].name(), "B2.wav");
+        assert_eq!(rt; project.sources()[0].length(), None);
         assert_eq!(rt; project.events().len(), 1);
         assert_eq!(rt; project.events()[0], event);
         assert_eq!(rt; project.separators(), separators);

@@ -1,9 +1,9 @@
 -- The events of a plain list are plain, and their numbers are distinct, so they are few.
-use Rattle.std.proofs.Common.{◌≡◌, ℕ, zero, suc, ◌+◌, ◌<◌, ◌≤◌, ◌∷◌, ◌++◌, Bool, true, false, List, [], length, map, get_or, Option, None, Some, arith, refl, sym, ap, subst, ◌∙◌}
+use Rattle.std.proofs.Common.{◌≡◌, ℕ, zero, suc, ◌+◌, ◌<◌, ◌≤◌, ◌∷◌, ◌++◌, Bool, true, false, List, [], length, map, get_or, Option, None, Some, arith, refl, ap, ◌∙◌}
 use Rattle.std.specs.Prelude.{IfSome, IfOk, Result, Ok, Err, bytes_eq, unwrap_or, option_map, ◌||◌, ◌==◌, cond, codes}
-use Rattle.std.specs.List.{All, IsDistinct, list_any}
+use Rattle.std.specs.List.{All, AllByRecursion, IsDistinct, list_any}
 use Rattle.std.proofs.lemmas.Bool.Decides.{nat_tests}
-use Rattle.std.proofs.lemmas.Map.Keys.{IsDistinct-push}
+use Rattle.std.proofs.lemmas.Map.Keys.{IsDistinct-cons, IsDistinct-push}
 use Rattle.std.proofs.lemmas.Map.Steps.{length-le_from_distinct_below}
 use lib.Dec.{eqb}
 use Rattle.std.specs.Cmp.{IsEquivalence}
@@ -22,7 +22,7 @@ abbrev AllCounted : List Event → Type 0
 AllCounted [] = Unit {0}
 AllCounted (event ∷ events) = IsCounted event × AllCounted events
 
--- plain events, with distinct numbers of four digits
+-- plain events, with distinct numbers
 pub record AreCounted (events : List Event) : Type 0 where
   pub counted : AllCounted events
   pub distinct : IsDistinct eqb (numbers_of events)
@@ -125,15 +125,29 @@ all_plain (event ∷ events) all = λ k d below. at (all_plain events all.1) k d
   at rest zero d below = all.0.plain
   at rest (suc k) d below = rest k d (omega arith)
 
-number_below : (events : List Event) (q : ℕ) → AllCounted events → list_any (eqb q) (numbers_of events) ≡ true → q < 10000
-number_below [] q all there = absurd (cc)
-number_below (event ∷ events) q all there = by_here (eqb q event.number) refl there (number_below events q all.1) where
+-- 0 is none of these numbers
+no_zero : (events : List Event) → AllCounted events → AllByRecursion (λ n. eqb 0 n ≡ false) (numbers_of events)
+no_zero [] all = tt
+no_zero (event ∷ events) all = (from_one event.number all.0.number.from_one, no_zero events all.1) where
+  from_one : (n : ℕ) → 1 ≤ n → eqb 0 n ≡ false
+  from_one n h = grind (arith, nat_tests)
+
+small_number : (events : List Event) (q : ℕ) → AllCounted events → list_any (eqb q) (numbers_of events) ≡ true → q < 32768
+small_number [] q all there = absurd (cc)
+small_number (event ∷ events) q all there = by_here (eqb q event.number) refl there (small_number events q all.1) where
   by_here : (here : Bool) → eqb q event.number ≡ here → (here || list_any (eqb q) (numbers_of events)) ≡ true
-      → (list_any (eqb q) (numbers_of events) ≡ true → q < 10000) → q < 10000
+      → (list_any (eqb q) (numbers_of events) ≡ true → q < 32768) → q < 32768
   by_here true is any later = same_small (grind (arith, nat_tests, is)) where
-    same_small : q ≡ event.number → q < 10000
-    same_small same = omega (arith, same, all.0.small)
+    same_small : q ≡ event.number → q < 32768
+    same_small same = omega (arith, same, all.0.number.to_greatest)
   by_here false is any later = later any
+
+-- these numbers and 0 are below 32768
+small_or_zero : (events : List Event) (q : ℕ) → AllCounted events → (eqb q 0 || list_any (eqb q) (numbers_of events)) ≡ true → q < 32768
+small_or_zero events q all there = by_zero (eqb q 0) refl there where
+  by_zero : (zero : Bool) → eqb q 0 ≡ zero → (zero || list_any (eqb q) (numbers_of events)) ≡ true → q < 32768
+  by_zero true is any = grind (arith, nat_tests)
+  by_zero false is any = small_number events q all any
 
 length-numbers_of : (events : List Event) → length (numbers_of events) ≡ length events
 length-numbers_of [] = refl
@@ -147,7 +161,8 @@ pub record AreFewAndPlain (events : List Event) : Type 0 where
 few_and_plain : (events : List Event) → AreCounted events → AreFewAndPlain events
 few_and_plain events counted = record {
   plain = all_plain events counted.counted;
-  few = let most = length-le_from_distinct_below (numbers_of events) 10000 counted.distinct (λ q there. number_below events q counted.counted there) in
+  few = let with_zero = IsDistinct-cons eqb 0 (numbers_of events) (no_zero events counted.counted) counted.distinct in
+      let most = length-le_from_distinct_below (0 ∷ numbers_of events) 32768 with_zero (λ q there. small_or_zero events q counted.counted there) in
       omega (arith, most, length-numbers_of events);
 }
 

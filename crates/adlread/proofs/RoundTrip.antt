@@ -72,7 +72,7 @@ plain_source-written :
     → IsPlainSource source → plain_source (source_line (plain_project sources events separators) source) ≡ Some source
 plain_source-written sources events separators source i h =
     ap (λ s. plain_source (source_line (plain_project sources events separators) s)) h.fields
-    ∙ plain_source-source_line sources events separators source.number h.name h.start i h.number h.plain h.in_day
+    ∙ plain_source-source_line sources events separators source.number h.name h.start h.length i h.number h.plain h.in_day h.length_in_day
     ∙ ap Some (sym h.fields)
 
 sources_are_read :

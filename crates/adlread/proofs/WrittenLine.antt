@@ -1,70 +1,21 @@
 -- A written line of a plain project is read as the source or the event that it was written for.
-use Rattle.std.proofs.Common.{◌≡◌, ℕ, ◌+◌, ◌/◌, ◌%◌, ◌<◌, ◌≤◌, false, List, [], ◌∷◌, ◌++◌, length, All, Some, IsTrue, refl, sym, ap, ◌∙◌, ⊎_elim, arith}
-use Rattle.std.specs.Prelude.{codes, decimal, option_map, ◌==◌}
+use Rattle.std.proofs.Common.{◌≡◌, ℕ, ◌≤◌, false, List, [], ◌∷◌, ◌++◌, length, All, Option, None, Some, IsTrue, refl, sym, ap, ◌∙◌, arith}
+use Rattle.std.specs.Prelude.{bytes_eq, codes, IfSome, option_map, ◌==◌}
 use Rattle.std.specs.List.{position_or_len}
-use Rattle.std.proofs.lemmas.Bool.{cases_lt}
 use Rattle.std.proofs.lemmas.Bool.Decides.{nat_tests}
-use Rattle.std.proofs.lemmas.Fmt.{decimal_digit, decimal_step}
+use Rattle.std.proofs.lemmas.Fmt.{decimal_digit}
 use Rattle.std.proofs.lemmas.List.{append-nil, take_at, drop_at}
 use Rattle.std.proofs.lemmas.List.Elements.{All-head, All-tail}
 use Rattle.sampletime.specs.TimeCode.{are_separators, day, text_of}
-use Rattle.sampletime.proofs.Digits.{four_digits-of}
 use Rattle.sampletime.proofs.RoundTrip.{time_is_again}
 use Rattle.sound_terms.specs.declared.Event.{Event}
 use Rattle.list_terms.specs.Project.{Source}
-use Rattle.list_terms.specs.WrittenText.{event_line, number_text, source_line}
+use Rattle.list_terms.specs.WrittenText.{event_line, number_text, source_line, time_text}
 use Rattle.adlmodel.specs.Plain.{is_plain_name, no_uid, plain_project, plain_source_of, url_of_name}
 use Rattle.adlmodel.proofs.Names.{All-plain_name, IsNameByte}
-use Rattle.adlread.specs.PlainLine.{behind, is_quote, name_at, number_at, plain_event, plain_event_of, plain_source, start_at, time_at}
+use Rattle.adlread.specs.PlainLine.{behind, is_quote, name_at, plain_event, plain_event_of, plain_source, last_time, times_at, time_at}
 use Rattle.adlread.specs.Written.{IsNumber}
-
--- ---- numbers
-
-decimal_two : (n : ℕ) → 10 ≤ n → n < 100 → decimal n ≡ (48 + n / 10) ∷ (48 + n % 10) ∷ []
-decimal_two n low high =
-    decimal_step n low (omega arith) ∙ ap (λ ds. ds ++ ((48 + n % 10) ∷ [])) (decimal_digit (n / 10) (omega arith))
-
-decimal_three : (n : ℕ) → 100 ≤ n → n < 1000 → decimal n ≡ (48 + n / 10 / 10) ∷ (48 + n / 10 % 10) ∷ (48 + n % 10) ∷ []
-decimal_three n low high =
-    decimal_step n (omega arith) (omega arith) ∙ ap (λ ds. ds ++ ((48 + n % 10) ∷ [])) (decimal_two (n / 10) (omega arith) (omega arith))
-
-decimal_four :
-    (n : ℕ) → 1000 ≤ n → n < 10000
-    → decimal n ≡ (48 + n / 10 / 10 / 10) ∷ (48 + n / 10 / 10 % 10) ∷ (48 + n / 10 % 10) ∷ (48 + n % 10) ∷ []
-decimal_four n low high =
-    decimal_step n (omega arith) (omega arith) ∙ ap (λ ds. ds ++ ((48 + n % 10) ∷ [])) (decimal_three (n / 10) (omega arith) (omega arith))
-
-same_four :
-    (a b c d a' b' c' d' : ℕ) → a ≡ a' → b ≡ b' → c ≡ c' → d ≡ d'
-    → let digits : List ℕ = a ∷ b ∷ c ∷ d ∷ [] in digits ≡ a' ∷ b' ∷ c' ∷ d' ∷ []
-same_four a b c d a' b' c' d' ea eb ec ed = cc
-
--- the four digits of a number below 10000
-abbrev digits_of : ℕ → List ℕ
-digits_of n = (48 + n / 1000) ∷ (48 + n / 100 % 10) ∷ (48 + n / 10 % 10) ∷ (48 + n % 10) ∷ []
-
-pub number_text-four : (n : ℕ) → n < 10000 → number_text n ≡ digits_of n
-number_text-four n h =
-    ⊎_elim
-    (λ one. rw (decimal_digit n one) (same_four _ _ _ _ _ _ _ _ (omega arith) (omega arith) (omega arith) (omega arith)))
-    (λ two. ⊎_elim
-    (λ low. rw (decimal_two n two low) (same_four _ _ _ _ _ _ _ _ (omega arith) (omega arith) (omega arith) (omega arith)))
-    (λ three. ⊎_elim
-    (λ low. rw (decimal_three n three low) (same_four _ _ _ _ _ _ _ _ (omega arith) (omega arith) (omega arith) (omega arith)))
-    (λ four. rw (decimal_four n four h) (same_four _ _ _ _ _ _ _ _ (omega arith) (omega arith) (omega arith) (omega arith)))
-    (cases_lt n 1000))
-    (cases_lt n 100))
-    (cases_lt n 10)
-
-number_at-digits : (n : ℕ) (rest : List ℕ) → IsNumber n → number_at (digits_of n ++ rest) ≡ Some (n, rest)
-unfolding number_at
-number_at-digits n rest h =
-    let some : (n == 0) ≡ false = grind (arith, nat_tests, h.from_one) in
-    rw (four_digits-of n (omega (arith, h.four_digits)), some)
-
-number_at-number_text : (n : ℕ) (rest : List ℕ) → IsNumber n → number_at (number_text n ++ rest) ≡ Some (n, rest)
-number_at-number_text n rest h =
-    ap (λ digits. number_at (digits ++ rest)) (number_text-four n (omega (arith, h.four_digits))) ∙ number_at-digits n rest h
+use Rattle.adlread.proofs.WrittenNumber.{number_at-number_text}
 
 -- ---- times
 
@@ -100,24 +51,41 @@ name_at-plain_name name rest h =
 
 -- ---- lines
 
-start_at-written :
-    (t : ℕ) (separators : List ℕ) → t ≤ day → IsTrue (are_separators separators)
-    → start_at (codes "\" _ " ++ (text_of 25 t separators ++ codes " _")) ≡ Some t
-unfolding start_at behind
-start_at-written t separators h i = rw (time_at-text_of t separators (codes " _") h i)
+-- a time's text isn't `_`
+not_missing : (t : ℕ) (separators : List ℕ) → IsTrue (are_separators separators) → bytes_eq (text_of 25 t separators) (codes "_") ≡ false
+not_missing t (a ∷ b ∷ c ∷ d ∷ []) i = grind (arith, nat_tests)
+not_missing t _ i = cc
+
+last_time-written :
+    (sources : List Source) (events : List Event) (separators : List ℕ) (time : Option ℕ) → IfSome time (λ t. t ≤ day)
+    → IsTrue (are_separators separators) → last_time (time_text (plain_project sources events separators) time) ≡ Some time
+unfolding last_time
+last_time-written sources events separators None h i = refl
+last_time-written sources events separators (Some t) h i = rw (not_missing t separators i, time_at-text_of_last t separators h i)
+
+times_at-written :
+    (sources : List Source) (events : List Event) (separators : List ℕ) (start : ℕ) (length : Option ℕ) → start ≤ day
+    → IfSome length (λ t. t ≤ day) → IsTrue (are_separators separators)
+    → let project = plain_project sources events separators in
+    times_at (codes "\" _ " ++ (text_of 25 start separators ++ (32 ∷ time_text project length))) ≡ Some (start, length)
+unfolding times_at behind
+times_at-written sources events separators start length hs hl i =
+    let length_text = time_text (plain_project sources events separators) length in
+    rw (time_at-text_of start separators (32 ∷ length_text) hs i, last_time-written sources events separators length hl i)
 
 pub plain_source-source_line :
-    (sources : List Source) (events : List Event) (separators : List ℕ) (number : ℕ) (name : List ℕ) (start : ℕ)
-    → IsTrue (are_separators separators) → IsNumber number → IsTrue (is_plain_name name) → start ≤ day
-    → plain_source (source_line (plain_project sources events separators) (plain_source_of number name start))
-    ≡ Some (plain_source_of number name start)
+    (sources : List Source) (events : List Event) (separators : List ℕ) (number : ℕ) (name : List ℕ) (start : ℕ) (length : Option ℕ)
+    → IsTrue (are_separators separators) → IsNumber number → IsTrue (is_plain_name name) → start ≤ day → IfSome length (λ t. t ≤ day)
+    → plain_source (source_line (plain_project sources events separators) (plain_source_of number name start length))
+    ≡ Some (plain_source_of number name start length)
 unfolding plain_source behind url_of_name no_uid
-plain_source-source_line sources events separators number name start i n plain in_day =
-    let start_text = codes " _ " ++ (text_of 25 start separators ++ codes " _") in
+plain_source-source_line sources events separators number name start length i n plain in_day length_in_day =
+    let length_text = time_text (plain_project sources events separators) length in
+    let start_text = codes " _ " ++ (text_of 25 start separators ++ (32 ∷ length_text)) in
     rw (
-      number_at-number_text number (codes " (F) \"URL:file://localhost/" ++ (name ++ (34 ∷ start_text))) n,
+      number_at-number_text number (codes "(F) \"URL:file://localhost/" ++ (name ++ (34 ∷ start_text))) n,
       name_at-plain_name name start_text plain,
-      start_at-written start separators in_day i,
+      times_at-written sources events separators start length in_day length_in_day i,
     )
 
 pub plain_event-event_line :
@@ -132,8 +100,8 @@ plain_event-event_line sources events separators number index source_in dest_in 
     let source_text = text_of 25 source_in separators ++ (32 ∷ in_text) in
     rw (
       decimal_digit 1 (omega arith),
-      number_at-number_text number (codes " (Cut) I " ++ (number_text index ++ (codes " 1 1 " ++ source_text))) n,
-      number_at-number_text index (codes " 1 1 " ++ source_text) m,
+      number_at-number_text number (codes "(Cut) I " ++ (number_text index ++ (codes " 1 1 " ++ source_text))) n,
+      number_at-number_text index (codes "1 1 " ++ source_text) m,
       time_at-text_of source_in separators (32 ∷ in_text) hs i,
       time_at-text_of dest_in separators (32 ∷ out_text) hd i,
       time_at-text_of_last dest_out separators ho i,

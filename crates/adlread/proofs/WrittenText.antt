@@ -1,21 +1,21 @@
 -- The lines of a plain project's written text.
-use Rattle.std.proofs.Common.{◌≡◌, ℕ, ◌+◌, ◌/◌, ◌%◌, Bool, true, false, not, List, [], ◌∷◌, ◌++◌, All, IsTrue, refl, sym, ap, ◌∙◌, append_assoc, arith}
+use Rattle.std.proofs.Common.{◌≡◌, ℕ, ◌+◌, ◌/◌, ◌%◌, Bool, true, false, not, List, [], ◌∷◌, ◌++◌, All, Option, None, Some, IsTrue, refl, sym, ap, ◌∙◌, append_assoc, arith}
 use Rattle.std.specs.Prelude.{codes, flat_map, ◌==◌, ◌&&◌}
 use Rattle.std.specs.List.{list_all}
 use Rattle.std.proofs.lemmas.Bool.Decides.{nat_tests}
 use Rattle.std.proofs.lemmas.Fmt.{decimal_digit}
 use Rattle.std.proofs.lemmas.List.Elements.{All-nil, All-cons, All-append, All-head, All-same, All-tail, All-weaker}
 use Rattle.std.proofs.lemmas.List.Sums.{AllPass-from_list_all}
-use Rattle.sampletime.specs.TimeCode.{are_separators, is_separator, text_of}
+use Rattle.sampletime.specs.TimeCode.{are_separators, is_digit, is_separator, text_of}
 use Rattle.sound_terms.specs.declared.Event.{Event}
 use Rattle.list_terms.specs.Project.{Source}
-use Rattle.list_terms.specs.WrittenText.{event_line, event_lines, line, number_text, source_line, text_of_project}
+use Rattle.list_terms.specs.WrittenText.{event_line, event_lines, line, number_text, source_line, text_of_project, time_text}
 use Rattle.adlmodel.specs.Plain.{is_plain_name, no_uid, plain_header, plain_project, url_of_name}
 use Rattle.adlmodel.proofs.Names.{All-plain_name, IsNameByte}
 use Rattle.adlread.specs.PlainList.{lines_of}
 use Rattle.adlread.specs.Written.{IsNumber, IsPlainEvent, IsPlainSource}
 use Rattle.adlread.proofs.FirstLine.{IsNoLf, lines_of-line, without_cr-cr}
-use Rattle.adlread.proofs.WrittenLine.{number_text-four}
+use Rattle.adlread.proofs.WrittenNumber.{AreDigits-number_text}
 
 -- the text has no LF
 pub record IsLine (text : List ℕ) : Type 0 where
@@ -48,6 +48,9 @@ digit d rest h = byte (48 + d) rest (not_ten d) h
 from_name : (b : ℕ) → IsNameByte b → IsNoLf b
 from_name b h = grind (arith, nat_tests)
 
+from_digit : (b : ℕ) → is_digit b ≡ true → IsNoLf b
+from_digit b h = grind (arith, nat_tests)
+
 from_separator : (b : ℕ) → is_separator b ≡ true → IsNoLf b
 from_separator b h = grind (arith, nat_tests)
 
@@ -58,8 +61,7 @@ both false b e = cc
 
 IsLine-number_text : (n : ℕ) → IsNumber n → IsLine (number_text n)
 IsLine-number_text n h =
-    rw (number_text-four n (omega (arith, h.four_digits)))
-    (digit (n / 1000) _ (digit (n / 100 % 10) _ (digit (n / 10 % 10) _ (digit (n % 10) _ nothing))))
+    record { no_lf = All-weaker (λ b. is_digit b ≡ true) IsNoLf from_digit (number_text n) (AreDigits-number_text n h).each }
 
 two_digits : (n : ℕ) (rest : List ℕ) → IsLine rest → IsLine ((48 + n / 10) ∷ (48 + n % 10) ∷ rest)
 two_digits n rest h = digit (n / 10) _ (digit (n % 10) rest h)
@@ -78,6 +80,12 @@ IsLine-text_of t (a ∷ b ∷ c ∷ d ∷ []) i =
     (two_digits (t / 1920 % 25) _ (separator d _ abc.1
     (digit (t % 1920 / 1000) _ (digit (t % 1920 / 100 % 10) _ (digit (t % 1920 / 10 % 10) _ (digit (t % 1920 % 10) _ nothing)))))))))))
 IsLine-text_of t _ i = cc
+
+IsLine-time_text :
+    (sources : List Source) (events : List Event) (separators : List ℕ) (time : Option ℕ) → IsTrue (are_separators separators)
+    → IsLine (time_text (plain_project sources events separators) time)
+IsLine-time_text sources events separators None i = literal (codes "_") refl
+IsLine-time_text sources events separators (Some time) i = IsLine-text_of time separators i
 
 IsLine-url_of_name : (name : List ℕ) → IsTrue (is_plain_name name) → IsLine (url_of_name name)
 unfolding url_of_name
@@ -103,7 +111,8 @@ IsLine-source_line sources events separators source i h =
     (joined (codes "\" ") _ (literal (codes "\" ") refl)
     (joined no_uid _ IsLine-no_uid
     (joined (codes " ") _ (literal (codes " ") refl)
-    (joined (text_of 25 h.start separators) (codes " _") (IsLine-text_of h.start separators i) (literal (codes " _") refl)))))))))
+    (joined (text_of 25 h.start separators) _ (IsLine-text_of h.start separators i)
+    (joined (codes " ") _ (literal (codes " ") refl) (IsLine-time_text sources events separators h.length i))))))))))
 
 IsLine-event_line :
     (sources : List Source) (events : List Event) (separators : List ℕ) (event : Event) → IsTrue (are_separators separators)

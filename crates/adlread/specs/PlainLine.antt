@@ -1,7 +1,7 @@
 -- What a line of the plain form says: a source of the source index, or an entry of the event list (AES31-3).
-use Rattle.std.specs.Prelude.{ℕ, ◌==◌, Bool, List, [], ◌∷◌, take, drop, length, Option, None, Some, if◌then◌else◌, bytes_eq, codes, option_map, option_and_then}
-use Rattle.std.specs.List.{before_first, position_or_len}
-use Rattle.sampletime.specs.TimeCode.{four_digits, samples_of}
+use Rattle.std.specs.Prelude.{ℕ, ◌+◌, ◌-◌, ◌*◌, ◌==◌, ◌&&◌, ◌||◌, nat_le, Bool, List, [], ◌∷◌, take, drop, length, Option, None, Some, if◌then◌else◌, bytes_eq, codes, option_map, option_and_then}
+use Rattle.std.specs.List.{before_first, fold, position_or_len, prefix_len, take_while}
+use Rattle.sampletime.specs.TimeCode.{is_digit, samples_of}
 use Rattle.sound_terms.specs.declared.Channels.{Channels}
 use Rattle.sound_terms.specs.declared.Event.{Event}
 use Rattle.list_terms.specs.Project.{Source}
@@ -16,16 +16,21 @@ o >>= f = option_and_then f o
 unfoldable pub behind : List ℕ → List ℕ → Option (List ℕ)
 behind text line = if bytes_eq (take (length text) line) text then Some (drop (length text) line) else None
 
--- a number from 1 on
-abbrev positive : ℕ → Option ℕ
-positive n = if n == 0 then None else Some n
+-- the number that these digits spell
+abbrev pub spelled : List ℕ → ℕ
+spelled digits = fold (λ n digit. n * 10 + (digit - 48)) 0 digits
 
--- the number from 0001 to 9999 that the line begins with, and what follows
+-- a number has four digits from 0001 to 9999, and five from 10000 to 32767
+abbrev pub is_number : (digits n : ℕ) → Bool
+is_number digits n = (digits == 4 && nat_le 1 n && nat_le n 9999) || (digits == 5 && nat_le 10000 n && nat_le n 32767)
+
+-- the number that these digits spell, where it has so many
+unfoldable pub number_of : List ℕ → Option ℕ
+number_of digits = if is_number (length digits) (spelled digits) then Some (spelled digits) else None
+
+-- the number that is spelled by the digits in front of the line's first other byte, and what follows
 unfoldable pub number_at : List ℕ → Option (ℕ × List ℕ)
-number_at line = do
-  digits ← four_digits (take 4 line)
-  number ← positive digits
-  Some (number, drop 4 line)
+number_at line = option_map (λ n. (n, drop (prefix_len is_digit line) line)) (number_of (take_while is_digit line))
 
 -- the time that the line begins with, its separators, and what follows
 unfoldable pub time_at : List ℕ → Option (ℕ × List ℕ × List ℕ)
@@ -45,24 +50,31 @@ abbrev pub at_end : List ℕ → Option (Unit {0})
 at_end [] = Some tt
 at_end (byte ∷ rest) = None
 
--- `" _ START _` at the end of a line: no identifier, the time of the first frame, and no length
-unfoldable pub start_at : List ℕ → Option ℕ
-start_at line = do
-  start_text ← behind (codes "\" _ ") line
-  (start, _, length_text) ← time_at start_text
-  rest ← behind (codes " _") length_text
+-- a time up to the end of a line, or `_` where none is told
+unfoldable pub last_time : List ℕ → Option (Option ℕ)
+last_time text = if bytes_eq text (codes "_") then Some None else do
+  (time, _, rest) ← time_at text
   _ ← at_end rest
-  Some start
+  Some (Some time)
 
--- `(Index) NUMBER (F) "URL:file://localhost/NAME" _ START _`
+-- `" _ START LENGTH` at the end of a line: no identifier, the time of the first frame, and the length or `_`
+unfoldable pub times_at : List ℕ → Option (ℕ × Option ℕ)
+times_at line = do
+  start_text ← behind (codes "\" _ ") line
+  (start, _, rest) ← time_at start_text
+  length_text ← behind (codes " ") rest
+  length ← last_time length_text
+  Some (start, length)
+
+-- `(Index) NUMBER (F) "URL:file://localhost/NAME" _ START LENGTH`
 unfoldable pub plain_source : List ℕ → Option Source
 plain_source line = do
   number_text ← behind (codes "(Index) ") line
   (number, url_text) ← number_at number_text
   name_text ← behind (codes " (F) \"URL:file://localhost/") url_text
   (name, rest) ← name_at name_text
-  start ← start_at rest
-  Some (plain_source_of number name start)
+  (start, length) ← times_at rest
+  Some (plain_source_of number name start length)
 
 abbrev first_channel : Channels
 first_channel = record { first = 1; last = 1 }

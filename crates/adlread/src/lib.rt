@@ -27,12 +27,12 @@ use std::alloc::Global;
 
 /// The project that a list spells, or the first line that is at fault. What follows the line `</ADL>` is ignored.
 ///
-/// Lines end with LF or with CR LF; the last one may lack its end. The text that a plain project is written as is read
-/// as that project.
+/// Lines end with LF or with CR LF; the last one may lack its end. Indexes and entries are numbered from 1 to 32767, each
+/// number once in its section: by four digits, or by five from 10000 on. The text that a plain project is written as
+/// spells that project.
 pub fn read(alloc: Global, text: &[u8]) -> Result<Project, AdlFault>
     ensures exact { Gives (λ p. p) refusal (λ r. r.number) result (text_value text.now) }
-    ensures written { (p : ListProject) → IsPlainProject p → text.now ≡ text_of_project p
-        → Gives (λ q. q) refusal (λ r. r.number) result (Ok p) }
+    ensures written { (p : ListProject) → IsPlainProject p → text_value (text_of_project p) ≡ Ok p }
     ensures plain { IfOk result (λ p. All IsPlainEvent p.events) }
     ensures few { IfOk result (λ p. length p.events ≤ 32767) }
     ensures memory_line { IfErr result (λ f. IsTrue (is_memory (refusal f).number) → line_of f ≡ 0) }
@@ -102,6 +102,13 @@ mod tests {
         )
     }
 
+    /// The sample list with this line as its source.
+    fn read_with_source(alloc: Global, source: &str) -> Result<Project, Fail> {
+        let source = format!(in alloc; "{source}\n")?;
+        let text = list(alloc, source.as_str(), "")?;
+        Ok(read(alloc, text.as_bytes())?)
+    }
+
     /// The line at fault of the sample list with this line as its entry.
     fn fault_with_entry(alloc: Global, entry: &str) -> Result<Option<AdlFault>, AllocError> {
         let source = format!(in alloc; "{SOURCE}\n")?;
@@ -120,6 +127,7 @@ mod tests {
         assert_eq!(rt; source.number(), 1);
         assert_eq!(rt; source.name(), "A.wav");
         assert_eq!(rt; source.start(), SampleTime::ZERO);
+        assert_eq!(rt; source.length(), None);
         let mono = Channels { first: 1, last: 1 };
         let none = Fade {
             length: SampleTime::ZERO,
@@ -203,6 +211,118 @@ mod tests {
             "",
         ] {
             assert_eq!(rt; fault_with_entry(alloc, entry)?, fault, "{entry}");
+        }
+        Ok(())
+    }
+
+    #[test]
+    fn a_length_is_kept(rt: HostRuntime) -> Result<(), Fail> {
+        let project = read_with_source(
+            rt.alloc(),
+            "(Index) 0001 (F) \"URL:file://localhost/A.wav\" _ 01.00.00.00/0000 00.00.00.00/0004",
+        )?;
+        assert_eq!(rt; project.sources().len(), 1);
+        let source = &project.sources()[0];
+        assert_eq!(rt; source.start(), time(172_800_000)?);
+        assert_eq!(rt; source.length(), Some(time(4)?));
+        Ok(())
+    }
+
+    #[test]
+    fn a_source_that_differs_is_told_by_its_line(rt: HostRuntime) -> Result<(), Fail> {
+        let alloc = rt.alloc();
+        for end in [
+            "_ 00.00.00.00/0000",
+            "_ 00.00.00.00/0000 ",
+            "_ 00.00.00.00/0000 __",
+            "_ 00.00.00.00/0000  _",
+            "_ 00.00.00.00/0000 _ ",
+            "_ 00.00.00.00/0000 0",
+            "_ 00.00.00.00/0000 00.00.00.00/1920",
+            "_ 00.00.00.00/0000 00.00.00.00/00040",
+            "_ 00.00.00.00/0000 00.00.00.00/0004 _",
+            "_ _ 00.00.00.00/0004",
+            "A 00.00.00.00/0000 _",
+        ] {
+            let line = format!(in alloc;
+                "(Index) 0001 (F) \"URL:file://localhost/A.wav\" {end}\n"
+            )?;
+            let text = list(alloc, line.as_str(), "")?;
+            let fault = read(alloc, text.as_bytes()).err();
+            assert_eq!(rt; fault, Some(AdlFault::Unsupported { line: 7 }), "{end}");
+        }
+        Ok(())
+    }
+
+    /// The sample list's source line with these digits as its number.
+    fn source_numbered(alloc: Global, digits: &str) -> Result<String, AllocError> {
+        format!(in alloc;
+            "(Index) {digits} (F) \"URL:file://localhost/A.wav\" _ 00.00.00.00/0000 _\n"
+        )
+    }
+
+    /// The sample list's entry line with these digits as its number and as the number of its index.
+    fn entry_numbered(alloc: Global, number: &str, index: &str) -> Result<String, AllocError> {
+        format!(in alloc;
+            "(Entry) {number} (Cut) I {index} 1 1 00.00.00.00/0000 01.00.00.00/0000 01.00.00.00/0004\n"
+        )
+    }
+
+    #[test]
+    fn numbers_go_from_1_to_32767(rt: HostRuntime) -> Result<(), Fail> {
+        let alloc = rt.alloc();
+        for (digits, number) in [
+            ("0001", 1),
+            ("0999", 999),
+            ("9999", 9_999),
+            ("10000", 10_000),
+            ("20304", 20_304),
+            ("32767", 32_767),
+        ] {
+            let source = source_numbered(alloc, digits)?;
+            let entry = entry_numbered(alloc, digits, digits)?;
+            let text = list(alloc, source.as_str(), entry.as_str())?;
+            let project = read(alloc, text.as_bytes())?;
+            assert_eq!(rt; project.sources().len(), 1);
+            assert_eq!(rt; project.sources()[0].number(), number);
+            assert_eq!(rt; project.events().len(), 1);
+            assert_eq!(rt; project.events()[0].number, number);
+            assert_eq!(rt; project.events()[0].index, number);
+        }
+        Ok(())
+    }
+
+    #[test]
+    fn every_other_number_is_told_by_its_line(rt: HostRuntime) -> Result<(), Fail> {
+        let alloc = rt.alloc();
+        for digits in [
+            "",
+            "1",
+            "010",
+            "0000",
+            "00000",
+            "00010",
+            "09999",
+            "32768",
+            "65537",
+            "99999",
+            "010000",
+            "100000",
+            "4294967297",
+            "+001",
+            "000A",
+            "0001.",
+        ] {
+            let source = source_numbered(alloc, digits)?;
+            let text = list(alloc, source.as_str(), "")?;
+            let fault = read(alloc, text.as_bytes()).err();
+            assert_eq!(rt; fault, Some(AdlFault::Unsupported { line: 7 }), "{digits}");
+            for (number, index) in [(digits, "0001"), ("0001", digits)] {
+                let entry = entry_numbered(alloc, number, index)?;
+                let text = list(alloc, "", entry.as_str())?;
+                let fault = read(alloc, text.as_bytes()).err();
+                assert_eq!(rt; fault, Some(AdlFault::Unsupported { line: 9 }), "{digits}");
+            }
         }
         Ok(())
     }

@@ -1,10 +1,11 @@
 // What a line says: a source of the source index, or an entry of the event list.
-ghost use Rattle.std.specs.Prelude.{◌≡◌, ◌<◌, IfSome, IsTrue, option_map};
-ghost use Rattle.sampletime.specs.TimeCode as time_code;
+ghost use Rattle.std.specs.Prelude.{◌≡◌, ◌≤◌, ◌<◌, IfSome, IsTrue, length, option_map};
+ghost use Rattle.std.specs.List.{AllPass};
+ghost use Rattle.sampletime.specs.TimeCode.{is_digit};
 ghost use Rattle.adlmodel.specs.Plain.{is_plain_name, plain_source_of};
 ghost use Rattle.adlread.specs.PlainLine as spec;
 
-use crate::bytes::first_place;
+use crate::bytes::{first_place, leading_digits};
 use adlmodel::{Channels, Event, Fade, is_plain_name};
 use sampletime::{SampleTime, Separators, parse_time};
 use std::str;
@@ -15,25 +16,27 @@ pub struct SourceLine<'a> {
     pub number: u32,
     pub name: &'a str,
     pub start: SampleTime,
+    pub length: Option<SampleTime>,
 }
 
 /// The source that a line of the source index says.
 #[tactic(auto, unfolding(crate::specs::PlainLine::plain_source))]
 pub fn source_line(line: &[u8]) -> Option<SourceLine<'_>>
-    ensures fields { option_map (λ s. plain_source_of s.number s.name.now s.start) result ≡ spec.plain_source line.now }
+    ensures fields { option_map (λ s. plain_source_of s.number s.name.now s.start s.length) result ≡ spec.plain_source line.now }
     ensures plain { IfSome result (λ s. IsTrue (is_plain_name s.name.now)) }
-    ensures number { IfSome result (λ s. s.number < 10000) }
+    ensures number { IfSome result (λ s. s.number < 32768) }
 {
     let mut fields = Fields { rest: line };
     fields.skip(b"(Index) ")?;
     let number = fields.number()?;
     fields.skip(b" (F) \"URL:file://localhost/")?;
     let name = fields.name()?;
-    let start = fields.start()?;
+    let (start, length) = fields.times()?;
     Some(SourceLine {
         number,
         name,
         start,
+        length,
     })
 }
 
@@ -41,7 +44,7 @@ pub fn source_line(line: &[u8]) -> Option<SourceLine<'_>>
 #[tactic(auto, unfolding(crate::specs::PlainLine::plain_event))]
 pub fn event_line(line: &[u8]) -> Option<(Event, Separators)>
     ensures fields { result ≡ spec.plain_event line.now }
-    ensures number { IfSome result (λ e. e.0.number < 10000) }
+    ensures number { IfSome result (λ e. e.0.number < 32768) }
 {
     let mut fields = Fields { rest: line };
     fields.skip(b"(Entry) ")?;
@@ -91,16 +94,16 @@ impl<'a> Fields<'a> {
         Some(())
     }
 
-    /// Reads four digits as a number from 1 on.
+    /// Reads the number that the digits in front of the first other byte spell.
     #[tactic(auto, unfolding(crate::specs::PlainLine::number_at))]
     fn number(&mut self) -> Option<u32>
         ensures value { option_map (λ n. (n, self.new.rest.now)) result ≡ spec.number_at self.old.rest.now }
-        ensures small { IfSome result (λ n. n < 10000) }
+        ensures small { IfSome result (λ n. n < 32768) }
     {
-        let (digits, rest) = self.rest.split_first_chunk::<4>()?;
-        let number = four_digits(*digits)?;
+        let end = leading_digits(self.rest);
+        let (digits, rest) = self.rest.split_at(end);
         self.rest = rest;
-        (number > 0).then_some(number)
+        number_of(digits)
     }
 
     /// Reads a time and its separators.
@@ -129,16 +132,29 @@ impl<'a> Fields<'a> {
         str::from_utf8(name).ok()
     }
 
-    /// Reads the rest of a source, behind its name: no identifier, its start, and no length.
-    #[tactic(auto, unfolding(crate::specs::PlainLine::start_at))]
-    fn start(&mut self) -> Option<SampleTime>
-        ensures { result ≡ spec.start_at self.old.rest.now }
+    /// Reads the rest of a source, behind its name: no identifier, its start, and its length where it is told.
+    #[tactic(auto, unfolding(crate::specs::PlainLine::times_at))]
+    fn times(&mut self) -> Option<(SampleTime, Option<SampleTime>)>
+        ensures { result ≡ spec.times_at self.old.rest.now }
     {
         self.skip(b"\" _ ")?;
         let (start, _) = self.time()?;
-        self.skip(b" _")?;
+        self.skip(b" ")?;
+        let length = self.last_time()?;
+        Some((start, length))
+    }
+
+    /// Reads a time up to the end of the line; `_` stands for none.
+    #[tactic(auto, unfolding(crate::specs::PlainLine::last_time))]
+    fn last_time(&mut self) -> Option<Option<SampleTime>>
+        ensures { result ≡ spec.last_time self.old.rest.now }
+    {
+        if self.rest == b"_".as_slice() {
+            return Some(None);
+        }
+        let (time, _) = self.time()?;
         self.end()?;
-        Some(start)
+        Some(Some(time))
     }
 
     /// Whether nothing follows.
@@ -149,16 +165,31 @@ impl<'a> Fields<'a> {
     }
 }
 
-/// The number that four ASCII digits spell, 0 to 9999.
-fn four_digits(digits: [u8; 4]) -> Option<u32>
-    ensures value { result ≡ time_code.four_digits digits }
-    ensures small { IfSome result (λ n. n < 10000) }
+/// The number that these digits spell, four of them from 0001 to 9999 or five from 10000 to 32767.
+#[tactic(auto, unfolding(crate::specs::PlainLine::number_of))]
+fn number_of(digits: &[u8]) -> Option<u32>
+    requires { AllPass is_digit digits.now }
+    ensures value { result ≡ spec.number_of digits.now }
+    ensures small { IfSome result (λ n. n < 32768) }
 {
-    let [a, b, c, d] = digits;
-    if a.is_ascii_digit() && b.is_ascii_digit() && c.is_ascii_digit() && d.is_ascii_digit() {
-        let [a, b, c, d] = [a - b'0', b - b'0', c - b'0', d - b'0'];
-        Some(u32::from(a) * 1000 + u32::from(b) * 100 + u32::from(c) * 10 + u32::from(d))
-    } else {
-        None
+    let range = match digits.len() {
+        4 => 1..=9_999,
+        5 => 10_000..=32_767,
+        _ => return None,
+    };
+    let number = spelled(digits);
+    range.contains(&number).then_some(number)
+}
+
+/// The number that at most five digits spell.
+fn spelled(digits: &[u8]) -> u32
+    requires digits { AllPass is_digit digits.now }
+    requires few { length digits.now ≤ 5 }
+    ensures { result ≡ spec.spelled digits.now }
+{
+    let mut number = 0;
+    for digit in digits {
+        number = number * 10 + u32::from(digit - b'0');
     }
+    number
 }

@@ -27,6 +27,7 @@ impl<'a> Model for Lines<'a> {
 }
 
 impl<'a> Lines<'a> {
+    /// The lines of the text, from the first one on.
     pub fn new(text: &'a [u8]) -> Self
         ensures { result ≡ record { number = 0; lines = lines_of text.now } }
     {

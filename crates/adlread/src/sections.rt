@@ -11,11 +11,11 @@ use adlmodel::{Event, Source};
 use sampletime::Separators;
 use std::alloc::{AllocError, Global};
 
-/// The numbers below 10000 that are taken, as a flag for each.
+/// The numbers below 32768 that are taken, as a flag for each.
 #[derive(Drop)]
 struct Numbers {
     taken: Vec<bool>,
-    ghost whole: { vec_len taken ≡ 10000 },
+    ghost whole: { vec_len taken ≡ 32768 },
 }
 
 impl Numbers {
@@ -27,21 +27,21 @@ impl Numbers {
     }
 
     fn contains(&self, number: u32) -> bool
-        requires { number < 10000 }
+        requires { number < 32768 }
         ensures { result ≡ slice_index_or self.now.taken.items number false }
     {
         self.taken[number as usize]
     }
 
     fn insert(&mut self, number: u32)
-        requires { number < 10000 }
+        requires { number < 32768 }
         ensures { self.new.taken.items ≡ slice_set self.old.taken.items number true }
     {
         self.taken[number as usize] = true;
     }
 }
 
-const LIMIT: usize = 10_000;
+const LIMIT: usize = 32_768;
 
 /// So many flags, none of them set.
 fn cleared_flags(alloc: Global, count: usize) -> Result<Vec<bool>, AllocError>
@@ -82,8 +82,8 @@ impl SourceIndex {
             return Err(AdlFault::Unsupported { line: at });
         }
         let name = String::from_str(alloc, source.name)?;
-        self.sources
-            .push(Source::new(source.number, name, source.start))?;
+        let new = Source::new(source.number, name, source.start, source.length);
+        self.sources.push(new)?;
         self.numbers.insert(source.number);
         Ok(())
     }

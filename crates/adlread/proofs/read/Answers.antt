@@ -1,12 +1,10 @@
-use Rattle.std.proofs.Common.{◌≡◌, ℕ, List, Result, Ok, Err, ap, subst, ◌∙◌}
+use Rattle.std.proofs.Common.{◌≡◌, ℕ, List, Result, Ok, Err, subst}
 use Rattle.work_terms.specs.Refusals.{Gives}
 use Rattle.list_terms.specs.Project.{ListProject}
-use Rattle.list_terms.specs.WrittenText.{text_of_project}
 use Rattle.adlread.specs.declared.fault.AdlFault.{AdlFault}
 use Rattle.adlread.specs.declared.fault.AdlFault.TheVariants.{Unsupported, Memory}
 use Rattle.adlread.specs.Fault.{Reads, refusal}
 use Rattle.adlread.specs.PlainList.{Rest, lines_of, project_of, text_value}
-use Rattle.adlread.specs.Written.{IsPlainProject}
 use Rattle.adlread.proofs.RoundTrip.{text_value-text_of_project}
 use Rattle.std.proofs.Common.{length, ◌≤◌}
 use Rattle.std.specs.Prelude.{IfOk, All}
@@ -27,18 +25,12 @@ exact_from_reads :
     → Reads (λ p. p) result (project_of start) → Gives (λ p. p) refusal (λ r. r.number) result (text_value text)
 exact_from_reads text start result e h = exact_at_start text result (subst (λ rest. Reads (λ p. p) result (project_of rest)) e h)
 
-written_from_exact :
-    (text : List ℕ) (result : Result ListProject AdlFault) → Gives (λ p. p) refusal (λ r. r.number) result (text_value text)
-    → (p : ListProject) → IsPlainProject p → text ≡ text_of_project p → Gives (λ q. q) refusal (λ r. r.number) result (Ok p)
-written_from_exact text result h p plain e =
-    subst (Gives (λ q. q) refusal (λ r. r.number) result) (ap text_value e ∙ text_value-text_of_project p plain) h
-
 pub returns-clause-exact : goal.returns-clause-exact
 returns-clause-exact c =
     exact_from_reads c.args.text.now c.new-lines.result c.read_project.result c.new-lines.ensures c.read_project.ensures
 
 pub returns-clause-written : goal.returns-clause-written
-returns-clause-written c = written_from_exact c.args.text.now c.read_project.result (returns-clause-exact c)
+returns-clause-written c p plain = text_value-text_of_project p plain
 
 events_from_exact :
     (text : List ℕ) (result : Result ListProject AdlFault) → Gives (λ p. p) refusal (λ r. r.number) result (text_value text)
