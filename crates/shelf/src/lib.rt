@@ -2,7 +2,9 @@
 #![tactic(auto)]
 
 mod bench;
+mod failures;
 mod fault;
+mod folder;
 mod memory;
 mod source;
 #[cfg(test)]
@@ -10,5 +12,6 @@ mod tests;
 
 pub use bench::Bench;
 pub use fault::{DeviceFault, ShelfFault};
+pub use folder::{FolderBench, FolderShelf};
 pub use memory::{MemoryBench, MemoryShelf};
 pub use source::Shelf;

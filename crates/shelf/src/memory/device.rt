@@ -4,6 +4,7 @@ ghost use Rattle.shelf.specs.Memory.{stretch_of, fails_now, after_call};
 ghost use Rattle.work_terms.specs.Disk.{HasCause, Rises};
 
 use crate::DeviceFault;
+use crate::failures::counted;
 
 #[derive(Clone, Copy)]
 pub struct Device {
@@ -16,6 +17,7 @@ pub struct Device {
 }
 
 impl Device {
+    /// A device that hasn't failed, and none of whose calls are to fail.
     pub fn new() -> Self
         ensures failures { result.failures ≡ 0 }
         ensures stretch { stretch_of result ≡ (0, 0) }
@@ -59,9 +61,6 @@ impl Device {
         ensures cause { HasCause self.old.failures self.new.failures (IsOk result) (IsErr result) }
         ensures rest { self.new ≡ record self.old { failures = self.new.failures } }
     {
-        if outcome.is_err() {
-            self.failures = self.failures.saturating_add(1);
-        }
-        outcome
+        counted(&mut self.failures, outcome)
     }
 }

@@ -14,6 +14,7 @@ pub struct NamedFiles {
 }
 
 impl NamedFiles {
+    /// No files.
     pub fn new(alloc: Global) -> Self
         ensures { (name : List ℕ) → files_of result name ≡ None }
     {
@@ -23,12 +24,14 @@ impl NamedFiles {
         }
     }
 
+    /// The bytes of the file, or `None` where no file has the name.
     pub fn get(&self, name: &str) -> Option<&[u8]>
         ensures { option_copied result ≡ files_of self.now name.now }
     {
         self.files.get(name).map(|bytes| bytes.as_slice())
     }
 
+    /// How many bytes the file has, or `None` where no file has the name.
     pub fn length(&self, name: &str) -> Option<u64>
         ensures { result ≡ option_map (λ bytes. length bytes) (files_of self.now name.now) }
     {

@@ -1,0 +1,110 @@
+// One open file.
+ghost use Rattle.std.specs.Prelude.{◌≡◌, ◌+◌, ◌^◌, ◌<◌, ◌≤◌, ◌↔◌, All, length, IsTrue, IsErr, IfOk, OnOk, OnErr};
+
+use std::fs::OpenFile;
+use std::io;
+use std::io::{Error, ErrorKind};
+use std::os::unix::fs::FileExt;
+
+/// An open file, and how many bytes it has. Nothing else is to write to it while it is open.
+#[derive(Drop)]
+pub struct Handle<F: OpenFile + FileExt + Drop> {
+    file: F,
+    length: u64,
+}
+
+impl<F: OpenFile + FileExt + Drop> Handle<F> {
+    /// The handle of an open file of so many bytes.
+    pub fn new(file: F, length: u64) -> Self
+        ensures { result.length ≡ length }
+    {
+        Handle { file, length }
+    }
+
+    /// How many bytes the file has.
+    pub fn length(&self) -> u64
+        ensures { result ≡ self.now.length }
+    {
+        self.length
+    }
+
+    /// Fills the buffer from `at` on. It fails where that doesn't lie inside the file, or the file was cut meanwhile.
+    pub fn read_at(&self, at: u64, buffer: &mut [u8]) -> io::Result<()>
+        ensures outside { self.now.length < at + length buffer.old → IsErr result }
+    {
+        self.require_inside(at, buffer.len())?;
+        self.file.read_exact_at(buffer, at)
+    }
+
+    /// Writes the bytes over those from `at` on. It fails where they don't lie inside the file.
+    pub fn write_at(&self, at: u64, bytes: &[u8]) -> io::Result<()>
+        ensures outside { self.now.length < at + length bytes.now → IsErr result }
+    {
+        self.require_inside(at, bytes.len())?;
+        self.file.write_all_at(bytes, at)
+    }
+
+    /// Adds the bytes at the end of the file. Zeros are laid out as a hole, where the file system has holes. After an
+    /// `Err` the file may have grown by some of the bytes.
+    pub fn append(&mut self, bytes: &[u8]) -> io::Result<()>
+        ensures end { OnOk result (self.new.length ≡ self.old.length + length bytes.now) }
+        ensures same_end { OnErr result (self.new.length ≡ self.old.length) }
+    {
+        let end = end_of(self.length, bytes.len())?;
+        if is_silent(bytes) {
+            self.file.set_len(end)?;
+        } else {
+            self.file.write_all_at(bytes, self.length)?;
+        }
+        self.length = end;
+        Ok(())
+    }
+
+    /// Waits until the file's bytes are on the disk.
+    pub fn sync(&self) -> io::Result<()> {
+        self.file.sync_all()
+    }
+
+    /// Fails where the range of so many bytes from `at` on doesn't lie inside the file.
+    fn require_inside(&self, at: u64, count: usize) -> io::Result<()>
+        ensures inside { OnOk result (at + count ≤ self.now.length) }
+        ensures outside { OnErr result (self.now.length < at + count) }
+    {
+        let length = self.length;
+        if end_of(at, count)? <= length {
+            Ok(())
+        } else {
+            Err(Error::from(ErrorKind::UnexpectedEof))
+        }
+    }
+}
+
+/// Where a range of so many bytes from `at` on ends. It fails past the last place of 64 bits.
+fn end_of(at: u64, count: usize) -> io::Result<u64>
+    ensures end { IfOk result (λ end. end ≡ at + count) }
+    ensures too_far { OnErr result (2 ^ 64 ≤ at + count) }
+{
+    at.checked_add(count as u64)
+        .ok_or(Error::from(ErrorKind::FileTooLarge))
+}
+
+/// Whether all bytes are zero.
+fn is_silent(bytes: &[u8]) -> bool
+    ensures { IsTrue result ↔ All (λ byte. byte ≡ 0) bytes.now }
+{
+    match bytes {
+        [first, ..] if *first != 0 => false,
+        _ => greatest(bytes) == 0,
+    }
+}
+
+/// The greatest byte, or 0. The loop has no other way out, so that it takes many bytes at a time.
+fn greatest(bytes: &[u8]) -> u8
+    ensures { result ≡ 0 ↔ All (λ byte. byte ≡ 0) bytes.now }
+{
+    let mut greatest = 0;
+    for byte in bytes {
+        greatest = greatest.max(*byte);
+    }
+    greatest
+}
