@@ -19,7 +19,7 @@ use Rattle.consolidate.specs.declared.binding.Bound.{Bound}
 use Rattle.consolidate.specs.Bound.{IsInFile, Represents, Summary, kept_summary, summary_of}
 
 -- what is found has what each element has
-All-find : {X : Type 0} (P : X → Type 0) (p : X → Bool) (xs : List X) (x : X) → All P xs → find p xs ≡ Some x → P x
+pub All-find : {X : Type 0} (P : X → Type 0) (p : X → Bool) (xs : List X) (x : X) → All P xs → find p xs ≡ Some x → P x
 All-find P p xs x all found =
     let at = sym (find_at p xs) ∙ found in
     let here = get_or_from_slice_get xs (position_or_len p xs) x x at in
@@ -96,7 +96,7 @@ pub record Plays (bound : Bound) (index : BoundIndex) (event : Event) : Type 0 w
   pub inside : (event.source_in - index.base) + (event.dest_out - event.dest_in) ≤ file.frames
 
 -- the frames of an entry that sounds can be addressed where its span has no fault
-addressed : (index : BoundIndex) (facts : SoundFacts) (event : Event) → span_fault index facts event ≡ None → event.dest_in < event.dest_out
+pub addressed : (index : BoundIndex) (facts : SoundFacts) (event : Event) → span_fault index facts event ≡ None → event.dest_in < event.dest_out
     → (index.base ≤ event.source_in) × ((event.source_in - index.base) + (event.dest_out - event.dest_in) ≤ index.addressable)
 addressed index facts event faultless sounds = grind (arith, nat_tests)
 

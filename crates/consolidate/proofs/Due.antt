@@ -1,5 +1,5 @@
 -- Which refusal is due at each stage.
-use Rattle.std.proofs.Common.{◌≡◌, ℕ, ◌<◌, ◌≤◌, ◌+◌, Bool, true, false, List, [], ◌∷◌, Option, None, Some, arith, refl, sym, ap, ◌∙◌}
+use Rattle.std.proofs.Common.{◌≡◌, ℕ, ◌≤◌, Bool, true, false, List, [], ◌∷◌, Option, None, Some, arith, refl}
 use Rattle.std.specs.Prelude.{IfErr, IfSome, MatchBool, Result, Ok, Err, ⊤, option_map}
 use Rattle.std.proofs.lemmas.Bool.Decides.{nat_tests}
 use Rattle.sound_terms.specs.declared.Event.{Event}
@@ -21,11 +21,10 @@ use Rattle.consolidate.specs.Rendering.{length_fault, no_options, render_refusal
 use Rattle.adlread.specs.declared.fault.AdlFault.{AdlFault}
 use Rattle.adlread.specs.declared.fault.AdlFault.TheVariants as list
 use Rattle.adlread.specs.Fault.{refusal}
-use Rattle.consolidate.specs.declared.faults.Fault.{Fault}
 use Rattle.consolidate.specs.declared.faults.Fault.TheVariants as fault
 use Rattle.consolidate.specs.declared.faults.EntryFault.{EntryFault}
 use Rattle.consolidate.specs.declared.faults.EntryFault.TheVariants.{UnknownIndex, EndBeforeStart, FadesTooLong, SourceChannel, SpanOutside}
-use Rattle.consolidate.specs.Faults.{number_of_entry, refusal_of}
+use Rattle.consolidate.specs.Faults.{refusal_of}
 use Rattle.consolidate.proofs.Turns.{IsOfBinding, binding_of-refusal, binding_turn}
 
 pub turn_positive : (refusal : Refusal) → 1 ≤ turn_of refusal

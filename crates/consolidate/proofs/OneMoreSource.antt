@@ -54,12 +54,12 @@ position_is_at {X = X} p xs place found = by_test (ltb (position_or_len p xs) (l
       record { element = at.0; there = at.1; passes = find-passes p xs at.0 (find_at p xs ∙ ap (λ i. slice_get xs i) same ∙ at.1) }
   by_test false past = let e : None ≡ Some place = sym (rw past) ∙ found in cc
 
-slice_get-append : {X : Type 0} (xs ys : List X) (i : ℕ) (x : X) → slice_get xs i ≡ Some x → slice_get (xs ++ ys) i ≡ Some x
+pub slice_get-append : {X : Type 0} (xs ys : List X) (i : ℕ) (x : X) → slice_get xs i ≡ Some x → slice_get (xs ++ ys) i ≡ Some x
 slice_get-append [] ys i x there = cc
 slice_get-append (y ∷ xs) ys zero x there = there
 slice_get-append (y ∷ xs) ys (suc i) x there = slice_get-append xs ys i x there
 
-slice_get-push : {X : Type 0} (xs : List X) (x : X) → slice_get (xs ++ x ∷ []) (length xs) ≡ Some x
+pub slice_get-push : {X : Type 0} (xs : List X) (x : X) → slice_get (xs ++ x ∷ []) (length xs) ≡ Some x
 slice_get-push [] x = refl
 slice_get-push (y ∷ xs) x = slice_get-push xs x
 
@@ -149,10 +149,10 @@ has_new_file files binding source old new name file facts represents url missing
 
 -- the index is added
 pub is_added : (files : Files) (binding : Binding) (source : Source) (bound new : Bound) (place start : ℕ) (file : SourceFile)
-    → HasFile files binding source bound place → binding.indexes ≡ bound.indexes.items
+    → HasFile files binding source bound place → binding.indexes ≡ bound.indexes
     → source.start ≡ Some start → slice_get bound.files.items place ≡ Some file
     → new.files ≡ bound.files
-    → new.indexes.items ≡ bound.indexes.items ++ record { number = source.number; file = place; base = start; addressable = min file.frames (day - start) } ∷ []
+    → new.indexes ≡ bound.indexes ++ record { number = source.number; file = place; base = start; addressable = min file.frames (day - start) } ∷ []
     → (next : Binding) × (bound_source files binding source (place_of_url source.url) ≡ Ok next) × Represents new next
 is_added files binding source bound new place start file has indexes from there same pushed =
     let opened : OpenedFile = record { path = has.path; facts = has.facts } in
@@ -169,13 +169,18 @@ is_added files binding source bound new place start file has indexes from there 
       },
     )
 
+-- a list without a first element has none
+pub no_first : {X : Type 0} (xs : List X) → slice_get xs 0 ≡ None → xs ≡ []
+no_first [] none = refl
+no_first (x ∷ xs) none = cc
+
 -- what is bound so far, and what is left of the project
 pub record HasRest (files : Files) (project : ListProject) (bound : Bound) (rest : List Source) : Type 0 where
   pub binding : Binding
   pub represents : Represents bound binding
   pub same : with_sources files project.events (Ok binding) rest ≡ binding_of project files
 
-with_sources-refused : (files : Files) (events : List Event) (refusal : Refusal) (sources : List Source) → with_sources files events (Err refusal) sources ≡ Err refusal
+pub with_sources-refused : (files : Files) (events : List Event) (refusal : Refusal) (sources : List Source) → with_sources files events (Err refusal) sources ≡ Err refusal
 with_sources-refused files events refusal [] = refl
 with_sources-refused files events refusal (source ∷ sources) = refl
 

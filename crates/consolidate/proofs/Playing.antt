@@ -1,6 +1,6 @@
 -- What an event adds to the sums.
-use Rattle.std.proofs.Common.{◌≡◌, ◌⊎◌, inl, inr, ℕ, ◌+◌, ◌-◌, ◌*◌, ◌^◌, ◌<◌, ◌≤◌, List, [], length, Option, Some, None, arith, rules, ◌∙◌, sym, ap, refl, true, false, Bool, nat_lt, nat_le, if◌then◌else◌, cond, ◌&&◌}
-use Rattle.std.specs.Prelude.{ℤ, IsSome, pos, negsuc, ◌+ℤ◌, ◌*ℤ◌, unwrap_or, slice_get, string_bytes}
+use Rattle.std.proofs.Common.{◌≡◌, ◌⊎◌, inl, inr, ℕ, ◌+◌, ◌-◌, ◌^◌, ◌<◌, ◌≤◌, List, [], length, Option, Some, None, arith, ◌∙◌, sym, ap, refl, true, false}
+use Rattle.std.specs.Prelude.{ℤ, IsSome, pos, negsuc, ◌+ℤ◌, unwrap_or, slice_get, string_bytes}
 use Rattle.std.proofs.Common.{get_or}
 use Rattle.std.proofs.lemmas.Option.{get_or_from_slice_get}
 use Rattle.std.proofs.lemmas.Bool.Decides.{nat_tests}
@@ -9,20 +9,18 @@ use Rattle.std.proofs.lemmas.Bool.{cases_lt}
 use Rattle.sound_terms.specs.declared.Event.{Event}
 use Rattle.sound_terms.specs.declared.BoundIndex.{BoundIndex}
 use Rattle.sound_terms.specs.Mix.{Reading, index_of, contribution_of, contribution_at, is_heard, share_of, fade_fraction}
-use Rattle.sound_terms.specs.Waves.{sample_at}
 use Rattle.work_terms.specs.Disk.{Files}
 use Rattle.list_terms.specs.Binding.{Binding}
 use Rattle.list_terms.specs.Accepted.{entry_fault, reading_of}
-use Rattle.sound_terms.specs.Mix.{full_scale}
 use borrow.Rule.Slice.PartMut.{put_mid, mid_of}
 use Rattle.consolidate.specs.declared.source_file.SourceFile.{SourceFile}
 use Rattle.consolidate.specs.declared.binding.Bound.{Bound}
 use Rattle.consolidate.specs.declared.mixing.Stretch.{Stretch}
 use Rattle.consolidate.specs.Bound.{Represents}
-use Rattle.consolidate.specs.Stretches.{BeginsAt, IsInside, IsPlayed, LiesWithin}
+use Rattle.consolidate.specs.Stretches.{IsInside, IsPlayed}
 use Rattle.consolidate.specs.Sums.{sum_at, samples_from, AreSamplesAdded, AreWithin, GrowBy}
-use Rattle.consolidate.proofs.BoundLaws.{Plays, plays, reading_kept}
-use Rattle.consolidate.proofs.Summing.{AreSameFrom, length-mid, part_near, part_within, within_more, sum_at-mid_of, sum_at-put_mid_before, sum_at-put_mid_inside, sum_at-put_mid_behind}
+use Rattle.consolidate.proofs.BoundLaws.{reading_kept}
+use Rattle.consolidate.proofs.Summing.{length-mid, part_near, part_within, within_more, sum_at-mid_of, sum_at-put_mid_before, sum_at-put_mid_inside, sum_at-put_mid_behind}
 use Rattle.std.specs.Prelude.{IsErrOf, Err}
 use Rattle.shelf.specs.declared.fault.ShelfFault.{ShelfFault}
 use Rattle.shelf.specs.declared.fault.ShelfFault.TheVariants.{NotFound, Device}

@@ -1,6 +1,6 @@
 -- The range of a project of plain events.
-use Rattle.std.proofs.Common.{◌≡◌, ℕ, zero, suc, ◌+◌, ◌-◌, ◌*◌, ◌<◌, ◌≤◌, Bool, true, false, List, [], ◌∷◌, length, get_or, None, Some, arith, refl, sym, ap, ◌∙◌}
-use Rattle.std.specs.Prelude.{max, nat_lt, nat_le, cond}
+use Rattle.std.proofs.Common.{◌≡◌, ℕ, zero, suc, ◌+◌, ◌-◌, ◌*◌, ◌<◌, ◌≤◌, Bool, true, false, List, [], ◌∷◌, None, Some, arith, refl, ap, ◌∙◌}
+use Rattle.std.specs.Prelude.{max, nat_le, cond}
 use Rattle.std.specs.List.{All}
 use Rattle.std.proofs.lemmas.Bool.Decides.{nat_tests}
 use Rattle.sound_terms.specs.declared.Event.{Event}
@@ -8,7 +8,7 @@ use Rattle.sound_terms.specs.Waves.{is_large}
 use Rattle.sound_terms.specs.Render.{Range, render_info}
 use Rattle.work_terms.specs.Refusals.{Refusal}
 use Rattle.list_terms.specs.Project.{ListProject}
-use Rattle.list_terms.specs.Accepted.{first_fault, greatest_of, least_of, range_of, range_fault}
+use Rattle.list_terms.specs.Accepted.{first_fault, greatest_of, least_of, range_of}
 use Rattle.adlread.specs.PlainList.{IsPlainEvent}
 use Rattle.consolidate.specs.Rendering.{length_fault, no_options}
 

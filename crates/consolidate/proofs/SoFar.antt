@@ -1,5 +1,5 @@
 -- Sums that have come as far as some events.
-use Rattle.std.proofs.Common.{◌≡◌, ℕ, zero, suc, ◌+◌, ◌*◌, ◌^◌, ◌<◌, ◌≤◌, List, [], ◌∷◌, length, drop, get_or, replicate, Option, Some, None, arith, add-one, drop-cons, refl, sym, ap, ◌∙◌}
+use Rattle.std.proofs.Common.{◌≡◌, ℕ, zero, suc, ◌+◌, ◌<◌, List, [], ◌∷◌, length, drop, get_or, replicate, Option, Some, None, arith, add-one, drop-cons, refl, sym, ap, ◌∙◌}
 use Rattle.std.specs.Prelude.{ℤ, pos, ◌+ℤ◌, slice_get, option_map}
 use Rattle.std.proofs.lemmas.Int.{ints}
 use Rattle.sound_terms.specs.declared.Event.{Event}
@@ -54,7 +54,7 @@ all_events reading indexes events from i sums done so_far k below =
     ∙ ap (λ (rest : List Event). sum_at sums k +ℤ mix_at reading indexes rest 1 (from + k)) (sym done)
     ∙ so_far.each k below
 
-first_none : (o : Option ℕ) (later : Option Refusal) (event : Event) → first_fault (option_map (entry_refusal event) o) later ≡ None
+pub first_none : (o : Option ℕ) (later : Option Refusal) (event : Event) → first_fault (option_map (entry_refusal event) o) later ≡ None
     → (o ≡ None) × (later ≡ None)
 first_none None later event none = (refl, none)
 first_none (Some n) later event none = absurd (cc)

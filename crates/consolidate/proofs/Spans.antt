@@ -1,6 +1,6 @@
 -- The least and the greatest time of events.
-use Rattle.std.proofs.Common.{◌≡◌, ℕ, zero, suc, ◌+◌, ◌-◌, ◌<◌, ◌≤◌, List, [], ◌∷◌, length, drop, get_or, arith, refl, sym, ap, ◌∙◌}
-use Rattle.std.specs.Prelude.{min, max}
+use Rattle.std.proofs.Common.{◌≡◌, ℕ, zero, suc, ◌-◌, ◌<◌, ◌≤◌, List, [], ◌∷◌, length, get_or, arith, refl, ap, ◌∙◌}
+use Rattle.std.specs.Prelude.{min}
 use Rattle.sound_terms.specs.declared.Event.{Event}
 use Rattle.std.specs.List.{All}
 use Rattle.list_terms.specs.Accepted.{least_of, greatest_of}

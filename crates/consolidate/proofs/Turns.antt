@@ -1,10 +1,10 @@
 -- In which turn refusals come.
-use Rattle.std.proofs.Common.{◌≡◌, ℕ, ◌<◌, ◌≤◌, ◌+◌, Bool, true, false, List, [], ◌∷◌, ◌++◌, length, Option, None, Some, arith, refl, sym, ap, ◌∙◌}
-use Rattle.std.specs.Prelude.{IfErr, IfSome, Result, Ok, Err, nat_lt, not, ◌&&◌, cond, codes}
+use Rattle.std.proofs.Common.{◌≡◌, ℕ, ◌≤◌, Bool, true, false, List, [], ◌∷◌, ◌++◌, Option, None, Some, arith, refl}
+use Rattle.std.specs.Prelude.{IfErr, IfSome, Result, Ok, Err, cond}
 use Rattle.std.proofs.lemmas.Bool.Decides.{nat_tests}
 use Rattle.std.specs.Prelude.{slice_get, bytes_eq}
 use Rattle.sound_terms.specs.declared.Event.{Event}
-use Rattle.sound_terms.specs.Chunks.{Chunk, number_at, chunk_fault, first_fault, first_of, is_uncounted}
+use Rattle.sound_terms.specs.Chunks.{Chunk, number_at, chunk_fault, first_fault}
 use Rattle.sound_terms.specs.Sounds.{found_in, checked_chunks, walked, plain_format_of, format_of, plain_sound_of, SoundFacts, sound_by, is_rf64, depth_of, bytes_of_span}
 use Rattle.sound_terms.specs.declared.Depth.{Depth}
 use Rattle.sound_terms.specs.declared.Format.{Format}

@@ -1,6 +1,6 @@
 -- What was prepared and written is the rendering.
-use Rattle.std.proofs.Common.{◌≡◌, ℕ, ◌+◌, ◌*◌, ◌^◌, ◌<◌, ◌≤◌, List, ◌++◌, length, Some, inl, arith, refl, sym, ap, subst, ◌∙◌}
-use Rattle.std.specs.Prelude.{ℤ, codes}
+use Rattle.std.proofs.Common.{◌≡◌, ℕ, ◌+◌, ◌*◌, ◌≤◌, List, ◌++◌, length, Some, inl, arith, refl, sym, ap, subst, ◌∙◌}
+use Rattle.std.specs.Prelude.{codes}
 use Rattle.sampletime.specs.TimeCode.{day}
 use Rattle.sound_terms.specs.Waves.{header_of}
 use Rattle.sound_terms.specs.Render.{Range, ReadsBack, render_info, rendering_of}

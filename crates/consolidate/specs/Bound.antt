@@ -51,7 +51,7 @@ IsInFile files index = (file : OpenedFile) × (slice_get files index.file ≡ So
 -- what is kept of this binding: all files in order, and all indexes
 pub record Represents (bound : Bound) (binding : Binding) : Type 0 where
   pub files : map summary_of binding.files ≡ map kept_summary bound.files.items
-  pub indexes : binding.indexes ≡ bound.indexes.items
+  pub indexes : binding.indexes ≡ bound.indexes
   pub inside : All (IsInFile binding.files) binding.indexes
 
 -- a value that is read is kept so, or the fault that is read; an excused fault may come in place of either

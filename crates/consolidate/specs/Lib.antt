@@ -1,5 +1,10 @@
 pub mod Bound
+pub mod Consolidated
+pub mod Copied
 pub mod Faults
+pub mod Listed
+pub mod Places
+pub mod Planned
 pub mod Rendering
 pub mod Stretches
 pub mod Sums

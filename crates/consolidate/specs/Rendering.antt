@@ -1,13 +1,13 @@
 -- What a rendering leaves, and which refusal is due.
-use Rattle.std.specs.Prelude.{◌≡◌, ◌≢◌, ℕ, ◌+◌, ◌*◌, ◌-◌, ◌<◌, ◌≤◌, List, length, Option, None, Some, Result, Ok, Err, false, if◌then◌else◌, codes}
+use Rattle.std.specs.Prelude.{◌≡◌, ℕ, ◌+◌, ◌*◌, ◌-◌, ◌<◌, ◌≤◌, List, length, Option, None, Some, Result, Ok, Err, false, if◌then◌else◌, codes}
 use Rattle.sampletime.specs.TimeCode.{day}
 use Rattle.sound_terms.specs.Waves.{is_large, header_of}
-use Rattle.sound_terms.specs.Render.{Range, ReadsBack, render_info, rendering_of}
+use Rattle.sound_terms.specs.Render.{ReadsBack, render_info, rendering_of}
 use Rattle.work_terms.specs.Disk.{Files}
 use Rattle.work_terms.specs.Refusals.{Refusal, Nowhere}
 use Rattle.list_terms.specs.Project.{ListProject}
 use Rattle.list_terms.specs.Binding.{Binding}
-use Rattle.list_terms.specs.Accepted.{event_fault, IsAccepted, OptionValues, first_fault, project_mix, range_of, reading_of, range_fault, rendering_fault}
+use Rattle.list_terms.specs.Accepted.{IsAccepted, OptionValues, first_fault, project_mix, range_of, reading_of, range_fault, rendering_fault}
 use Rattle.adlread.specs.PlainList.{text_value}
 use Rattle.consolidate.specs.declared.prepared.Prepared.{Prepared}
 use Rattle.consolidate.specs.declared.prepared.Opened.{Opened}

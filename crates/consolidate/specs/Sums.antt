@@ -1,8 +1,8 @@
 -- The sums of one channel, one for each sample from a time on.
-use Rattle.std.specs.Prelude.{◌≡◌, ℕ, ◌+◌, ◌*◌, ◌^◌, ◌<◌, ℤ, pos, neg_ℤ, ◌+ℤ◌, ◌≤ℤ◌, List, [], Option, IsSome, unwrap_or, length, get_or}
+use Rattle.std.specs.Prelude.{◌≡◌, ℕ, ◌+◌, ◌<◌, ℤ, pos, neg_ℤ, ◌+ℤ◌, ◌≤ℤ◌, List, [], Option, IsSome, unwrap_or, length, get_or}
 use Rattle.sound_terms.specs.declared.Event.{Event}
 use Rattle.sound_terms.specs.declared.BoundIndex.{BoundIndex}
-use Rattle.sound_terms.specs.Mix.{Reading, full_scale, contribution_of, mix_at}
+use Rattle.sound_terms.specs.Mix.{Reading, full_scale, mix_at}
 use Rattle.sound_terms.specs.Waves.{sample_at}
 
 abbrev pub sum_at : List ℤ → ℕ → ℤ

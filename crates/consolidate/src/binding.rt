@@ -4,7 +4,6 @@ ghost use Rattle.sound_terms.specs.Mix.{index_of};
 ghost use Rattle.sound_terms.specs.Sounds.{bytes_of_span, plain_format_of};
 ghost use Rattle.work_terms.specs.Disk.{HasCause};
 ghost use Rattle.work_terms.specs.Refusals.{Gives, is_excused, turn_of};
-ghost use Rattle.list_terms.specs.Binding as list;
 ghost use Rattle.list_terms.specs.Binding.{Binding, binding_of, bound_source, sound_of_file};
 ghost use Rattle.list_terms.specs.Names.{place_of_url};
 ghost use Rattle.riff.specs.Fault.{number_of};
@@ -12,7 +11,9 @@ ghost use Rattle.consolidate.specs.Bound.{AreKept, HasFile, HoldsOfFile, Keeps, 
 ghost use Rattle.consolidate.specs.Faults.{refusal_of};
 
 use crate::Fault;
+use crate::bound_indexes::BoundIndexes;
 use crate::source_file::SourceFile;
+use crate::used_numbers::UsedNumbers;
 use adlmodel::{Project, Source};
 use riff::{Format, MediaFault};
 use sampletime::SampleTime;
@@ -27,18 +28,15 @@ const FORMAT_LENGTH: usize = 40;
 #[derive(Drop)]
 pub struct Bound {
     pub files: Vec<SourceFile>,
-    pub indexes: Vec<BoundIndex>,
+    pub indexes: BoundIndexes,
 }
 
 impl Bound {
     /// The index of this number.
     pub fn index(&self, number: u32) -> Option<BoundIndex>
-        ensures { result ≡ index_of self.now.indexes.items number }
+        ensures { result ≡ index_of self.now.indexes number }
     {
-        self.indexes
-            .iter()
-            .copied()
-            .find(|index| index.number == number)
+        self.indexes.find(number)
     }
 
     /// The place of the file of this name among those opened.
@@ -112,17 +110,10 @@ impl Bound {
             addressable,
         };
         self.indexes
-            .push(index)
+            .push(alloc, index)
             .map_err(|_| Fault::BindMemory { index: number })?;
         Ok(())
     }
-}
-
-/// Whether some entry names the index.
-fn is_used(events: &[Event], number: u32) -> bool
-    ensures { result ≡ list.is_used events.now number }
-{
-    events.iter().any(|event| event.index == number)
 }
 
 /// The format that a `fmt ` chunk with these contents tells.
@@ -207,10 +198,18 @@ pub fn bind<S: Shelf>(alloc: Global, project: &Project, shelf: &mut S) -> Result
 {
     let mut bound = Bound {
         files: Vec::new(alloc),
-        indexes: Vec::new(alloc),
+        indexes: BoundIndexes::new(alloc),
+    };
+    let Some(first) = project.sources().first() else {
+        return Ok(bound);
+    };
+    let Ok(used) = UsedNumbers::new(alloc, project.events()) else {
+        return Err(Fault::BindMemory {
+            index: first.number(),
+        });
     };
     for source in project.sources() {
-        if is_used(project.events(), source.number()) {
+        if used.contains(source.number()) {
             bound.add(alloc, source, shelf)?;
         }
     }

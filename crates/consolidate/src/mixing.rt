@@ -1,5 +1,5 @@
 // The exact sums of all entries of a project.
-ghost use Rattle.std.specs.Prelude.{◌≡◌, ◌≢◌, ◌+◌, ◌-◌, ◌*◌, ◌^◌, ◌<◌, ◌≤◌, ◌⊎◌, Some, None, Ok, length, slice_get, slice_index, IsTrue, IfOk, IfErr, IfSome, IsErrAnd, OnOk, OnErr, IsErr, IsOk, MatchOption, string_bytes, List, ℕ};
+ghost use Rattle.std.specs.Prelude.{◌≡◌, ◌≢◌, ◌+◌, ◌-◌, ◌*◌, ◌^◌, ◌<◌, ◌≤◌, ◌⊎◌, Some, None, Ok, length, slice_get, slice_index, IsTrue, IfOk, IfErr, IfSome, IsErrAnd, OnOk, OnErr, IsErr, IsOk, MatchOption, string_bytes, List, ℕ, false};
 ghost use Rattle.std.specs.List.{All};
 ghost use Rattle.work_terms.specs.Disk.{HasCause};
 ghost use Rattle.sound_terms.specs.Mix.{contribution_of};
@@ -27,7 +27,7 @@ pub struct Stretch {
 }
 
 /// What an event plays; `None` where it has no length, and where no bound file has its frames.
-fn stretch_of(bound: &Bound, event: &Event) -> Option<Stretch>
+pub fn stretch_of(bound: &Bound, event: &Event) -> Option<Stretch>
     ensures inside { IfSome result (IsInside bound.now event.now) }
     ensures played { (binding : Binding) → Represents bound.now binding → entry_fault binding event.now ≡ None → IsPlayed binding event.now result }
 {
@@ -97,6 +97,7 @@ pub fn mix<S: Shelf>(
     ensures each { IfOk result (λ sums. length sums.items ≡ samples) }
     ensures within { IfOk result (λ sums. AreWithin (2 ^ 62) sums.items) }
     ensures faults { IfErr result (λ fault. ((refusal_of fault).number ≡ 22) ⊎ (fault ≡ Fault.RenderMemory)) }
+    ensures early { IfErr result (λ fault. (refusal_of fault).late ≡ false) }
     ensures stored { S.stored shelf.new ≡ S.stored shelf.old }
     ensures honest { S.honest shelf.new ≡ S.honest shelf.old }
     ensures cause { HasCause (S.failures shelf.old) (S.failures shelf.new)

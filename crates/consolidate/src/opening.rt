@@ -3,8 +3,11 @@ ghost use Rattle.std.specs.Prelude.{◌≡◌, ◌≢◌, ◌≤◌, ℕ, List, 
 ghost use Rattle.std.specs.List.{All};
 ghost use Rattle.work_terms.specs.Disk.{HasCause};
 ghost use Rattle.work_terms.specs.Refusals.{IsDue, Refusal, turn_of};
+ghost use Rattle.list_terms.specs.Project.{ListProject};
+ghost use Rattle.list_terms.specs.WrittenText.{text_of_project};
 ghost use Rattle.list_terms.specs.Accepted.{project_fault};
 ghost use Rattle.adlread.specs.PlainList.{IsPlainEvent, text_value};
+ghost use Rattle.adlread.specs.Written.{IsPlainProject};
 ghost use Rattle.consolidate.specs.Bound.{HoldsOfFile};
 ghost use Rattle.consolidate.specs.Faults.{refusal_of};
 ghost use Rattle.consolidate.specs.Rendering.{IsOpened};
@@ -23,6 +26,7 @@ pub fn open_project<S: Shelf>(alloc: Global, list: &[u8], shelf: &mut S) -> Resu
         (λ opened. IsOpened list.now (S.stored shelf.old) opened)
         (λ fault. IsDue (refusal_of fault) (project_fault (text_value list.now) (S.stored shelf.old))) }
     ensures spelt { IfOk result (λ opened. text_value list.now ≡ Ok opened.project) }
+    ensures written { (p : ListProject) → IsPlainProject p → text_value (text_of_project p) ≡ Ok p }
     ensures plain { IfOk result (λ opened. All IsPlainEvent opened.project.events) }
     ensures few { IfOk result (λ opened. length opened.project.events ≤ 32767) }
     ensures bad_text { (refusal : Refusal) → text_value list.now ≡ Err refusal → IfErr result (λ fault. IsDue (refusal_of fault) (Some refusal)) }

@@ -7,9 +7,9 @@ ghost use Rattle.consolidate.specs.Bound.{HoldsOfFile};
 ghost use Rattle.consolidate.specs.Faults.{refusal_of};
 ghost use Rattle.consolidate.specs.Rendering.{IsRendered, Reports, render_refusal};
 
-use crate::Fault;
 use crate::preparing::prepare;
 use crate::writing::write_rendering;
+use crate::{Fault, OutputFile};
 use shelf::{Bench, Shelf};
 use std::alloc::Global;
 
@@ -66,6 +66,6 @@ pub fn render<S: Shelf, B: Bench>(
             frames: prepared.sums.len() as u64,
             channels: 1,
         }),
-        Err(_) => Err(Fault::Output),
+        Err(_) => Err(Fault::Output(OutputFile::Rendering)),
     }
 }

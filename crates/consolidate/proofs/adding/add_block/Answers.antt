@@ -1,4 +1,4 @@
-use Rattle.std.proofs.Common.{arith, rules, length, ◌≡◌, ◌+◌, ◌*◌, string_bytes}
+use Rattle.std.proofs.Common.{rules, length, ◌≡◌, ◌+◌, ◌*◌, string_bytes}
 use Rattle.pcm.specs.Samples.{samples_in}
 use Rattle.work_terms.specs.Disk.{IsRange}
 use Rattle.consolidate.proofs.Summing.{block_added}

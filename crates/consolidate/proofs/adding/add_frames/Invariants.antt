@@ -1,5 +1,5 @@
-use Rattle.std.proofs.Common.{◌≡◌, ◌≤◌, ◌-◌, length, List, ℕ, ◌+◌, ◌^◌, ◌<◌, [], IsTrue, IsSome, string_bytes, Bool}
-use Rattle.std.specs.Prelude.{Option, unwrap_or}
+use Rattle.std.proofs.Common.{◌≤◌, ◌-◌, length, ℕ, ◌+◌, ◌^◌, ◌<◌, [], IsTrue, IsSome, string_bytes}
+use Rattle.std.specs.Prelude.{unwrap_or}
 use Rattle.consolidate.specs.Sums.{samples_from, AreWithin}
 use Rattle.consolidate.proofs.Shelves.{IsKept}
 use Rattle.consolidate.proofs.Summing.{HaveGrown, AreSameFrom}

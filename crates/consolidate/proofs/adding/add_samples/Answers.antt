@@ -1,10 +1,9 @@
-use Rattle.std.proofs.Common.{◌≡◌, arith, get_or, rules, ap, ◌∙◌}
+use Rattle.std.proofs.Common.{◌≡◌, arith, get_or, ap, ◌∙◌}
 use Rattle.std.specs.Prelude.{ℤ, pos, ◌+ℤ◌}
 use Rattle.std.specs.Int.{w32, w64}
 use Rattle.std.proofs.lemmas.Int.{ints, to_z-of_z}
 use mir.Val.{SFits, to_z, of_z}
 use Rattle.sound_terms.specs.Mix.{full_scale}
-use Rattle.consolidate.specs.Sums.{sum_at}
 use Rattle.consolidate.proofs.Summing.{one_more, added, near_by}
 use Rattle.consolidate.proofs.adding.add_samples.Goals as goal
 

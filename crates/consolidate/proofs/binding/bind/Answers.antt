@@ -1,18 +1,20 @@
-use Rattle.std.proofs.Common.{◌≡◌, ◌∙◌, ◌+◌, ◌∷◌, [], IsTrue, add-one, drop, drop-cons, refl, sym, true}
+use Rattle.std.proofs.Common.{◌≡◌, ◌∙◌, ◌+◌, ◌∷◌, [], IsTrue, None, Ok, add-one, ap, drop, drop-cons, refl, sym, true}
+use Rattle.std.specs.List.{slice_get}
+use Rattle.std.specs.Option.{option_copied}
 use Rattle.std.proofs.lemmas.List.Elements.{All-nil}
 use Rattle.std.proofs.lemmas.Result.{err_from_is_err_and}
-use Rattle.list_terms.specs.Binding.{is_used, nothing_bound}
+use Rattle.list_terms.specs.Binding.{binding_of, is_used, nothing_bound}
 use Rattle.consolidate.specs.Bound.{IsInFile}
 use Rattle.consolidate.specs.Faults.{refusal_of}
-use Rattle.consolidate.proofs.OneMoreSource.{HasRest, rest_refused, rest_unused, rest_used}
+use Rattle.consolidate.proofs.OneMoreSource.{HasRest, no_first, rest_refused, rest_unused, rest_used}
 use Rattle.consolidate.proofs.binding.bind.Goals as goal
-use Rattle.consolidate.proofs.binding.bind.Goals.{then-is_used+in_ok-add, else-is_used}
+use Rattle.consolidate.proofs.binding.bind.Goals.{then-contains+in_ok-add, else-contains}
 
 pub loop-source-init : goal.loop-source-init
 loop-source-init g c = record {
   bound = λ honest. record {
     binding = nothing_bound;
-    represents = record { files = rw c.new.ensures.items refl; indexes = sym c.new-2.ensures.items; inside = All-nil (IsInFile []) };
+    represents = record { files = rw c.new.ensures.items refl; indexes = sym c.new-2.ensures; inside = All-nil (IsInFile []) };
     same = rw c.sources-source-items.ensures refl;
   };
   stored = refl;
@@ -31,7 +33,7 @@ returns-in_err-add-clause-bound g c = λ honest.
     let refusal = refusal_of c.in_err-add.field-0.0 in
     let here : drop i items ≡ source ∷ drop (i + 1) items = rw (add-one, c.source-item.is) (drop-cons items i source c.loop-source-test.true) in
     let so_far : HasRest files project c.loop-source.bound (source ∷ drop (i + 1) items) = rw (← here) (c.loop-source.invariant.bound honest) in
-    let used : is_used project.events source.number ≡ true = sym (c.is_used.ensures ∙ rw (c.events.ensures, c.number.ensures) refl) ∙ c.if-is_used.true in
+    let used : is_used project.events source.number ≡ true = sym (c.contains.ensures ∙ rw (c.in-Ok.ensures, c.events.ensures, c.number-in-loop-source.ensures) refl) ∙ c.if-contains.true in
     let honest' : IsTrue (g.S.Shelf.honest c.loop-source.shelf) = rw c.loop-source.invariant.honest honest in
     let p = err_from_is_err_and c.from_residual.result c.from_residual.ensures.1 in
     let refused = rest_refused files project c.loop-source.bound source (drop (i + 1) items) refusal so_far used in
@@ -46,26 +48,38 @@ loop-source-preserved g c =
     let i = c.loop-source.source-index in
     let before = c.loop-source.invariant in
     let here : drop i items ≡ source ∷ drop (i + 1) items = rw (add-one, c.source-item.is) (drop-cons items i source c.loop-source-test.true) in
-    let same : c.is_used.result ≡ is_used project.events source.number = c.is_used.ensures ∙ rw (c.events.ensures, c.number.ensures) refl in
-    elim c.if-is_used.branch [
-      | then-is_used+in_ok-add w ↦ record {
+    let same : c.contains.result ≡ is_used project.events source.number = c.contains.ensures ∙ rw (c.in-Ok.ensures, c.events.ensures, c.number-in-loop-source.ensures) refl in
+    elim c.if-contains.branch [
+      | then-contains+in_ok-add w ↦ record {
         bound = λ honest.
             let so_far : HasRest files project c.loop-source.bound (source ∷ drop (i + 1) items) = rw (← here) (before.bound honest) in
             let honest' : IsTrue (g.S.Shelf.honest c.loop-source.shelf) = rw before.honest honest in
-            rw w.bound-is (rest_used files project c.loop-source.bound w.add.new.self source (drop (i + 1) items) so_far (sym same ∙ w.if-is_used.true)
+            rw w.bound-is (rest_used files project c.loop-source.bound w.add.new.self source (drop (i + 1) items) so_far (sym same ∙ w.if-contains.true)
             (λ binding represents. rw before.stored at (w.in_ok-add.ensures.added honest' binding represents)));
         stored = rw w.shelf-is (w.add.ensures.stored ∙ before.stored);
         honest = rw w.shelf-is (w.add.ensures.honest ∙ before.honest);
         failures = rw w.shelf-is (w.in_ok-add.ensures.cause.left tt ∙ before.failures);
         keeps = λ n failed. rw w.shelf-is (w.add.ensures.keeps n (before.keeps n failed));
       }
-      | else-is_used w ↦ record {
+      | else-contains w ↦ record {
         bound = λ honest.
             let so_far : HasRest files project c.loop-source.bound (source ∷ drop (i + 1) items) = rw (← here) (before.bound honest) in
-            rw w.bound-is (rest_unused files project c.loop-source.bound source (drop (i + 1) items) so_far (sym same ∙ w.if-is_used.false));
+            rw w.bound-is (rest_unused files project c.loop-source.bound source (drop (i + 1) items) so_far (sym same ∙ w.if-contains.false));
         stored = rw w.shelf-is before.stored;
         honest = rw w.shelf-is before.honest;
         failures = rw w.shelf-is before.failures;
         keeps = λ n failed. rw w.shelf-is (before.keeps n failed);
       }
     ]
+
+pub returns-in_default-clause-bound : goal.returns-in_default-clause-bound
+returns-in_default-clause-bound g c = λ honest.
+    let files = g.S.Shelf.stored c.args.shelf.now in
+    let project = c.args.project.now in
+    let first : None ≡ slice_get c.sources.result.now 0 = sym (ap option_copied c.in_default.is) ∙ c.first.ensures.value in
+    let none : project.sources ≡ [] = sym c.sources.ensures ∙ no_first c.sources.result.now (sym first) in
+    let same : binding_of project files ≡ Ok nothing_bound = rw none refl in (
+      nothing_bound,
+      same,
+      record { files = rw c.new.ensures.items refl; indexes = sym c.new-2.ensures; inside = All-nil (IsInFile []) },
+    )

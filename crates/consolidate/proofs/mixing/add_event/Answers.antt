@@ -1,5 +1,4 @@
-use Rattle.std.proofs.Common.{rules, ◌≡◌, ◌<◌, ◌≤◌, ◌+◌, ◌-◌, ◌^◌, ℕ, length, Some, None, slice_get, arith, refl, sym, ap, IsTrue, string_bytes, ◌∙◌}
-use borrow.Rule.Slice.PartMut.{put_mid, mid_of}
+use Rattle.std.proofs.Common.{rules, ◌≡◌, ◌<◌, ◌≤◌, ◌+◌, ◌-◌, ℕ, length, arith, ap}
 use Rattle.consolidate.proofs.Playing.{event_added, event_near, file_read, only_device}
 use Rattle.consolidate.proofs.mixing.add_event.Goals as goal
 

@@ -1,9 +1,8 @@
-use Rattle.std.proofs.Common.{rules, ◌≡◌, ◌<◌, ◌≤◌, ◌+◌, ◌-◌, ◌*◌, ◌^◌, ℕ, ◌++◌, drop, take, length, Some, None, slice_get, arith, refl, sym, ap, subst, IsTrue, ◌∙◌}
+use Rattle.std.proofs.Common.{rules, ◌≡◌, ◌<◌, ◌+◌, ◌*◌, ◌^◌, ℕ, ◌++◌, drop, take, length, arith, refl, subst, IsTrue, ◌∙◌}
 use Rattle.std.proofs.lemmas.List.{take_at}
 use Rattle.std.proofs.lemmas.Option.{slice_get_read}
-use Rattle.sound_terms.specs.Mix.{contribution_of}
 use Rattle.list_terms.specs.Accepted.{reading_of}
-use Rattle.consolidate.specs.Sums.{AreWithin, GrowBy}
+use Rattle.consolidate.specs.Sums.{AreWithin}
 use Rattle.consolidate.proofs.SoFar.{faultless_at, next_event, one_event}
 use Rattle.consolidate.proofs.mixing.mix.Goals as goal
 

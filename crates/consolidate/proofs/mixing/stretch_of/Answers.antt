@@ -1,7 +1,6 @@
-use Rattle.std.proofs.Common.{rules, ◌≡◌, ◌<◌, ◌≤◌, ◌+◌, ◌-◌, ◌⊎◌, inl, inr, ℕ, Some, None, slice_get, arith, refl, sym, ap, ◌∙◌}
+use Rattle.std.proofs.Common.{◌≡◌, ◌<◌, ◌-◌, inr, ℕ, Some, slice_get, arith, refl, sym, ap, ◌∙◌}
 use Rattle.std.proofs.lemmas.Option.{slice_get_read}
 use Rattle.sound_terms.specs.Mix.{index_of}
-use Rattle.list_terms.specs.Binding.{Binding}
 use Rattle.consolidate.specs.declared.source_file.SourceFile.{SourceFile}
 use Rattle.consolidate.proofs.BoundLaws.{plays}
 use Rattle.consolidate.proofs.Playing.{too_short}

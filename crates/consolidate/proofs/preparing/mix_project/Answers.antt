@@ -1,4 +1,4 @@
-use Rattle.std.proofs.Common.{ℕ, ◌≡◌, ◌+◌, ◌-◌, ◌<◌, ◌≤◌, ◌*◌, ◌∙◌, ap, sym, arith, refl, length}
+use Rattle.std.proofs.Common.{ℕ, ◌≡◌, ◌-◌, ◌<◌, ◌∙◌, ap, sym, arith, refl, length}
 use Rattle.sound_terms.specs.Render.{Range, render_info}
 use Rattle.sound_terms.specs.Waves.{header_of}
 use Rattle.list_terms.specs.Accepted.{range_of}

@@ -1,6 +1,5 @@
-use Rattle.std.proofs.Common.{◌≡◌, ◌∷◌, ◌∙◌, sym, ap, rules}
-use Rattle.list_terms.specs.Accepted.{least_of}
-use Rattle.consolidate.proofs.Spans.{least_with-cons, least_with}
+use Rattle.std.proofs.Common.{◌≡◌, ◌∷◌, rules}
+use Rattle.consolidate.proofs.Spans.{least_with-cons}
 use Rattle.consolidate.proofs.ranging.first_in.Goals as goal
 
 pub loop-event-init : goal.loop-event-init

@@ -1,6 +1,3 @@
-use Rattle.std.proofs.Common.{◌≡◌, ◌++◌, Some}
-use Rattle.std.specs.Prelude.{codes}
-use Rattle.consolidate.specs.Written.{bytes_of_sums}
 use Rattle.consolidate.proofs.WholeFile.{rendered}
 use Rattle.consolidate.proofs.rendering.render.Goals as goal
 

@@ -1,8 +1,7 @@
-use Rattle.std.proofs.Common.{◌≡◌, ◌∙◌, ◌∷◌, ◌++◌, ◌-◌, [], Some, Vec, ap, arith, is_ok, length, min, refl, sym, true}
+use Rattle.std.proofs.Common.{◌≡◌, ◌∙◌, ◌∷◌, ◌++◌, ◌-◌, [], Some, ap, arith, is_ok, length, min, refl, sym, true}
 use Rattle.std.specs.List.{slice_get}
 use Rattle.std.proofs.lemmas.Option.{slice_get_read}
 use Rattle.sampletime.specs.TimeCode.{day}
-use Rattle.sound_terms.specs.declared.BoundIndex.{BoundIndex}
 use Rattle.consolidate.specs.declared.binding.Bound.{Bound}
 use Rattle.consolidate.proofs.OneMoreSource.{is_added}
 use Rattle.consolidate.proofs.binding.Bound.add.Goals as goal
@@ -19,7 +18,7 @@ returns-clause-added g c = λ honest binding represents.
     let stands : is_ok c.push.result ≡ true = sym c.map_err.ensures.variant ∙ ap is_ok c.in_ok-map_err.was in
     let numbered : c.in-Ok.file ≡ place = omega (arith, c.in-Ok.ensures) in
     let addressable : c.min-addressable.result ≡ min file.frames (day - base) = rw (c.min-addressable.ensures, c.get.ensures.samples) refl in
-    let pushed : c.push.new.self.items ≡ bound.indexes.items ++ record { number = c.args.source.now.number; file = place; base = base; addressable = min file.frames (day - base) } ∷ [] =
-    c.push.ensures.items ∙ rw (stands, c.number-number.ensures, numbered, addressable) in
+    let pushed : c.push.new.self ≡ bound.indexes ++ record { number = c.args.source.now.number; file = place; base = base; addressable = min file.frames (day - base) } ∷ [] =
+    c.push.ensures ∙ rw (stands, c.number-number.ensures, numbered, addressable) in
     is_added (g.S.Shelf.stored c.args.shelf.now) binding c.args.source.now bound record { files = bound.files; indexes = c.push.new.self } place base file has
-    (represents.indexes ∙ ap (λ (v : Vec BoundIndex _). v.items) (sym c.file_of.ensures.indexes)) (c.start.ensures ∙ ap Some (sym c.get-base.ensures.samples)) there refl pushed
+    (represents.indexes ∙ sym c.file_of.ensures.indexes) (c.start.ensures ∙ ap Some (sym c.get-base.ensures.samples)) there refl pushed
