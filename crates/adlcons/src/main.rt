@@ -1,32 +1,58 @@
-//! `adlcons`: renders audio decision lists over folders of sound files. With no words it renders a stored example over
-//! memory and prints what came of it.
+//! `adlcons`: renders and consolidates audio decision lists over folders of sound files. With no words it renders a
+//! stored example over memory and prints what came of it.
 #![tactic(auto)]
 
+mod answer;
+mod command;
+#[cfg(test)]
+mod consolidations;
 mod example;
+mod folders;
+mod printer;
+mod reading;
+mod refusal;
+mod request;
+mod stored;
 #[cfg(test)]
 mod tests;
 
-use anyhow::{Context, Result};
-use consolidate::{Options, render};
-use shelf::{MemoryBench, MemoryShelf};
+use anyhow::Result;
+use folders::answer_words;
+use printer::Printer;
+use std::process::ExitCode;
+use std::rt::Env;
+use std::{env, io};
+use stored::run_stored;
 
-/// Renders the stored example, and prints the length of the file and the samples in it.
-fn run(rt: &(impl AllocGlobal + Print)) -> Result<()> {
-    let alloc = rt.alloc();
-    let mut shelf = MemoryShelf::new(alloc).with_file("A.wav", example::WAVE)?;
-    let mut bench = MemoryBench::new(alloc);
-    render(alloc, example::LIST, &Options {}, &mut shelf, &mut bench)?;
-    let file = bench.bytes("render.wav").context("there is no file")?;
-    print!(rt; "{} bytes:", file.len())?;
-    let samples = file.get(example::SAMPLES_AT..).unwrap_or(&[]);
-    for sample in samples.chunks_exact(2) {
-        let number = i16::from_le_bytes([sample[0], sample[1]]);
-        print!(rt; " {number}")?;
-    }
-    println!(rt; "")?;
-    Ok(())
+/// The words behind the program's name.
+fn words_of(rt: &(impl Env + AllocGlobal)) -> io::Result<Vec<String>> {
+    let words = env::args(rt)?.skip(1).collect(rt.alloc())?;
+    Ok(words)
 }
 
-fn main(rt: HostRuntime) -> Result<()> {
-    run(&rt)
+/// Answers the words of the command line with a status. Words that can't be read are a mistake, as is want of memory for
+/// them.
+fn run_words(rt: &HostRuntime, words: &[String]) -> io::Result<u8> {
+    let words: Vec<&str> = words.iter().map(|word| word.as_str()).collect(rt.alloc())?;
+    let mut out = Printer::new(rt.stdout());
+    let mut err = Printer::new(rt.stderr());
+    Ok(answer_words(rt, words.as_slice(), &mut out, &mut err))
+}
+
+fn main(rt: HostRuntime) -> Result<ExitCode> {
+    let status = match words_of(&rt) {
+        Ok(words) if words.is_empty() => {
+            run_stored(&rt)?;
+            return Ok(ExitCode::SUCCESS);
+        }
+        Ok(words) => run_words(&rt, words.as_slice()),
+        Err(error) => Err(error),
+    };
+    match status {
+        Ok(status) => Ok(ExitCode::from(status)),
+        Err(error) => {
+            let _ = rt.eprintln(format_args!("error: the words can't be read: {error}"));
+            Ok(ExitCode::from(2))
+        }
+    }
 }

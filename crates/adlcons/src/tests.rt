@@ -1,4 +1,9 @@
 // Whole renderings over memory: worked examples, refusals in their order, and failures in mid-stream.
+mod answers;
+mod lists;
+mod refusals;
+mod words;
+
 use crate::example::{LIST, SAMPLES_AT, WAVE};
 use consolidate::{Fault, Options, Rendered, render};
 use shelf::{MemoryBench, MemoryShelf};

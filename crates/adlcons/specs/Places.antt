@@ -1,0 +1,31 @@
+-- Refusals and their places as callers see them.
+use Rattle.std.specs.Prelude.{ℕ, List}
+use Rattle.work_terms.specs.Refusals as refused
+use Rattle.consolidate.specs.Faults.{name_of_output}
+use Rattle.adlcons.specs.declared.reading.ReadFault.{ReadFault}
+use Rattle.adlcons.specs.declared.reading.ReadFault.TheVariants.{Unreadable, Memory}
+use Rattle.adlcons.specs.declared.refusal.Place.{Place}
+use Rattle.adlcons.specs.declared.refusal.Place.TheVariants.{Nowhere, Line, LineEntry, LineIndex, IndexFile, Index, Entry, File, Output, Job}
+
+-- the place as it is told
+abbrev pub where_of : Place → refused.Where
+where_of Nowhere = refused.Nowhere
+where_of (Line line) = refused.Line line
+where_of (LineEntry line entry) = refused.LineEntry line entry
+where_of (LineIndex line index) = refused.LineIndex line index
+where_of (IndexFile index name) = refused.IndexFile index name.now
+where_of (Index index) = refused.Index index
+where_of (Entry entry) = refused.Entry entry
+where_of (File name) = refused.File name.now
+where_of (Output file) = refused.File (name_of_output file)
+where_of (Job job) = refused.Job job
+
+-- the number of the refusal of a list that isn't read
+abbrev pub number_of_read : ReadFault → ℕ
+number_of_read Unreadable = 21
+number_of_read Memory = 18
+
+-- its place, where the list has this path
+abbrev pub place_of_read : ReadFault → List ℕ → refused.Where
+place_of_read Unreadable path = refused.File path
+place_of_read Memory path = refused.Nowhere
