@@ -1,0 +1,182 @@
+"""Devices that fail: what can't be read, what can't be written, a full disk, a limit of size."""
+
+import os
+import resource
+import subprocess
+from functools import partial
+from pathlib import Path
+from typing import Callable
+
+import model
+from harness import (
+    LIST, MEDIA, OUT, Mismatch, Scene, Skipped, Suite, same, same_bytes, same_files, same_outcome,
+)
+from tables import FIRST_LIST, rendered_bytes, wave
+
+NOBODY = 65534
+FRAMES = 20_000
+DISK_SIZE = "32k"
+
+
+def as_other_user(scene: Scene) -> dict:
+    """How to run the program as a user whom permissions bind."""
+    if os.geteuid() != 0:
+        return {}
+    how = {"user": NOBODY, "group": NOBODY, "extra_groups": []}
+    try:
+        subprocess.run([scene.program], cwd=scene.folder, capture_output=True, timeout=60, **how)
+    except PermissionError as fault:
+        raise Skipped("the program can't be run by another user than root") from fault
+    os.chown(scene.folder / OUT, NOBODY, NOBODY)
+    return how
+
+
+def prepared(scene: Scene) -> None:
+    scene.put(FIRST_LIST, {"A.wav": wave()})
+
+
+def unreadable(path: str, line: str):
+    """Nobody may read this file or folder."""
+    def body(scene: Scene) -> None:
+        prepared(scene)
+        how = as_other_user(scene)
+        (scene.folder / path).chmod(0)
+        got = [scene.run(command, LIST, MEDIA, OUT, **how) for command in model.COMMANDS]
+        (scene.folder / path).chmod(0o700)
+        for outcome in got:
+            same_outcome(outcome, 1, line)
+        same_files(scene.files(), {})
+    return body
+
+
+def unwritable_output(scene: Scene) -> None:
+    prepared(scene)
+    how = as_other_user(scene)
+    (scene.folder / OUT).chmod(0o500)
+    for command, name in (("render", "render.wav"), ("consolidate", "M00001.wav")):
+        same_outcome(scene.run(command, LIST, MEDIA, OUT, **how), 1, f"refused 62 at file {name}")
+    same_files(scene.files(), {})
+
+
+def source_is_folder(scene: Scene) -> None:
+    """It is there, and no device reads it as a file."""
+    scene.put(FIRST_LIST)
+    (scene.folder / MEDIA / "A.wav").mkdir()
+    for command in model.COMMANDS:
+        same_outcome(scene.run(command, LIST, MEDIA, OUT), 1, "refused 22 at index 1 file A.wav")
+        same_files(scene.files(), {})
+
+
+def long_cuts(count: int) -> bytes:
+    """So many cuts one behind the other, each of all frames of its source."""
+    entry_lines = [
+        model.entry_line(number, 1, b"00.00.00.00/0000", *(
+            model.time_text(FRAMES * place) for place in (number - 1, number)))
+        for number in range(1, count + 1)
+    ]
+    return model.list_text([model.source_line(1, "A.wav", b"00.00.00.00/0000")], entry_lines)
+
+
+def put_long(scene: Scene, count: int) -> dict:
+    media = {"A.wav": wave([place % 1000 for place in range(FRAMES)])}
+    scene.put(long_cuts(count), media)
+    return media
+
+
+def file_size_limit(size: int) -> dict:
+    """How to run the program so that no file grows past this size: a write past it fails."""
+    return {
+        "preexec_fn": partial(resource.setrlimit, resource.RLIMIT_FSIZE, (size, size)),
+        "restore_signals": False,
+    }
+
+
+def limited(command: str, name: str):
+    """A file can't be written whole: 62 at its name, and no list beside it."""
+    def body(scene: Scene) -> None:
+        put_long(scene, 2)
+        got = scene.run(command, LIST, MEDIA, OUT, **file_size_limit(10_000))
+        same_outcome(got, 1, f"refused 62 at file {name}")
+        if "consolidated.adl" in scene.files():
+            raise Mismatch("there is a list beside media that aren't whole")
+    return body
+
+
+def limited_list(scene: Scene) -> None:
+    """All media are whole, and the list, which is longer than each of them, isn't."""
+    text = model.list_text(
+        [model.source_line(1, "A.wav", b"00.00.00.00/0000")],
+        [model.entry_line(number, 1, *[b"00.00.00.00/0000"] * 2, b"00.00.00.00/0004") for number in range(1, 41)])
+    scene.put(text, {"A.wav": wave()})
+    got = scene.run("consolidate", LIST, MEDIA, OUT, **file_size_limit(1000))
+    same_outcome(got, 1, "refused 62 at file consolidated.adl")
+    wanted = model.answer("consolidate", text, {"A.wav": wave()}).files
+    whole = wanted.pop("consolidated.adl")
+    written = scene.files()
+    part = written.pop("consolidated.adl", b"")
+    same_files(written, wanted)
+    if part == whole:
+        raise Mismatch("the list is whole though it is refused")
+
+
+def on_small_disk(body: Callable[[Scene], None]):
+    """Runs the case with a small file system as its output."""
+    def mounted(scene: Scene) -> None:
+        out = str(scene.folder / OUT)
+        words = ["mount", "-t", "tmpfs", "-o", f"size={DISK_SIZE}", "none", out]
+        try:
+            subprocess.run(words, check=True, capture_output=True)
+        except (OSError, subprocess.CalledProcessError) as fault:
+            raise Skipped("a small file system can't be mounted here") from fault
+        try:
+            body(scene)
+        finally:
+            subprocess.run(["umount", out], check=True)
+    return mounted
+
+
+def full_disk_rendered(scene: Scene) -> None:
+    put_long(scene, 1)
+    same_outcome(scene.run("render", LIST, MEDIA, OUT), 1, "refused 62 at file render.wav")
+
+
+def full_disk_consolidated(scene: Scene) -> None:
+    put_long(scene, 2)
+    same_outcome(scene.run("consolidate", LIST, MEDIA, OUT), 1, "refused 62 at file M00001.wav")
+    if "consolidated.adl" in scene.files():
+        raise Mismatch("there is a list on a full disk")
+
+
+def unprinted(scene: Scene) -> None:
+    """A line that can't be printed changes neither the files nor the status."""
+    prepared(scene)
+    with Path("/dev/full").open("wb") as full:
+        got = scene.run("render", LIST, MEDIA, OUT, stdout=full)
+    same("the status", got.status, 0)
+    same_bytes("render.wav", scene.files()["render.wav"], rendered_bytes())
+
+
+def closed_outputs(scene: Scene) -> None:
+    """Without standard output and standard error the files are the same, and hold nothing that was printed."""
+    prepared(scene)
+    got = scene.run("render", LIST, MEDIA, OUT, preexec_fn=lambda: (os.close(1), os.close(2)))
+    same("the status", got.status, 0)
+    same_bytes("render.wav", scene.files()["render.wav"], rendered_bytes())
+
+
+def run(suite: Suite) -> None:
+    suite.case("a source that can't be read", unreadable(f"{MEDIA}/A.wav", "refused 22 at index 1 file A.wav"))
+    suite.case("a list that can't be read", unreadable(LIST, f"refused 21 at file {LIST}"))
+    suite.case("an output that can't be listed", unreadable(OUT, f"refused 20 at file {OUT}"))
+    suite.case("an output that can't be written", unwritable_output)
+    suite.case("a source that is a folder", source_is_folder)
+    suite.case("a limit of size, rendered", limited("render", "render.wav"))
+    suite.case("a limit of size, consolidated", limited("consolidate", "M00001.wav"))
+    suite.case("a limit of size at the list", limited_list)
+    suite.case("a full disk, rendered", on_small_disk(full_disk_rendered))
+    suite.case("a full disk, consolidated", on_small_disk(full_disk_consolidated))
+    if Path("/dev/full").exists():
+        suite.case("standard output is full", unprinted)
+    else:
+        suite.skip("standard output is full", "there is no /dev/full here")
+    suite.case("standard output is closed", closed_outputs)

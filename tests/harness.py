@@ -1,0 +1,171 @@
+"""Runs cases over the program, each in a folder of its own, and counts them."""
+
+import os
+import subprocess
+import tempfile
+from contextlib import contextmanager
+from pathlib import Path
+from typing import Callable, NamedTuple, Optional
+
+import model
+
+TIMEOUT = 60
+LIST = "L.adl"
+MEDIA = "M"
+OUT = "OUT"
+
+
+class Mismatch(Exception):
+    """The program did something else than it has to."""
+
+
+class Skipped(Exception):
+    """The case can't be run here."""
+
+
+class Outcome(NamedTuple):
+    status: int
+    output: bytes
+    error: bytes
+
+
+class Scene:
+    """A folder with a list, media and an empty output, and the program run in it."""
+
+    def __init__(self, program: Path, folder: Path):
+        self.program = program
+        self.folder = folder
+        for name in (MEDIA, OUT):
+            (folder / name).mkdir()
+
+    def put(self, text: bytes, media: Optional[dict] = None) -> None:
+        (self.folder / LIST).write_bytes(text)
+        for name, data in (media or {}).items():
+            (self.folder / MEDIA / name).write_bytes(data)
+
+    def run(self, *words, given: bytes = b"", **how) -> Outcome:
+        """Runs the program over these words, with these bytes on standard input."""
+        done = subprocess.run(
+            [self.program, *words], cwd=self.folder, input=given, timeout=TIMEOUT,
+            stdout=how.pop("stdout", subprocess.PIPE), stderr=subprocess.PIPE, **how,
+        )
+        return Outcome(done.returncode, done.stdout or b"", done.stderr)
+
+    def files(self, name: str = OUT) -> dict:
+        """The files of a folder, with their bytes. What is no file has no bytes."""
+        return {
+            path.name: path.read_bytes() if path.is_file() else None
+            for path in (self.folder / name).iterdir()
+        }
+
+    def empty_out(self) -> None:
+        for path in (self.folder / OUT).iterdir():
+            path.unlink()
+
+
+def brief(value) -> str:
+    text = repr(value)
+    return text if len(text) <= 400 else f"{text[:400]}.. ({len(text)} characters)"
+
+
+def same(what: str, got, wanted) -> None:
+    if got != wanted:
+        raise Mismatch(f"{what}\n    expected {brief(wanted)}\n    got      {brief(got)}")
+
+
+def same_files(got: dict, wanted: dict) -> None:
+    same("the names of the written files", sorted(got), sorted(wanted))
+    for name in sorted(wanted):
+        same_bytes(name, got[name], wanted[name])
+
+
+def same_bytes(what: str, got: bytes, wanted: bytes) -> None:
+    if got != wanted:
+        pairs = enumerate(zip(got, wanted))
+        at = next((at for at, (one, other) in pairs if one != other), min(len(got), len(wanted)))
+        raise Mismatch(
+            f"{what}: {len(wanted)} bytes expected, {len(got)} got; they differ from byte {at}\n"
+            f"    expected {wanted[at:at + 24].hex(' ')}\n    got      {got[at:at + 24].hex(' ')}"
+        )
+
+
+def same_outcome(got: Outcome, status: int, line: str) -> None:
+    same("standard output", got.output, line.encode() + b"\n")
+    same("standard error", got.error, b"")
+    same("the status", got.status, status)
+
+
+def expect_answer(scene: Scene, command: str, wanted: model.Answer) -> None:
+    """Runs a command over the scene's list, which leaves list and media as they are."""
+    before = (scene.folder / LIST).read_bytes(), scene.files(MEDIA)
+    got = scene.run(command, LIST, MEDIA, OUT)
+    same_outcome(got, wanted.status, wanted.line)
+    same_files(scene.files(), wanted.files)
+    same("the list and the media", ((scene.folder / LIST).read_bytes(), scene.files(MEDIA)), before)
+
+
+def expect_line(scene: Scene, command: str, text: bytes, media: dict, line: str) -> None:
+    """The command prints this line for the list, and the model says so too; so do status and files."""
+    wanted = model.answer(command, text, media)
+    same("the line of the model", wanted.line, line)
+    scene.put(text, media)
+    expect_answer(scene, command, wanted)
+    scene.empty_out()
+
+
+def expect_refused(scene: Scene, text: bytes, media: dict, line: str) -> None:
+    """Both commands refuse the list with this line, and write nothing."""
+    for command in model.COMMANDS:
+        expect_line(scene, command, text, media, line)
+
+
+def expect_done(scene: Scene, text: bytes, media: dict) -> None:
+    """Both commands accept the list, and do what the model does."""
+    for command in model.COMMANDS:
+        wanted = model.answer(command, text, media)
+        same("the status of the model", wanted.status, 0)
+        expect_line(scene, command, text, media, wanted.line)
+
+
+class Suite:
+    """The cases that were run, and what became of them."""
+
+    def __init__(self, program: Path):
+        self.program = program
+        self.passed = 0
+        self.failed = 0
+        self.skipped = []
+
+    @staticmethod
+    @contextmanager
+    def folder():
+        """A folder for as long as it is used, into which every user may look."""
+        with tempfile.TemporaryDirectory(prefix="adlcons-") as name:
+            os.chmod(name, 0o755)
+            yield Path(name)
+
+    def case(self, name: str, body: Callable[[Scene], None]) -> None:
+        with self.folder() as folder:
+            try:
+                body(Scene(self.program, folder))
+                self.passed += 1
+            except Skipped as reason:
+                self.skip(name, str(reason))
+            except Mismatch as fault:
+                self.fail(name, str(fault))
+            except Exception as fault:
+                self.fail(name, f"{type(fault).__name__}: {fault}")
+
+    def fail(self, name: str, reason: str) -> None:
+        self.failed += 1
+        print(f"FAILED {name}: {reason}", flush=True)
+
+    def skip(self, name: str, reason: str) -> None:
+        self.skipped.append(f"skipped {name}: {reason}")
+
+    def close(self) -> int:
+        """Prints the closing lines, and answers the status."""
+        for line in self.skipped:
+            print(line)
+        print(f"{self.passed} passed, {self.failed} failed")
+        return 1 if self.failed else 0

@@ -1,0 +1,143 @@
+"""What LIST, MEDIA and OUT name: files, folders, standard input, and nothing."""
+
+import os
+
+import model
+from harness import LIST, MEDIA, OUT, Scene, Suite, expect_answer, same, same_files, same_outcome
+from tables import FIRST_LIST, rendered_bytes, wave
+
+RENDERED = model.Answer(0, "rendered 4 frames 1 channels", {"render.wav": rendered_bytes()})
+MEDIA_FILES = {"A.wav": wave()}
+
+
+def prepared(scene: Scene) -> None:
+    scene.put(FIRST_LIST, MEDIA_FILES)
+
+
+def refused(line: str, *words: str, out: dict = None):
+    """Both commands refuse the words behind them with this line, and leave the output as it is."""
+    def body(scene: Scene) -> None:
+        prepared(scene)
+        for name, data in (out or {}).items():
+            (scene.folder / OUT / name).write_bytes(data)
+        for command in model.COMMANDS:
+            same_outcome(scene.run(command, *words), 1, line)
+            same_files(scene.files(), out or {})
+    return body
+
+
+def from_standard_input(scene: Scene) -> None:
+    scene.put(b"no list", MEDIA_FILES)
+    for command in model.COMMANDS:
+        wanted = model.answer(command, FIRST_LIST, MEDIA_FILES)
+        got = scene.run(command, "-", MEDIA, OUT, given=FIRST_LIST)
+        same_outcome(got, wanted.status, wanted.line)
+        same_files(scene.files(), wanted.files)
+        scene.empty_out()
+    same_outcome(scene.run("render", "-", MEDIA, OUT, given=b""), 1, "refused 13 at line 1")
+
+
+def long_standard_input(scene: Scene) -> None:
+    """More than one read of it."""
+    scene.put(b"", MEDIA_FILES)
+    text = FIRST_LIST + b"behind the list\n" * 100_000
+    got = scene.run("render", "-", MEDIA, OUT, given=text)
+    same_outcome(got, 0, RENDERED.line)
+    same_files(scene.files(), RENDERED.files)
+
+
+def closed_standard_input(scene: Scene) -> None:
+    prepared(scene)
+    got = scene.run("render", "-", MEDIA, OUT, preexec_fn=lambda: os.close(0))
+    same_outcome(got, 1, "refused 21 at file -")
+    same_files(scene.files(), {})
+
+
+def dash_is_no_file(scene: Scene) -> None:
+    prepared(scene)
+    (scene.folder / "-").write_bytes(b"no list")
+    same_outcome(scene.run("render", "-", MEDIA, OUT, given=FIRST_LIST), 0, RENDERED.line)
+    scene.empty_out()
+    same_outcome(scene.run("render", "./-", MEDIA, OUT, given=FIRST_LIST), 1, "refused 13 at line 1")
+
+
+def list_is_folder(scene: Scene) -> None:
+    (scene.folder / LIST).mkdir()
+    for command in model.COMMANDS:
+        same_outcome(scene.run(command, LIST, MEDIA, OUT), 1, f"refused 21 at file {LIST}")
+
+
+def control_characters(scene: Scene) -> None:
+    """A name is printed on one line: control characters as the escapes of their bytes, all else as it stands."""
+    prepared(scene)
+    for name, printed in (
+        ("no\nlist", "no%0Alist"), ("\t.adl", "%09.adl"), ("\x7f", "%7F"), ("\u0085", "%C2%85"),
+        ("no list", "no list"), ("Ü%0A.adl", "Ü%0A.adl"),
+    ):
+        same_outcome(scene.run("render", name, MEDIA, OUT), 1, f"refused 21 at file {printed}")
+        same_outcome(scene.run("render", LIST, MEDIA, name), 1, f"refused 20 at file {printed}")
+        (scene.folder / name).write_bytes(b"no list")
+        same_outcome(scene.run("render", LIST, MEDIA, name), 1, f"refused 20 at file {printed}")
+
+
+def output_with_folder(scene: Scene) -> None:
+    prepared(scene)
+    (scene.folder / OUT / "inside").mkdir()
+    for command in model.COMMANDS:
+        same_outcome(scene.run(command, LIST, MEDIA, OUT), 1, f"refused 20 at file {OUT}")
+    same("the output", scene.files(), {"inside": None})
+
+
+def output_again(scene: Scene) -> None:
+    """A second run finds its output full, and leaves it."""
+    prepared(scene)
+    expect_answer(scene, "render", RENDERED)
+    same_outcome(scene.run("render", LIST, MEDIA, OUT), 1, f"refused 20 at file {OUT}")
+    same_outcome(scene.run("consolidate", LIST, MEDIA, OUT), 1, f"refused 20 at file {OUT}")
+    same_files(scene.files(), RENDERED.files)
+
+
+def other_places(scene: Scene) -> None:
+    """Absolute paths, closing slashes, links, and an output inside the media."""
+    prepared(scene)
+    (scene.folder / "link").symlink_to(MEDIA)
+    (scene.folder / MEDIA / "inside").mkdir()
+    places = ((MEDIA, OUT), (f"{MEDIA}/", f"{OUT}/"), ("link", OUT), (str(scene.folder / MEDIA), str(scene.folder / OUT)))
+    for media, out in places:
+        same_outcome(scene.run("render", LIST, media, out), 0, RENDERED.line)
+        same_files(scene.files(), RENDERED.files)
+        scene.empty_out()
+    same_outcome(scene.run("render", LIST, MEDIA, f"{MEDIA}/inside"), 0, RENDERED.line)
+    same_files(scene.files(f"{MEDIA}/inside"), RENDERED.files)
+
+
+def linked_source(scene: Scene) -> None:
+    scene.put(FIRST_LIST, {"B.wav": wave()})
+    (scene.folder / MEDIA / "A.wav").symlink_to("B.wav")
+    expect_answer(scene, "render", RENDERED)
+
+
+def run(suite: Suite) -> None:
+    unlisted = "refused 20 at file none"
+    suite.case("no such list", refused("refused 21 at file none.adl", "none.adl", MEDIA, OUT))
+    suite.case("no such folder of a list", refused("refused 21 at file none/L.adl", "none/L.adl", MEDIA, OUT))
+    suite.case("an empty name of a list", refused("refused 21 at file ", "", MEDIA, OUT))
+    suite.case("a list that is a folder", list_is_folder)
+    suite.case("a list from standard input", from_standard_input)
+    suite.case("a long list from standard input", long_standard_input)
+    suite.case("standard input is closed", closed_standard_input)
+    suite.case("- is standard input", dash_is_no_file)
+    suite.case("no such output", refused(unlisted, LIST, MEDIA, "none"))
+    suite.case("an empty name of an output", refused("refused 20 at file ", LIST, MEDIA, ""))
+    suite.case("an output that is a file", refused(f"refused 20 at file {LIST}", LIST, MEDIA, LIST))
+    suite.case("an output that isn't empty", refused(f"refused 20 at file {OUT}", LIST, MEDIA, OUT, out={"x": b""}))
+    suite.case("a hidden file in the output", refused(f"refused 20 at file {OUT}", LIST, MEDIA, OUT, out={".x": b"1"}))
+    suite.case("an output that is the media", refused(f"refused 20 at file {MEDIA}", LIST, MEDIA, MEDIA))
+    suite.case("an output that has a folder", output_with_folder)
+    suite.case("a second run into one output", output_again)
+    suite.case("the list before the output", refused("refused 21 at file none.adl", "none.adl", MEDIA, "none"))
+    suite.case("the output before the media", refused(unlisted, LIST, "nowhere", "none"))
+    suite.case("no such media", refused("refused 21 at index 1 file A.wav", LIST, "none", OUT))
+    suite.case("control characters in names", control_characters)
+    suite.case("other ways to name the places", other_places)
+    suite.case("a source that is a link", linked_source)
