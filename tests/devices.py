@@ -16,6 +16,7 @@ from tables import FIRST_LIST, rendered_bytes, wave
 NOBODY = 65534
 FRAMES = 20_000
 DISK_SIZE = "32k"
+MEMORY = 64 * 2 ** 20
 
 
 def as_other_user(scene: Scene) -> dict:
@@ -147,6 +148,30 @@ def full_disk_consolidated(scene: Scene) -> None:
         raise Mismatch("there is a list on a full disk")
 
 
+def memory_limit(size: int) -> dict:
+    """How to run the program so that it gets no more memory than this."""
+    return {"preexec_fn": partial(resource.setrlimit, resource.RLIMIT_AS, (size, size))}
+
+
+def no_memory_for_list(scene: Scene) -> None:
+    prepared(scene)
+    got = scene.run("render", "-", MEDIA, OUT, given=bytes(MEMORY), **memory_limit(MEMORY))
+    same_outcome(got, 1, "refused 18")
+    same_files(scene.files(), {})
+
+
+def no_memory_for_sums(scene: Scene) -> None:
+    """A rendering holds a sum of 8 bytes for each sample of its range."""
+    entry_lines = [
+        model.entry_line(number, 1, b"00.00.00.00/0000", begin, begin)
+        for number, begin in ((1, b"00.00.00.00/0000"), (2, model.time_text(MEMORY // 8)))
+    ]
+    text = model.list_text([model.source_line(1, "A.wav", b"00.00.00.00/0000")], entry_lines)
+    scene.put(text, {"A.wav": wave()})
+    same_outcome(scene.run("render", LIST, MEDIA, OUT, **memory_limit(MEMORY)), 1, "refused 57")
+    same_files(scene.files(), {})
+
+
 def unprinted(scene: Scene) -> None:
     """A line that can't be printed changes neither the files nor the status."""
     prepared(scene)
@@ -173,6 +198,8 @@ def run(suite: Suite) -> None:
     suite.case("a limit of size, rendered", limited("render", "render.wav"))
     suite.case("a limit of size, consolidated", limited("consolidate", "M00001.wav"))
     suite.case("a limit of size at the list", limited_list)
+    suite.case("no memory for the list", no_memory_for_list)
+    suite.case("no memory for the sums", no_memory_for_sums)
     suite.case("a full disk, rendered", on_small_disk(full_disk_rendered))
     suite.case("a full disk, consolidated", on_small_disk(full_disk_consolidated))
     if Path("/dev/full").exists():

@@ -102,8 +102,8 @@ def other_places(scene: Scene) -> None:
     prepared(scene)
     (scene.folder / "link").symlink_to(MEDIA)
     (scene.folder / MEDIA / "inside").mkdir()
-    places = ((MEDIA, OUT), (f"{MEDIA}/", f"{OUT}/"), ("link", OUT), (str(scene.folder / MEDIA), str(scene.folder / OUT)))
-    for media, out in places:
+    whole_paths = str(scene.folder / MEDIA), str(scene.folder / OUT)
+    for media, out in ((MEDIA, OUT), (f"{MEDIA}/", f"{OUT}/"), ("link", OUT), whole_paths):
         same_outcome(scene.run("render", LIST, media, out), 0, RENDERED.line)
         same_files(scene.files(), RENDERED.files)
         scene.empty_out()

@@ -5,7 +5,7 @@ from typing import NamedTuple
 
 import model
 from harness import LIST, MEDIA, OUT, Scene, Suite, expect_answer, same, same_bytes, same_files
-from tables import data_chunk, format_chunk, riff_chunk, riff_file
+from tables import data_chunk, format_chunk, riff_chunk, riff_file, wave
 
 PROJECTS = 300
 NAMES = ("A.wav", "Take2.wav", "b.W.av", "Z9")
@@ -131,8 +131,7 @@ def project(seed: int):
 
 def layers(scene: Scene) -> None:
     """Many entries on one sample, which sum past all 32-bit numbers and back."""
-    top = [32_767] * 2
-    media = {"A.wav": riff_file(format_chunk(), data_chunk(top)), "B.wav": riff_file(format_chunk(), data_chunk([-32_768] * 2))}
+    media = {"A.wav": wave([32_767] * 2), "B.wav": wave([-32_768] * 2)}
     midnight = b"00.00.00.00/0000"
     source_lines = [model.source_line(1, "A.wav", midnight), model.source_line(2, "B.wav", midnight)]
     count = 20_000

@@ -37,7 +37,8 @@ REFUSED = {
     "no format": (24, riff_file(DATA)),
     "a format in capitals": (24, riff_file(riff_chunk(b"FMT ", FORMAT[8:]), DATA)),
     "no data": (25, riff_file(FORMAT)),
-    "data behind a chunk that passes the end": (25, riff_file(FORMAT, size_changed(riff_chunk(b"LIST", b""), 99), DATA)),
+    "data behind a chunk that passes the end": (
+        25, riff_file(FORMAT, size_changed(riff_chunk(b"LIST", b""), 99), DATA)),
     "data past the end": (26, wave()[:-1]),
     "data of a size that was never filled in": (26, riff_file(FORMAT, size_changed(DATA, 0xFFFFFFFF))),
     "data past the end, and no format": (26, riff_file(size_changed(DATA, 9))),
@@ -113,9 +114,7 @@ def first_index_decides(scene: Scene) -> None:
 
 def files_before_entries(scene: Scene) -> None:
     media = {"A.wav": wave()}
-    missing = with_line_after(10, model.entry_line(2, 2, *[b"00.00.00.00/0000"] * 3))
-    missing = missing.replace(b"</SOURCE_INDEX>", model.source_line(2, "B.wav", b"00.00.00.00/0000") + b"\n</SOURCE_INDEX>")
-    missing = missing.replace(b"(Entry) 0001 (Cut) I 0001", b"(Entry) 0001 (Cut) I 0003")
+    missing = two_sources("A.wav", "B.wav").replace(b"(Entry) 0001 (Cut) I 0001", b"(Entry) 0001 (Cut) I 0003")
     expect_refused(scene, missing, media, "refused 21 at index 2 file B.wav")
 
 

@@ -112,7 +112,8 @@ def sndfile_info_reads(path: Path, sound: Sound) -> None:
 def sndfile_convert_reads(path: Path, sound: Sound) -> None:
     target = path.parent.parent / "converted.wav"
     output_of("sndfile-convert", "-pcm16", path, target)
-    same_bytes(f"the samples of {path.name} by sndfile-convert", model.chunks_of(target.read_bytes())[b"data"], sound.data)
+    got = model.chunks_of(target.read_bytes())[b"data"]
+    same_bytes(f"the samples of {path.name} by sndfile-convert", got, sound.data)
 
 
 def mediainfo_reads(path: Path, sound: Sound) -> None:

@@ -21,7 +21,8 @@ def sox(*options: str):
 
 def sox_piped(source: Path, target: Path) -> None:
     """sox writes into a pipe, where it can't come back to fill in what it counted."""
-    words = ["sox", "-R", "-D", "-V1", "-t", "raw", "-r", "48000", "-e", "signed", "-b", "16", "-c", "1", "-", "-t", "wav", "-"]
+    raw_samples = ["-t", "raw", "-r", "48000", "-e", "signed", "-b", "16", "-c", "1", "-"]
+    words = ["sox", "-R", "-D", "-V1", *raw_samples, "-t", "wav", "-"]
     raw = model.chunks_of(source.read_bytes())[b"data"]
     target.write_bytes(subprocess.run(words, input=raw, check=True, capture_output=True, timeout=TIMEOUT).stdout)
 
@@ -53,7 +54,8 @@ READ = {
     "ffmpeg": {
         "a plain file with its LIST chunk": ffmpeg(),
         "a file without LIST": ffmpeg("-bitexact"),
-        "a file with bext": ffmpeg("-write_bext", "1", "-metadata", "description=A take", "-metadata", "time_reference=172800000"),
+        "a file with bext": ffmpeg(
+            "-write_bext", "1", "-metadata", "description=A take", "-metadata", "time_reference=172800000"),
         "a file with a peak envelope": ffmpeg("-write_peak", "on"),
         "a file that may be RF64 and isn't": ffmpeg("-rf64", "auto"),
     },

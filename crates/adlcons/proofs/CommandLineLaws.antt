@@ -103,3 +103,7 @@ pub requested-by : (app : App) (words : List Text) (rows : Option (Text × List 
 requested-by app words rows same none read =
     ap (λ (kinds : Kinds). unless_faulty kinds (named_by words)) (sym (fault_of-adlcons app words same) ∙ none)
     ∙ sym (ap (option_and_then asked) read ∙ subcommand_of-adlcons app words same)
+
+-- words without a fault ask for no help
+pub helpless-by : (app : App) (words : List Text) → app ≡ adlcons_app → fault_of app words ≡ [] → asks_for_help words ≡ false
+helpless-by app words same none = ap (list_any is_shown) (sym (fault_of-adlcons app words same) ∙ none)

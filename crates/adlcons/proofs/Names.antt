@@ -1,9 +1,8 @@
 -- A written file's name has no control character, so it stands in a line as it is.
-use Rattle.std.proofs.Common.{◌≡◌, ◌∙◌, ℕ, ◌+◌, ◌-◌, ◌/◌, ◌<◌, ◌≤◌, ◌%◌, ◌==◌, cond, Bool, true, false, ◌&&◌, List, [], ◌∷◌, ◌++◌, length, zero, suc, refl, ap, sym, arith, codes}
+use Rattle.std.proofs.Common.{◌≡◌, ◌∙◌, ℕ, ◌-◌, ◌/◌, ◌<◌, ◌≤◌, ◌%◌, ◌==◌, cond, Bool, true, false, ◌&&◌, List, [], ◌∷◌, ◌++◌, length, zero, suc, refl, ap, arith, codes}
 use Rattle.std.specs.Prelude.{nat_le, decimal, replicate, encode_utf8}
 use Rattle.std.specs.List.{All, flat_map, list_all}
 use Rattle.std.specs.Char.{is_control}
-use Rattle.std.specs.Str.{IsAscii, chars}
 use Rattle.std.proofs.lemmas.Bool.Decides.{nat_tests}
 use Rattle.std.specs.Fmt.{digit_glyph, digits, digits_onto}
 use Rattle.std.proofs.lemmas.List.Elements.{All-nil, All-cons}

@@ -1,6 +1,5 @@
 -- Worked examples of words and of what they ask for.
-use Rattle.std.specs.Prelude.{◌≡◌, List, [], ◌∷◌, None, Some, refl, codes, true, false}
-use Rattle.clap.specs.Words.{Text}
+use Rattle.std.specs.Prelude.{◌≡◌, [], ◌∷◌, None, Some, refl, codes, true, false}
 use Rattle.clap.specs.declared.error.ErrorKind.TheVariants.{DisplayHelp, DisplayHelpOnMissingArgumentOrSubcommand, DisplayVersion, InvalidSubcommand, MissingRequiredArgument, UnknownArgument}
 use Rattle.clap.proofs.OnLiterals.{clap_on_literals}
 use Rattle.adlcons.specs.CommandLine.{Render, Consolidate, asks_for_help, named_by, request_of, words_fault}

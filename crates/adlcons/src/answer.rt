@@ -1,5 +1,5 @@
 // The program's answer to its words.
-ghost use Rattle.std.specs.Prelude.{◌≡◌, ◌≢◌, ◌≤◌, ◌++◌, ◌∷◌, [], Some, None, false};
+ghost use Rattle.std.specs.Prelude.{◌≡◌, ◌≢◌, ◌≤◌, ◌++◌, ◌∷◌, [], Some, None, true, false};
 ghost use Rattle.std.specs.Io.KnownBytes.{Appends};
 ghost use Rattle.clap.specs.Walk.{Text, texts};
 ghost use Rattle.clap.specs.Words.{kind_of};
@@ -50,7 +50,7 @@ pub fn answer<S: Shelf, B: Bench, O: Write, E: Write>(
 
     // They ask for none, or there was no memory to read them.
     ensures refused_words { request_of (texts words.now) ≡ None → asks_for_help (texts words.now) ≡ false → result ≡ 2 }
-    ensures help { request_of (texts words.now) ≡ None → result ≢ 1 }
+    ensures help { asks_for_help (texts words.now) ≡ true → (result ≢ 1) × (shelf.new ≡ shelf.old) × (bench.new ≡ bench.old) }
     ensures no_command { request_of (texts words.now) ≡ None → (shelf.new ≡ shelf.old) × (bench.new ≡ bench.old) }
     ensures statuses { result ≤ 2 }
     ensures two { result ≡ 2 → (shelf.new ≡ shelf.old) × (bench.new ≡ bench.old) × (out.new ≡ out.old) }
@@ -106,8 +106,13 @@ fn answer_consolidate<S: Shelf, B: Bench, O: Write>(
     }
 }
 
-/// Prints why the words ask for no command.
-fn answer_error<O: Write, E: Write>(error: Error, out: &mut Printer<O>, err: &mut Printer<E>) -> u8
+/// Prints why the words ask for no command, and answers the status: 2 for a mistake and for want of memory, which stand on
+/// `err`, and 0 for help and the version, on `out`.
+pub fn answer_error<O: Write, E: Write>(
+    error: Error,
+    out: &mut Printer<O>,
+    err: &mut Printer<E>,
+) -> u8
     ensures mistake { is_shown (kind_of error) ≡ false → result ≡ 2 }
     ensures shown { result ≢ 1 }
     ensures statuses { result ≤ 2 }

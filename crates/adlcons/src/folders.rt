@@ -1,22 +1,22 @@
 // The program over the file system.
-ghost use Rattle.std.specs.Prelude.{◌≡◌, ◌≤◌, None, false, IfOk};
+ghost use Rattle.std.specs.Prelude.{◌≡◌, ◌≢◌, ◌≤◌, None, true, false, IfOk};
 ghost use Rattle.clap.specs.Walk.{texts};
 ghost use Rattle.adlcons.specs.CommandLine.{asks_for_help, request_of};
 
-use crate::answer::{answer, refuse};
+use crate::answer::{answer, answer_error, refuse};
 use crate::printer::Printer;
 use crate::reading::read_list;
 use crate::refusal::Refusal;
 use crate::request::{Request, parse};
-use shelf::{FolderBench, FolderShelf, MemoryBench, MemoryShelf};
+use shelf::{FolderBench, FolderShelf};
 use std::alloc::AllocError;
 use std::fs;
 use std::fs::Files;
 use std::io::Write;
 use std::os::unix::fs::FileExt;
 
-/// Answers the words over the list, the media and the output that they name; over empty memory where they ask for no
-/// command. The answer is the status.
+/// Answers the words over the list, the media and the output that they name, with a status. Where they ask for no
+/// command, or there is no memory to read them, no file is looked at.
 pub fn answer_words<R, O: Write, E: Write>(
     rt: &R,
     words: &[&str],
@@ -27,20 +27,12 @@ where
     R: Files + Input + AllocGlobal + Clone + Drop,
     R::File: FileExt,
     ensures statuses { result ≤ 2 }
+    ensures help { asks_for_help (texts words.now) ≡ true → result ≢ 1 }
     ensures refused_words { request_of (texts words.now) ≡ None → asks_for_help (texts words.now) ≡ false → result ≡ 2 }
 {
-    let alloc = rt.alloc();
-    match parse(alloc, words) {
+    match parse(rt.alloc(), words) {
         Ok(request) => answer_request(rt, words, request, out, err),
-        Err(_) => answer(
-            alloc,
-            words,
-            &[],
-            &mut MemoryShelf::new(alloc),
-            &mut MemoryBench::new(alloc),
-            out,
-            err,
-        ),
+        Err(error) => answer_error(error, out, err),
     }
 }
 

@@ -3,7 +3,7 @@ ghost use Rattle.std.specs.Prelude.{◌≡◌, Some};
 ghost use Rattle.std.specs.Fmt.{WritesOnOk};
 ghost use Rattle.std.specs.List.{flat_map};
 ghost use Rattle.percent_encoding.specs.Percent as percent;
-ghost use Rattle.consolidate.specs.Faults.{name_of_output, refusal_of};
+ghost use Rattle.consolidate.specs.Faults.{refusal_of};
 ghost use Rattle.adlcons.specs.Lines.{place_text, printed_character, printed_name, refusal_text};
 ghost use Rattle.adlcons.specs.Places.{where_of};
 ghost use Rattle.adlcons.specs.declared.refusal.Place.TheVariants as place;

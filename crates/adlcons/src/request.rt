@@ -33,6 +33,7 @@ pub enum Request<'a> {
 /// the version, or want of memory.
 pub fn parse<'a>(alloc: Global, words: &'a [&'a str]) -> Result<Request<'a>, Error>
     ensures read { IfOk result (λ request. request_of (texts words.entry.now) ≡ Some (asked_of request)) }
+    ensures no_help { IfOk result (λ _. asks_for_help (texts words.entry.now) ≡ false) }
     ensures refused { IfErr result (λ error. (kind_of error ≡ OutOfMemory) ⊎ (request_of (texts words.entry.now) ≡ None)) }
     ensures mistake { IfErr result (λ error. asks_for_help (texts words.entry.now) ≡ false → is_shown (kind_of error) ≡ false) }
 {

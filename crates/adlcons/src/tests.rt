@@ -1,5 +1,6 @@
 // Whole renderings over memory: worked examples, refusals in their order, and failures in mid-stream.
 mod answers;
+mod folders;
 mod lists;
 mod refusals;
 mod words;

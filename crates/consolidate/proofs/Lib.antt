@@ -10,6 +10,7 @@ pub mod Due
 pub mod EventOrder
 pub mod FieldReads
 pub mod FileInfo
+pub mod FilePlaces
 pub mod FileReads
 pub mod FormatReads
 pub mod FourChunks

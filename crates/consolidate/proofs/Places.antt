@@ -21,7 +21,7 @@ later_place k n m true most at = grind (arith, nat_tests)
 later_place k n m false most at = grind (arith, nat_tests)
 
 -- where one more element stands
-position-push : {X : Type 0} (p : X → Bool) (y : X) (xs : List X)
+pub position-push : {X : Type 0} (p : X → Bool) (y : X) (xs : List X)
     → position p (xs ++ y ∷ []) ≡ option_or (position p xs) (cond (p y) (Some (length xs)) None)
 position-push p y xs =
     rw (length-append xs (y ∷ []))
@@ -72,7 +72,7 @@ place_of-push : (indexes : List BoundIndex) (index : BoundIndex) (number : ℕ)
 place_of-push indexes index number = position-push (λ (i : BoundIndex). nat_eq i.number number) index indexes
 
 -- a place that is there stays, and another number gets none
-earlier_place : (place : Option ℕ) (same : Bool) (last : ℕ) → (same ≡ true → place ≢ None) → place ≡ option_or place (cond same (Some last) None)
+pub earlier_place : (place : Option ℕ) (same : Bool) (last : ℕ) → (same ≡ true → place ≢ None) → place ≡ option_or place (cond same (Some last) None)
 earlier_place (Some place) same last known = refl
 earlier_place None true last known = absurd (known refl refl)
 earlier_place None false last known = refl

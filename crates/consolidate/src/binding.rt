@@ -1,5 +1,5 @@
 // Which file each used index of a project is bound to.
-ghost use Rattle.std.specs.Prelude.{◌≡◌, ◌≢◌, ℕ, ◌/◌, ◌+◌, ◌^◌, ◌<◌, ◌≤◌, List, IsTrue, IfOk, IfErr, IsErrOf, IsErrAnd, MatchBool, MatchResult, Err, Ok, Some, ⊤, position, bytes_eq, string_bytes, vec_len};
+ghost use Rattle.std.specs.Prelude.{◌≡◌, ◌≢◌, ℕ, ◌/◌, ◌+◌, ◌^◌, ◌<◌, ◌≤◌, List, IsTrue, IfOk, IfErr, IsErrOf, IsErrAnd, MatchBool, MatchResult, Err, Ok, Some, ⊤, string_bytes, vec_len};
 ghost use Rattle.sound_terms.specs.Mix.{index_of};
 ghost use Rattle.sound_terms.specs.Sounds.{bytes_of_span, plain_format_of};
 ghost use Rattle.work_terms.specs.Disk.{HasCause};
@@ -11,6 +11,7 @@ ghost use Rattle.consolidate.specs.Bound.{AreKept, HasFile, HoldsOfFile, Keeps, 
 ghost use Rattle.consolidate.specs.Faults.{refusal_of};
 
 use crate::Fault;
+use crate::binder::Binder;
 use crate::bound_indexes::BoundIndexes;
 use crate::source_file::SourceFile;
 use crate::used_numbers::UsedNumbers;
@@ -18,7 +19,7 @@ use adlmodel::{Project, Source};
 use riff::{Format, MediaFault};
 use sampletime::SampleTime;
 use shelf::Shelf;
-use sound_terms::{BoundIndex, Event, Span};
+use sound_terms::{BoundIndex, Span};
 use std::alloc::Global;
 
 /// The most bytes of a `fmt ` chunk that are read: those of WAVE_FORMAT_EXTENSIBLE.
@@ -38,16 +39,9 @@ impl Bound {
     {
         self.indexes.find(number)
     }
+}
 
-    /// The place of the file of this name among those opened.
-    fn position(&self, name: &str) -> Option<usize>
-        ensures { result ≡ position (λ file. bytes_eq (string_bytes file.name) name.now) self.now.files.items }
-    {
-        self.files
-            .iter()
-            .position(|file| file.name.as_str() == name)
-    }
-
+impl Binder {
     /// The place of the source's file, which is opened where it isn't yet.
     fn file_of<S: Shelf>(
         &mut self,
@@ -55,13 +49,13 @@ impl Bound {
         source: &Source,
         shelf: &mut S,
     ) -> Result<usize, Fault>
-        ensures found { IsTrue (S.honest shelf.old) → (binding : Binding) → Represents self.old binding → MatchResult result
-            (HasFile (S.stored shelf.old) binding source.now self.new)
+        ensures found { IsTrue (S.honest shelf.old) → (binding : Binding) → Represents self.old.bound binding → MatchResult result
+            (HasFile (S.stored shelf.old) binding source.now self.new.bound)
             (λ fault. MatchBool (is_excused (refusal_of fault).number) ⊤
             (bound_source (S.stored shelf.old) binding source.now (place_of_url source.now.url) ≡ Err (refusal_of fault))) }
-        ensures inside { IfOk result (λ place. place < vec_len self.new.files) }
+        ensures inside { IfOk result (λ place. place < vec_len self.new.bound.files) }
         ensures turn { IfErr result (λ fault. turn_of (refusal_of fault) ≤ 2) }
-        ensures indexes { self.new.indexes ≡ self.old.indexes }
+        ensures indexes { self.new.bound.indexes ≡ self.old.bound.indexes }
         ensures stored { S.stored shelf.new ≡ S.stored shelf.old }
         ensures honest { S.honest shelf.new ≡ S.honest shelf.old }
         ensures cause { HasCause (S.failures shelf.old) (S.failures shelf.new)
@@ -75,18 +69,17 @@ impl Bound {
         }
         let index = source.number();
         let file = open_file(alloc, index, name, shelf)?;
-        let place = self.files.len();
-        self.files
-            .push(file)
-            .map_err(|_| Fault::BindMemory { index })?;
-        Ok(place)
+        match self.push_file(alloc, file) {
+            Ok(place) => Ok(place),
+            Err(_) => Err(Fault::BindMemory { index }),
+        }
     }
 
     /// Binds the index of this source to its file, from the time of the file's first frame to the day's end.
     /// `BindMemory` also stands for more files than 32 bits can number.
     fn add<S: Shelf>(&mut self, alloc: Global, source: &Source, shelf: &mut S) -> Result<(), Fault>
-        ensures added { IsTrue (S.honest shelf.old) → (binding : Binding) → Represents self.old binding
-            → Keeps (λ _. Represents self.new) refusal_of (λ refusal. refusal.number) result
+        ensures added { IsTrue (S.honest shelf.old) → (binding : Binding) → Represents self.old.bound binding
+            → Keeps (λ _. Represents self.new.bound) refusal_of (λ refusal. refusal.number) result
             (bound_source (S.stored shelf.old) binding source.now (place_of_url source.now.url)) }
         ensures turn { IfErr result (λ fault. turn_of (refusal_of fault) ≤ 2) }
         ensures stored { S.stored shelf.new ≡ S.stored shelf.old }
@@ -102,14 +95,17 @@ impl Bound {
             return Err(Fault::BindMemory { index: number });
         };
         let base = source.start().get();
-        let addressable = self.files[place].frames.min(SampleTime::DAY.get() - base);
+        let addressable = self.bound.files[place]
+            .frames
+            .min(SampleTime::DAY.get() - base);
         let index = BoundIndex {
             number,
             file,
             base,
             addressable,
         };
-        self.indexes
+        self.bound
+            .indexes
             .push(alloc, index)
             .map_err(|_| Fault::BindMemory { index: number })?;
         Ok(())
@@ -163,6 +159,7 @@ fn open_file<S: Shelf>(
         → Keeps (λ file facts. (string_bytes file.name ≡ name.now) × AreKept name.now file.frames file.place facts)
         refusal_of (λ refusal. refusal.number) result
         (sound_for index name.now (sound_of_file name.now (S.stored shelf.old name.now))) }
+    ensures named { IfOk result (λ file. string_bytes file.name ≡ name.now) }
     ensures turn { IfErr result (λ fault. turn_of (refusal_of fault) ≤ 2) }
     ensures stored { S.stored shelf.new ≡ S.stored shelf.old }
     ensures honest { S.honest shelf.new ≡ S.honest shelf.old }
@@ -196,12 +193,9 @@ pub fn bind<S: Shelf>(alloc: Global, project: &Project, shelf: &mut S) -> Result
     ensures failed { IfErr result (λ fault. (refusal_of fault).number ≡ 22 → HoldsOfFile (S.failed_at shelf.new) (refusal_of fault).place) }
     ensures keeps { (n : List ℕ) → S.failed_at shelf.old n → S.failed_at shelf.new n }
 {
-    let mut bound = Bound {
-        files: Vec::new(alloc),
-        indexes: BoundIndexes::new(alloc),
-    };
+    let mut binder = Binder::new(alloc);
     let Some(first) = project.sources().first() else {
-        return Ok(bound);
+        return Ok(binder.bound);
     };
     let Ok(used) = UsedNumbers::new(alloc, project.events()) else {
         return Err(Fault::BindMemory {
@@ -210,8 +204,8 @@ pub fn bind<S: Shelf>(alloc: Global, project: &Project, shelf: &mut S) -> Result
     };
     for source in project.sources() {
         if used.contains(source.number()) {
-            bound.add(alloc, source, shelf)?;
+            binder.add(alloc, source, shelf)?;
         }
     }
-    Ok(bound)
+    Ok(binder.bound)
 }

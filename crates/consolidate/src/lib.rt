@@ -2,6 +2,7 @@
 #![tactic(auto)]
 
 mod adding;
+mod binder;
 mod binding;
 mod bound_indexes;
 mod checking;

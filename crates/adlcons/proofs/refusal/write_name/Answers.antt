@@ -1,6 +1,5 @@
-use Rattle.std.proofs.Common.{rules, ap, sym, [], ◌∙◌, ◌≡◌, refl}
+use Rattle.std.proofs.Common.{rules, ap, sym, [], ◌∙◌}
 use Rattle.std.specs.List.{flat_map}
-use Rattle.std.specs.Str.{chars}
 use Rattle.std.proofs.Output.{has_written_append, has_written_of_eq}
 use Rattle.std.proofs.lemmas.List.{flat_map_more, map-id}
 use Rattle.std.proofs.lemmas.Iterator.{YieldsList-from_chars}

@@ -1,10 +1,8 @@
-use Rattle.std.proofs.Common.{◌≡◌, ◌∙◌, inr, ap, sym, refl, rules}
-use Rattle.std.specs.Prelude.{option_and_then, None, false}
+use Rattle.std.proofs.Common.{◌∙◌, inr, sym}
 use Rattle.std.proofs.lemmas.Result.{err_from_is_err_and}
-use Rattle.clap.specs.Words.{app_of, subcommand_rows_of}
+use Rattle.clap.specs.Words.{subcommand_rows_of}
 use Rattle.clap.specs.Walk.{texts}
-use Rattle.adlcons.specs.CommandLine.{asked}
-use Rattle.adlcons.proofs.CommandLineLaws.{is_free-adlcons, is_simple-adlcons, mistaken-by, refused-by, requested-by}
+use Rattle.adlcons.proofs.CommandLineLaws.{helpless-by, is_free-adlcons, is_simple-adlcons, mistaken-by, refused-by, requested-by}
 use Rattle.adlcons.proofs.request.parse.Goals as goal
 
 pub returns-in_err-matches-clause-refused : goal.returns-in_err-matches-clause-refused
@@ -30,3 +28,8 @@ returns-clause-refused c =
     let app = c.in_ok-command.ensures in
     inr (requested-by _ (texts c.args.words.now) (subcommand_rows_of c.in_ok-matches.matches) app (c.in_ok-matches.ensures.kinds (is_free-adlcons _ app))
     (c.in_ok-matches.ensures.ok.2 (is_simple-adlcons _ app)).1 ∙ sym c.in-None.ensures)
+
+pub returns-in-Some-clause-no_help : goal.returns-in-Some-clause-no_help
+returns-in-Some-clause-no_help c =
+    let app = c.in_ok-command.ensures in
+    helpless-by _ (texts c.args.words.now) app (c.in_ok-matches.ensures.kinds (is_free-adlcons _ app))

@@ -1,4 +1,4 @@
-use Rattle.std.proofs.Common.{◌≡◌, ◌∙◌, ap, sym, refl, rules, option_map, codes, true, false}
+use Rattle.std.proofs.Common.{◌∙◌, ap, sym, rules, option_map}
 use Rattle.clap.specs.Words.{found_of}
 use Rattle.adlcons.specs.Request.{asked_of}
 use Rattle.adlcons.proofs.CommandLineLaws.{asked-all, asked-without_list, asked-without_media, asked-without_out}

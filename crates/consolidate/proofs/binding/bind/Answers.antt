@@ -14,7 +14,7 @@ pub loop-source-init : goal.loop-source-init
 loop-source-init g c = record {
   bound = λ honest. record {
     binding = nothing_bound;
-    represents = record { files = rw c.new.ensures.items refl; indexes = sym c.new-2.ensures; inside = All-nil (IsInFile []) };
+    represents = record { files = rw c.new-binder.ensures.files refl; indexes = sym c.new-binder.ensures.indexes; inside = All-nil (IsInFile []) };
     same = rw c.sources-source-items.ensures refl;
   };
   stored = refl;
@@ -32,11 +32,11 @@ returns-in_err-add-clause-bound g c = λ honest.
     let i = c.loop-source.source-index in
     let refusal = refusal_of c.in_err-add.field-0.0 in
     let here : drop i items ≡ source ∷ drop (i + 1) items = rw (add-one, c.source-item.is) (drop-cons items i source c.loop-source-test.true) in
-    let so_far : HasRest files project c.loop-source.bound (source ∷ drop (i + 1) items) = rw (← here) (c.loop-source.invariant.bound honest) in
+    let so_far : HasRest files project c.loop-source.binder.bound (source ∷ drop (i + 1) items) = rw (← here) (c.loop-source.invariant.bound honest) in
     let used : is_used project.events source.number ≡ true = sym (c.contains.ensures ∙ rw (c.in-Ok.ensures, c.events.ensures, c.number-in-loop-source.ensures) refl) ∙ c.if-contains.true in
     let honest' : IsTrue (g.S.Shelf.honest c.loop-source.shelf) = rw c.loop-source.invariant.honest honest in
     let p = err_from_is_err_and c.from_residual.result c.from_residual.ensures.1 in
-    let refused = rest_refused files project c.loop-source.bound source (drop (i + 1) items) refusal so_far used in
+    let refused = rest_refused files project c.loop-source.binder.bound source (drop (i + 1) items) refusal so_far used in
     rw (p.1, p.2) (refused (rw c.loop-source.invariant.stored at (c.in_err-add.ensures.added honest' so_far.binding so_far.represents)))
 
 pub loop-source-preserved : goal.loop-source-preserved
@@ -52,9 +52,9 @@ loop-source-preserved g c =
     elim c.if-contains.branch [
       | then-contains+in_ok-add w ↦ record {
         bound = λ honest.
-            let so_far : HasRest files project c.loop-source.bound (source ∷ drop (i + 1) items) = rw (← here) (before.bound honest) in
+            let so_far : HasRest files project c.loop-source.binder.bound (source ∷ drop (i + 1) items) = rw (← here) (before.bound honest) in
             let honest' : IsTrue (g.S.Shelf.honest c.loop-source.shelf) = rw before.honest honest in
-            rw w.bound-is (rest_used files project c.loop-source.bound w.add.new.self source (drop (i + 1) items) so_far (sym same ∙ w.if-contains.true)
+            rw w.binder-is (rest_used files project c.loop-source.binder.bound w.add.new.self.bound source (drop (i + 1) items) so_far (sym same ∙ w.if-contains.true)
             (λ binding represents. rw before.stored at (w.in_ok-add.ensures.added honest' binding represents)));
         stored = rw w.shelf-is (w.add.ensures.stored ∙ before.stored);
         honest = rw w.shelf-is (w.add.ensures.honest ∙ before.honest);
@@ -63,8 +63,8 @@ loop-source-preserved g c =
       }
       | else-contains w ↦ record {
         bound = λ honest.
-            let so_far : HasRest files project c.loop-source.bound (source ∷ drop (i + 1) items) = rw (← here) (before.bound honest) in
-            rw w.bound-is (rest_unused files project c.loop-source.bound source (drop (i + 1) items) so_far (sym same ∙ w.if-contains.false));
+            let so_far : HasRest files project c.loop-source.binder.bound (source ∷ drop (i + 1) items) = rw (← here) (before.bound honest) in
+            rw w.binder-is (rest_unused files project c.loop-source.binder.bound source (drop (i + 1) items) so_far (sym same ∙ w.if-contains.false));
         stored = rw w.shelf-is before.stored;
         honest = rw w.shelf-is before.honest;
         failures = rw w.shelf-is before.failures;
@@ -81,5 +81,5 @@ returns-in_default-clause-bound g c = λ honest.
     let same : binding_of project files ≡ Ok nothing_bound = rw none refl in (
       nothing_bound,
       same,
-      record { files = rw c.new.ensures.items refl; indexes = sym c.new-2.ensures; inside = All-nil (IsInFile []) },
+      record { files = rw c.new-binder.ensures.files refl; indexes = sym c.new-binder.ensures.indexes; inside = All-nil (IsInFile []) },
     )

@@ -1,4 +1,4 @@
-use Rattle.std.proofs.Common.{rules, ◌≡◌}
+use Rattle.std.proofs.Common.{rules}
 use Rattle.adlcons.proofs.Names.{printed_name-output}
 use Rattle.adlcons.proofs.refusal.PlaceDisplay.fmt.Goals as goal
 

@@ -4,14 +4,14 @@ use Rattle.std.proofs.lemmas.Option.{slice_get_read}
 use Rattle.sampletime.specs.TimeCode.{day}
 use Rattle.consolidate.specs.declared.binding.Bound.{Bound}
 use Rattle.consolidate.proofs.OneMoreSource.{is_added}
-use Rattle.consolidate.proofs.binding.Bound.add.Goals as goal
+use Rattle.consolidate.proofs.binder.Binder.add.Goals as goal
 
 pub returns-clause-added : goal.returns-clause-added
 returns-clause-added g c = λ honest binding represents.
     let place = c.in_ok-place.place in
     let file = c.index.result.now in
     let base = c.get-base.result in
-    let bound : Bound = c.file_of.new.self in
+    let bound : Bound = c.file_of.new.self.bound in
     let has = c.in_ok-place.ensures.found honest binding represents in
     let there : slice_get bound.files.items place ≡ Some file =
     slice_get_read bound.files.items (length bound.files.items) place file refl (omega (arith, bound.files.ok.0, c.in_ok-place.ensures.inside)) c.index.ensures in
