@@ -3,7 +3,7 @@
 import os
 
 import model
-from harness import LIST, MEDIA, OUT, Scene, Suite, expect_answer, same, same_files, same_outcome
+from harness import LIST, MEDIA, OUT, Mismatch, Scene, Suite, expect_answer, preloaded, same, same_files, same_outcome
 from tables import FIRST_LIST, rendered_bytes, wave
 
 RENDERED = model.Answer(0, "rendered 4 frames 1 channels", {"render.wav": rendered_bytes()})
@@ -51,6 +51,21 @@ def closed_standard_input(scene: Scene) -> None:
     got = scene.run("render", "-", MEDIA, OUT, preexec_fn=lambda: os.close(0))
     same_outcome(got, 1, "refused 21 at file -")
     same_files(scene.files(), {})
+
+
+def odd_standard_input(scene: Scene) -> None:
+    """It comes byte by byte between interruptions, breaks off, or never ends."""
+    prepared(scene)
+    slow = preloaded(scene, INPUT="slow")
+    same_outcome(scene.run("render", "-", MEDIA, OUT, given=FIRST_LIST, env=slow), 0, RENDERED.line)
+    same_files(scene.files(), RENDERED.files)
+    scene.empty_out()
+    for how, word in (("broken", b"; the system says: Input/output error"), ("endless", b"or it doesn't end; check")):
+        got = scene.run("render", "-", MEDIA, OUT, given=FIRST_LIST, env=preloaded(scene, INPUT=how))
+        same_outcome(got, 1, "refused 21 at file -")
+        if word not in got.error:
+            raise Mismatch(f"standard error says {got.error!r}")
+        same_files(scene.files(), {})
 
 
 def dash_is_no_file(scene: Scene) -> None:
@@ -126,6 +141,7 @@ def run(suite: Suite) -> None:
     suite.case("a list from standard input", from_standard_input)
     suite.case("a long list from standard input", long_standard_input)
     suite.case("standard input is closed", closed_standard_input)
+    suite.case("odd standard input", odd_standard_input)
     suite.case("- is standard input", dash_is_no_file)
     suite.case("no such output", refused(unlisted, LIST, MEDIA, "none"))
     suite.case("an empty name of an output", refused("refused 20 at file ", LIST, MEDIA, ""))

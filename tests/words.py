@@ -1,7 +1,12 @@
 """The words of the command line: the stored run, faults of the words, help."""
 
+import re
+from pathlib import Path
+
 from harness import LIST, MEDIA, OUT, Mismatch, Outcome, Scene, Suite, same, same_files
 from tables import FIRST_LIST, wave
+
+DOCS = Path(__file__).resolve().parent.parent / "docs"
 
 STORED_RUN = b"698 bytes: 1000 -1000 32767 -32768\n"
 
@@ -16,10 +21,13 @@ MISTAKES = {
     "an unknown option behind": ("consolidate", LIST, MEDIA, OUT, "--loud"),
     "an unknown short option": ("render", "-x", LIST, MEDIA, OUT),
     "an empty word": ("",),
+    "two numbers": ("explain", "13", "46"),
+    "a number that no refusal has": ("explain", "59"),
     "a list alone": (LIST,),
 }
 
-SHOWN = (("--help",), ("-h",), ("render", "--help"), ("consolidate", "--help"), ("--version",), ("-V",))
+SHOWN = (
+    ("--help",), ("-h",), ("render", "--help"), ("consolidate", "--help"), ("explain", "--help"), ("--version",), ("-V",))
 
 
 def prepared(scene: Scene) -> None:
@@ -50,9 +58,78 @@ def shown(scene: Scene) -> None:
         same(f"status and standard error of {words}", (got.status, got.error), (0, b""))
         if not got.output.strip() or max(map(len, got.output.splitlines())) > 80:
             raise Mismatch(f"{words} prints {got.output!r}")
-    for words in (("--help",), ("render", "--help"), ("consolidate", "--help")):
+    for words in (("--help",), ("render", "--help"), ("consolidate", "--help"), ("explain", "--help")):
         if b"Example" not in scene.run(*words).output:
             raise Mismatch(f"{words} shows no example")
+
+
+HELP = """Renders and consolidates audio decision lists (AES31-3) over WAVE files
+
+Usage: adlcons <COMMAND>
+
+Commands:
+  render       Render a list to one sound file, OUT/render.wav
+  consolidate  Write new media of just the frames that a list plays, and a list
+  explain      Tell what the number of a refusal means, and what to do
+
+Options:
+  -h, --help     Print help
+  -V, --version  Print version
+
+Status: 0 done, 1 refused, 2 the words can't be read.
+A refusal is one line with its number and its place.
+'adlcons explain 46' tells what 46 means and what to do.
+Example: adlcons render session.adl sources rendered
+"""
+
+RENDER_HELP = """Render a list to one sound file, OUT/render.wav
+
+Usage: adlcons render <LIST> <MEDIA> <OUT>
+
+Arguments:
+  <LIST>   The list, a file; - is standard input
+  <MEDIA>  The folder of the list's WAVE files
+  <OUT>    The folder to write to, which is there and empty
+
+Options:
+  -h, --help  Print help
+
+Example: adlcons render session.adl sources rendered
+"""
+
+NO_OUT = """error: the following required arguments were not provided:
+  <OUT>
+
+Usage: adlcons render <LIST> <MEDIA> <OUT>
+
+For more information, try '--help'.
+"""
+
+NO_COMMAND = """error: unrecognized subcommand 'rendr'
+
+  tip: a similar subcommand exists: 'render'
+
+Usage: adlcons <COMMAND>
+
+For more information, try '--help'.
+"""
+
+
+def texts(scene: Scene) -> None:
+    """What help, the version and mistakes say."""
+    for words, text in ((("--help",), HELP), (("render", "-h"), RENDER_HELP), (("--version",), "adlcons 0.1.0\n")):
+        same(f"the text of {words}", scene.run(*words).output.decode(), text)
+    for words, text in ((("render", LIST, MEDIA), NO_OUT), (("rendr", LIST, MEDIA, OUT), NO_COMMAND)):
+        same(f"the mistake of {words}", scene.run(*words).error.decode(), text)
+
+
+def documented(scene: Scene) -> None:
+    """The man page and the completion know each command that help names, and no other."""
+    commands = re.findall(r"^  ([a-z]+)  ", scene.run("--help").output.decode(), re.M)
+    page = re.findall(r"^\.B adlcons ([a-z]+)$", (DOCS / "adlcons.1").read_text(), re.M)
+    same("the commands of the man page", page, commands)
+    words = re.search(r'-W "([a-z ]+)--help', (DOCS / "adlcons.bash").read_text())[1].split()
+    same("the commands of the completion", words, commands)
 
 
 def help_beside_words(scene: Scene) -> None:
@@ -72,6 +149,8 @@ def words_behind_dashes(scene: Scene) -> None:
 
 
 def run(suite: Suite) -> None:
+    suite.case("the texts of help and mistakes", texts)
+    suite.case("man page and completion", documented)
     suite.case("no words: the stored run", stored_run)
     for name, words in MISTAKES.items():
         suite.case(f"words: {name}", mistake(words))

@@ -2,6 +2,7 @@
 use Rattle.std.proofs.Common.{◌≡◌, ◌∙◌, ◌⊎◌, inl, inr, Bool, true, false, ◌||◌, List, [], ◌∷◌, Option, None, Some, refl, ap, sym, subst, codes}
 use Rattle.std.specs.Prelude.{option_and_then}
 use Rattle.std.specs.List.{list_any}
+use Rattle.std.specs.Str.{bytes_eq}
 use Rattle.clap.specs.Words.{App, HasKind, IsAmong, Kinds, Row, Text, fault_of, first_of, first_value, is_simple, is_simple_and_free, kind_of, rows_of, subcommand_of}
 use Rattle.clap.specs.declared.parser.matches.Found.{Found}
 use Rattle.clap.specs.declared.error.Error.{Error}
@@ -9,7 +10,7 @@ use Rattle.clap.specs.declared.error.ErrorKind.{ErrorKind}
 use Rattle.clap.specs.declared.error.ErrorKind.TheVariants as kind
 use Rattle.clap.proofs.OnLiterals.{clap_on_literals}
 use Rattle.clap.proofs.WalkLemmas.{first_value-rows}
-use Rattle.adlcons.specs.CommandLine.{Asked, adlcons_app, asked, asked_by, asks_for_help, is_shown, named_by, request_of, unless_faulty, words_fault}
+use Rattle.adlcons.specs.CommandLine.{Asked, Explain, adlcons_app, asked, asked_by, asked_over, asks_for_help, is_shown, named_by, request_of, unless_faulty, words_fault}
 
 is_simple-here : is_simple adlcons_app ≡ true
 unfolding clap_on_literals
@@ -37,16 +38,16 @@ subcommand_of-adlcons app words same = ap (λ (a : App). option_and_then asked (
 row_of_value : (found : Found) (id : Text) (value : Option Text) → value ≡ first_value found id → first_of id (rows_of found) ≡ value
 row_of_value found id value e = sym (first_value-rows found id) ∙ sym e
 
-pub asked-without_list : (name : Text) (found : Found) → None ≡ first_value found (codes "LIST") → asked (name, rows_of found) ≡ None
+pub asked-without_list : (name : Text) (found : Found) → None ≡ first_value found (codes "LIST") → asked_over name (rows_of found) ≡ None
 asked-without_list name found missing = rw (row_of_value found (codes "LIST") None missing) refl
 
 pub asked-without_media : (name list : Text) (found : Found) → Some list ≡ first_value found (codes "LIST")
-    → None ≡ first_value found (codes "MEDIA") → asked (name, rows_of found) ≡ None
+    → None ≡ first_value found (codes "MEDIA") → asked_over name (rows_of found) ≡ None
 asked-without_media name list found one missing =
     rw (row_of_value found (codes "LIST") (Some list) one, row_of_value found (codes "MEDIA") None missing) refl
 
 pub asked-without_out : (name list media : Text) (found : Found) → Some list ≡ first_value found (codes "LIST")
-    → Some media ≡ first_value found (codes "MEDIA") → None ≡ first_value found (codes "OUT") → asked (name, rows_of found) ≡ None
+    → Some media ≡ first_value found (codes "MEDIA") → None ≡ first_value found (codes "OUT") → asked_over name (rows_of found) ≡ None
 asked-without_out name list media found one two missing =
     rw (
       row_of_value found (codes "LIST") (Some list) one,
@@ -56,13 +57,17 @@ asked-without_out name list media found one two missing =
 
 pub asked-all : (name list media out : Text) (found : Found) → Some list ≡ first_value found (codes "LIST")
     → Some media ≡ first_value found (codes "MEDIA") → Some out ≡ first_value found (codes "OUT")
-    → asked (name, rows_of found) ≡ asked_by name list media out
+    → asked_over name (rows_of found) ≡ asked_by name list media out
 asked-all name list media out found one two three =
     rw (
       row_of_value found (codes "LIST") (Some list) one,
       row_of_value found (codes "MEDIA") (Some media) two,
       row_of_value found (codes "OUT") (Some out) three,
     ) refl
+
+pub asked-explain : (name : Text) (found : Found) (number : Option Text) → bytes_eq name (codes "explain") ≡ true
+    → number ≡ first_value found (codes "NUMBER") → asked (name, rows_of found) ≡ Some (Explain number)
+asked-explain name found number named given = rw (named, row_of_value found (codes "NUMBER") number given) refl
 
 -- ---- what clap says of an error
 

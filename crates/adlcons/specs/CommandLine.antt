@@ -28,14 +28,22 @@ top_app = record {
   subs = [];
 }
 
--- the two commands
-abbrev pub adlcons_app : App
-adlcons_app = with_subcommand (with_subcommand top_app (work_shape (codes "render"))) (work_shape (codes "consolidate"))
+-- the number of a refusal, which may be left out
+abbrev pub explain_shape : Shape
+explain_shape = (with_rule (new_app (codes "explain")) (new_rule (codes "NUMBER"))).top
 
--- what the program is asked for: a command, with its list, the folder of its media, and the folder that is written to
+-- the three commands
+abbrev pub adlcons_app : App
+adlcons_app =
+    with_subcommand (with_subcommand (with_subcommand top_app (work_shape (codes "render"))) (work_shape (codes "consolidate")))
+    explain_shape
+
+-- What the program is asked for: a command with its list, the folder of its media, and the folder that is written to; or
+-- what the number of a refusal means, or all of them.
 pub data Asked : Type 0 where
   Render : (list media out : Text) → Asked
   Consolidate : (list media out : Text) → Asked
+  Explain : (number : Option Text) → Asked
 
 -- the command of this name over these places
 abbrev pub asked_by : Text → Text → Text → Text → Option Asked
@@ -44,11 +52,16 @@ asked_by name list media out =
     else if bytes_eq name (codes "consolidate") then Some (Consolidate list media out)
     else None
 
+-- the command of this name over the places that the words are called by
+abbrev pub asked_over : Text → List Row → Option Asked
+asked_over name rows =
+    option_and_then (λ list. option_and_then (λ media. option_and_then (λ out. asked_by name list media out)
+    (first_of (codes "OUT") rows)) (first_of (codes "MEDIA") rows)) (first_of (codes "LIST") rows)
+
 -- the command of this name, whose words are read by what they are called
 abbrev pub asked : Text × List Row → Option Asked
 asked (name, rows) =
-    option_and_then (λ list. option_and_then (λ media. option_and_then (λ out. asked_by name list media out)
-    (first_of (codes "OUT") rows)) (first_of (codes "MEDIA") rows)) (first_of (codes "LIST") rows)
+    if bytes_eq name (codes "explain") then Some (Explain (first_of (codes "NUMBER") rows)) else asked_over name rows
 
 -- the kinds of error that these words may be answered with, where memory is there
 unfoldable pub words_fault : List Text → Kinds

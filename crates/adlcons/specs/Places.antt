@@ -3,7 +3,7 @@ use Rattle.std.specs.Prelude.{ℕ, List}
 use Rattle.work_terms.specs.Refusals as refused
 use Rattle.consolidate.specs.Faults.{name_of_output}
 use Rattle.adlcons.specs.declared.reading.ReadFault.{ReadFault}
-use Rattle.adlcons.specs.declared.reading.ReadFault.TheVariants.{Unreadable, Memory}
+use Rattle.adlcons.specs.declared.reading.ReadFault.TheVariants.{Unreadable, Endless, Memory}
 use Rattle.adlcons.specs.declared.refusal.Place.{Place}
 use Rattle.adlcons.specs.declared.refusal.Place.TheVariants.{Nowhere, Line, LineEntry, LineIndex, IndexFile, Index, Entry, File, Output, Job}
 
@@ -22,10 +22,12 @@ where_of (Job job) = refused.Job job
 
 -- the number of the refusal of a list that isn't read
 abbrev pub number_of_read : ReadFault → ℕ
-number_of_read Unreadable = 21
+number_of_read (Unreadable reason) = 21
+number_of_read Endless = 21
 number_of_read Memory = 18
 
 -- its place, where the list has this path
 abbrev pub place_of_read : ReadFault → List ℕ → refused.Where
-place_of_read Unreadable path = refused.File path
+place_of_read (Unreadable reason) path = refused.File path
+place_of_read Endless path = refused.File path
 place_of_read Memory path = refused.Nowhere

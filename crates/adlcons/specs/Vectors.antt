@@ -1,8 +1,11 @@
--- Worked examples of words and of what they ask for.
+-- Worked examples of words and of what they ask for, and of the lines of refusals.
 use Rattle.std.specs.Prelude.{◌≡◌, [], ◌∷◌, None, Some, refl, codes, true, false}
 use Rattle.clap.specs.declared.error.ErrorKind.TheVariants.{DisplayHelp, DisplayHelpOnMissingArgumentOrSubcommand, DisplayVersion, InvalidSubcommand, MissingRequiredArgument, UnknownArgument}
 use Rattle.clap.proofs.OnLiterals.{clap_on_literals}
-use Rattle.adlcons.specs.CommandLine.{Render, Consolidate, asks_for_help, named_by, request_of, words_fault}
+use Rattle.std.specs.Fmt.{digits}
+use Rattle.work_terms.specs.Refusals.{Nowhere, Line, LineEntry, LineIndex, Index, Entry, Job}
+use Rattle.adlcons.specs.Lines.{refusal_text}
+use Rattle.adlcons.specs.CommandLine.{Render, Consolidate, Explain, asks_for_help, named_by, request_of, words_fault}
 
 -- ---- good words
 
@@ -28,6 +31,14 @@ renders_any_text : request_of (codes "render" ∷ codes "A B.adl" ∷ codes "" �
 unfolding words_fault named_by clap_on_literals
 renders_any_text = refl
 
+explains : request_of (codes "explain" ∷ codes "46" ∷ []) ≡ Some (Explain (Some (codes "46")))
+unfolding words_fault named_by clap_on_literals
+explains = refl
+
+explains_all : request_of (codes "explain" ∷ []) ≡ Some (Explain None)
+unfolding words_fault named_by clap_on_literals
+explains_all = refl
+
 -- ---- mistakes
 
 too_few : words_fault (codes "render" ∷ codes "L.adl" ∷ codes "M" ∷ []) ≡ MissingRequiredArgument ∷ []
@@ -49,6 +60,10 @@ unknown_command = refl
 capital_command : words_fault (codes "Render" ∷ codes "L.adl" ∷ codes "M" ∷ codes "O" ∷ []) ≡ UnknownArgument ∷ InvalidSubcommand ∷ []
 unfolding words_fault clap_on_literals
 capital_command = refl
+
+two_numbers : words_fault (codes "explain" ∷ codes "13" ∷ codes "46" ∷ []) ≡ UnknownArgument ∷ []
+unfolding words_fault clap_on_literals
+two_numbers = refl
 
 unknown_option : words_fault (codes "render" ∷ codes "L.adl" ∷ codes "M" ∷ codes "O" ∷ codes "--depth" ∷ codes "24" ∷ []) ≡ UnknownArgument ∷ []
 unfolding words_fault clap_on_literals
@@ -108,3 +123,33 @@ version = refl
 help_asks : asks_for_help (codes "render" ∷ codes "--help" ∷ []) ≡ true
 unfolding words_fault clap_on_literals
 help_asks = refl
+
+-- ---- lines of refusals
+
+line_without_place : refusal_text 18 Nowhere ≡ codes "refused 18"
+unfolding digits
+line_without_place = refl
+
+line_at_line : refusal_text 3 (Line 7) ≡ codes "refused 03 at line 7"
+unfolding digits
+line_at_line = refl
+
+line_at_entry_line : refusal_text 7 (LineEntry 12 1) ≡ codes "refused 07 at line 12 entry 1"
+unfolding digits
+line_at_entry_line = refl
+
+line_at_index_line : refusal_text 9 (LineIndex 65536 32767) ≡ codes "refused 09 at line 65536 index 32767"
+unfolding digits
+line_at_index_line = refl
+
+line_at_index : refusal_text 30 (Index 10) ≡ codes "refused 30 at index 10"
+unfolding digits
+line_at_index = refl
+
+line_at_entry : refusal_text 46 (Entry 9) ≡ codes "refused 46 at entry 9"
+unfolding digits
+line_at_entry = refl
+
+line_at_job : refusal_text 66 (Job 0) ≡ codes "refused 66 at job 0"
+unfolding digits
+line_at_job = refl

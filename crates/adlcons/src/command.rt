@@ -2,13 +2,13 @@
 ghost use Rattle.std.specs.Prelude.{◌≡◌, IfOk, false};
 ghost use Rattle.clap.specs.Words.{app_of, shape_of, with_rule};
 ghost use Rattle.clap.specs.declared.Command.TheViews.{out-Command as fields_of};
-ghost use Rattle.adlcons.specs.CommandLine.{adlcons_app, place_rule, top_app, work_shape};
+ghost use Rattle.adlcons.specs.CommandLine.{adlcons_app, explain_shape, place_rule, top_app, work_shape};
 
 use clap::{Arg, Command};
 use std::alloc::{AllocError, Global};
 
-/// The program's command line: `render` and `consolidate`, each over a list and two folders. It reads the words behind
-/// the program's name.
+/// The program's command line: `render` and `consolidate`, each over a list and two folders, and `explain`. It reads the
+/// words behind the program's name.
 pub fn command<'a>(alloc: Global) -> Result<Command<'a>, AllocError>
     ensures { IfOk result (λ command. app_of command ≡ adlcons_app) }
 {
@@ -26,8 +26,16 @@ pub fn command<'a>(alloc: Global) -> Result<Command<'a>, AllocError>
     )?;
     top_command(alloc)?
         .subcommand(render)?
-        .subcommand(consolidate)
+        .subcommand(consolidate)?
+        .subcommand(explain_command(alloc)?)
 }
+
+/// What the statuses mean, for the help.
+const STATUSES: &str = "\
+Status: 0 done, 1 refused, 2 the words can't be read.
+A refusal is one line with its number and its place.
+'adlcons explain 46' tells what 46 means and what to do.
+Example: adlcons render session.adl sources rendered";
 
 /// The program itself, which wants a command.
 fn top_command<'a>(alloc: Global) -> Result<Command<'a>, AllocError>
@@ -35,7 +43,7 @@ fn top_command<'a>(alloc: Global) -> Result<Command<'a>, AllocError>
 {
     Command::new(alloc, "adlcons")
         .about("Renders and consolidates audio decision lists (AES31-3) over WAVE files")
-        .after_help("Example: adlcons render session.adl sources rendered")
+        .after_help(STATUSES)
         .version("0.1.0")
         .no_binary_name(true)
         .disable_help_subcommand(true)
@@ -73,6 +81,18 @@ fn work_command<'a>(
         "OUT",
         "The folder to write to, which is there and empty",
     )
+}
+
+/// The command that tells what the numbers of refusals mean.
+fn explain_command<'a>(alloc: Global) -> Result<Command<'a>, AllocError>
+    ensures shape { IfOk result (λ command. shape_of command ≡ explain_shape) }
+    ensures local { IfOk result (λ command. (fields_of command).has_globals ≡ false) }
+{
+    let number = Arg::new(alloc, "NUMBER").help("The number of a refusal; without it all are told");
+    Command::new(alloc, "explain")
+        .about("Tell what the number of a refusal means, and what to do")
+        .after_help("Example: adlcons explain 46")
+        .arg(number)
 }
 
 /// The command with one more word that has to be given.

@@ -3,25 +3,70 @@ ghost use Rattle.std.specs.Prelude.{◌≡◌, ◌≢◌, ◌≤◌, None, true,
 ghost use Rattle.clap.specs.Walk.{texts};
 ghost use Rattle.adlcons.specs.CommandLine.{asks_for_help, request_of};
 
-use crate::answer::{answer, answer_error, refuse};
-use crate::printer::Printer;
-use crate::reading::read_list;
+use crate::answer::{answer, answer_error, explain, refuse};
+use crate::console::Console;
+use crate::explanation::Findings;
+use crate::reading::{ReadFault, read_list};
 use crate::refusal::Refusal;
-use crate::request::{Request, parse};
-use shelf::{FolderBench, FolderShelf};
+use crate::request::{Places, Request, parse};
+use shelf::{FolderBench, FolderShelf, Overwrite};
 use std::alloc::AllocError;
-use std::fs;
 use std::fs::Files;
-use std::io::Write;
 use std::os::unix::fs::FileExt;
+use std::{fs, io};
+
+/// Why a command didn't come to its stores.
+#[derive(Clone, Copy, Debug)]
+pub enum OpenFault {
+    /// The list wasn't read.
+    List(ReadFault),
+    /// The folder of the output can't be listed, for this reason.
+    Unlisted(io::Error),
+    /// Something is in the folder of the output.
+    NotEmpty,
+    /// Out of memory for the stores.
+    Memory,
+}
+
+impl OpenFault {
+    /// The refusal of a command over these places.
+    fn refusal<'a>(self, places: Places<'a>) -> Refusal<'a> {
+        match self {
+            OpenFault::List(fault) => fault.refusal(places.list),
+            OpenFault::Unlisted(_) | OpenFault::NotEmpty => Refusal::of_file(20, places.out),
+            OpenFault::Memory => Refusal::MEMORY,
+        }
+    }
+
+    /// What the system said of it.
+    fn reason(self) -> Option<io::Error> {
+        match self {
+            OpenFault::List(fault) => fault.reason(),
+            OpenFault::Unlisted(error) => Some(error),
+            OpenFault::NotEmpty | OpenFault::Memory => None,
+        }
+    }
+}
+
+impl From<ReadFault> for OpenFault {
+    fn from(fault: ReadFault) -> Self {
+        OpenFault::List(fault)
+    }
+}
+
+impl From<AllocError> for OpenFault {
+    fn from(_: AllocError) -> Self {
+        OpenFault::Memory
+    }
+}
 
 /// Answers the words over the list, the media and the output that they name, with a status. Where they ask for no
 /// command, or there is no memory to read them, no file is looked at.
-pub fn answer_words<R, O: Write, E: Write>(
+pub fn answer_words<R, O: Console, E: Console>(
     rt: &R,
     words: &[&str],
-    out: &mut Printer<O>,
-    err: &mut Printer<E>,
+    out: &mut O,
+    err: &mut E,
 ) -> u8
 where
     R: Files + Input + AllocGlobal + Clone + Drop,
@@ -31,86 +76,77 @@ where
     ensures refused_words { request_of (texts words.now) ≡ None → asks_for_help (texts words.now) ≡ false → result ≡ 2 }
 {
     match parse(rt.alloc(), words) {
-        Ok(request) => answer_request(rt, words, request, out, err),
+        Ok(Request::Explain(number)) => explain(number, out, err),
+        Ok(Request::Render(places) | Request::Consolidate(places)) => {
+            answer_places(rt, words, places, out, err)
+        }
         Err(error) => answer_error(error, out, err),
     }
 }
 
-/// Answers the words, which ask for this.
-fn answer_request<R, O: Write, E: Write>(
+/// Answers the words, which ask for a command over these places.
+fn answer_places<R, O: Console, E: Console>(
     rt: &R,
     words: &[&str],
-    request: Request<'_>,
-    out: &mut Printer<O>,
-    err: &mut Printer<E>,
+    places: Places<'_>,
+    out: &mut O,
+    err: &mut E,
 ) -> u8
 where
     R: Files + Input + AllocGlobal + Clone + Drop,
     R::File: FileExt,
     ensures { result ≤ 2 }
 {
-    match try_request(rt, words, request, out, err) {
+    match try_places(rt, words, places, out, err) {
         Ok(status) => status,
-        Err(refusal) => refuse(out, refusal),
+        Err(fault) => refuse(
+            fault.refusal(places),
+            Findings::by(fault.reason()),
+            out,
+            err,
+        ),
     }
 }
 
-/// Answers the words over what they name. A list that can't be read is refused first, then an output that isn't an empty
+/// Answers the words over these places. A list that can't be read is refused first, then an output that isn't an empty
 /// folder.
-fn try_request<'a, R, O: Write, E: Write>(
+fn try_places<R, O: Console, E: Console>(
     rt: &R,
     words: &[&str],
-    request: Request<'a>,
-    out: &mut Printer<O>,
-    err: &mut Printer<E>,
-) -> Result<u8, Refusal<'a>>
+    places: Places<'_>,
+    out: &mut O,
+    err: &mut E,
+) -> Result<u8, OpenFault>
 where
     R: Files + Input + AllocGlobal + Clone + Drop,
     R::File: FileExt,
     ensures { IfOk result (λ status. status ≤ 2) }
 {
-    let (Request::Render {
-        list: path,
-        media,
-        out: target,
-    }
-    | Request::Consolidate {
-        list: path,
-        media,
-        out: target,
-    }) = request;
-    let list = read_list(rt, path).map_err(|fault| fault.refusal(path))?;
-    if !is_empty_folder(rt, target) {
-        return Err(Refusal::of_file(20, target));
-    }
-    answer_folders(rt, words, list.as_slice(), media, target, out, err).map_err(|_| Refusal::MEMORY)
-}
-
-/// Answers the words over the list and the files of two folders.
-fn answer_folders<R, O: Write, E: Write>(
-    rt: &R,
-    words: &[&str],
-    list: &[u8],
-    media: &str,
-    target: &str,
-    out: &mut Printer<O>,
-    err: &mut Printer<E>,
-) -> Result<u8, AllocError>
-where
-    R: Files + AllocGlobal,
-    R::File: FileExt,
-    ensures { IfOk result (λ status. status ≤ 2) }
-{
+    let list = read_list(rt, places.list)?;
+    require_empty_folder(rt, places.out)?;
     let alloc = rt.alloc();
-    let mut shelf = FolderShelf::new(alloc, rt, media)?;
-    let mut bench = FolderBench::new(alloc, rt, target)?;
-    Ok(answer(alloc, words, list, &mut shelf, &mut bench, out, err))
+    let mut shelf = FolderShelf::new(alloc, rt, places.media)?;
+    let mut bench = FolderBench::new(alloc, rt, places.out, Overwrite::Never)?;
+    Ok(answer(
+        alloc,
+        words,
+        list.as_slice(),
+        &mut shelf,
+        &mut bench,
+        out,
+        err,
+    ))
 }
 
-/// Whether the folder of this path can be listed and holds nothing.
-pub fn is_empty_folder<R: Files + AllocGlobal + Clone + Drop>(rt: &R, path: &str) -> bool {
-    match fs::read_dir(rt, path) {
-        Ok(mut names) => names.next().is_none(),
-        Err(_) => false,
+/// Fails where the folder of this path can't be listed or isn't empty.
+pub fn require_empty_folder<R: Files + AllocGlobal + Clone + Drop>(
+    rt: &R,
+    path: &str,
+) -> Result<(), OpenFault> {
+    let mut names = fs::read_dir(rt, path).map_err(OpenFault::Unlisted)?;
+    match names.next() {
+        None => Ok(()),
+        Some(Ok(_)) => Err(OpenFault::NotEmpty),
+        Some(Err(error)) => Err(OpenFault::Unlisted(error)),
     }
 }

@@ -4,17 +4,16 @@
 
 mod answer;
 mod command;
-#[cfg(test)]
-mod consolidations;
+mod console;
 mod example;
+mod explanation;
 mod folders;
+mod meanings;
 mod printer;
 mod reading;
 mod refusal;
 mod request;
 mod stored;
-#[cfg(test)]
-mod tests;
 
 use anyhow::Result;
 use folders::answer_words;
@@ -34,8 +33,8 @@ fn words_of(rt: &(impl Env + AllocGlobal)) -> io::Result<Vec<String>> {
 /// them.
 fn run_words(rt: &HostRuntime, words: &[String]) -> io::Result<u8> {
     let words: Vec<&str> = words.iter().map(|word| word.as_str()).collect(rt.alloc())?;
-    let mut out = Printer::new(rt.stdout());
-    let mut err = Printer::new(rt.stderr());
+    let mut out = Printer::new(rt.alloc(), rt.stdout())?;
+    let mut err = Printer::new(rt.alloc(), rt.stderr())?;
     Ok(answer_words(rt, words.as_slice(), &mut out, &mut err))
 }
 

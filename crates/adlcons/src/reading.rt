@@ -15,11 +15,13 @@ const MOST_READS: u32 = 1_048_576;
 const READ_SIZE: usize = 65_536;
 
 /// Why a list wasn't read.
-#[derive(Clone, Copy, Debug, PartialEq, Eq)]
+#[derive(Clone, Copy, Debug)]
 pub enum ReadFault {
-    /// It isn't there, can't be read, or doesn't end.
-    Unreadable,
-    /// There was no memory.
+    /// It isn't there, or can't be read, for this reason.
+    Unreadable(io::Error),
+    /// It doesn't end.
+    Endless,
+    /// Out of memory.
     Memory,
 }
 
@@ -30,8 +32,16 @@ impl ReadFault {
         ensures place { where_of result.place ≡ place_of_read self path.entry.now }
     {
         match self {
-            ReadFault::Unreadable => Refusal::of_file(21, path),
+            ReadFault::Unreadable(_) | ReadFault::Endless => Refusal::of_file(21, path),
             ReadFault::Memory => Refusal::MEMORY,
+        }
+    }
+
+    /// What the system said of it.
+    pub fn reason(self) -> Option<io::Error> {
+        match self {
+            ReadFault::Unreadable(error) => Some(error),
+            ReadFault::Endless | ReadFault::Memory => None,
         }
     }
 }
@@ -46,7 +56,7 @@ impl From<io::Error> for ReadFault {
     fn from(error: io::Error) -> Self {
         match error.kind() {
             ErrorKind::OutOfMemory => ReadFault::Memory,
-            _ => ReadFault::Unreadable,
+            _ => ReadFault::Unreadable(error),
         }
     }
 }
@@ -74,7 +84,7 @@ pub fn read_to_end<R: Read>(alloc: Global, reader: &mut R) -> Result<Vec<u8>, Re
             Err(error) => return Err(ReadFault::from(error)),
         }
     }
-    Err(ReadFault::Unreadable)
+    Err(ReadFault::Endless)
 }
 
 /// So many zeros.

@@ -8,6 +8,7 @@ ghost use Rattle.adlcons.specs.Lines.{place_text, printed_character, printed_nam
 ghost use Rattle.adlcons.specs.Places.{where_of};
 ghost use Rattle.adlcons.specs.declared.refusal.Place.TheVariants as place;
 
+use crate::meanings::Spot;
 use adlread::AdlFault;
 use consolidate::{Fault, OutputFile};
 use percent_encoding::percent_encode_byte;
@@ -88,6 +89,21 @@ impl<'a> Place<'a> {
             | Fault::EmptyRange
             | Fault::TooLong
             | Fault::MediumMemory => Place::Nowhere,
+        }
+    }
+}
+
+impl Place<'_> {
+    /// What the place names.
+    pub fn spot(&self) -> Spot {
+        match self {
+            Place::Nowhere => Spot::Nowhere,
+            Place::Line(_) | Place::LineEntry { .. } | Place::LineIndex { .. } => Spot::Line,
+            Place::IndexFile { .. } => Spot::IndexFile,
+            Place::Index(_) => Spot::Index,
+            Place::Entry(_) => Spot::Entry,
+            Place::File(_) | Place::Output(_) => Spot::File,
+            Place::Job(_) => Spot::Job,
         }
     }
 }

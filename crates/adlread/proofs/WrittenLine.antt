@@ -12,7 +12,7 @@ use Rattle.sound_terms.specs.declared.Event.{Event}
 use Rattle.list_terms.specs.Project.{Source}
 use Rattle.list_terms.specs.WrittenText.{event_line, number_text, source_line, time_text}
 use Rattle.adlmodel.specs.Plain.{is_plain_name, no_uid, plain_project, plain_source_of, url_of_name}
-use Rattle.adlmodel.proofs.Names.{All-plain_name, IsNameByte}
+use Rattle.adlmodel.specs.Laws.{All-plain_name, IsNameByte}
 use Rattle.adlread.specs.PlainLine.{behind, is_quote, name_at, plain_event, plain_event_of, plain_source, last_time, times_at, time_at}
 use Rattle.adlread.specs.Written.{IsNumber}
 use Rattle.adlread.proofs.WrittenNumber.{number_at-number_text}

@@ -11,7 +11,7 @@ use Rattle.sound_terms.specs.declared.Event.{Event}
 use Rattle.list_terms.specs.Project.{Source}
 use Rattle.list_terms.specs.WrittenText.{event_line, event_lines, line, number_text, source_line, text_of_project, time_text}
 use Rattle.adlmodel.specs.Plain.{is_plain_name, no_uid, plain_header, plain_project, url_of_name}
-use Rattle.adlmodel.proofs.Names.{All-plain_name, IsNameByte}
+use Rattle.adlmodel.specs.Laws.{All-plain_name, IsNameByte}
 use Rattle.adlread.specs.PlainList.{lines_of}
 use Rattle.adlread.specs.Written.{IsNumber, IsPlainEvent, IsPlainSource}
 use Rattle.adlread.proofs.FirstLine.{IsNoLf, lines_of-line, without_cr-cr}

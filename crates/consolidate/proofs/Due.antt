@@ -8,18 +8,15 @@ use Rattle.sound_terms.specs.declared.BoundIndex.{BoundIndex}
 use Rattle.sound_terms.specs.Mix.{index_of}
 use Rattle.sound_terms.specs.Sounds.{SoundFacts}
 use Rattle.work_terms.specs.Disk.{Files}
-use Rattle.work_terms.specs.Refusals.{ComesInTurn, Gives, IsDue, Refusal, is_excused, turn_of}
+use Rattle.work_terms.specs.Refusals.{ComesInTurn, IsDue, Refusal, is_excused, turn_of}
 use Rattle.list_terms.specs.Project.{ListProject}
 use Rattle.list_terms.specs.Binding.{Binding, OpenedFile, binding_of}
-use Rattle.list_terms.specs.Accepted.{bound_fault, entry_fault, entry_refusal, event_fault, IsAccepted, first_fault, project_fault, range_fault, range_of, span_fault}
-use Rattle.std.specs.Prelude.{cond, nat_le}
+use Rattle.list_terms.specs.Accepted.{bound_fault, entry_fault, entry_refusal, event_fault, first_fault, project_fault, span_fault}
+use Rattle.std.specs.Prelude.{cond}
+use Rattle.std.specs.List.{list_any}
 use Rattle.sound_terms.specs.Waves.{is_large}
-use Rattle.sound_terms.specs.Render.{render_info}
 use Rattle.work_terms.specs.Refusals.{Nowhere}
-use Rattle.adlread.specs.PlainList.{text_value}
-use Rattle.consolidate.specs.Rendering.{length_fault, no_options, render_refusal, size_fault}
-use Rattle.adlread.specs.declared.fault.AdlFault.{AdlFault}
-use Rattle.adlread.specs.declared.fault.AdlFault.TheVariants as list
+use Rattle.consolidate.specs.Consolidated.{media_fault, medium_info}
 use Rattle.adlread.specs.Fault.{refusal}
 use Rattle.consolidate.specs.declared.faults.Fault.TheVariants as fault
 use Rattle.consolidate.specs.declared.faults.EntryFault.{EntryFault}
@@ -34,12 +31,6 @@ turn_positive refusal = grind (arith, nat_tests)
 pub first_in_turn : (refusal : Refusal) (due : Option Refusal) → turn_of refusal ≡ 1 → ComesInTurn refusal due
 first_in_turn refusal None first = tt
 first_in_turn refusal (Some due) first = rw first (turn_positive due)
-
--- a fault of the list is due
-pub list_due : (fault : AdlFault) (text : Result ListProject Refusal) (files : Files) → Gives (λ (p : ListProject). p) refusal (λ (r : Refusal). r.number) (Err fault) text
-    → IsDue (refusal fault) (project_fault text files)
-list_due (list.Unsupported line) text files gives = rw gives refl
-list_due list.Memory text files gives = first_in_turn (refusal list.Memory) (project_fault text files) refl
 
 -- a number of the faults of entries
 abbrev IsOfEntry : ℕ → Type 0
@@ -94,48 +85,25 @@ check_due FadesTooLong entry project binding text files spelt bound due = rw (sp
 check_due SourceChannel entry project binding text files spelt bound due = rw (spelt, bound) due
 check_due SpanOutside entry project binding text files spelt bound due = rw (spelt, bound) due
 
--- ---- behind the project: 58 and 61
+-- ---- behind the project: 61
 
-length_turn : (text : Result ListProject Refusal) → IfSome (first_fault (range_fault no_options text) (size_fault text)) (λ due. 3 ≤ turn_of due)
-length_turn (Err refusal) = tt
-length_turn (Ok project) = either (nat_le (range_of project no_options).to (range_of project no_options).from) (is_large (render_info (range_of project no_options))) where
-  either : (a b : Bool) → IfSome (first_fault
-      (cond a (Some (record { number = 58; place = Nowhere; late = false })) None)
-      (cond b (Some (record { number = 61; place = Nowhere; late = false })) None)) (λ (due : Refusal). 3 ≤ turn_of due)
-  either true b = omega arith
-  either false true = omega arith
-  either false false = tt
+pub media_turn : (text : Result ListProject Refusal) → IfSome (media_fault text) (λ due. 3 ≤ turn_of due)
+media_turn (Err refusal) = tt
+media_turn (Ok project) = by_size (list_any (λ event. is_large (medium_info 1 16 event)) project.events) where
+  by_size : (large : Bool) → IfSome (cond large (Some (record { number = 61; place = Nowhere; late = false })) None) (λ (due : Refusal). 3 ≤ turn_of due)
+  by_size true = omega arith
+  by_size false = tt
 
-again : (a b c : Option Refusal) → first_fault (first_fault a b) c ≡ first_fault a (first_fault b c)
-again None b c = refl
-again (Some due) b c = refl
+-- what may come where the project is opened may come in place of what comes later
+pub due_behind : (refusal : Refusal) (first later : Option Refusal) → turn_of refusal ≤ 3 → IfSome later (λ due. 3 ≤ turn_of due) → IsDue refusal first
+    → IsDue refusal (first_fault first later)
+due_behind refusal (Some due) later turn late is_due = is_due
+due_behind refusal None later turn late is_due = by_excuse (is_excused refusal.number) later refl late is_due where
+  in_turn : (later : Option Refusal) → IfSome later (λ (d : Refusal). 3 ≤ turn_of d) → ComesInTurn refusal later
+  in_turn None late = tt
+  in_turn (Some due) late = omega arith
 
--- what may come where the project is opened may come of the rendering
-pub opening_due : (refusal : Refusal) (text : List ℕ) (files : Files) → turn_of refusal ≤ 3 → IsDue refusal (project_fault (text_value text) files)
-    → IsDue refusal (render_refusal text files)
-opening_due refusal text files turn due =
-    rw (again (project_fault (text_value text) files) (range_fault no_options (text_value text)) (size_fault (text_value text)))
-    (by_project (project_fault (text_value text) files) (first_fault (range_fault no_options (text_value text)) (size_fault (text_value text))) (length_turn (text_value text)) due) where
-      in_turn : (later : Option Refusal) → IfSome later (λ (d : Refusal). 3 ≤ turn_of d) → ComesInTurn refusal later
-      in_turn None late = tt
-      in_turn (Some due) late = omega arith
-
-      by_excuse : (excused : Bool) (later : Option Refusal) → is_excused refusal.number ≡ excused → IfSome later (λ (d : Refusal). 3 ≤ turn_of d)
-          → IsDue refusal None → IsDue refusal later
-      by_excuse true later is late due = rw is (in_turn later late)
-      by_excuse false later is late due = let none = rw is at due in absurd (cc)
-
-      by_project : (first later : Option Refusal) → IfSome later (λ (d : Refusal). 3 ≤ turn_of d) → IsDue refusal first → IsDue refusal (first_fault first later)
-      by_project (Some d) later late due = due
-      by_project None later late due = by_excuse (is_excused refusal.number) later refl late due
-
--- where the project is accepted, 58 and 61 are what is due
-pub accepted_due : (text : List ℕ) (files : Files) (project : ListProject) (binding : Binding) → IsAccepted (text_value text) files project binding
-    → render_refusal text files ≡ length_fault project
-accepted_due text files project binding accepted =
-    rw (
-      again (project_fault (text_value text) files) (range_fault no_options (text_value text)) (size_fault (text_value text)),
-      accepted.spelt,
-      accepted.bound,
-      accepted.checked,
-    ) refl
+  by_excuse : (excused : Bool) (later : Option Refusal) → is_excused refusal.number ≡ excused → IfSome later (λ (d : Refusal). 3 ≤ turn_of d)
+      → IsDue refusal None → IsDue refusal later
+  by_excuse true later is late due = rw is (in_turn later late)
+  by_excuse false later is late due = let none = rw is at due in absurd (cc)

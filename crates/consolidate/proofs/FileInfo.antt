@@ -1,5 +1,5 @@
 -- What a file can tell of itself in RIFF, and the facts that are read of it.
-use Rattle.std.proofs.Common.{◌≡◌, ℕ, ◌^◌, ◌<◌, ◌≤◌, Some, List, length, refl, sym, false, ◌⊎◌, inl, inr}
+use Rattle.std.proofs.Common.{◌≡◌, ℕ, ◌^◌, ◌<◌, ◌≤◌, Some, List, length, sym, false, ◌⊎◌, inl, inr}
 use Rattle.sound_terms.specs.declared.Depth.{Depth}
 use Rattle.sound_terms.specs.declared.Depth.TheVariants.{Sixteen, TwentyFour, ThirtyTwo}
 use Rattle.sound_terms.specs.Depth.{bits_of}
@@ -15,12 +15,6 @@ pub depth_named : (depth : ℕ) → IsDepth depth → (name : Depth) × (bits_of
 depth_named depth (inl e) = (Sixteen, sym e)
 depth_named depth (inr (inl e)) = (TwentyFour, sym e)
 depth_named depth (inr (inr e)) = (ThirtyTwo, sym e)
-
--- each name is of one of them
-pub named_depth : (name : Depth) → IsDepth (bits_of name)
-named_depth Sixteen = inl refl
-named_depth TwentyFour = inr (inl refl)
-named_depth ThirtyTwo = inr (inr refl)
 
 -- what a file can tell of itself in RIFF
 pub record IsInfo (info : SoundInfo) : Type 0 where

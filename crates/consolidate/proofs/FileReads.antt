@@ -1,5 +1,5 @@
 -- A written file reads back: its facts, and its samples.
-use Rattle.std.proofs.Common.{◌≡◌, ℕ, ◌+◌, ◌-◌, ◌*◌, ◌/◌, ◌%◌, List, ◌++◌, length, take, drop, refl, sym, ap, ◌∙◌, arith, length-append, Bool, true, false, Ok, Result, Err, if◌then◌else◌, subst}
+use Rattle.std.proofs.Common.{◌≡◌, ℕ, ◌+◌, ◌-◌, ◌*◌, ◌/◌, ◌%◌, List, ◌++◌, length, take, drop, sym, ap, ◌∙◌, arith, length-append, Bool, true, false, Ok, Result, Err, if◌then◌else◌, subst}
 use Rattle.std.proofs.lemmas.List.{append_assoc, drop_at, take_at, drop-drop}
 use Rattle.sound_terms.specs.Waves.{zeros, SoundInfo, frame_bytes, data_size, bext_size, data_place, file_length, is_large, header_of, file_of, form_head, sample_at, sample_of}
 use Rattle.sound_terms.specs.Sounds.{is_rf64, format_of, plain_format_of, sound_of, plain_sound_of, sound_by}
@@ -95,13 +95,6 @@ pub length-header_of : (info : SoundInfo) → length info.text ≡ 338 → lengt
 unfolding header_of
 length-header_of info whole =
     simp (length-append, length-form_head, length-zeros, length-chunk_head, length-u16_bytes, length-u32_bytes, length-u64_bytes) (omega arith)
-
--- the whole file, with the padding
-pub length-file_of : (info : SoundInfo) (samples : List ℕ) → length info.text ≡ 338 → length samples ≡ data_size info
-    → length (file_of info samples) ≡ file_length info
-unfolding file_of
-length-file_of info samples whole counted =
-    simp (length-append, length-zeros) (rw (counted, length-header_of info whole) refl)
 
 -- from their place on the samples stand, and their padding
 pub behind_header : (info : SoundInfo) (samples : List ℕ) → length info.text ≡ 338

@@ -25,6 +25,7 @@ pub mod MediaNames
 pub mod MediaReads
 pub mod MediaSoFar
 pub mod OneMoreSource
+pub mod Own
 pub mod Places
 pub mod PlainFormat
 pub mod PlainSound
@@ -34,11 +35,11 @@ pub mod RenderReads
 pub mod RenewedPlain
 pub mod RiffReads
 pub mod SameSound
-pub mod Shelves
 pub mod SoFar
 pub mod SoundInside
 pub mod Spans
 pub mod SpeltTimes
+pub mod Stores
 pub mod Summing
 pub mod Turns
 pub mod WholeFile

@@ -10,7 +10,7 @@ use native.Mathlib.Numerals.{unary_clauses}
 use Rattle.std.proofs.lemmas.Slice.Eq.{bytes_eq-Decides}
 use Rattle.list_terms.specs.Names.{place_of_url}
 use Rattle.adlmodel.specs.Plain.{is_name_byte, is_plain_name, url_of_name}
-use Rattle.adlmodel.proofs.Names.{place_of_url-plain_name}
+use Rattle.adlmodel.specs.Laws.{place_of_url-plain_name}
 use Rattle.consolidate.specs.Consolidated.{media_name}
 
 -- the name as it is printed

@@ -169,11 +169,6 @@ is_added files binding source bound new place start file has indexes from there 
       },
     )
 
--- a list without a first element has none
-pub no_first : {X : Type 0} (xs : List X) → slice_get xs 0 ≡ None → xs ≡ []
-no_first [] none = refl
-no_first (x ∷ xs) none = cc
-
 -- what is bound so far, and what is left of the project
 pub record HasRest (files : Files) (project : ListProject) (bound : Bound) (rest : List Source) : Type 0 where
   pub binding : Binding

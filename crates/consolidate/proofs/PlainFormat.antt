@@ -8,8 +8,8 @@ use Rattle.sound_terms.specs.declared.Format.{Format}
 use Rattle.sound_terms.specs.Chunks.{number_at}
 use Rattle.sound_terms.specs.Sounds.{is_plain_format, plain_format_of}
 use Rattle.work_terms.specs.Refusals.{Gives, is_excused}
-use Rattle.riff.specs.declared.fault.MediaFault.{MediaFault}
-use Rattle.riff.specs.Fault.{number_of, numbered}
+use Rattle.plain_riff.specs.declared.fault.MediaFault.{MediaFault}
+use Rattle.plain_riff.specs.Fault.{number_of, numbered}
 
 abbrev pub mono_sixteen : Format
 mono_sixteen = record { channels = 1; depth = Sixteen }

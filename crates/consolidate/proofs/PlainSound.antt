@@ -5,7 +5,7 @@ use Rattle.sound_terms.specs.declared.Format.{Format}
 use Rattle.sound_terms.specs.Sounds.{SoundFacts, bytes_of_span, facts_with, is_rf64, plain_chunks_of, plain_format_of, plain_sound_of, walked}
 use Rattle.work_terms.specs.Refusals.{is_excused}
 use Rattle.list_terms.specs.Binding.{sound_of_file}
-use Rattle.riff.specs.Walk.{walked_file}
+use Rattle.plain_riff.specs.Walk.{walked_file}
 use Rattle.consolidate.specs.Bound.{AreKept}
 use Rattle.consolidate.proofs.PlainFormat.{mono_sixteen, plain_is_mono}
 

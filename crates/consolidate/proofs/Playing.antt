@@ -131,7 +131,6 @@ file_read files place file read there is =
     there ∙ ap (λ (f : SourceFile). Some f) (sym (is ∙ get_or_from_slice_get files place file read there))
 
 -- a fault that isn't that of a missing file is the device's
-pub only_device : {P : Type 0} (fault : ShelfFault) → (IsErrOf {T = Unit {0}} {E = ShelfFault} (Err fault) NotFound → ⊥)
-    → (IsErrOf {T = Unit {0}} {E = ShelfFault} (Err fault) Device → P) → P
-only_device NotFound missing failed = absurd (missing refl)
-only_device Device missing failed = failed refl
+pub only_device : (fault : ShelfFault) → (IsErrOf {T = Unit {0}} {E = ShelfFault} (Err fault) NotFound → ⊥) → fault ≡ Device
+only_device NotFound missing = absurd (missing refl)
+only_device Device missing = refl

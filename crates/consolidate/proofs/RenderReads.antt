@@ -1,12 +1,11 @@
 -- A rendered file reads back.
-use Rattle.std.proofs.Common.{◌≡◌, ℕ, ◌-◌, ◌^◌, ◌<◌, ◌≤◌, List, [], length, refl, arith, false, Ok}
+use Rattle.std.proofs.Common.{◌≡◌, ℕ, ◌-◌, ◌^◌, ◌<◌, ◌≤◌, [], length, refl, arith, false}
 use Rattle.std.specs.Prelude.{ℤ}
 use Rattle.sound_terms.specs.Waves.{data_size, is_large}
-use Rattle.sound_terms.specs.Sounds.{sound_of, plain_sound_of}
 use Rattle.sound_terms.specs.Render.{frames_of, Range, render_info, rendering_of, ReadsBack}
 use Rattle.consolidate.proofs.FieldReads.{length-zeros}
 use Rattle.consolidate.proofs.FileInfo.{IsDepth, IsInfo, facts_told}
-use Rattle.consolidate.proofs.FileReads.{reads_back, plain_reads_back}
+use Rattle.consolidate.proofs.FileReads.{reads_back}
 use Rattle.consolidate.proofs.FrameReads.{length-frames_of, frames_read}
 
 -- what can be rendered to a file that isn't large
@@ -49,19 +48,3 @@ render_reads_back range mix is =
       start = refl;
       samples = λ frame channel below first last. frames_read info mix range.from frame channel (length-zeros 338) is.depth below first last;
     }
-
--- the facts of the rendered file
-pub render_told : (name : List ℕ) (range : Range) (mix : ℕ → ℕ → ℤ) → IsRange range
-    → sound_of name (rendering_of range mix) ≡ Ok (facts_told name (render_info range))
-unfolding rendering_of
-render_told name range mix is =
-    let samples = frames_of range.depth mix range.channels range.from (range.to - range.from) in
-    reads_back name (render_info range) samples (render_is_info range is) (length-rendered range mix)
-
--- one channel of 16 bits by the plain reader
-pub plain_render_told : (name : List ℕ) (range : Range) (mix : ℕ → ℕ → ℤ) → IsRange range → range.channels ≡ 1 → range.depth ≡ 16
-    → plain_sound_of name (rendering_of range mix) ≡ Ok (facts_told name (render_info range))
-unfolding rendering_of
-plain_render_told name range mix is one sixteen =
-    let samples = frames_of range.depth mix range.channels range.from (range.to - range.from) in
-    plain_reads_back name (render_info range) samples (render_is_info range is) one sixteen (length-rendered range mix)

@@ -8,7 +8,7 @@ use Rattle.sound_terms.specs.Mix.{Reading, contribution_of, mix_at}
 use Rattle.work_terms.specs.Refusals.{Refusal}
 use Rattle.list_terms.specs.Binding.{Binding}
 use Rattle.list_terms.specs.Accepted.{entry_fault, entry_refusal, event_fault, first_fault}
-use Rattle.consolidate.specs.Sums.{AreMix, GrowBy, sum_at}
+use Rattle.consolidate.specs.Sums.{GrowBy, sum_at}
 
 -- with the mix of the events from place i on they are the whole mix
 pub record AreSoFar (reading : Reading) (indexes : List BoundIndex) (events : List Event) (from i : ℕ) (sums : List ℤ) : Type 0 where
@@ -22,12 +22,6 @@ sum_at-replicate : (n k : ℕ) → sum_at (replicate n (pos 0)) k ≡ pos 0
 sum_at-replicate zero k = refl
 sum_at-replicate (suc n) zero = refl
 sum_at-replicate (suc n) (suc k) = sum_at-replicate n k
-
-pub none_yet : (reading : Reading) (indexes : List BoundIndex) (events : List Event) (from n : ℕ) → AreSoFar reading indexes events from 0 (replicate n (pos 0))
-none_yet reading indexes events from n = record {
-  each = λ k _.
-      ap (λ z. z +ℤ mix_at reading indexes events 1 (from + k)) (sum_at-replicate n k) ∙ zero_add _;
-}
 
 moved : (s e m all : ℤ) → s +ℤ (e +ℤ m) ≡ all → (s +ℤ e) +ℤ m ≡ all
 moved s e m all whole = omega (arith, ints)
@@ -46,13 +40,6 @@ one_event reading indexes events event from i old new same next grown before = r
 
 add_none : (z : ℤ) → z +ℤ pos 0 ≡ z
 add_none z = omega (arith, ints)
-
-pub all_events : (reading : Reading) (indexes : List BoundIndex) (events : List Event) (from i : ℕ) (sums : List ℤ)
-    → drop i events ≡ [] → AreSoFar reading indexes events from i sums → AreMix reading indexes events from sums
-all_events reading indexes events from i sums done so_far k below =
-    sym (add_none (sum_at sums k))
-    ∙ ap (λ (rest : List Event). sum_at sums k +ℤ mix_at reading indexes rest 1 (from + k)) (sym done)
-    ∙ so_far.each k below
 
 pub first_none : (o : Option ℕ) (later : Option Refusal) (event : Event) → first_fault (option_map (entry_refusal event) o) later ≡ None
     → (o ≡ None) × (later ≡ None)

@@ -1,16 +1,12 @@
 -- What a consolidation has written: the media of the cuts, and the list.
-use Rattle.std.proofs.Common.{◌≡◌, ◌≢◌, ℕ, zero, suc, ◌+◌, ◌≤◌, List, [], ◌∷◌, length, None, arith, refl, ◌∙◌, codes}
-use Rattle.std.specs.Prelude.{Result, Ok, Err, IfErr}
+use Rattle.std.proofs.Common.{◌≡◌, zero, suc, List, [], ◌∷◌, None, arith, refl}
 use Rattle.std.specs.List.{All}
 use Rattle.std.proofs.lemmas.List.Elements.{All-head, All-tail}
-use Rattle.std.proofs.lemmas.Option.{slice_get_within}
 use Rattle.sound_terms.specs.declared.Event.{Event}
-use Rattle.work_terms.specs.Disk.{Files}
 use Rattle.list_terms.specs.Binding.{Binding}
 use Rattle.list_terms.specs.Accepted.{entry_fault, event_fault}
-use Rattle.consolidate.specs.Consolidated.{AreCuts, HoldsMedia, media_name}
+use Rattle.consolidate.specs.Consolidated.{AreCuts}
 use Rattle.consolidate.proofs.Cuts.{of_cuts}
-use Rattle.consolidate.proofs.MediaNames.{media_name-no_list}
 use Rattle.consolidate.proofs.SoFar.{first_none}
 
 -- no entry has a fault where the first fault of all is none, and the other way round
@@ -31,15 +27,3 @@ all_faultless binding (event ∷ events) all =
 pub cuts_faultless : (binding : Binding) (events cuts : List Event) → AreCuts events cuts → event_fault binding events ≡ None → event_fault binding cuts ≡ None
 cuts_faultless binding events cuts are none =
     all_faultless binding cuts (of_cuts (λ event. entry_fault binding event ≡ None) events cuts are (none_at_fault binding events none))
-
--- the media stay where the list alone is written
-pub still_held : (medium : Event → List ℕ) (cuts : List Event) (before after : Files) → length cuts ≤ 32767
-    → ((name : List ℕ) → name ≢ codes "consolidated.adl" → after name ≡ before name) → HoldsMedia medium 1 cuts before → HoldsMedia medium 1 cuts after
-still_held medium cuts before after few others holds k cut at =
-    let below = slice_get_within cuts k cut at in
-    others (media_name (1 + k)) (media_name-no_list (1 + k) (omega (arith, below))) ∙ holds k cut at
-
--- what holds of every fault holds of the one that is answered
-pub every_err : {X E : Type 0} {P : E → Type 0} (result : Result X E) → ((fault : E) → P fault) → IfErr result P
-every_err (Ok x) all = tt
-every_err (Err fault) all = all fault

@@ -1,5 +1,5 @@
 -- Sums that are written as samples, block by block.
-use Rattle.std.proofs.Common.{◌≡◌, ℕ, zero, suc, ◌+◌, ◌<◌, ◌≤◌, List, [], ◌∷◌, ◌++◌, length, take, get_or, arith, refl, sym, ap, ◌∙◌, Bool}
+use Rattle.std.proofs.Common.{◌≡◌, ℕ, zero, suc, ◌+◌, ◌<◌, ◌≤◌, List, [], ◌∷◌, ◌++◌, length, take, get_or, arith, refl, sym, ap, ◌∙◌}
 use Rattle.std.specs.Prelude.{ℤ, pos, negsuc, map, Option, Some, unwrap_or, Result, Ok, Err, OnOk}
 use Rattle.std.specs.Int.{saturate_to_bits}
 use Rattle.std.specs.List.{All, flat_map}
@@ -12,15 +12,8 @@ use Rattle.sound_terms.specs.Mix.{quantized}
 use Rattle.sound_terms.specs.Waves.{sample_bytes}
 use Rattle.pcm.specs.Samples.{FitsDepth}
 use Rattle.work_terms.specs.Disk.{IsAppended}
-use Rattle.consolidate.specs.Sums.{sum_at, AreWithin}
+use Rattle.consolidate.specs.Sums.{sum_at}
 use Rattle.consolidate.specs.Written.{bytes_of_sums}
-use Rattle.consolidate.proofs.Summing.{part_within}
-
--- a bench that is as honest, and has failed no more
-pub record IsAsSound {B : Type 0} (honest : B → Bool) (failures : B → ℕ) (failed_at : B → List ℕ → Type 0) (old new : B) : Type 0 where
-  pub honest_same : honest new ≡ honest old
-  pub failures_same : failures new ≡ failures old
-  pub keeps : (n : List ℕ) → failed_at old n → failed_at new n
 
 -- ---- samples
 
@@ -54,11 +47,6 @@ bytes_finished [] = refl
 bytes_finished (sum ∷ sums) = ap (λ (rest : List ℕ). sample_bytes 16 (quantized 16 sum) ++ rest) (bytes_finished sums)
 
 -- ---- blocks
-
--- a part of the sums is within what all are within
-pub part_is_within : (bound a n : ℕ) (sums : List ℤ) → a + n ≤ length sums → AreWithin bound sums → AreWithin bound (mid_of a n sums)
-part_is_within bound a n sums inside within =
-    part_within bound a n sums sums inside within (record { same = λ k above. refl; length = refl })
 
 -- one block more
 pub block_more : (a n : ℕ) (sums : List ℤ) (file : List ℕ)

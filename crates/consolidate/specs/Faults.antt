@@ -2,7 +2,7 @@
 use Rattle.std.specs.Prelude.{◌≡◌, ◌≢◌, ℕ, true, false, Result, IfErr, IsErrAnd, string_bytes, codes}
 use Rattle.work_terms.specs.Refusals.{Refusal, Where, Nowhere, IndexFile, Index, Entry, File}
 use Rattle.std.specs.Prelude as bytes
-use Rattle.riff.specs.Fault as media
+use Rattle.plain_riff.specs.Fault as media
 use Rattle.adlread.specs.Fault as list
 use Rattle.consolidate.specs.Consolidated.{media_name}
 use Rattle.consolidate.specs.declared.faults.EntryFault.{EntryFault}

@@ -1,8 +1,11 @@
 pub mod Bound
+pub mod Commands
 pub mod Consolidated
 pub mod Copied
 pub mod Faults
+pub mod Frame
 pub mod Listed
+pub mod Own
 pub mod Places
 pub mod Planned
 pub mod Rendering

@@ -1,9 +1,9 @@
 // Adds the samples of a file to sums.
-ghost use Rattle.std.specs.Prelude.{◌≡◌, ◌≢◌, ◌+◌, ◌-◌, ◌*◌, ◌^◌, ◌<◌, ◌≤◌, Some, length, get_or, pos, IsTrue, IfErr, IsErrOf, OnOk, string_bytes, List, ℕ};
+ghost use Rattle.std.specs.Prelude.{◌≡◌, ◌+◌, ◌-◌, ◌*◌, ◌^◌, ◌<◌, ◌≤◌, length, get_or, pos, IsTrue, IsErrOf, OnOk, string_bytes, ℕ};
 ghost use Rattle.std.specs.List.{All};
-ghost use Rattle.work_terms.specs.Disk.{HasCause};
 ghost use Rattle.sound_terms.specs.Mix.{full_scale};
 ghost use Rattle.pcm.specs.Samples.{FitsDepth};
+ghost use Rattle.shelf.specs.Frame.{OnlyReads};
 ghost use Rattle.consolidate.specs.Sums.{AreWithin, GrowBy, AreSamplesAdded};
 
 use crate::source_file::SourceFile;
@@ -39,12 +39,8 @@ fn add_block<S: Shelf>(
     requires within { AreWithin (2 ^ 62 - 2 ^ 47) sums.old }
     ensures near { (bound : ℕ) → AreWithin bound sums.old → AreWithin (bound + 2 ^ 47) sums.new }
     ensures added { IsTrue (S.honest shelf.old) → OnOk result (AreSamplesAdded (S.stored shelf.old (string_bytes file.now.name)) file.now.place frame sums.old sums.new) }
-    ensures stored { S.stored shelf.new ≡ S.stored shelf.old }
-    ensures honest { S.honest shelf.new ≡ S.honest shelf.old }
-    ensures cause { HasCause (S.failures shelf.old) (S.failures shelf.new) (IfErr result (λ fault. fault ≡ ShelfFault.NotFound)) (IsErrOf result ShelfFault.Device) }
     ensures not_missing { IsErrOf result ShelfFault.NotFound → ⊥ }
-    ensures failed { IsErrOf result ShelfFault.Device → S.failed_at shelf.new (string_bytes file.now.name) }
-    ensures keeps { (n : List ℕ) → S.failed_at shelf.old n → S.failed_at shelf.new n }
+    ensures only_reads { OnlyReads S.Shelf shelf.old shelf.new result (λ fault. fault ≡ ShelfFault.Device) (λ _ failed. failed (string_bytes file.now.name)) }
 {
     let mut bytes = [0; 8192];
     let bytes = &mut bytes[..2 * sums.len()];
@@ -68,12 +64,8 @@ pub fn add_frames<S: Shelf>(
     requires within { AreWithin (2 ^ 62 - 2 ^ 47) sums.old }
     ensures near { (bound : ℕ) → AreWithin bound sums.old → AreWithin (bound + 2 ^ 47) sums.new }
     ensures added { IsTrue (S.honest shelf.old) → OnOk result (AreSamplesAdded (S.stored shelf.old (string_bytes file.now.name)) file.now.place frame sums.old sums.new) }
-    ensures stored { S.stored shelf.new ≡ S.stored shelf.old }
-    ensures honest { S.honest shelf.new ≡ S.honest shelf.old }
-    ensures cause { HasCause (S.failures shelf.old) (S.failures shelf.new) (IfErr result (λ fault. fault ≡ ShelfFault.NotFound)) (IsErrOf result ShelfFault.Device) }
     ensures not_missing { IsErrOf result ShelfFault.NotFound → ⊥ }
-    ensures failed { IsErrOf result ShelfFault.Device → S.failed_at shelf.new (string_bytes file.now.name) }
-    ensures keeps { (n : List ℕ) → S.failed_at shelf.old n → S.failed_at shelf.new n }
+    ensures only_reads { OnlyReads S.Shelf shelf.old shelf.new result (λ fault. fault ≡ ShelfFault.Device) (λ _ failed. failed (string_bytes file.now.name)) }
 {
     let mut done = 0;
     while done < sums.len() {

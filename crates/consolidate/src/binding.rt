@@ -1,14 +1,16 @@
 // Which file each used index of a project is bound to.
-ghost use Rattle.std.specs.Prelude.{◌≡◌, ◌≢◌, ℕ, ◌/◌, ◌+◌, ◌^◌, ◌<◌, ◌≤◌, List, IsTrue, IfOk, IfErr, IsErrOf, IsErrAnd, MatchBool, MatchResult, Err, Ok, Some, ⊤, string_bytes, vec_len};
+ghost use Rattle.std.specs.Prelude.{◌≡◌, ℕ, ◌/◌, ◌+◌, ◌^◌, ◌<◌, List, IsTrue, IfOk, IfErr, MatchBool, MatchResult, Err, Ok, Some, ⊤, string_bytes, vec_len};
 ghost use Rattle.sound_terms.specs.Mix.{index_of};
 ghost use Rattle.sound_terms.specs.Sounds.{bytes_of_span, plain_format_of};
-ghost use Rattle.work_terms.specs.Disk.{HasCause};
-ghost use Rattle.work_terms.specs.Refusals.{Gives, is_excused, turn_of};
+ghost use Rattle.work_terms.specs.Refusals.{Gives, is_excused};
+ghost use Rattle.shelf.specs.Frame.{OnlyReads};
 ghost use Rattle.list_terms.specs.Binding.{Binding, binding_of, bound_source, sound_of_file};
 ghost use Rattle.list_terms.specs.Names.{place_of_url};
-ghost use Rattle.riff.specs.Fault.{number_of};
-ghost use Rattle.consolidate.specs.Bound.{AreKept, HasFile, HoldsOfFile, Keeps, Represents, sound_for};
+ghost use Rattle.plain_riff.specs.Fault.{number_of};
+ghost use Rattle.consolidate.specs.Bound.{AreKept, HasFile, Keeps, Represents, sound_for};
 ghost use Rattle.consolidate.specs.Faults.{refusal_of};
+ghost use Rattle.consolidate.specs.Frame.{ReadsSources};
+ghost use Rattle.consolidate.specs.Own.{IsOfFile, IsOfProject, IsOfSource};
 
 use crate::Fault;
 use crate::binder::Binder;
@@ -16,7 +18,7 @@ use crate::bound_indexes::BoundIndexes;
 use crate::source_file::SourceFile;
 use crate::used_numbers::UsedNumbers;
 use adlmodel::{Project, Source};
-use riff::{Format, MediaFault};
+use plain_riff::{Format, MediaFault};
 use sampletime::SampleTime;
 use shelf::Shelf;
 use sound_terms::{BoundIndex, Span};
@@ -54,14 +56,9 @@ impl Binder {
             (λ fault. MatchBool (is_excused (refusal_of fault).number) ⊤
             (bound_source (S.stored shelf.old) binding source.now (place_of_url source.now.url) ≡ Err (refusal_of fault))) }
         ensures inside { IfOk result (λ place. place < vec_len self.new.bound.files) }
-        ensures turn { IfErr result (λ fault. turn_of (refusal_of fault) ≤ 2) }
+        ensures own { IfErr result (IsOfSource source.now) }
         ensures indexes { self.new.bound.indexes ≡ self.old.bound.indexes }
-        ensures stored { S.stored shelf.new ≡ S.stored shelf.old }
-        ensures honest { S.honest shelf.new ≡ S.honest shelf.old }
-        ensures cause { HasCause (S.failures shelf.old) (S.failures shelf.new)
-            (IfErr result (λ fault. (refusal_of fault).number ≢ 22)) (IsErrAnd result (λ fault. (refusal_of fault).number ≡ 22)) }
-        ensures failed { IfErr result (λ fault. (refusal_of fault).number ≡ 22 → HoldsOfFile (S.failed_at shelf.new) (refusal_of fault).place) }
-        ensures keeps { (n : List ℕ) → S.failed_at shelf.old n → S.failed_at shelf.new n }
+        ensures only_reads { ReadsSources S.Shelf shelf.old shelf.new result }
     {
         let name = source.name();
         if let Some(place) = self.position(name) {
@@ -81,13 +78,8 @@ impl Binder {
         ensures added { IsTrue (S.honest shelf.old) → (binding : Binding) → Represents self.old.bound binding
             → Keeps (λ _. Represents self.new.bound) refusal_of (λ refusal. refusal.number) result
             (bound_source (S.stored shelf.old) binding source.now (place_of_url source.now.url)) }
-        ensures turn { IfErr result (λ fault. turn_of (refusal_of fault) ≤ 2) }
-        ensures stored { S.stored shelf.new ≡ S.stored shelf.old }
-        ensures honest { S.honest shelf.new ≡ S.honest shelf.old }
-        ensures cause { HasCause (S.failures shelf.old) (S.failures shelf.new)
-            (IfErr result (λ fault. (refusal_of fault).number ≢ 22)) (IsErrAnd result (λ fault. (refusal_of fault).number ≡ 22)) }
-        ensures failed { IfErr result (λ fault. (refusal_of fault).number ≡ 22 → HoldsOfFile (S.failed_at shelf.new) (refusal_of fault).place) }
-        ensures keeps { (n : List ℕ) → S.failed_at shelf.old n → S.failed_at shelf.new n }
+        ensures own { IfErr result (IsOfSource source.now) }
+        ensures only_reads { ReadsSources S.Shelf shelf.old shelf.new result }
     {
         let place = self.file_of(alloc, source, shelf)?;
         let number = source.number();
@@ -116,18 +108,13 @@ impl Binder {
 fn read_format<S: Shelf>(shelf: &mut S, name: &str, contents: Span) -> Result<Format, MediaFault>
     ensures exact { IsTrue (S.honest shelf.old) → (file : List ℕ) → S.stored shelf.old name.now ≡ Some file
         → Gives (λ format. format) number_of (λ number. number) result (plain_format_of (bytes_of_span file contents)) }
-    ensures stored { S.stored shelf.new ≡ S.stored shelf.old }
-    ensures honest { S.honest shelf.new ≡ S.honest shelf.old }
-    ensures cause { HasCause (S.failures shelf.old) (S.failures shelf.new)
-        (IfErr result (λ fault. fault ≢ MediaFault.Device)) (IsErrOf result MediaFault.Device) }
-    ensures failed { IsErrOf result MediaFault.Device → S.failed_at shelf.new name.now }
-    ensures keeps { (n : List ℕ) → S.failed_at shelf.old n → S.failed_at shelf.new n }
+    ensures only_reads { OnlyReads S.Shelf shelf.old shelf.new result (λ fault. fault ≡ MediaFault.Device) (λ _ failed. failed name.now) }
 {
     let mut buffer = [0u8; FORMAT_LENGTH];
     let length = contents.length.min(FORMAT_LENGTH as u64) as usize;
     let bytes = &mut buffer[..length];
     shelf.read_at(name, contents.at, bytes)?;
-    riff::read_fmt(bytes)
+    plain_riff::read_fmt(bytes)
 }
 
 /// Where the samples of the file of this name are. Its `bext` isn't read.
@@ -136,14 +123,9 @@ fn find_samples<S: Shelf>(shelf: &mut S, name: &str) -> Result<Span, MediaFault>
         → Keeps (λ samples. AreKept name.now (samples.length / 2) samples.at) number_of (λ number. number) result
         (sound_of_file name.now (S.stored shelf.old name.now)) }
     ensures ends { IfOk result (λ samples. samples.at + samples.length < 2 ^ 64) }
-    ensures stored { S.stored shelf.new ≡ S.stored shelf.old }
-    ensures honest { S.honest shelf.new ≡ S.honest shelf.old }
-    ensures cause { HasCause (S.failures shelf.old) (S.failures shelf.new)
-        (IfErr result (λ fault. fault ≢ MediaFault.Device)) (IsErrOf result MediaFault.Device) }
-    ensures failed { IsErrOf result MediaFault.Device → S.failed_at shelf.new name.now }
-    ensures keeps { (n : List ℕ) → S.failed_at shelf.old n → S.failed_at shelf.new n }
+    ensures only_reads { OnlyReads S.Shelf shelf.old shelf.new result (λ fault. fault ≡ MediaFault.Device) (λ _ failed. failed name.now) }
 {
-    let chunks = riff::walk(shelf, name)?;
+    let chunks = plain_riff::walk(shelf, name)?;
     read_format(shelf, name, chunks.format)?;
     Ok(chunks.sound)
 }
@@ -160,13 +142,8 @@ fn open_file<S: Shelf>(
         refusal_of (λ refusal. refusal.number) result
         (sound_for index name.now (sound_of_file name.now (S.stored shelf.old name.now))) }
     ensures named { IfOk result (λ file. string_bytes file.name ≡ name.now) }
-    ensures turn { IfErr result (λ fault. turn_of (refusal_of fault) ≤ 2) }
-    ensures stored { S.stored shelf.new ≡ S.stored shelf.old }
-    ensures honest { S.honest shelf.new ≡ S.honest shelf.old }
-    ensures cause { HasCause (S.failures shelf.old) (S.failures shelf.new)
-        (IfErr result (λ fault. (refusal_of fault).number ≢ 22)) (IsErrAnd result (λ fault. (refusal_of fault).number ≡ 22)) }
-    ensures failed { IfErr result (λ fault. (refusal_of fault).number ≡ 22 → HoldsOfFile (S.failed_at shelf.new) (refusal_of fault).place) }
-    ensures keeps { (n : List ℕ) → S.failed_at shelf.old n → S.failed_at shelf.new n }
+    ensures own { IfErr result (IsOfFile index name.now) }
+    ensures only_reads { ReadsSources S.Shelf shelf.old shelf.new result }
 {
     let name = String::from_str(alloc, name).map_err(|_| Fault::BindMemory { index })?;
     match find_samples(shelf, name.as_str()) {
@@ -185,23 +162,11 @@ pub fn bind<S: Shelf>(alloc: Global, project: &Project, shelf: &mut S) -> Result
     ensures bound { IsTrue (S.honest shelf.old) → MatchResult result
         (λ bound. (binding : Binding) × (binding_of project.now (S.stored shelf.old) ≡ Ok binding) × Represents bound binding)
         (λ fault. MatchBool (is_excused (refusal_of fault).number) ⊤ (binding_of project.now (S.stored shelf.old) ≡ Err (refusal_of fault))) }
-    ensures turn { IfErr result (λ fault. turn_of (refusal_of fault) ≤ 2) }
-    ensures stored { S.stored shelf.new ≡ S.stored shelf.old }
-    ensures honest { S.honest shelf.new ≡ S.honest shelf.old }
-    ensures cause { HasCause (S.failures shelf.old) (S.failures shelf.new)
-        (IfErr result (λ fault. (refusal_of fault).number ≢ 22)) (IsErrAnd result (λ fault. (refusal_of fault).number ≡ 22)) }
-    ensures failed { IfErr result (λ fault. (refusal_of fault).number ≡ 22 → HoldsOfFile (S.failed_at shelf.new) (refusal_of fault).place) }
-    ensures keeps { (n : List ℕ) → S.failed_at shelf.old n → S.failed_at shelf.new n }
+    ensures own { IfErr result (IsOfProject project.now) }
+    ensures only_reads { ReadsSources S.Shelf shelf.old shelf.new result }
 {
     let mut binder = Binder::new(alloc);
-    let Some(first) = project.sources().first() else {
-        return Ok(binder.bound);
-    };
-    let Ok(used) = UsedNumbers::new(alloc, project.events()) else {
-        return Err(Fault::BindMemory {
-            index: first.number(),
-        });
-    };
+    let used = UsedNumbers::new(alloc, project.events());
     for source in project.sources() {
         if used.contains(source.number()) {
             binder.add(alloc, source, shelf)?;

@@ -3,7 +3,7 @@ ghost use Rattle.std.specs.Prelude.{◌≡◌, Some};
 ghost use Rattle.consolidate.specs.Faults.{name_of_output, number_of_entry, refusal_of};
 
 use adlread::AdlFault;
-use riff::MediaFault;
+use plain_riff::MediaFault;
 use std::fmt;
 use thiserror::Error;
 

@@ -97,27 +97,3 @@ pub fn header(alloc: Global, from: u64, frames: u64) -> Result<Vec<u8>, AllocErr
     push_chunk_head(&mut out, b"data", size)?;
     Ok(out)
 }
-
-#[cfg(test)]
-mod tests {
-    use super::*;
-    use std::test::Fail;
-
-    #[test]
-    fn tells_place_and_sizes(rt: HostRuntime) -> Result<(), Fail> {
-        let bytes = header(rt.alloc(), 48_000, 3)?;
-        assert_eq!(rt; bytes.len(), 690);
-        assert_eq!(rt;
-            &bytes[..20],
-            b"RIFF\xb0\x02\0\0WAVEJUNK\x1c\0\0\0".as_slice()
-        );
-        assert_eq!(rt; &bytes[48..56], b"bext\x5a\x02\0\0".as_slice());
-        assert_eq!(rt; &bytes[394..404], b"\x80\xbb\0\0\0\0\0\0\x01\0".as_slice());
-        assert_eq!(rt;
-            &bytes[658..682],
-            b"fmt \x10\0\0\0\x01\0\x01\0\x80\xbb\0\0\0\x77\x01\0\x02\0\x10\0".as_slice()
-        );
-        assert_eq!(rt; &bytes[682..], b"data\x06\0\0\0".as_slice());
-        Ok(())
-    }
-}

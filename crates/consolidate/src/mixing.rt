@@ -1,13 +1,14 @@
 // The exact sums of all entries of a project.
-ghost use Rattle.std.specs.Prelude.{◌≡◌, ◌≢◌, ◌+◌, ◌-◌, ◌*◌, ◌^◌, ◌<◌, ◌≤◌, ◌⊎◌, Some, None, Ok, length, slice_get, slice_index, IsTrue, IfOk, IfErr, IfSome, IsErrAnd, OnOk, OnErr, IsErr, IsOk, MatchOption, string_bytes, List, ℕ, false};
+ghost use Rattle.std.specs.Prelude.{◌≡◌, ◌+◌, ◌-◌, ◌^◌, ◌<◌, ◌≤◌, Some, None, Ok, length, IsTrue, IfOk, IfErr, IfSome, OnOk, ℕ, ⊤};
 ghost use Rattle.std.specs.List.{All};
-ghost use Rattle.work_terms.specs.Disk.{HasCause};
 ghost use Rattle.sound_terms.specs.Mix.{contribution_of};
+ghost use Rattle.shelf.specs.Frame.{OnlyReads};
 ghost use Rattle.list_terms.specs.Binding.{Binding};
 ghost use Rattle.list_terms.specs.Accepted.{entry_fault, event_fault, reading_of};
 ghost use Rattle.adlread.specs.PlainList.{IsPlainEvent};
-ghost use Rattle.consolidate.specs.Bound.{HoldsOfFile, Represents};
-ghost use Rattle.consolidate.specs.Faults.{refusal_of};
+ghost use Rattle.consolidate.specs.Bound.{Represents};
+ghost use Rattle.consolidate.specs.Frame.{ReadsSources};
+ghost use Rattle.consolidate.specs.Own.{IsOfSums};
 ghost use Rattle.consolidate.specs.Stretches.{IsInside, IsPlayed, LiesWithin, NamesFile};
 ghost use Rattle.consolidate.specs.Sums.{AreMix, AreWithin, GrowBy};
 
@@ -61,11 +62,7 @@ fn add_event<S: Shelf>(
     ensures near { (bound : ℕ) → AreWithin bound sums.old → AreWithin (bound + 2 ^ 47) sums.new }
     ensures added { IsTrue (S.honest shelf.old) → (binding : Binding) → Represents bound.now binding → entry_fault binding event.now ≡ None
         → OnOk result (GrowBy (λ k. contribution_of (reading_of (S.stored shelf.old) binding) binding.indexes event.now 1 (from + k)) sums.old sums.new) }
-    ensures stored { S.stored shelf.new ≡ S.stored shelf.old }
-    ensures honest { S.honest shelf.new ≡ S.honest shelf.old }
-    ensures cause { HasCause (S.failures shelf.old) (S.failures shelf.new) (IsOk result) (IsErr result) }
-    ensures failed { IfErr result (NamesFile (S.failed_at shelf.new) bound.now.files.items) }
-    ensures keeps { (n : List ℕ) → S.failed_at shelf.old n → S.failed_at shelf.new n }
+    ensures only_reads { OnlyReads S.Shelf shelf.old shelf.new result (λ _. ⊤) (λ place failed. NamesFile failed bound.now.files.items place) }
 {
     let Some(stretch) = stretch_of(bound, event) else {
         return Ok(());
@@ -96,14 +93,8 @@ pub fn mix<S: Shelf>(
         → IfOk result (λ sums. AreMix (reading_of (S.stored shelf.old) binding) binding.indexes events.now from sums.items) }
     ensures each { IfOk result (λ sums. length sums.items ≡ samples) }
     ensures within { IfOk result (λ sums. AreWithin (2 ^ 62) sums.items) }
-    ensures faults { IfErr result (λ fault. ((refusal_of fault).number ≡ 22) ⊎ (fault ≡ Fault.RenderMemory)) }
-    ensures early { IfErr result (λ fault. (refusal_of fault).late ≡ false) }
-    ensures stored { S.stored shelf.new ≡ S.stored shelf.old }
-    ensures honest { S.honest shelf.new ≡ S.honest shelf.old }
-    ensures cause { HasCause (S.failures shelf.old) (S.failures shelf.new)
-        (IfErr result (λ fault. (refusal_of fault).number ≢ 22)) (IsErrAnd result (λ fault. (refusal_of fault).number ≡ 22)) }
-    ensures failed { IfErr result (λ fault. (refusal_of fault).number ≡ 22 → HoldsOfFile (S.failed_at shelf.new) (refusal_of fault).place) }
-    ensures keeps { (n : List ℕ) → S.failed_at shelf.old n → S.failed_at shelf.new n }
+    ensures own { IfErr result IsOfSums }
+    ensures only_reads { ReadsSources S.Shelf shelf.old shelf.new result }
 {
     let mut sums = vec![in alloc; 0; samples].map_err(|_| Fault::RenderMemory)?;
     for event in events {

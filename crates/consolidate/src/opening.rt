@@ -1,15 +1,15 @@
 // Opens the project of a list: its text, its files and its entries are without a fault.
-ghost use Rattle.std.specs.Prelude.{◌≡◌, ◌≢◌, ◌≤◌, ℕ, List, length, Err, IsTrue, IsOk, IfOk, IfErr, IsErrAnd, MatchResult, Ok, Some};
+ghost use Rattle.std.specs.Prelude.{◌≡◌, ◌≤◌, List, length, Err, IsTrue, IfOk, IfErr, MatchResult, Ok, Some};
 ghost use Rattle.std.specs.List.{All};
-ghost use Rattle.work_terms.specs.Disk.{HasCause};
-ghost use Rattle.work_terms.specs.Refusals.{IsDue, Refusal, turn_of};
+ghost use Rattle.work_terms.specs.Refusals.{IsDue, Refusal};
 ghost use Rattle.list_terms.specs.Project.{ListProject};
 ghost use Rattle.list_terms.specs.WrittenText.{text_of_project};
 ghost use Rattle.list_terms.specs.Accepted.{project_fault};
 ghost use Rattle.adlread.specs.PlainList.{IsPlainEvent, text_value};
 ghost use Rattle.adlread.specs.Written.{IsPlainProject};
-ghost use Rattle.consolidate.specs.Bound.{HoldsOfFile};
 ghost use Rattle.consolidate.specs.Faults.{refusal_of};
+ghost use Rattle.consolidate.specs.Frame.{ReadsSources};
+ghost use Rattle.consolidate.specs.Own.{IsOfOpening};
 ghost use Rattle.consolidate.specs.Rendering.{IsOpened};
 
 use crate::Fault;
@@ -30,13 +30,8 @@ pub fn open_project<S: Shelf>(alloc: Global, list: &[u8], shelf: &mut S) -> Resu
     ensures plain { IfOk result (λ opened. All IsPlainEvent opened.project.events) }
     ensures few { IfOk result (λ opened. length opened.project.events ≤ 32767) }
     ensures bad_text { (refusal : Refusal) → text_value list.now ≡ Err refusal → IfErr result (λ fault. IsDue (refusal_of fault) (Some refusal)) }
-    ensures turn { IfErr result (λ fault. turn_of (refusal_of fault) ≤ 3) }
-    ensures stored { S.stored shelf.new ≡ S.stored shelf.old }
-    ensures honest { S.honest shelf.new ≡ S.honest shelf.old }
-    ensures cause { HasCause (S.failures shelf.old) (S.failures shelf.new)
-        (IfErr result (λ fault. (refusal_of fault).number ≢ 22)) (IsErrAnd result (λ fault. (refusal_of fault).number ≡ 22)) }
-    ensures failed { IfErr result (λ fault. (refusal_of fault).number ≡ 22 → HoldsOfFile (S.failed_at shelf.new) (refusal_of fault).place) }
-    ensures keeps { (n : List ℕ) → S.failed_at shelf.old n → S.failed_at shelf.new n }
+    ensures own { IfErr result (IsOfOpening list.now) }
+    ensures only_reads { ReadsSources S.Shelf shelf.old shelf.new result }
 {
     let project = match read(alloc, list) {
         Ok(project) => project,

@@ -1,11 +1,12 @@
 // Plans what is written of a consolidation.
-ghost use Rattle.std.specs.Prelude.{◌≡◌, ◌≢◌, ◌≤◌, length, Ok, None, IfOk, IfErr, MatchResult, false};
+ghost use Rattle.std.specs.Prelude.{◌≡◌, ◌≤◌, length, Ok, None, IfOk, IfErr, MatchResult};
 ghost use Rattle.std.specs.List.{All, list_any};
 ghost use Rattle.sound_terms.specs.Waves.{is_large};
 ghost use Rattle.work_terms.specs.Refusals.{IsDue};
 ghost use Rattle.adlread.specs.PlainList.{IsPlainEvent};
 ghost use Rattle.consolidate.specs.Consolidated.{media_fault, medium_info};
 ghost use Rattle.consolidate.specs.Faults.{refusal_of};
+ghost use Rattle.consolidate.specs.Own.{IsOfPlan};
 ghost use Rattle.consolidate.specs.Planned.{IsPlanned};
 
 use crate::Fault;
@@ -31,8 +32,7 @@ pub fn plan(alloc: Global, project: &Project) -> Result<Planned, Fault>
     requires few { length project.now.events ≤ 32767 }
     ensures planned { IfOk result (IsPlanned project.now) }
     ensures due { MatchResult result (λ _. media_fault (Ok project.now) ≡ None) (λ fault. IsDue (refusal_of fault) (media_fault (Ok project.now))) }
-    ensures early { IfErr result (λ fault. (refusal_of fault).late ≡ false) }
-    ensures no_device { IfErr result (λ fault. ((refusal_of fault).number ≢ 22) × ((refusal_of fault).number ≢ 62)) }
+    ensures own { IfErr result IsOfPlan }
 {
     let events = project.events();
     if any_too_long(events) {

@@ -1,14 +1,14 @@
 // Makes all that is written of a rendering.
-ghost use Rattle.std.specs.Prelude.{◌≡◌, ◌≢◌, ◌≤◌, ◌^◌, ℕ, List, None, Some, Err, IsTrue, IfOk, IfErr, IsErrAnd, MatchResult, length, false};
+ghost use Rattle.std.specs.Prelude.{◌≡◌, ◌≤◌, ◌^◌, None, Some, Err, IsTrue, IfOk, IfErr, MatchResult, length};
 ghost use Rattle.std.specs.List.{All};
-ghost use Rattle.sampletime.specs.TimeCode.{day};
-ghost use Rattle.work_terms.specs.Disk.{HasCause};
 ghost use Rattle.work_terms.specs.Refusals.{IsDue, Refusal};
 ghost use Rattle.list_terms.specs.Binding.{Binding};
 ghost use Rattle.list_terms.specs.Accepted.{event_fault};
 ghost use Rattle.adlread.specs.PlainList.{IsPlainEvent, text_value};
-ghost use Rattle.consolidate.specs.Bound.{HoldsOfFile, Represents};
+ghost use Rattle.consolidate.specs.Bound.{Represents};
 ghost use Rattle.consolidate.specs.Faults.{refusal_of};
+ghost use Rattle.consolidate.specs.Frame.{ReadsSources};
+ghost use Rattle.consolidate.specs.Own.{IsOfMixing, IsOfRendering};
 ghost use Rattle.consolidate.specs.Rendering.{HasRange, IsMixed, IsPrepared, Reports, length_fault, render_refusal};
 ghost use Rattle.consolidate.specs.Sums.{AreWithin};
 
@@ -32,14 +32,9 @@ fn mix_project<S: Shelf>(alloc: Global, opened: Opened, shelf: &mut S) -> Result
         → IfOk result (IsMixed (S.stored shelf.old) opened.project binding) }
     ensures range { IfOk result (HasRange opened.project) }
     ensures due { MatchResult result (λ _. length_fault opened.project ≡ None) (λ fault. IsDue (refusal_of fault) (length_fault opened.project)) }
-    ensures early { IfErr result (λ fault. (refusal_of fault).late ≡ false) }
+    ensures own { IfErr result IsOfMixing }
     ensures within { IfOk result (λ prepared. AreWithin (2 ^ 62) prepared.sums.items) }
-    ensures stored { S.stored shelf.new ≡ S.stored shelf.old }
-    ensures honest { S.honest shelf.new ≡ S.honest shelf.old }
-    ensures cause { HasCause (S.failures shelf.old) (S.failures shelf.new)
-        (IfErr result (λ fault. (refusal_of fault).number ≢ 22)) (IsErrAnd result (λ fault. (refusal_of fault).number ≡ 22)) }
-    ensures failed { IfErr result (λ fault. (refusal_of fault).number ≡ 22 → HoldsOfFile (S.failed_at shelf.new) (refusal_of fault).place) }
-    ensures keeps { (n : List ℕ) → S.failed_at shelf.old n → S.failed_at shelf.new n }
+    ensures only_reads { ReadsSources S.Shelf shelf.old shelf.new result }
 {
     let Opened { project, bound } = opened;
     let events = project.events();
@@ -66,14 +61,9 @@ pub fn prepare<S: Shelf>(alloc: Global, list: &[u8], shelf: &mut S) -> Result<Pr
         (λ fault. IsDue (refusal_of fault) (render_refusal list.now (S.stored shelf.old))) }
     ensures report { IfOk result (λ prepared. Reports list.now (length prepared.sums.items) 1) }
     ensures bad_text { (refusal : Refusal) → text_value list.now ≡ Err refusal → IfErr result (λ fault. IsDue (refusal_of fault) (Some refusal)) }
-    ensures early { IfErr result (λ fault. (refusal_of fault).late ≡ false) }
+    ensures own { IfErr result (IsOfRendering list.now) }
     ensures within { IfOk result (λ prepared. AreWithin (2 ^ 62) prepared.sums.items) }
-    ensures stored { S.stored shelf.new ≡ S.stored shelf.old }
-    ensures honest { S.honest shelf.new ≡ S.honest shelf.old }
-    ensures cause { HasCause (S.failures shelf.old) (S.failures shelf.new)
-        (IfErr result (λ fault. (refusal_of fault).number ≢ 22)) (IsErrAnd result (λ fault. (refusal_of fault).number ≡ 22)) }
-    ensures failed { IfErr result (λ fault. (refusal_of fault).number ≡ 22 → HoldsOfFile (S.failed_at shelf.new) (refusal_of fault).place) }
-    ensures keeps { (n : List ℕ) → S.failed_at shelf.old n → S.failed_at shelf.new n }
+    ensures only_reads { ReadsSources S.Shelf shelf.old shelf.new result }
 {
     let opened = open_project(alloc, list, shelf)?;
     mix_project(alloc, opened, shelf)

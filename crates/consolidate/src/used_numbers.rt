@@ -24,18 +24,21 @@ pub struct UsedNumbers<'a> {
 }
 
 impl<'a> UsedNumbers<'a> {
-    /// Flags the numbers that these entries name.
-    pub fn new(alloc: Global, events: &'a [Event]) -> Result<Self, AllocError>
-        ensures { IfOk result (λ numbers. numbers.events.now ≡ events.now) }
+    /// Flags the numbers that these entries name; none where there is no memory for flags.
+    pub fn new(alloc: Global, events: &'a [Event]) -> Self
+        ensures { result.events.now ≡ events.now }
     {
-        let mut flags = cleared_flags(alloc, FLAGS)?;
+        let mut flags = match cleared_flags(alloc, FLAGS) {
+            Ok(flags) => flags,
+            Err(_) => Vec::new(alloc),
+        };
         for event in events {
             let number = event.index as usize;
             if number < flags.len() {
                 flags[number] = true;
             }
         }
-        Ok(UsedNumbers { events, flags })
+        UsedNumbers { events, flags }
     }
 
     /// Whether some entry names the number. One without a flag is sought among the entries.

@@ -1,9 +1,10 @@
 // Writes sums to a file as samples of 16 bits.
-ghost use Rattle.std.specs.Prelude.{◌≡◌, ◌≢◌, ◌++◌, ◌^◌, ◌≤◌, Some, length, codes, map, IsTrue, OnOk, OnErr, IsOk, IsErr, List, ℕ};
+ghost use Rattle.std.specs.Prelude.{◌≡◌, ◌≢◌, ◌++◌, ◌^◌, ◌≤◌, Some, length, codes, map, IsTrue, OnOk, List, ℕ, ⊤};
 ghost use Rattle.std.specs.List.{All};
-ghost use Rattle.work_terms.specs.Disk.{Changes, IsAppended, HasCause};
+ghost use Rattle.work_terms.specs.Disk.{Changes, IsAppended, IsDurable};
 ghost use Rattle.sound_terms.specs.Mix.{quantized};
 ghost use Rattle.pcm.specs.Samples.{FitsDepth};
+ghost use Rattle.shelf.specs.Frame.{OnlyWrites};
 ghost use Rattle.consolidate.specs.Sums.{AreWithin};
 ghost use Rattle.consolidate.specs.Written.{bytes_of_sums};
 
@@ -34,11 +35,7 @@ fn append_block<B: Bench>(bench: &mut B, sums: &[i64]) -> Result<(), DeviceFault
     requires few { length sums.now ≤ 4096 }
     requires within { AreWithin (2 ^ 62) sums.now }
     ensures appended { IsTrue (B.honest bench.old) → OnOk result (Changes (IsAppended (bytes_of_sums sums.now)) (codes "render.wav") (B.stored bench.old) (B.stored bench.new)) }
-    ensures named { IsTrue (B.honest bench.old) → (n : List ℕ) → n ≢ codes "render.wav" → B.stored bench.new n ≡ B.stored bench.old n }
-    ensures honest { B.honest bench.new ≡ B.honest bench.old }
-    ensures cause { HasCause (B.failures bench.old) (B.failures bench.new) (IsOk result) (IsErr result) }
-    ensures failed { OnErr result (B.failed_at bench.new (codes "render.wav")) }
-    ensures keeps { (n : List ℕ) → B.failed_at bench.old n → B.failed_at bench.new n }
+    ensures only_writes { OnlyWrites B.Bench (λ n. n ≢ codes "render.wav") bench.old bench.new result (λ _. ⊤) (λ _ failed. failed (codes "render.wav")) }
 {
     let mut samples = [0; 4096];
     let samples = &mut samples[..sums.len()];
@@ -54,11 +51,7 @@ fn append_all<B: Bench>(bench: &mut B, sums: &[i64]) -> Result<(), DeviceFault>
     requires within { AreWithin (2 ^ 62) sums.now }
     ensures appended { IsTrue (B.honest bench.old) → (file : List ℕ) → B.stored bench.old (codes "render.wav") ≡ Some file
         → OnOk result (B.stored bench.new (codes "render.wav") ≡ Some (file ++ bytes_of_sums sums.now)) }
-    ensures named { IsTrue (B.honest bench.old) → (n : List ℕ) → n ≢ codes "render.wav" → B.stored bench.new n ≡ B.stored bench.old n }
-    ensures honest { B.honest bench.new ≡ B.honest bench.old }
-    ensures cause { HasCause (B.failures bench.old) (B.failures bench.new) (IsOk result) (IsErr result) }
-    ensures failed { OnErr result (B.failed_at bench.new (codes "render.wav")) }
-    ensures keeps { (n : List ℕ) → B.failed_at bench.old n → B.failed_at bench.new n }
+    ensures only_writes { OnlyWrites B.Bench (λ n. n ≢ codes "render.wav") bench.old bench.new result (λ _. ⊤) (λ _ failed. failed (codes "render.wav")) }
 {
     let mut done = 0;
     while done < sums.len() {
@@ -69,7 +62,7 @@ fn append_all<B: Bench>(bench: &mut B, sums: &[i64]) -> Result<(), DeviceFault>
     Ok(())
 }
 
-/// Writes the file: this header, then the samples of these sums, rounded and clipped.
+/// Writes the file, this header and then the samples of these sums, rounded and clipped, and syncs it.
 pub fn write_rendering<B: Bench>(
     bench: &mut B,
     header: &[u8],
@@ -77,13 +70,11 @@ pub fn write_rendering<B: Bench>(
 ) -> Result<(), DeviceFault>
     requires { AreWithin (2 ^ 62) sums.now }
     ensures written { IsTrue (B.honest bench.old) → OnOk result (Changes (λ _ new. new ≡ Some (header.now ++ bytes_of_sums sums.now)) (codes "render.wav") (B.stored bench.old) (B.stored bench.new)) }
-    ensures named { IsTrue (B.honest bench.old) → (n : List ℕ) → n ≢ codes "render.wav" → B.stored bench.new n ≡ B.stored bench.old n }
-    ensures honest { B.honest bench.new ≡ B.honest bench.old }
-    ensures cause { HasCause (B.failures bench.old) (B.failures bench.new) (IsOk result) (IsErr result) }
-    ensures failed { OnErr result (B.failed_at bench.new (codes "render.wav")) }
-    ensures keeps { (n : List ℕ) → B.failed_at bench.old n → B.failed_at bench.new n }
+    ensures durable { IsTrue (B.honest bench.old) → OnOk result (IsDurable (codes "render.wav") (B.stored bench.new) (B.may_leave bench.new)) }
+    ensures only_writes { OnlyWrites B.Bench (λ n. n ≢ codes "render.wav") bench.old bench.new result (λ _. ⊤) (λ _ failed. failed (codes "render.wav")) }
 {
     bench.create(RENDERED)?;
     bench.append(RENDERED, header)?;
-    append_all(bench, sums)
+    append_all(bench, sums)?;
+    bench.sync(RENDERED)
 }

@@ -1,6 +1,14 @@
 pub mod Accepted
 pub mod Binding
+pub mod EntryLines
+pub mod Fields
+pub mod Lines
 pub mod Names
 pub mod Project
+pub mod Steps
+pub mod Text
+pub mod TextVectors
+pub mod Tokens
 pub mod Vectors
+pub mod WholeProject
 pub mod WrittenText

@@ -1,3 +1,6 @@
-pub mod Heads
+pub mod Forms
 pub mod OneMore
+pub mod Reading
+pub mod Refused
+pub mod Table
 pub mod Walking

@@ -8,22 +8,25 @@ use Rattle.std.proofs.lemmas.List.Folds.{find-append}
 use Rattle.std.proofs.lemmas.Slice.Eq.{bytes_eq-Decides}
 use Rattle.std.proofs.Math.Bool.{or_assoc}
 use Rattle.sound_terms.specs.declared.Span.{Span}
-use Rattle.sound_terms.specs.Chunks.{Chunk, counted_ids, first_of, chunk_fault, first_fault, has_others}
+use Rattle.sound_terms.specs.declared.SoundFault.{SoundFault}
+use Rattle.sound_terms.specs.declared.SoundFault.TheVariants.{Truncated}
+use Rattle.sound_terms.specs.Chunks.{Chunk, counted_ids, first_of, has_others}
+use Rattle.sound_terms.specs.Walks.{chunk_fault, first_fault}
 use Rattle.sound_terms.specs.Sounds.{span_of}
-use Rattle.riff.specs.declared.wave.Found.{Found}
-use Rattle.riff.specs.Walk.{IsFoundIn, chunk_at}
+use Rattle.riff.specs.declared.found.Found.{Found}
+use Rattle.riff.specs.Found.{IsFoundIn, chunk_at}
 
 -- faults from the left, in two parts
 pub first_fault-append : (end : ℕ) (before xs ys : List Chunk)
     → first_fault end before (xs ++ ys) ≡ option_or (first_fault end before xs) (first_fault end (before ++ xs) ys)
 first_fault-append end before [] ys = rw append-nil
 first_fault-append end before (x ∷ xs) ys = by_fault (chunk_fault end before x) refl (first_fault-append end (before ++ x ∷ []) xs ys) where
-  by_fault : (fault : Option ℕ) → chunk_fault end before x ≡ fault
+  by_fault : (fault : Option SoundFault) → chunk_fault end before x ≡ fault
       → first_fault end (before ++ x ∷ []) (xs ++ ys)
       ≡ option_or (first_fault end (before ++ x ∷ []) xs) (first_fault end ((before ++ x ∷ []) ++ xs) ys)
       → first_fault end before (x ∷ (xs ++ ys)) ≡ option_or (first_fault end before (x ∷ xs)) (first_fault end (before ++ x ∷ xs) ys)
   by_fault None none rest = rw none (rest ∙ rw append_assoc)
-  by_fault (Some number) some rest = rw some
+  by_fault (Some fault) some rest = rw some
 
 -- other chunks, in two parts
 pub has_others-append : (before xs ys : List Chunk)
@@ -42,9 +45,9 @@ span-append id xs ys = rw find-append (map-option_or _ _)
 
 fault-one : (end : ℕ) (before : List Chunk) (chunk : Chunk) → first_fault end before (chunk ∷ []) ≡ chunk_fault end before chunk
 fault-one end before chunk = by_fault (chunk_fault end before chunk) refl where
-  by_fault : (fault : Option ℕ) → chunk_fault end before chunk ≡ fault → first_fault end before (chunk ∷ []) ≡ chunk_fault end before chunk
+  by_fault : (fault : Option SoundFault) → chunk_fault end before chunk ≡ fault → first_fault end before (chunk ∷ []) ≡ chunk_fault end before chunk
   by_fault None none = rw none
-  by_fault (Some number) some = rw some
+  by_fault (Some fault) some = rw some
 
 fault-more : (end : ℕ) (chunks : List Chunk) (chunk : Chunk) → first_fault end [] chunks ≡ None
     → first_fault end [] (chunks ++ chunk ∷ []) ≡ chunk_fault end chunks chunk
@@ -70,7 +73,7 @@ one_more end chunks found chunk next known fine format bext sound others = recor
 abbrev pub IsCounted : List ℕ → Type 0
 IsCounted id = list_any (bytes_eq id) counted_ids ≡ true
 
-never : (b : Bool) → if◌then◌else◌ {A = Option ℕ} (b && false) (Some 26) None ≡ None
+never : (b : Bool) → if◌then◌else◌ {A = Option SoundFault} (b && false) (Some Truncated) None ≡ None
 never true = refl
 never false = refl
 
@@ -88,9 +91,9 @@ fine_counted chunks id contents left counted inside = by_first (first_of id chun
 -- a chunk that counts and passes the end, behind chunks without a fault
 cut_at : (chunks : List Chunk) (id : List ℕ) (contents : Span) (left : ℕ) → IsCounted id
     → option_map span_of (first_of id chunks) ≡ None → left < contents.length
-    → chunk_fault (contents.at + left) chunks (chunk_at id contents) ≡ Some 26
+    → chunk_fault (contents.at + left) chunks (chunk_at id contents) ≡ Some Truncated
 cut_at chunks id contents left counted none past = by_first (first_of id chunks) refl where
-  by_first : (first : Option Chunk) → first_of id chunks ≡ first → chunk_fault (contents.at + left) chunks (chunk_at id contents) ≡ Some 26
+  by_first : (first : Option Chunk) → first_of id chunks ≡ first → chunk_fault (contents.at + left) chunks (chunk_at id contents) ≡ Some Truncated
   by_first None is_none =
       let yes : nat_lt (contents.at + left) (contents.at + contents.length) ≡ true = grind (arith, nat_tests) in
       rw (yes, counted, is_none)
@@ -99,10 +102,10 @@ cut_at chunks id contents left counted none past = by_first (first_of id chunks)
 pub cut_behind : (chunks : List Chunk) (found : Found) (one id : List ℕ) (contents : Span) (left : ℕ)
     → IsFoundIn (contents.at + left) chunks found → IsCounted one → bytes_eq id one ≡ true
     → option_map span_of (first_of one chunks) ≡ None → left < contents.length
-    → first_fault (contents.at + left) [] (chunks ++ chunk_at id contents ∷ []) ≡ Some 26
+    → first_fault (contents.at + left) [] (chunks ++ chunk_at id contents ∷ []) ≡ Some Truncated
 cut_behind chunks found one id contents left known counted same none past =
     fault-more _ chunks _ known.faultless
-    ∙ subst (λ x. chunk_fault (contents.at + left) chunks (chunk_at x contents) ≡ Some 26) (sym ((bytes_eq-Decides id one).0 same))
+    ∙ subst (λ x. chunk_fault (contents.at + left) chunks (chunk_at x contents) ≡ Some Truncated) (sym ((bytes_eq-Decides id one).0 same))
     (cut_at chunks one contents left counted none past)
 
 some-map : (first : Option Chunk) → is_some (option_map span_of first) ≡ is_some first

@@ -1,7 +1,9 @@
 -- The numbers of what is wrong with a sound file.
-use Rattle.std.specs.Prelude.{ℕ, Bool, true, false, Result, Ok, Err}
+use Rattle.std.specs.Prelude.{ℕ, Result, Ok, Err}
 use Rattle.shelf.specs.declared.fault.ShelfFault.{ShelfFault}
 use Rattle.shelf.specs.declared.fault.ShelfFault.TheVariants as shelf
+use Rattle.sound_terms.specs.declared.SoundFault.{SoundFault}
+use Rattle.sound_terms.specs.declared.SoundFault.TheVariants as sound
 use Rattle.riff.specs.declared.fault.MediaFault.{MediaFault}
 use Rattle.riff.specs.declared.fault.MediaFault.TheVariants.{NotFound, Device, NotWave, NoFormat, NoData, Truncated, BadFormat, BadDs64, WrongRate, Memory}
 
@@ -23,13 +25,17 @@ abbrev pub fault_of : ShelfFault → MediaFault
 fault_of shelf.NotFound = NotFound
 fault_of shelf.Device = Device
 
--- a result with its fault's number in place of the fault
-abbrev pub numbered : {X : Type 0} → Result X MediaFault → Result X ℕ
-numbered (Ok x) = Ok x
-numbered (Err fault) = Err (number_of fault)
+-- the fault of a file whose bytes are at fault so
+abbrev pub media_fault : SoundFault → MediaFault
+media_fault sound.NotWave = NotWave
+media_fault sound.NoFormat = NoFormat
+media_fault sound.NoData = NoData
+media_fault sound.Truncated = Truncated
+media_fault sound.BadFormat = BadFormat
+media_fault sound.BadDs64 = BadDs64
+media_fault sound.WrongRate = WrongRate
 
--- a chunk isn't there
-abbrev pub is_missing : MediaFault → Bool
-is_missing NoFormat = true
-is_missing NoData = true
-is_missing _ = false
+-- what the bytes of a file say, or why that file is refused
+abbrev pub as_media : {X : Type 0} → Result X SoundFault → Result X MediaFault
+as_media (Ok x) = Ok x
+as_media (Err fault) = Err (media_fault fault)

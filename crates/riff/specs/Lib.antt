@@ -1,2 +1,5 @@
 pub mod Fault
+pub mod Form
+pub mod Found
+pub mod Sizes
 pub mod Walk

@@ -1,37 +1,39 @@
--- What a walk over the chunks of a file finds.
-use Rattle.std.specs.Prelude.{◌≡◌, ℕ, ◌+◌, List, [], codes, take, drop, length, ◌≤◌, Option, None, Some, IfSome, Result, Err, option_map}
+-- The chunks that count in the file under a name.
+use Rattle.std.specs.Prelude.{ℕ, ◌+◌, List, length, Option, None, Some, Result, Ok, Err, if◌then◌else◌, nat_le}
 use Rattle.sound_terms.specs.declared.Chunks.{Chunks}
-use Rattle.sound_terms.specs.Chunks.{Chunk, number_at, first_of, first_fault, has_others}
-use Rattle.sound_terms.specs.Sounds.{plain_chunks_of, span_of}
-use Rattle.sound_terms.specs.declared.Span.{Span}
-use Rattle.riff.specs.declared.wave.Found.{Found}
-use Rattle.riff.specs.declared.wave.Head.{Head}
+use Rattle.sound_terms.specs.declared.SoundFault.{SoundFault}
+use Rattle.sound_terms.specs.declared.Ds64.{Ds64}
+use Rattle.sound_terms.specs.Walks.{Layout, layout_of, chunks_in, walked}
+use Rattle.riff.specs.declared.fault.MediaFault.{MediaFault}
+use Rattle.riff.specs.declared.fault.MediaFault.TheVariants.{NotFound}
+use Rattle.riff.specs.declared.wave.Chunks as wave
+use Rattle.riff.specs.declared.found.Found.{Found}
+use Rattle.riff.specs.Fault.{as_media}
+use Rattle.riff.specs.Form.{IsRefused}
+use Rattle.riff.specs.Found.{IsWalked}
 
--- the chunks of the file that stands under a name, or the number of their first fault: 21 where there is none
-abbrev pub walked_file : Option (List ℕ) → Result Chunks ℕ
-walked_file None = Err 21
-walked_file (Some file) = plain_chunks_of file
+-- the chunks that count, without the count of heads
+abbrev pub chunks_view : wave.Chunks → Chunks
+chunks_view chunks =
+    record { format = chunks.format; sound = chunks.sound; bext = chunks.bext; others = chunks.others }
 
--- this id and size stand in the eight bytes from `at` on, all of them inside the file
-pub record HasHead (stored : Option (List ℕ)) (at : ℕ) (head : Head) : Type 0 where
-  pub file : List ℕ
-  pub there : stored ≡ Some file
-  pub inside : at + 8 ≤ length file
-  pub id : head.id ≡ take 4 (drop at file)
-  pub size : head.size ≡ number_at 4 (at + 4) file
+-- what counts in the file that stands under a name, or why it is refused
+abbrev pub walked_file : Option (List ℕ) → Result Chunks MediaFault
+walked_file None = Err NotFound
+walked_file (Some file) = as_media (walked file)
 
--- these chunks have no fault, and this is what counts among them
-pub record IsFoundIn (end : ℕ) (chunks : List Chunk) (found : Found) : Type 0 where
-  pub faultless : first_fault end [] chunks ≡ None
-  pub format : found.format ≡ option_map span_of (first_of (codes "fmt ") chunks)
-  pub bext : found.bext ≡ option_map span_of (first_of (codes "bext") chunks)
-  pub sound : found.sound ≡ option_map span_of (first_of (codes "data") chunks)
-  pub others : found.others ≡ has_others [] chunks
+-- the walk goes on with so many bytes left, or the file is refused so
+abbrev pub MediaWalksOn : List ℕ → Option Ds64 → ℕ → Found → Result ℕ MediaFault → Type 0
+MediaWalksOn file sizes end found (Ok left) = IsWalked file sizes end left found
+MediaWalksOn file sizes end found (Err fault) = IsRefused file fault
 
--- the chunk of this id with these contents
-abbrev pub chunk_at : List ℕ → Span → Chunk
-chunk_at id contents = record { id = id; at = contents.at; size = Some contents.length }
+-- RF64 has the head of `ds64` in front of its chunks
+abbrev pub heads_before : Layout → ℕ
+heads_before layout = if nat_le 20 layout.place then 1 else 0
 
--- the stretch, where there is one, ends at this place or before
-abbrev pub EndsBy : ℕ → Option Span → Type 0
-EndsBy end span = IfSome span (λ s. s.at + s.length ≤ end)
+-- the chunk heads of a file that has a layout
+abbrev pub chunk_count : List ℕ → ℕ
+chunk_count file = counted (layout_of file) where
+  counted : Result Layout SoundFault → ℕ
+  counted (Ok layout) = heads_before layout + length (chunks_in file layout)
+  counted (Err fault) = 0

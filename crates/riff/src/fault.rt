@@ -1,8 +1,9 @@
 // Why a sound file was refused.
 ghost use Rattle.std.specs.Prelude.{◌≡◌};
-ghost use Rattle.riff.specs.Fault.{number_of, fault_of};
+ghost use Rattle.riff.specs.Fault.{number_of, fault_of, media_fault};
 
 use shelf::ShelfFault;
+use sound_terms::SoundFault;
 use thiserror::Error;
 
 /// Why a sound file was refused.
@@ -14,7 +15,7 @@ pub enum MediaFault {
     /// The device failed, which it counts.
     #[error("the device failed")]
     Device,
-    /// The file doesn't begin as a RIFF file of form WAVE.
+    /// The file doesn't begin as a RIFF or RF64 file of form WAVE.
     #[error("it is no WAVE file")]
     NotWave,
     /// No chunk `fmt ` stands in the file.
@@ -67,6 +68,22 @@ impl From<ShelfFault> for MediaFault {
         match fault {
             ShelfFault::NotFound => MediaFault::NotFound,
             ShelfFault::Device => MediaFault::Device,
+        }
+    }
+}
+
+impl From<SoundFault> for MediaFault {
+    ghost from_gives = { λ fault media. media ≡ media_fault fault };
+
+    fn from(fault: SoundFault) -> MediaFault {
+        match fault {
+            SoundFault::NotWave => MediaFault::NotWave,
+            SoundFault::NoFormat => MediaFault::NoFormat,
+            SoundFault::NoData => MediaFault::NoData,
+            SoundFault::Truncated => MediaFault::Truncated,
+            SoundFault::BadFormat => MediaFault::BadFormat,
+            SoundFault::BadDs64 => MediaFault::BadDs64,
+            SoundFault::WrongRate => MediaFault::WrongRate,
         }
     }
 }

@@ -1,13 +1,16 @@
-//! The chunks of RIFF WAVE files (EBU Tech 3285), found without reading their samples, and their `fmt `.
+//! The chunks of RIFF WAVE and RF64 files (EBU Tech 3285, 3306), found without reading their samples, and their
+//! `fmt `.
 #![tactic(auto)]
 
 mod fault;
+mod form;
+mod found;
+mod head;
 mod pcm_format;
-#[cfg(test)]
-mod tests;
+mod sizes;
 mod wave;
 
 pub use fault::MediaFault;
 pub use pcm_format::read_fmt;
-pub use sound_terms::{Chunks, Depth, Format, Span};
-pub use wave::walk;
+pub use sound_terms::{Depth, Format, SoundFault, Span};
+pub use wave::{Chunks, walk};

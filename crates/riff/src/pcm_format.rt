@@ -1,40 +1,113 @@
 // The contents of the chunk `fmt `.
-ghost use Rattle.std.specs.Prelude.{◌≡◌};
-ghost use Rattle.sound_terms.specs.Sounds.{plain_format_of};
-ghost use Rattle.riff.specs.Fault.{numbered};
+ghost use Rattle.std.specs.Prelude.{◌≡◌, ◌≤◌, ◌+◌, length, IfOk};
+ghost use Rattle.sound_terms.specs.Chunks.{number_at, stands_at};
+ghost use Rattle.sound_terms.specs.Sounds.{depth_of, is_pcm};
+ghost use Rattle.sound_terms.specs.Formats.{format_of};
+ghost use Rattle.riff.specs.Fault.{as_media};
 
 use crate::MediaFault;
 use byteorder::{ByteOrder, LittleEndian};
-use sound_terms::{Depth, Format};
+use sound_terms::{Depth, Format, SoundFault};
 
 /// The tag of linear PCM (RIFF WAVE, `WAVE_FORMAT_PCM`).
 const PCM: u16 = 1;
 
+/// The tag of a format that its sub-format tells (`WAVE_FORMAT_EXTENSIBLE`).
+const EXTENSIBLE: u16 = 0xfffe;
+
+/// The bytes of an extension with a sub-format.
+const EXTENSION_LENGTH: u16 = 22;
+
+/// The sub-format of PCM (`KSDATAFORMAT_SUBTYPE_PCM`).
+const PCM_SUB_FORMAT: [u8; 16] = [
+    1, 0, 0, 0, 0, 0, 0x10, 0, 0x80, 0, 0, 0xaa, 0, 0x38, 0x9b, 0x71,
+];
+
 /// The one sample rate that is read, in samples a second.
 const SAMPLE_RATE: u32 = 48_000;
 
-/// The format that the contents of a chunk `fmt ` tell (RIFF WAVE): linear PCM of one channel, 16 bits and
-/// 48000 samples a second. `WrongRate` tells another rate of such samples, `BadFormat` all else, also fewer
-/// than 16 bytes; bytes behind these aren't looked at.
-pub fn read_fmt(bytes: &[u8]) -> Result<Format, MediaFault>
-    ensures exact { numbered result ≡ plain_format_of bytes.now }
+/// The most channels of a file.
+const MOST_CHANNELS: u16 = 64;
+
+fn u16_at(bytes: &[u8], at: usize) -> u16
+    requires { at + 2 ≤ length bytes.now }
+    ensures { result ≡ number_at 2 at bytes.now }
 {
-    if bytes.len() < 16 {
-        return Err(MediaFault::BadFormat);
+    LittleEndian::read_u16(&bytes[at..])
+}
+
+fn u32_at(bytes: &[u8], at: usize) -> u32
+    requires { at + 4 ≤ length bytes.now }
+    ensures { result ≡ number_at 4 at bytes.now }
+{
+    LittleEndian::read_u32(&bytes[at..])
+}
+
+/// Whether the sub-format is that of PCM.
+fn has_sub_format(bytes: &[u8]) -> bool
+    requires { 24 ≤ length bytes.now }
+    ensures { result ≡ stands_at PCM_SUB_FORMAT 24 bytes.now }
+{
+    bytes[24..].starts_with(&PCM_SUB_FORMAT)
+}
+
+/// Whether the format is PCM, by its tag or by its sub-format.
+fn is_pcm(bytes: &[u8]) -> bool
+    requires { 16 ≤ length bytes.now }
+    ensures { result ≡ is_pcm bytes.now }
+{
+    match u16_at(bytes, 0) {
+        PCM => true,
+        EXTENSIBLE => {
+            bytes.len() >= 40 && u16_at(bytes, 16) == EXTENSION_LENGTH && has_sub_format(bytes)
+        }
+        _ => false,
     }
-    let tag = LittleEndian::read_u16(bytes);
-    let channels = LittleEndian::read_u16(&bytes[2..]);
-    let rate = LittleEndian::read_u32(&bytes[4..]);
-    let block_align = LittleEndian::read_u16(&bytes[12..]);
-    let bits = LittleEndian::read_u16(&bytes[14..]);
-    if tag != PCM || channels != 1 || block_align != 2 || bits != 16 {
-        return Err(MediaFault::BadFormat);
+}
+
+/// The depth of so many bits a sample.
+fn depth_of(bits: u16) -> Option<Depth>
+    ensures { result ≡ depth_of bits }
+{
+    match bits {
+        16 => Some(Depth::Sixteen),
+        24 => Some(Depth::TwentyFour),
+        32 => Some(Depth::ThirtyTwo),
+        _ => None,
     }
-    if rate != SAMPLE_RATE {
-        return Err(MediaFault::WrongRate);
+}
+
+/// The format that the contents of a chunk `fmt ` tell (RIFF WAVE): linear PCM, by its tag or by the sub-format of
+/// `WAVE_FORMAT_EXTENSIBLE`, of 1 to 64 channels, 16, 24 or 32 bits and 48000 samples a second, without bytes
+/// between the frames. `WrongRate` tells another rate of such samples, `BadFormat` all else, also fewer than 16
+/// bytes; bytes behind these aren't looked at.
+pub fn read_fmt(bytes: &[u8]) -> Result<Format, MediaFault>
+    ensures exact { result ≡ as_media (format_of bytes.now) }
+    ensures channels { IfOk result (λ format. (1 ≤ format.channels) × (format.channels ≤ 64)) }
+{
+    Ok(format_in(bytes)?)
+}
+
+fn format_in(bytes: &[u8]) -> Result<Format, SoundFault>
+    ensures exact { result ≡ format_of bytes.now }
+    ensures channels { IfOk result (λ format. (1 ≤ format.channels) × (format.channels ≤ 64)) }
+{
+    if bytes.len() < 16 || !is_pcm(bytes) {
+        return Err(SoundFault::BadFormat);
+    }
+    let depth = depth_of(u16_at(bytes, 14)).ok_or(SoundFault::BadFormat)?;
+    let channels = u16_at(bytes, 2);
+    if channels == 0 || channels > MOST_CHANNELS {
+        return Err(SoundFault::BadFormat);
+    }
+    if u16_at(bytes, 12) != channels * u16::from(depth.bits() / 8) {
+        return Err(SoundFault::BadFormat);
+    }
+    if u32_at(bytes, 4) != SAMPLE_RATE {
+        return Err(SoundFault::WrongRate);
     }
     Ok(Format {
-        channels: 1,
-        depth: Depth::Sixteen,
+        channels: channels as u8,
+        depth,
     })
 }

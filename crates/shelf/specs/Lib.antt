@@ -1,3 +1,4 @@
+pub mod Frame
 pub mod Fault
 pub mod FileName
 pub mod Memory

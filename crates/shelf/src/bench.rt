@@ -1,6 +1,6 @@
 // Outputs: files that are written, and what a crash may leave of them.
-ghost use Rattle.std.specs.Prelude.{◌≡◌, ◌≤◌, ℕ, Bool, Some, None, List, length, IsTrue, IfOk, IfErr, OnOk, OnErr, IsSome, IsOk, IsErr, IsErrOf};
-ghost use Rattle.work_terms.specs.Disk.{Files, IsRange, IsEmptyOrAbsent, end_of, Changes, IsCreated, MayBeCreated, IsPending, IsWritten, IsTorn, IsAppended, IsGrown, IsTornBehind, Follows, IsDurable, Elapses, HasCause};
+ghost use Rattle.std.specs.Prelude.{◌≡◌, ◌≢◌, ◌≤◌, ℕ, Bool, Some, None, List, length, IsTrue, IfOk, OnOk, OnErr, IsSome, IsErrOf, ⊤};
+ghost use Rattle.work_terms.specs.Disk.{Files, IsRange, IsEmptyOrAbsent, end_of, Changes, IsCreated, MayBeCreated, IsPending, IsWritten, IsTorn, IsAppended, IsGrown, IsTornBehind, Follows, IsDurable, Elapses, ReadsTo, WritesTo};
 
 use crate::{DeviceFault, ShelfFault};
 
@@ -34,10 +34,7 @@ pub trait Bench {
         ensures unsure { IsTrue (honest self.old) → OnErr result (Changes MayBeCreated name.now (stored self.old) (stored self.new)) }
         ensures crash { Follows (Changes IsPending name.now) (may_leave self.old) (may_leave self.new) }
         ensures time { Elapses (moment self.old) (moment self.new) (left_since self.old) (left_since self.new) (may_leave self.new) }
-        ensures honest { honest self.new ≡ honest self.old }
-        ensures cause { HasCause (failures self.old) (failures self.new) (IsOk result) (IsErr result) }
-        ensures failed { OnErr result (failed_at self.new name.now) }
-        ensures keeps { (n : List ℕ) → failed_at self.old n → failed_at self.new n };
+        ensures only_writes { WritesTo stored honest failures failed_at may_leave (λ n. n ≢ name.now) self.old self.new result (λ _. ⊤) (λ _ failed. failed name.now) };
 
     /// Adds the bytes at the end of the file, which has to be there.
     fn append(&mut self, name: &str, bytes: &[u8]) -> Result<(), DeviceFault>
@@ -45,10 +42,7 @@ pub trait Bench {
         ensures grown { IsTrue (honest self.old) → OnErr result (Changes (IsGrown (length bytes.now)) name.now (stored self.old) (stored self.new)) }
         ensures crash { Follows (Changes (IsTornBehind (end_of (stored self.old name.now)) (length bytes.now)) name.now) (may_leave self.old) (may_leave self.new) }
         ensures time { Elapses (moment self.old) (moment self.new) (left_since self.old) (left_since self.new) (may_leave self.new) }
-        ensures honest { honest self.new ≡ honest self.old }
-        ensures cause { HasCause (failures self.old) (failures self.new) (IsOk result) (IsErr result) }
-        ensures failed { OnErr result (failed_at self.new name.now) }
-        ensures keeps { (n : List ℕ) → failed_at self.old n → failed_at self.new n };
+        ensures only_writes { WritesTo stored honest failures failed_at may_leave (λ n. n ≢ name.now) self.old self.new result (λ _. ⊤) (λ _ failed. failed name.now) };
 
     /// Writes the bytes over those from `at` on. They have to lie inside the file.
     fn write_at(&mut self, name: &str, at: u64, bytes: &[u8]) -> Result<(), DeviceFault>
@@ -56,49 +50,32 @@ pub trait Bench {
         ensures torn { IsTrue (honest self.old) → OnErr result (Changes (IsTorn at (length bytes.now)) name.now (stored self.old) (stored self.new)) }
         ensures crash { Follows (Changes (IsTorn at (length bytes.now)) name.now) (may_leave self.old) (may_leave self.new) }
         ensures time { Elapses (moment self.old) (moment self.new) (left_since self.old) (left_since self.new) (may_leave self.new) }
-        ensures honest { honest self.new ≡ honest self.old }
-        ensures cause { HasCause (failures self.old) (failures self.new) (IsOk result) (IsErr result) }
-        ensures failed { OnErr result (failed_at self.new name.now) }
-        ensures keeps { (n : List ℕ) → failed_at self.old n → failed_at self.new n };
+        ensures only_writes { WritesTo stored honest failures failed_at may_leave (λ n. n ≢ name.now) self.old self.new result (λ _. ⊤) (λ _ failed. failed name.now) };
 
     /// How many bytes the file has. `NotFound` where no file has the name.
     fn length(&mut self, name: &str) -> Result<u64, ShelfFault>
         ensures found { IsTrue (honest self.old) → IfOk result (λ n. (bytes : List ℕ) × (stored self.old name.now ≡ Some bytes) × (length bytes ≡ n)) }
         ensures missing { IsTrue (honest self.old) → IsErrOf result ShelfFault.NotFound → stored self.old name.now ≡ None }
-        ensures same { stored self.new ≡ stored self.old }
         ensures crash { (c : Files) → may_leave self.new c → may_leave self.old c }
         ensures time { Elapses (moment self.old) (moment self.new) (left_since self.old) (left_since self.new) (may_leave self.new) }
-        ensures honest { honest self.new ≡ honest self.old }
-        ensures cause { HasCause (failures self.old) (failures self.new)
-            (IfErr result (λ fault. fault ≡ ShelfFault.NotFound)) (IsErrOf result ShelfFault.Device) }
-        ensures failed { IsErrOf result ShelfFault.Device → failed_at self.new name.now }
-        ensures keeps { (n : List ℕ) → failed_at self.old n → failed_at self.new n };
+        ensures only_reads { ReadsTo stored honest failures failed_at self.old self.new result (λ fault. fault ≡ ShelfFault.Device) (λ _ failed. failed name.now) };
 
     /// Fills the buffer with the file's bytes from `at` on. A range that isn't inside the file is a failure of the
     /// device, and so is a file that isn't there. After a fault the buffer holds any bytes.
     fn read_at(&mut self, name: &str, at: u64, buffer: &mut [u8]) -> Result<(), ShelfFault>
         ensures read { IsTrue (honest self.old) → OnOk result (IsRange (stored self.old name.now) at buffer.new) }
         ensures not_missing { IsErrOf result ShelfFault.NotFound → ⊥ }
-        ensures same { stored self.new ≡ stored self.old }
         ensures crash { (c : Files) → may_leave self.new c → may_leave self.old c }
         ensures time { Elapses (moment self.old) (moment self.new) (left_since self.old) (left_since self.new) (may_leave self.new) }
-        ensures honest { honest self.new ≡ honest self.old }
-        ensures cause { HasCause (failures self.old) (failures self.new)
-            (IfErr result (λ fault. fault ≡ ShelfFault.NotFound)) (IsErrOf result ShelfFault.Device) }
-        ensures failed { IsErrOf result ShelfFault.Device → failed_at self.new name.now }
-        ensures keeps { (n : List ℕ) → failed_at self.old n → failed_at self.new n };
+        ensures only_reads { ReadsTo stored honest failures failed_at self.old self.new result (λ fault. fault ≡ ShelfFault.Device) (λ _ failed. failed name.now) };
 
     /// After it a crash leaves this file as it is read. The file has to be there.
     fn sync(&mut self, name: &str) -> Result<(), DeviceFault>
         ensures durable { IsTrue (honest self.old) → OnOk result (IsDurable name.now (stored self.new) (may_leave self.new)) }
         ensures there { IsTrue (honest self.old) → OnOk result (IsSome (stored self.old name.now)) }
-        ensures same { stored self.new ≡ stored self.old }
         ensures crash { (c : Files) → may_leave self.new c → may_leave self.old c }
         ensures time { Elapses (moment self.old) (moment self.new) (left_since self.old) (left_since self.new) (may_leave self.new) }
-        ensures honest { honest self.new ≡ honest self.old }
-        ensures cause { HasCause (failures self.old) (failures self.new) (IsOk result) (IsErr result) }
-        ensures failed { OnErr result (failed_at self.new name.now) }
-        ensures keeps { (n : List ℕ) → failed_at self.old n → failed_at self.new n };
+        ensures only_reads { ReadsTo stored honest failures failed_at self.old self.new result (λ _. ⊤) (λ _ failed. failed name.now) };
 
     /// This moment is one of those since an earlier one.
     ghost counts_now: { (bench : Self) (t : ℕ) (c : Files) → t ≤ moment bench → may_leave bench c → left_since bench t c };

@@ -6,12 +6,12 @@ mod failures;
 mod fault;
 mod folder;
 mod memory;
+mod reason;
 mod source;
-#[cfg(test)]
-mod tests;
 
 pub use bench::Bench;
 pub use fault::{DeviceFault, ShelfFault};
-pub use folder::{FolderBench, FolderShelf};
+pub use folder::{FolderBench, FolderShelf, Overwrite};
 pub use memory::{MemoryBench, MemoryShelf};
+pub use reason::Reasons;
 pub use source::Shelf;

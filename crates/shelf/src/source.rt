@@ -1,6 +1,6 @@
 // Sources: files that are read at any place.
-ghost use Rattle.std.specs.Prelude.{◌≡◌, ℕ, Bool, Some, None, List, length, IsTrue, IfOk, IfErr, OnOk, IsErrOf};
-ghost use Rattle.work_terms.specs.Disk.{Files, IsRange, HasCause};
+ghost use Rattle.std.specs.Prelude.{◌≡◌, ℕ, Bool, Some, None, List, length, IsTrue, IfOk, OnOk, IsErrOf};
+ghost use Rattle.work_terms.specs.Disk.{Files, IsRange, ReadsTo};
 
 use crate::ShelfFault;
 
@@ -22,22 +22,12 @@ pub trait Shelf {
     fn length(&mut self, name: &str) -> Result<u64, ShelfFault>
         ensures found { IsTrue (honest self.old) → IfOk result (λ n. (bytes : List ℕ) × (stored self.old name.now ≡ Some bytes) × (length bytes ≡ n)) }
         ensures missing { IsTrue (honest self.old) → IsErrOf result ShelfFault.NotFound → stored self.old name.now ≡ None }
-        ensures same { stored self.new ≡ stored self.old }
-        ensures honest { honest self.new ≡ honest self.old }
-        ensures cause { HasCause (failures self.old) (failures self.new)
-            (IfErr result (λ fault. fault ≡ ShelfFault.NotFound)) (IsErrOf result ShelfFault.Device) }
-        ensures failed { IsErrOf result ShelfFault.Device → failed_at self.new name.now }
-        ensures keeps { (n : List ℕ) → failed_at self.old n → failed_at self.new n };
+        ensures only_reads { ReadsTo stored honest failures failed_at self.old self.new result (λ fault. fault ≡ ShelfFault.Device) (λ _ failed. failed name.now) };
 
     /// Fills the buffer with the file's bytes from `at` on. A range that isn't inside the file is a failure of the
     /// device, and so is a file that isn't there. After a fault the buffer holds any bytes.
     fn read_at(&mut self, name: &str, at: u64, buffer: &mut [u8]) -> Result<(), ShelfFault>
         ensures read { IsTrue (honest self.old) → OnOk result (IsRange (stored self.old name.now) at buffer.new) }
         ensures not_missing { IsErrOf result ShelfFault.NotFound → ⊥ }
-        ensures same { stored self.new ≡ stored self.old }
-        ensures honest { honest self.new ≡ honest self.old }
-        ensures cause { HasCause (failures self.old) (failures self.new)
-            (IfErr result (λ fault. fault ≡ ShelfFault.NotFound)) (IsErrOf result ShelfFault.Device) }
-        ensures failed { IsErrOf result ShelfFault.Device → failed_at self.new name.now }
-        ensures keeps { (n : List ℕ) → failed_at self.old n → failed_at self.new n };
+        ensures only_reads { ReadsTo stored honest failures failed_at self.old self.new result (λ fault. fault ≡ ShelfFault.Device) (λ _ failed. failed name.now) };
 }

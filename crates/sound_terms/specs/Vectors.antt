@@ -1,10 +1,9 @@
 -- Worked examples. Each is computed from the definitions, so a definition that gives another value is refused here.
-use Rattle.std.specs.Prelude.{◌≡◌, refl, ℕ, ◌-◌, ◌==◌, ℤ, pos, negsuc, ◌+ℤ◌, List, [], ◌∷◌, ◌++◌, take, drop, length, map, replicate, Result, Ok, Err, Some, true, false, if◌then◌else◌, codes}
+use Rattle.std.specs.Prelude.{◌≡◌, refl, ℕ, ◌-◌, ◌==◌, ℤ, pos, negsuc, ◌+ℤ◌, List, [], ◌∷◌, ◌++◌, take, drop, map, replicate, true, false, if◌then◌else◌, codes}
 use Rattle.sound_terms.specs.declared.Event.{Event}
 use Rattle.sound_terms.specs.declared.BoundIndex.{BoundIndex}
 use Rattle.sound_terms.specs.Mix.{Reading, share_of, full_scale, mix_at, quantized}
 use Rattle.sound_terms.specs.Waves.{SoundInfo, file_length, data_place, bext_size, file_of, header_of, is_large, u16_bytes, u32_bytes, u64_bytes, zeros, chunk_head}
-use Rattle.sound_terms.specs.Sounds.{sound_of, SoundFacts}
 use Rattle.sound_terms.specs.Render.{rendering_of}
 
 -- an event of four samples from time 100 on, over a file that begins at time 0, with these fades
@@ -56,7 +55,7 @@ pub crossfade_sum : share_of (full_scale 16 (pos 5)) (2, 3) +ℤ share_of (full_
 crossfade_sum = refl
 
 -- 1000, -1000, 32767, -32768
-abbrev four_values : Reading
+abbrev pub four_values : Reading
 four_values file channel frame = full_scale 16
     (if frame == 0 then pos 1000 else (if frame == 1 then negsuc 999 else (if frame == 2 then pos 32767 else negsuc 32767)))
 
@@ -92,7 +91,7 @@ pub longest_of_riff : map (λ frames. is_large (mono 16 frames [])) (2147483306 
 longest_of_riff = refl
 
 -- the rendered file of 1000, -1000, 32767, -32768 from one hour on: 698 bytes
-abbrev rendered : List ℕ
+abbrev pub rendered : List ℕ
 rendered = rendering_of (record { from = 172800000; to = 172800004; channels = 1; depth = 16 })
     (λ channel time. four_values 0 channel (time - 172800000))
 
@@ -114,62 +113,3 @@ pub rf64_header : take 80 (header_of (mono 16 2147483307 [])) ++ drop 682 (heade
     ++ codes "data" ++ (255 ∷ 255 ∷ 255 ∷ 255 ∷ [])
 unfolding header_of u16_bytes u32_bytes u64_bytes zeros chunk_head
 rf64_header = refl
-
--- what the rendered file says of itself
-pub rendered_says : sound_of (codes "render.wav") rendered ≡ Ok (record {
-  name = codes "render.wav";
-  channels = 1;
-  depth = 16;
-  frames = 4;
-  place = 690;
-  text = Some (replicate 338 0);
-  time_reference = Some 172800000;
-  history = [];
-  short_bext = false;
-  history_cut = false;
-  others = false;
-})
-unfolding rendering_of file_of header_of u16_bytes u32_bytes u64_bytes zeros chunk_head
-rendered_says = refl
-
--- small files to read: a mono `fmt ` of 16 bits, and a file of these chunks
-abbrev mono_format : List ℕ
-mono_format = 1 ∷ 0 ∷ 1 ∷ 0 ∷ 128 ∷ 187 ∷ 0 ∷ 0 ∷ 0 ∷ 119 ∷ 1 ∷ 0 ∷ 2 ∷ 0 ∷ 16 ∷ 0 ∷ []
-
-abbrev chunk : List ℕ → List ℕ → List ℕ
-chunk id contents = id ++ (length contents ∷ 0 ∷ 0 ∷ 0 ∷ []) ++ contents
-
-abbrev riff : List ℕ → List ℕ
-riff chunks = codes "RIFF" ++ (0 ∷ 0 ∷ 0 ∷ 0 ∷ []) ++ codes "WAVE" ++ chunks
-
--- frames of a file that is read, or the number of its fault
-abbrev frames_or_fault : List ℕ → Result ℕ ℕ
-frames_or_fault file = frames_in (sound_of [] file) where
-  frames_in : Result SoundFacts ℕ → Result ℕ ℕ
-  frames_in (Ok facts) = Ok facts.frames
-  frames_in (Err number) = Err number
-
-pub files_read : map frames_or_fault
-    (riff (chunk (codes "fmt ") mono_format ++ chunk (codes "data") (replicate 9 7))
-    ∷ riff (chunk (codes "fmt ") mono_format ++ codes "data" ++ (9 ∷ 0 ∷ 0 ∷ 0 ∷ []) ++ replicate 8 7)
-    ∷ riff (chunk (codes "data") (replicate 8 7))
-    ∷ riff (chunk (codes "fmt ") mono_format)
-    ∷ riff (chunk (codes "fmt ") (take 14 mono_format) ++ chunk (codes "data") [])
-    ∷ riff (chunk (codes "JUNK") (1 ∷ []) ++ (0 ∷ []) ++ chunk (codes "fmt ") mono_format ++ chunk (codes "data") (replicate 4 7))
-    ∷ take 11 (riff []) ∷ [])
-    ≡ Ok 4 ∷ Err 26 ∷ Err 24 ∷ Err 25 ∷ Err 27 ∷ Ok 2 ∷ Err 23 ∷ []
-files_read = refl
-
--- RF64 with a `ds64` of these 28 bytes or more, and a `data` whose size it tells
-abbrev rf64 : List ℕ → List ℕ
-rf64 ds64 = codes "RF64" ++ (255 ∷ 255 ∷ 255 ∷ 255 ∷ []) ++ codes "WAVE" ++ chunk (codes "ds64") ds64
-    ++ chunk (codes "fmt ") mono_format ++ codes "data" ++ (255 ∷ 255 ∷ 255 ∷ 255 ∷ []) ++ replicate 8 7
-
--- zero sizes but a `data` size of 8, and a table of so many entries
-abbrev sizes : ℕ → List ℕ
-sizes entries = replicate 8 0 ++ (8 ∷ 0 ∷ 0 ∷ 0 ∷ 0 ∷ 0 ∷ 0 ∷ 0 ∷ []) ++ replicate 8 0 ++ (entries ∷ 0 ∷ 0 ∷ 0 ∷ [])
-
-pub rf64_read : map (λ ds64. frames_or_fault (rf64 ds64))
-    (sizes 0 ∷ (sizes 1 ++ replicate 12 0) ∷ take 26 (sizes 0) ∷ (sizes 1 ++ replicate 10 0) ∷ (sizes 2 ++ replicate 12 0) ∷ [])
-    ≡ Ok 4 ∷ Ok 4 ∷ Err 28 ∷ Err 28 ∷ Err 28 ∷ []
-rf64_read = refl

@@ -3,7 +3,11 @@
 
 ghost use Rattle.std.specs.Prelude.{◌≡◌};
 ghost use Rattle.sound_terms.specs.Depth.{bits_of};
+ghost use Rattle.sound_terms.specs.SoundFault.{number_of};
 
+mod piece;
+
+pub use piece::{Piece, Placed, Run, Shape};
 use sampletime::SampleTime;
 
 /// The bits of a sample.
@@ -23,6 +27,42 @@ impl Depth {
             Depth::Sixteen => 16,
             Depth::TwentyFour => 24,
             Depth::ThirtyTwo => 32,
+        }
+    }
+}
+
+/// Why the bytes of a file are no sound that is read.
+#[derive(Clone, Copy, Debug, PartialEq, Eq)]
+pub enum SoundFault {
+    /// The file doesn't begin as RIFF or RF64 of the form WAVE.
+    NotWave,
+    /// It has no chunk `fmt `.
+    NoFormat,
+    /// It has no chunk `data`.
+    NoData,
+    /// A chunk that counts passes the end of the file.
+    Truncated,
+    /// Its samples are no PCM of a depth and of channels that are read.
+    BadFormat,
+    /// The chunk `ds64` of RF64 is missing or broken, or doesn't tell a size that it has to.
+    BadDs64,
+    /// Its samples don't run at 48000 a second.
+    WrongRate,
+}
+
+impl SoundFault {
+    /// The number of the refusal: 23 to 29.
+    pub fn number(self) -> u8
+        ensures { result ≡ number_of self }
+    {
+        match self {
+            SoundFault::NotWave => 23,
+            SoundFault::NoFormat => 24,
+            SoundFault::NoData => 25,
+            SoundFault::Truncated => 26,
+            SoundFault::BadFormat => 27,
+            SoundFault::BadDs64 => 28,
+            SoundFault::WrongRate => 29,
         }
     }
 }
@@ -81,25 +121,29 @@ pub struct Chunks {
     pub others: bool,
 }
 
+/// The fields of the chunk `ds64` of RF64 (EBU Tech 3306): the sizes that 32 bits can't tell, in bytes; the
+/// count of frames; and how many chunks of other kinds have their size in the table behind these fields.
+#[derive(Clone, Copy, Debug, PartialEq, Eq)]
+pub struct Ds64 {
+    pub riff_size: u64,
+    pub data_size: u64,
+    pub samples: u64,
+    pub entries: u32,
+}
+
+/// What a Broadcast Wave file tells of itself in its chunk `bext` (EBU Tech 3285), its CodingHistory aside.
+#[derive(Clone, Copy, Debug)]
+pub struct Bext {
+    /// Description (256 bytes), Originator (32), OriginatorReference (32), OriginationDate (10) and
+    /// OriginationTime (8), each filled up with zeros.
+    pub text: [u8; 338],
+    /// The time of the first frame, in samples since midnight.
+    pub time_reference: u64,
+}
+
 /// Linear PCM at 48000 samples a second: 1 to 64 channels, and the bits of a sample.
 #[derive(Clone, Copy, Debug, PartialEq, Eq)]
 pub struct Format {
     pub channels: u8,
     pub depth: Depth,
-}
-
-#[cfg(test)]
-mod tests {
-    use super::*;
-
-    #[test]
-    fn depths_have_their_bits(rt: HostRuntime) {
-        for (depth, bits) in [
-            (Depth::Sixteen, 16),
-            (Depth::TwentyFour, 24),
-            (Depth::ThirtyTwo, 32),
-        ] {
-            assert_eq!(rt; depth.bits(), bits);
-        }
-    }
 }

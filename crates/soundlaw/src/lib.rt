@@ -1,10 +1,12 @@
 //! The arithmetic of a mix. Samples of every depth meet at full scale, 48 bits; their exact sum is rounded once.
 #![tactic(auto)]
 
-ghost use Rattle.std.specs.Prelude.{◌≡◌, ◌^◌, pos, neg_ℤ, ◌≤ℤ◌};
+ghost use Rattle.std.specs.Prelude.{false, negsuc, if◌then◌else◌, ◌≡◌, ◌*◌, ◌/◌, ◌%◌, ◌==◌, ◌^◌, ◌<◌, ◌≤◌, pos, neg_ℤ, ◌≤ℤ◌};
+ghost use Rattle.sampletime.specs.TimeCode.{day};
 ghost use Rattle.sound_terms.specs.Depth.{bits_of};
-ghost use Rattle.sound_terms.specs.Mix.{full_scale, quantized};
+ghost use Rattle.sound_terms.specs.Mix.{full_scale, quantized, share_of};
 ghost use Rattle.pcm.specs.Samples.{FitsDepth};
+ghost use Rattle.soundlaw.specs.Crossfade.{IsCrossfadeExact};
 
 use pcm::Depth;
 
@@ -22,6 +24,50 @@ pub fn widen(x: i32, depth: Depth) -> i64
     }
 }
 
+/// This fraction of a sample's size, rounded down, and whether nothing was rounded away.
+fn scaled(size: u64, num: u64, den: u64) -> (u64, bool)
+    requires full_scale { size ≤ 2 ^ 47 }
+    requires fraction { num ≤ den }
+    requires some { 0 < den }
+    requires in_day { den ≤ day }
+    ensures quotient { result.0 ≡ size * num / den }
+    ensures exact { result.1 ≡ (size * num % den == 0) }
+    ensures no_larger { result.0 ≤ size }
+    ensures smaller { result.1 ≡ false → result.0 < size }
+{
+    let whole = size / den * num;
+    let rest = size % den * num;
+    (whole + rest / den, rest % den == 0)
+}
+
+/// A size below zero: where something was rounded away, the next number down.
+fn negated(size: u64, is_exact: bool) -> i64
+    requires { size ≤ 2 ^ 47 }
+    ensures { result ≡ (if is_exact then neg_ℤ (pos size) else negsuc size) }
+{
+    let size = size as i64;
+    if is_exact { -size } else { -size - 1 }
+}
+
+/// The share of a sample at full scale under a fade: `num` / `den` of it, rounded down. The fraction is at most one, and
+/// `den` at most the samples of a day. The share is no larger than full scale.
+pub fn contribution(v: i64, num: u64, den: u64) -> i64
+    requires low { neg_ℤ (pos (2 ^ 47)) ≤ℤ v }
+    requires high { v ≤ℤ pos (2 ^ 47) }
+    requires fraction { num ≤ den }
+    requires some { 0 < den }
+    requires in_day { den ≤ day }
+    ensures share { result ≡ share_of v (num, den) }
+    ensures within { (neg_ℤ (pos (2 ^ 47)) ≤ℤ result) × (result ≤ℤ pos (2 ^ 47)) }
+{
+    let (share, is_exact) = scaled(v.unsigned_abs(), num, den);
+    if v >= 0 {
+        share as i64
+    } else {
+        negated(share, is_exact)
+    }
+}
+
 /// A sum of samples at full scale, from -2^62 to 2^62, as a sample of this depth: rounded to the nearest, halves up,
 /// and clipped to the depth's range.
 pub fn finish(sum: i64, depth: Depth) -> i32
@@ -29,58 +75,12 @@ pub fn finish(sum: i64, depth: Depth) -> i32
     requires high { sum ≤ℤ pos (2 ^ 62) }
     ensures rounded { result ≡ quantized (bits_of depth) sum }
     ensures fit { FitsDepth (bits_of depth) result }
+    ensures crossfade { IsCrossfadeExact depth }
 {
     // Half a step is added, since the shift rounds down.
     match depth {
         Depth::Sixteen => ((sum + (1 << 31)) >> 32).clamp(-(1 << 15), (1 << 15) - 1) as i32,
         Depth::TwentyFour => ((sum + (1 << 23)) >> 24).clamp(-(1 << 23), (1 << 23) - 1) as i32,
         Depth::ThirtyTwo => ((sum + (1 << 15)) >> 16).clamp(-(1 << 31), (1 << 31) - 1) as i32,
-    }
-}
-
-#[cfg(test)]
-mod tests {
-    use super::*;
-
-    #[test]
-    fn widens_to_full_scale(rt: HostRuntime) {
-        assert_eq!(rt; widen(1000, Depth::Sixteen), 4_294_967_296_000);
-        assert_eq!(rt; widen(-32_768, Depth::Sixteen), -140_737_488_355_328);
-        assert_eq!(rt; widen(-8_388_608, Depth::TwentyFour), -140_737_488_355_328);
-        assert_eq!(rt;
-            widen(-2_147_483_648, Depth::ThirtyTwo),
-            -140_737_488_355_328
-        );
-    }
-
-    #[test]
-    fn rounds_halves_up(rt: HostRuntime) {
-        assert_eq!(rt; finish(0, Depth::Sixteen), 0);
-        assert_eq!(rt; finish(-1_431_655_766, Depth::Sixteen), 0);
-        assert_eq!(rt; finish(-2_863_311_531, Depth::Sixteen), -1);
-        assert_eq!(rt; finish(21_474_836_479, Depth::Sixteen), 5);
-    }
-
-    #[test]
-    fn goes_from_depth_to_depth(rt: HostRuntime) {
-        let wider = widen(1000, Depth::Sixteen);
-        assert_eq!(rt; finish(wider, Depth::TwentyFour), 256_000);
-        let half = widen(128, Depth::TwentyFour);
-        assert_eq!(rt; finish(half, Depth::Sixteen), 1);
-        let below_half = widen(127, Depth::TwentyFour);
-        assert_eq!(rt; finish(below_half, Depth::Sixteen), 0);
-        let negative_half = widen(-128, Depth::TwentyFour);
-        assert_eq!(rt; finish(negative_half, Depth::Sixteen), 0);
-    }
-
-    #[test]
-    fn clips_both_ends(rt: HostRuntime) {
-        let loud = 1 << 48;
-        assert_eq!(rt; finish(loud, Depth::Sixteen), 32_767);
-        assert_eq!(rt; finish(-loud, Depth::Sixteen), -32_768);
-        assert_eq!(rt; finish(loud, Depth::TwentyFour), 8_388_607);
-        assert_eq!(rt; finish(-loud, Depth::TwentyFour), -8_388_608);
-        assert_eq!(rt; finish(loud, Depth::ThirtyTwo), 2_147_483_647);
-        assert_eq!(rt; finish(-loud, Depth::ThirtyTwo), -2_147_483_648);
     }
 }

@@ -1,5 +1,5 @@
 -- Files by name as a disk keeps them: what a call does to what is read, and to what a crash may leave.
-use Rattle.std.specs.Prelude.{◌≡◌, ◌≢◌, ◌⊎◌, ℕ, ◌+◌, ◌^◌, ◌<◌, ◌≤◌, max, Option, Some, None, List, [], ◌∷◌, ◌++◌, length, take, drop, Contains}
+use Rattle.std.specs.Prelude.{◌≡◌, ◌≢◌, ◌⊎◌, ℕ, ◌+◌, ◌^◌, ◌<◌, ◌≤◌, max, Bool, IsTrue, Option, Some, None, List, [], ◌∷◌, ◌++◌, length, take, drop, Contains, Result, IfErr, IsErrAnd}
 
 -- the bytes of each name's file, none where there is no such file
 abbrev pub Files : Type 0
@@ -137,3 +137,51 @@ pub record HasCause (before now : ℕ) (quiet device : Type 0) : Type 0 where
   pub later : before ≤ now
   pub left : quiet → now ≡ before
   pub rose : device → before + 1 < 2 ^ 64 → before < now
+
+-- What a call leaves of a store that it only reads, and which of its answers tell a device fault.
+module _ {S : Type 0} (stored : S → Files) (honest : S → Bool) (failures : S → ℕ) (failed_at : S → List ℕ → Type 0) where
+  -- nothing was written: the same files and the same honesty, and a failure is counted at its file
+  pub record HasRead (old new : S) (quiet device failed : Type 0) : Type 0 where
+    pub same : stored new ≡ stored old
+    pub honest_same : honest new ≡ honest old
+    pub cause : HasCause (failures old) (failures new) quiet device
+    pub keeps : (n : List ℕ) → failed_at old n → failed_at new n
+    pub failed_there : failed
+
+  -- nothing was written, and nothing has failed
+  pub record IsKept (old new : S) : Type 0 where
+    pub same : stored new ≡ stored old
+    pub honest_same : honest new ≡ honest old
+    pub quiet : failures new ≡ failures old
+    pub keeps : (n : List ℕ) → failed_at old n → failed_at new n
+
+  -- a call that only reads, by its result: these faults tell a failure, of a file that has one of these names
+  abbrev pub ReadsTo : {X E : Type 0} → S → S → Result X E → (E → Type 0) → (E → (List ℕ → Type 0) → Type 0) → Type 0
+  ReadsTo old new result is_device names =
+      HasRead old new (IfErr result (λ fault. ¬ is_device fault)) (IsErrAnd result is_device)
+      (IfErr result (λ fault. is_device fault → names fault (failed_at new)))
+
+-- What a call leaves of a store that it writes: the files that stay are as they were, and as durable.
+module _ {S : Type 0} (stored : S → Files) (honest : S → Bool) (failures : S → ℕ) (failed_at : S → List ℕ → Type 0) (may_leave : S → Files → Type 0) where
+  -- only the files that don't stay changed: the same honesty, and a failure is counted at its file
+  pub record HasWritten (stays : List ℕ → Type 0) (old new : S) (quiet device failed : Type 0) : Type 0 where
+    pub others : IsTrue (honest old) → (n : List ℕ) → stays n → stored new n ≡ stored old n
+    pub durable : IsTrue (honest old) → (n : List ℕ) → stays n → IsDurable n (stored old) (may_leave old) → IsDurable n (stored new) (may_leave new)
+    pub honest_same : honest new ≡ honest old
+    pub cause : HasCause (failures old) (failures new) quiet device
+    pub keeps : (n : List ℕ) → failed_at old n → failed_at new n
+    pub failed_there : failed
+
+  -- only the files that don't stay changed, and nothing has failed
+  pub record IsExtended (stays : List ℕ → Type 0) (old new : S) : Type 0 where
+    pub others : IsTrue (honest old) → (n : List ℕ) → stays n → stored new n ≡ stored old n
+    pub durable : IsTrue (honest old) → (n : List ℕ) → stays n → IsDurable n (stored old) (may_leave old) → IsDurable n (stored new) (may_leave new)
+    pub honest_same : honest new ≡ honest old
+    pub quiet : failures new ≡ failures old
+    pub keeps : (n : List ℕ) → failed_at old n → failed_at new n
+
+  -- a call that may change all files but those that stay, by its result
+  abbrev pub WritesTo : {X E : Type 0} → (List ℕ → Type 0) → S → S → Result X E → (E → Type 0) → (E → (List ℕ → Type 0) → Type 0) → Type 0
+  WritesTo stays old new result is_device names =
+      HasWritten stays old new (IfErr result (λ fault. ¬ is_device fault)) (IsErrAnd result is_device)
+      (IfErr result (λ fault. is_device fault → names fault (failed_at new)))

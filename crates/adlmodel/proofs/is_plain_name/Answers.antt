@@ -3,7 +3,7 @@ use Rattle.std.specs.Bool.{OnTrue}
 use Rattle.std.proofs.lemmas.Iterator.{YieldsList-from_slice}
 use Rattle.std.proofs.lemmas.Iterator.Search.{all_from_yields_List}
 use Rattle.adlmodel.specs.Plain.{begins_with_letter, is_name_byte, is_plain_name}
-use Rattle.adlmodel.proofs.Names.{IsUtf8-plain_name}
+use Rattle.adlmodel.specs.Laws.{IsUtf8-plain_name}
 use Rattle.adlmodel.proofs.is_plain_name.Goals as goal
 
 text_from_test : (name : List ℕ) (plain : Bool) → plain ≡ is_plain_name name → OnTrue plain (IsUtf8 name)

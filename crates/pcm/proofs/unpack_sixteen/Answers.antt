@@ -1,32 +1,23 @@
-use Rattle.std.proofs.Common.{◌≡◌, ◌*◌, ◌∙◌, arith, drop, rules, sym}
-use Rattle.std.specs.Int.{w16, w32, cast_signed, cast_unsigned}
+use Rattle.std.proofs.Common.{◌≡◌, ◌*◌, ◌∙◌, arith, drop, rules, sym, ap}
+use Rattle.std.specs.Int.{w32, cast_signed, cast_unsigned}
 use Rattle.std.proofs.lemmas.Int.{to_z-of_z}
 use Rattle.std.proofs.lemmas.List.{take_all, take_rest}
 use mir.Val.{SFits}
-use Rattle.byteorder.specs.Endian.{little_number}
-use Rattle.byteorder.specs.Numbers.{little_from-lt}
 use Rattle.sound_terms.specs.declared.Depth.TheVariants.{Sixteen}
 use Rattle.sound_terms.specs.Waves.{sample_of}
 use Rattle.pcm.specs.Samples.{samples_in}
-use Rattle.pcm.specs.Laws.{AreBytes, AreBytes-drop, all_fit, bytes_again}
-use Rattle.pcm.proofs.Steps.{one_read, signed16}
+use Rattle.pcm.specs.Laws.{all_fit, bytes_again}
+use Rattle.pcm.proofs.Steps.{one_read}
 use Rattle.pcm.proofs.unpack_sixteen.Goals as goal
 
 pub loop-i-preserved : goal.loop-i-preserved
 loop-i-preserved c =
-    let small : AreBytes (drop (c.loop-i.i * 2) c.args.bytes.now) =
-    AreBytes-drop (c.loop-i.i * 2) c.args.bytes.now (λ k. omega (arith, c.type_inv.bytes k)) in
-    let word : c.read_i16.result ≡ cast_signed w16 (little_number 2 (drop (c.loop-i.i * 2) c.args.bytes.now)) =
-    rw (take_rest c.args.bytes.now (c.loop-i.i * 2)) at c.read_i16.ensures in
-    let fits : SFits w16 c.read_i16.result = search rules in
-    let fits' : SFits w32 c.from.result = search rules in
-    let read : cast_signed w32 (cast_unsigned w32 c.from.result) ≡ sample_of 16 (drop (c.loop-i.i * 2) c.args.bytes.now) =
-    to_z-of_z w32 c.from.result fits'
-    ∙ c.from.ensures
-    ∙ to_z-of_z w16 c.read_i16.result fits
-    ∙ word
-    ∙ signed16 (little_number 2 (drop (c.loop-i.i * 2) c.args.bytes.now)) (little_from-lt 0 2 (drop (c.loop-i.i * 2) c.args.bytes.now) small) in
-    one_read 16 c.loop-i.i c.args.bytes.now c.loop-i.samples _ (omega arith) read c.loop-i.invariant
+    let bytes = c.args.bytes.now in
+    let sample = c.read_sixteen.result in
+    let fits : SFits w32 sample = search rules in
+    let read : cast_signed w32 (cast_unsigned w32 sample) ≡ sample_of 16 (drop (c.loop-i.i * 2) bytes) =
+    to_z-of_z w32 sample fits ∙ c.read_sixteen.ensures ∙ ap (sample_of 16) (take_rest bytes (c.loop-i.i * 2)) in
+    one_read 16 c.loop-i.i bytes c.loop-i.samples _ (omega arith) read c.loop-i.invariant
 
 pub returns-clause-fit : goal.returns-clause-fit
 returns-clause-fit c =

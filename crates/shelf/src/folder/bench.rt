@@ -1,23 +1,25 @@
 // Outputs in a folder.
 ghost use Rattle.std.specs.Prelude.{◌≡◌, false, None, IfOk, ⊤};
 
-use super::open_files::{Access, OpenFiles};
-use crate::failures::counted;
-use crate::{Bench, DeviceFault, ShelfFault};
+use super::failures::Failures;
+use super::open_files::{Access, OpenFiles, Overwrite};
+use crate::{Bench, DeviceFault, Reasons, ShelfFault};
 use std::alloc::{AllocError, Global};
 use std::fs::Files;
+use std::io;
 use std::marker::Model;
 use std::os::unix::fs::FileExt;
 
-/// Outputs in a folder, which has to be there. Only the names of files right inside the folder name a file. While a
-/// bench is at work nothing else is to write to its files.
+/// Outputs in a folder, which has to be there. Only the names of files right inside the folder name a file, and no link is
+/// followed. While a bench is at work nothing else is to write to its files. A sync closes the file: it is finished, and
+/// a later call opens it again.
 #[derive(Drop)]
 pub struct FolderBench<R: Files + Drop>
 where
     R::File: FileExt,
 {
     files: OpenFiles<R>,
-    failures: u64,
+    failures: Failures,
 }
 
 /// A clause sees how often it has failed.
@@ -29,20 +31,26 @@ where
 
     ghost Value = { ℕ };
 
-    ghost view = { λ bench. bench.failures };
+    ghost view = { λ bench. bench.failures.count };
 }
 
 impl<R: Files + Drop> FolderBench<R>
 where
     R::File: FileExt,
 {
-    /// The files of the folder of this path; the empty path is the current folder. It is no call of the device.
-    pub fn new(alloc: Global, files: R, folder: &str) -> Result<Self, AllocError>
+    /// The files of the folder of this path; the empty path is the current folder. It is no call of the device. Whether
+    /// `create` may replace a file is settled here.
+    pub fn new(
+        alloc: Global,
+        files: R,
+        folder: &str,
+        overwrite: Overwrite,
+    ) -> Result<Self, AllocError>
         ensures { IfOk result (λ bench. bench ≡ 0) }
     {
         Ok(FolderBench {
-            files: OpenFiles::new(alloc, files, folder, Access::Write)?,
-            failures: 0,
+            files: OpenFiles::new(alloc, files, folder, Access::Write(overwrite))?,
+            failures: Failures::NONE,
         })
     }
 
@@ -50,7 +58,16 @@ where
     pub fn failures(&self) -> u64
         ensures { result ≡ self.now }
     {
-        self.failures
+        self.failures.count
+    }
+}
+
+impl<R: Files + Drop> Reasons for FolderBench<R>
+where
+    R::File: FileExt,
+{
+    fn reason(&self) -> Option<io::Error> {
+        self.failures.reason
     }
 }
 
@@ -82,31 +99,31 @@ where
 
     fn create(&mut self, name: &str) -> Result<(), DeviceFault> {
         let outcome = self.files.create(name);
-        counted(&mut self.failures, outcome.map_err(|_| DeviceFault))
+        self.failures.counted(outcome)
     }
 
     fn append(&mut self, name: &str, bytes: &[u8]) -> Result<(), DeviceFault> {
         let outcome = self.files.append(name, bytes);
-        counted(&mut self.failures, outcome.map_err(|_| DeviceFault))
+        self.failures.counted(outcome)
     }
 
     fn write_at(&mut self, name: &str, at: u64, bytes: &[u8]) -> Result<(), DeviceFault> {
         let outcome = self.files.write_at(name, at, bytes);
-        counted(&mut self.failures, outcome.map_err(|_| DeviceFault))
+        self.failures.counted(outcome)
     }
 
     fn length(&mut self, name: &str) -> Result<u64, ShelfFault> {
-        let outcome = self.files.length(name).map_err(|_| DeviceFault);
-        counted(&mut self.failures, outcome)?.ok_or(ShelfFault::NotFound)
+        let outcome = self.files.length(name);
+        self.failures.counted(outcome)?.ok_or(ShelfFault::NotFound)
     }
 
     fn read_at(&mut self, name: &str, at: u64, buffer: &mut [u8]) -> Result<(), ShelfFault> {
         let outcome = self.files.read_at(name, at, buffer);
-        Ok(counted(&mut self.failures, outcome.map_err(|_| DeviceFault))?)
+        Ok(self.failures.counted(outcome)?)
     }
 
     fn sync(&mut self, name: &str) -> Result<(), DeviceFault> {
         let outcome = self.files.sync(name);
-        counted(&mut self.failures, outcome.map_err(|_| DeviceFault))
+        self.failures.counted(outcome)
     }
 }

@@ -3,16 +3,17 @@ ghost use Rattle.std.specs.Prelude.{◌≡◌, false, None, Ok, IfOk, IsOk, IsEr
 ghost use Rattle.work_terms.specs.Disk.{HasCause};
 ghost use Rattle.shelf.specs.FileName.{is_file_name};
 
+use super::failures::Failures;
 use super::name::is_file_name;
 use super::open_files::{Access, OpenFiles};
-use crate::failures::counted;
-use crate::{DeviceFault, Shelf, ShelfFault};
+use crate::{DeviceFault, Reasons, Shelf, ShelfFault};
 use std::alloc::{AllocError, Global};
 use std::fs::Files;
+use std::io;
 use std::marker::Model;
 use std::os::unix::fs::FileExt;
 
-/// Sources in a folder. A file stays open, and is seen as it was when it was opened, until 63 others were used since or
+/// Sources in a folder. A file stays open, and is seen as it was when it was opened, until 28 others were used since or
 /// a call on it failed; nothing is to write to it. Only the names of files right inside the folder name a file.
 #[derive(Drop)]
 pub struct FolderShelf<R: Files + Drop>
@@ -20,7 +21,7 @@ where
     R::File: FileExt,
 {
     files: OpenFiles<R>,
-    failures: u64,
+    failures: Failures,
 }
 
 /// A clause sees how often it has failed.
@@ -32,7 +33,7 @@ where
 
     ghost Value = { ℕ };
 
-    ghost view = { λ shelf. shelf.failures };
+    ghost view = { λ shelf. shelf.failures.count };
 }
 
 impl<R: Files + Drop> FolderShelf<R>
@@ -45,7 +46,7 @@ where
     {
         Ok(FolderShelf {
             files: OpenFiles::new(alloc, files, folder, Access::Read)?,
-            failures: 0,
+            failures: Failures::NONE,
         })
     }
 
@@ -53,7 +54,7 @@ where
     pub fn failures(&self) -> u64
         ensures { result ≡ self.now }
     {
-        self.failures
+        self.failures.count
     }
 
     /// How many bytes the file has, or `None` where no file has the name.
@@ -65,7 +66,16 @@ where
             return Ok(None);
         }
         let outcome = self.files.length(name);
-        counted(&mut self.failures, outcome.map_err(|_| DeviceFault))
+        self.failures.counted(outcome)
+    }
+}
+
+impl<R: Files + Drop> Reasons for FolderShelf<R>
+where
+    R::File: FileExt,
+{
+    fn reason(&self) -> Option<io::Error> {
+        self.failures.reason
     }
 }
 
@@ -89,6 +99,6 @@ where
 
     fn read_at(&mut self, name: &str, at: u64, buffer: &mut [u8]) -> Result<(), ShelfFault> {
         let outcome = self.files.read_at(name, at, buffer);
-        Ok(counted(&mut self.failures, outcome.map_err(|_| DeviceFault))?)
+        Ok(self.failures.counted(outcome)?)
     }
 }

@@ -1,5 +1,5 @@
 use Rattle.std.proofs.Common.{string_bytes}
-use Rattle.adlmodel.proofs.Names.{place_of_url-plain_name}
+use Rattle.adlmodel.specs.Laws.{place_of_url-plain_name}
 use Rattle.adlmodel.proofs.Source.name.Goals as goal
 
 pub returns : goal.returns

@@ -1,14 +1,14 @@
 use Rattle.std.proofs.Common.{◌≤◌, ◌-◌, length, ℕ, ◌+◌, ◌^◌, ◌<◌, [], IsTrue, IsSome, string_bytes}
 use Rattle.std.specs.Prelude.{unwrap_or}
 use Rattle.consolidate.specs.Sums.{samples_from, AreWithin}
-use Rattle.consolidate.proofs.Shelves.{IsKept}
+use Rattle.shelf.specs.Frame.{IsQuiet}
 use Rattle.consolidate.proofs.Summing.{HaveGrown, AreSameFrom}
 use Rattle.consolidate.proofs.adding.add_frames.Given as goal
 
 abbrev pub invariant-loop-done : goal.invariant-loop-done
 invariant-loop-done g l =
     (l.done ≤ length l.sums)
-    × IsKept (g.S.Shelf.stored) (g.S.Shelf.honest) (g.S.Shelf.failures) (g.S.Shelf.failed_at) l.initial.shelf l.shelf
+    × IsQuiet g.S.Shelf l.initial.shelf l.shelf
     × AreSameFrom l.done l.initial.sums l.sums
     × ((bound : ℕ) → AreWithin bound l.initial.sums → AreWithin (bound + 2 ^ 47) l.sums)
     × (IsTrue (g.S.Shelf.honest l.shelf) → (0 < l.done → IsSome (g.S.Shelf.stored l.shelf (string_bytes l.file.name)))

@@ -26,9 +26,15 @@ returns-in-Err-clause-near g c =
     λ bound within.
     event_near bound (c.get.result - c.args.from) (c.get.result - c.args.from + c.in-Some.stretch.length - (c.get.result - c.args.from)) c.args.sums.now c.add_frames.new.sums room whole within (c.add_frames.ensures.near bound)
 
-pub returns-in-Err-clause-failed : goal.returns-in-Err-clause-failed
-returns-in-Err-clause-failed g c = (
-  c.index-file.result.now,
-  file_read c.args.bound.now.files.items c.in-Some.stretch.file _ _ c.in-Some.ensures.inside.there c.index-file.ensures,
-  only_device c.in-Err.field-0 c.in-Err.ensures.not_missing c.in-Err.ensures.failed,
-)
+pub returns-in-Err-clause-only_reads : goal.returns-in-Err-clause-only_reads
+returns-in-Err-clause-only_reads g c =
+    let only = c.in-Err.ensures.only_reads in
+    let device = only_device c.in-Err.field-0 c.in-Err.ensures.not_missing in
+    let there = file_read c.args.bound.now.files.items c.in-Some.stretch.file _ _ c.in-Some.ensures.inside.there c.index-file.ensures in
+    record {
+      same = only.same;
+      honest_same = only.honest_same;
+      cause = record { later = only.cause.later; left = λ quiet. absurd (quiet tt); rose = λ _. only.cause.rose device };
+      keeps = only.keeps;
+      failed_there = λ _. (c.index-file.result.now, there, only.failed_there device);
+    }

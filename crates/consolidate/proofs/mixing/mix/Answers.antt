@@ -22,15 +22,10 @@ loop-event-preserved g c =
     rw items (
       same ∙ c.loop-event.invariant.0,
       near,
-      record {
-        stored_same = c.add_event.ensures.stored ∙ kept.stored_same;
-        honest_same = c.add_event.ensures.honest ∙ kept.honest_same;
-        failures_same = c.in-Ok.ensures.cause.left refl ∙ kept.failures_same;
-        keeps = λ name failed. c.add_event.ensures.keeps name (kept.keeps name failed);
-      },
+      search rules,
       λ honest binding represents none.
           let now : IsTrue (g.S.Shelf.honest c.loop-event.shelf) = rw kept.honest_same honest in
           let grown = c.in-Ok.ensures.added now binding represents (faultless_at binding c.args.events.now i c.event-item.result none read) in
           one_event (reading_of (g.S.Shelf.stored c.args.shelf.now) binding) binding.indexes c.args.events.now c.event-item.result c.args.from i c.loop-event.sums.items c.add_event.new.sums
-          same next (rw (kept.stored_same, c.deref_mut.ensures.value) at grown) (c.loop-event.invariant.3 honest binding represents none),
+          same next (rw (kept.same, c.deref_mut.ensures.value) at grown) (c.loop-event.invariant.3 honest binding represents none),
     )

@@ -4,7 +4,7 @@ use Rattle.list_terms.specs.Accepted.{event_fault, reading_of}
 use Rattle.consolidate.specs.Bound.{Represents}
 use Rattle.consolidate.specs.Sums.{AreWithin}
 use Rattle.consolidate.proofs.SoFar.{AreSoFar}
-use Rattle.consolidate.proofs.Shelves.{IsKept}
+use Rattle.shelf.specs.Frame.{IsQuiet}
 use Rattle.consolidate.proofs.mixing.mix.Given as goal
 
 -- the events before the index are in the sums
@@ -12,6 +12,6 @@ abbrev pub invariant-loop-event : goal.invariant-loop-event
 invariant-loop-event g l =
     (length l.sums.items ≡ l.samples)
     × AreWithin (l.event-index * 2 ^ 47) l.sums.items
-    × IsKept (g.S.Shelf.stored) (g.S.Shelf.honest) (g.S.Shelf.failures) (g.S.Shelf.failed_at) l.initial.shelf l.shelf
+    × IsQuiet g.S.Shelf l.initial.shelf l.shelf
     × (IsTrue (g.S.Shelf.honest l.initial.shelf) → (binding : Binding) → Represents l.bound binding → event_fault binding l.events ≡ None
     → AreSoFar (reading_of (g.S.Shelf.stored l.initial.shelf) binding) binding.indexes l.events l.from l.event-index l.sums.items)

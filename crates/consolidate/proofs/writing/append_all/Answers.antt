@@ -1,4 +1,4 @@
-use Rattle.std.proofs.Common.{◌≡◌, refl, true, ◌+◌, ◌-◌, ◌++◌, ℕ, take, arith, ap, ◌∙◌, IsTrue}
+use Rattle.std.proofs.Common.{◌≡◌, ◌+◌, ◌-◌, ◌++◌, ℕ, take, arith, rules, ap, ◌∙◌, IsTrue}
 use Rattle.consolidate.specs.Written.{bytes_of_sums}
 use Rattle.consolidate.proofs.WrittenSums.{append_step, block_more}
 use borrow.Rule.Slice.PartMut.{mid_of}
@@ -10,17 +10,11 @@ loop-done-preserved g c =
     let n : ℕ = c.min-end.result - c.loop-done.done in
     let to : c.loop-done.done + n ≡ c.min-end.result = omega arith in (
       omega arith,
-      record {
-        honest_same = c.append_block.ensures.honest ∙ c.loop-done.invariant.1.honest_same;
-        failures_same = c.in_ok-append_block.ensures.cause.left (refl {a = true}) ∙ c.loop-done.invariant.1.failures_same;
-        keeps = λ name failed. c.append_block.ensures.keeps name (c.loop-done.invariant.1.keeps name failed);
-      },
-      λ honest. let before_honest : IsTrue (g.B.Bench.honest c.loop-done.bench) = rw c.loop-done.invariant.1.honest_same honest in
+      search rules,
+      λ honest file there.
+          let before_honest : IsTrue (g.B.Bench.honest c.loop-done.bench) = rw c.loop-done.invariant.1.honest_same honest in
           let step = c.in_ok-append_block.ensures.appended before_honest in
-          let before = c.loop-done.invariant.2 honest in (
-            λ name other. step.others name other ∙ before.0 name other,
-            λ file there. append_step _ _ (file ++ bytes_of_sums (take c.loop-done.done c.args.sums.now)) (bytes_of_sums (mid_of c.loop-done.done n c.args.sums.now)) _
-                step.here (before.1 file there)
-                (block_more c.loop-done.done n sums file ∙ ap (λ (k : ℕ). file ++ bytes_of_sums (take k c.args.sums.now)) to),
-          ),
+          append_step _ _ (file ++ bytes_of_sums (take c.loop-done.done c.args.sums.now)) (bytes_of_sums (mid_of c.loop-done.done n c.args.sums.now)) _
+          step.here (c.loop-done.invariant.2 honest file there)
+          (block_more c.loop-done.done n sums file ∙ ap (λ (k : ℕ). file ++ bytes_of_sums (take k c.args.sums.now)) to),
     )

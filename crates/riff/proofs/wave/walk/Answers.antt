@@ -1,51 +1,31 @@
-use Rattle.std.proofs.Common.{ℕ, ◌≡◌, ◌+◌, ◌-◌, arith, rules, sym, ap, subst, IsTrue, refl, ◌∙◌}
-use Rattle.work_terms.specs.Disk.{Files, IsRange}
-use Rattle.riff.specs.Walk.{EndsBy}
-use Rattle.riff.proofs.Walking.{walked_start, walked_step, walked_cut, walked_end, gives_reading}
+use Rattle.std.proofs.Common.{◌≡◌, ◌+◌, ◌*◌, ◌≤◌, length, subst, sym, ap, ◌∙◌, IsTrue}
+use Rattle.std.specs.Result.{IfOk}
+use Rattle.work_terms.specs.Disk.{Files}
+use Rattle.riff.specs.Found.{EndInside}
+use Rattle.riff.specs.Walk.{chunks_view}
+use Rattle.riff.proofs.Reading.{same_some}
 use Rattle.riff.proofs.wave.walk.Goals as goal
 
-pub loop-left-init : goal.loop-left-init
-loop-left-init g c = record {
-  within = omega arith;
-  stored = search rules;
-  honest = search rules;
-  quiet = search rules;
-  keeps = search rules;
-  ends = rw (c.nothing-found.ensures 0).sound tt;
-  walked = λ honest.
-      let range = c.in_ok-read_at.ensures.read (subst IsTrue (sym c.length.ensures.honest) honest) in
-      walked_start _ _ _ _ (c.in_ok-end.ensures.found honest) (omega arith)
-      (subst (λ (files : Files). IsRange (files c.args.name.now) 0 c.read_at.new.buffer) c.length.ensures.same range)
-      c.read_at.auto.buffer (sym c.if-not-is_wave.ensures) (c.nothing-found.ensures _);
-}
+pub returns-clause-seen : goal.returns-clause-seen
+returns-clause-seen g c = λ honest file there.
+    let kept = c.in_ok-end.ensures.only_reads in
+    let opened = c.in_ok-form.ensures.only_reads in
+    let found = c.in_ok-end.ensures.found honest in
+    let whole : length file ≡ c.in_ok-end.end = ap length (same_some (sym there ∙ found.1)) ∙ found.2 in
+    let honest' = subst IsTrue (sym kept.honest_same) honest in
+    let there' = ap (λ (files : Files). files c.args.name.now) kept.same ∙ there in
+    c.walk_form.ensures.seen (subst IsTrue (sym opened.honest_same) honest') file
+    (ap (λ (files : Files). files c.args.name.now) opened.same ∙ there') whole
+    (c.in_ok-form.ensures.opens honest' file there' whole)
 
-pub loop-left-preserved : goal.loop-left-preserved
-loop-left-preserved g c = record {
-  within = omega arith;
-  stored = search rules;
-  honest = search rules;
-  quiet = search rules;
-  keeps = search rules;
-  ends =
-      let e : (c.in_ok-end.end - c.loop-left.left + 8) + (c.loop-left.left - 8) ≡ c.in_ok-end.end = omega arith in
-      subst (λ (n : ℕ). EndsBy n c.add.new.self.sound) e
-      (c.in_ok-add.ensures.ends (subst (λ (n : ℕ). EndsBy n c.loop-left.found.sound) (sym e) c.loop-left.invariant.ends));
-  walked = λ honest.
-      let walked = c.loop-left.invariant.walked honest in
-      let head = c.in_ok-head.ensures.head (subst IsTrue (sym c.loop-left.invariant.honest) honest) in
-      walked_step walked _ _ _ _ _ _ (ap (λ (files : Files). files c.args.name.now) c.loop-left.invariant.stored) head (omega arith)
-      refl c.from.ensures (c.in_ok-add.ensures.added walked.before) c.padded.ensures c.saturating_sub-left.ensures;
-}
+pub returns-clause-few : goal.returns-clause-few
+returns-clause-few g c = λ honest file there.
+    let found = c.in_ok-end.ensures.found honest in
+    let whole : length file ≡ c.in_ok-end.end = ap length (same_some (sym there ∙ found.1)) ∙ found.2 in
+    subst (λ n. IfOk c.walk_form.result (λ chunks. 8 * chunks.seen + 12 ≤ n)) (sym whole) c.walk_form.ensures.few
 
-pub returns-in_err-add-clause-exact : goal.returns-in_err-add-clause-exact
-returns-in_err-add-clause-exact g c = λ honest.
-    let walked = c.loop-left.invariant.walked honest in
-    let head = c.in_ok-head.ensures.head (subst IsTrue (sym c.loop-left.invariant.honest) honest) in
-    let read = walked_cut walked _ _ _ (ap (λ (files : Files). files c.args.name.now) c.loop-left.invariant.stored) head (omega arith)
-    refl c.from.ensures (c.in_err-add.ensures.refused walked.before) in
-    rw read (search rules)
-
-pub returns-clause-exact : goal.returns-clause-exact
-returns-clause-exact g c = λ honest.
-    let walked = c.loop-left.invariant.walked honest in
-    gives_reading _ _ (c.chunks.ensures.exact _ walked.before walked.seen ∙ sym (walked_end walked (omega arith)))
+pub returns-clause-inside : goal.returns-clause-inside
+returns-clause-inside g c = λ honest file there.
+    let found = c.in_ok-end.ensures.found honest in
+    let whole : length file ≡ c.in_ok-end.end = ap length (same_some (sym there ∙ found.1)) ∙ found.2 in
+    subst (λ n. IfOk c.walk_form.result (λ chunks. EndInside n (chunks_view chunks))) (sym whole) c.walk_form.ensures.ends

@@ -1,4 +1,4 @@
-use Rattle.std.proofs.Common.{rules, ◌≡◌}
+use Rattle.std.proofs.Common.{rules}
 use Rattle.consolidate.proofs.MediaNames.{name_printed}
 use Rattle.consolidate.proofs.faults.OutputFileDisplay.fmt.Goals as goal
 

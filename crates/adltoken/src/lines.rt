@@ -1,0 +1,87 @@
+// The lines of a text, one after another.
+ghost use Rattle.std.specs.Prelude.{◌≡◌, ◌≤◌, ◌<◌, ◌+◌, ◌==◌, [], ◌∷◌, MatchOption, length};
+ghost use Rattle.list_terms.specs.Lines.{lines_in, lines_of, byte_order_mark};
+ghost use Rattle.list_terms.specs.Lines as spec;
+
+use crate::names::length_before;
+use std::marker::Model;
+
+/// How far a text is read: what follows, and the number of the line that was read last, 0 before the first.
+#[derive(Drop)]
+pub struct Lines<'a> {
+    rest: &'a [u8],
+    number: u64,
+}
+
+impl<'a> Model for Lines<'a> {
+    ghost use Rattle.std.specs.Prelude.{◌+◌, ◌^◌, ◌<◌, length};
+    ghost use Rattle.list_terms.specs.Lines.{lines_in, LinesLeft};
+
+    ghost Value = { LinesLeft };
+
+    ghost view = { λ l. record { number = l.number; lines = lines_in l.rest.now } };
+
+    ghost invariant = { λ l. l.number + length l.rest.now < 2 ^ 64 };
+}
+
+impl<'a> Lines<'a> {
+    /// The lines of the text, from the first one on. A byte order mark in front is no part of them.
+    #[tactic(auto, unfolding(list_terms::specs::Lines::lines_of))]
+    pub fn new(text: &'a [u8]) -> Self
+        ensures { result ≡ record { number = 0; lines = lines_of text.now } }
+    {
+        Lines {
+            rest: without_mark(text),
+            number: 0,
+        }
+    }
+
+    /// The next line without its end; `None` where the text ends.
+    pub fn next_line(&mut self) -> Option<&'a [u8]>
+        ensures line { MatchOption result ((self.old.lines ≡ []) × (self.new ≡ self.old))
+            (λ line. (self.old.lines ≡ line.now ∷ self.new.lines) × (self.new.number ≡ self.old.number + 1)) }
+    {
+        if self.rest.is_empty() {
+            return None;
+        }
+        let (line, rest) = first_line(self.rest);
+        self.rest = rest;
+        self.number += 1;
+        Some(line)
+    }
+
+    /// The number of the line that was read last, counted from 1; 0 before the first.
+    pub fn number(&self) -> u64
+        ensures { result ≡ self.now.number }
+    {
+        self.number
+    }
+}
+
+/// The text behind a byte order mark.
+fn without_mark(text: &[u8]) -> &[u8]
+    ensures mark { result.now ≡ spec.without_mark text.now }
+    ensures shorter { length result.now ≤ length text.now }
+{
+    text.strip_prefix(b"\xEF\xBB\xBF").unwrap_or(text)
+}
+
+/// The first line of a text without its end, and what follows.
+fn first_line(text: &[u8]) -> (&[u8], &[u8])
+    requires { 0 < length text.now }
+    ensures line { lines_in text.now ≡ result.0.now ∷ lines_in result.1.now }
+    ensures shorter { length result.1.now < length text.now }
+{
+    let (line, rest) = text.split_at(length_before(b'\n', text));
+    match rest {
+        [_, rest @ ..] => (without_cr(line), rest),
+        [] => (without_cr(line), rest),
+    }
+}
+
+/// The text without a carriage return at its end.
+fn without_cr(text: &[u8]) -> &[u8]
+    ensures { result.now ≡ spec.without_cr text.now }
+{
+    text.strip_suffix(b"\r").unwrap_or(text)
+}

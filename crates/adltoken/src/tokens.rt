@@ -1,0 +1,222 @@
+// The tokens of a line, one after another.
+ghost use Rattle.std.specs.Prelude.{◌≡◌, ◌≤◌, ◌<◌, ◌+◌, ◌^◌, ◌++◌, ℕ, List, IfOk, IfSome, Some, length, option_map};
+ghost use Rattle.std.specs.List.{prefix_len};
+ghost use Rattle.list_terms.specs.Steps.{ok_map};
+ghost use Rattle.list_terms.specs.Tokens as spec;
+ghost use Rattle.list_terms.specs.Tokens.{token_text};
+ghost use Rattle.adltoken.specs.Views.{cut_view, token_view};
+
+use crate::blanks::{is_blank, skip_blanks};
+use list_terms::{TextFault, TokenKind};
+
+/// A token: what it is written as, what stands inside its quotes or parentheses, or the word, the token as it stands in
+/// its line, and how many bytes of the line stand before it.
+#[derive(Clone, Copy, Debug)]
+pub struct Token<'a> {
+    pub kind: TokenKind,
+    pub content: &'a [u8],
+    pub text: &'a [u8],
+    pub at: usize,
+}
+
+impl Token<'_> {
+    /// The place of its first byte in the line, and its length.
+    pub fn span(&self) -> (usize, usize)
+        ensures { result ≡ (self.now.at, length self.now.text.now) }
+    {
+        (self.at, self.text.len())
+    }
+}
+
+/// What is left of a line, and how many of its bytes were cut off.
+#[derive(Drop)]
+pub struct Tokens<'a> {
+    pub rest: &'a [u8],
+    pub at: usize,
+    ghost fits: { at + length rest.now < 2 ^ 64 },
+}
+
+impl<'a> Tokens<'a> {
+    /// The tokens of a line, from its first byte on.
+    pub fn new(line: &'a [u8]) -> Self
+        ensures rest { result.rest.now ≡ line.now }
+        ensures at { result.at ≡ 0 }
+    {
+        Tokens { rest: line, at: 0 }
+    }
+
+    /// The next token; `None` where only spaces and tabs are left. Nothing is cut off where there is none or a fault.
+    #[tactic(auto, unfolding(list_terms::specs::Tokens::token_at))]
+    pub fn next_token(&mut self) -> Result<Option<Token<'a>>, TextFault>
+        ensures exact { ok_map (λ next. option_map (λ token. (token_view token, self.new.rest.now)) next) result ≡ spec.token_at self.old.rest.now }
+        ensures shorter { IfOk result (λ next. IfSome next (λ token. length self.new.rest.now < length self.old.rest.now)) }
+        ensures whole { IfOk result (λ next. IfSome next (λ token. token.text.now ≡ token_text (token_view token))) }
+        ensures place { IfOk result (λ next. IfSome next (λ token.
+            (token.at + length token.text.now ≡ self.new.at) × (self.new.at + length self.new.rest.now ≡ self.old.at + length self.old.rest.now))) }
+    {
+        let line = skip_blanks(self.rest);
+        let Some(cut) = first_token(line)? else {
+            return Ok(None);
+        };
+        let at = self.at + (self.rest.len() - line.len());
+        let text = without_end(line, cut.rest);
+        self.rest = cut.rest;
+        self.at = at + text.len();
+        Ok(Some(Token {
+            kind: cut.kind,
+            content: cut.content,
+            text,
+            at,
+        }))
+    }
+}
+
+/// The line without what follows its first token.
+fn without_end<'a>(line: &'a [u8], rest: &[u8]) -> &'a [u8]
+    requires { length rest.now ≤ length line.now }
+    ensures front { (front : List ℕ) → line.now ≡ front ++ rest.now → result.now ≡ front }
+    ensures length { length result.now + length rest.now ≡ length line.now }
+{
+    let length = line.len() - rest.len();
+    line.split_at(length).0
+}
+
+/// A token that is cut off a line, and what follows.
+#[derive(Clone, Copy)]
+pub struct Cut<'a> {
+    kind: TokenKind,
+    content: &'a [u8],
+    rest: &'a [u8],
+}
+
+/// The token that a line begins with; `None` in an empty line.
+fn first_token(line: &[u8]) -> Result<Option<Cut<'_>>, TextFault>
+    ensures exact { ok_map (λ next. option_map cut_view next) result ≡ spec.token_from line.now }
+    ensures whole { IfOk result (λ next. IfSome next (λ cut. line.now ≡ token_text (cut_view cut).0 ++ cut.rest.now)) }
+    ensures shorter { IfOk result (λ next. IfSome next (λ cut. length cut.rest.now < length line.now)) }
+{
+    match line {
+        [] => Ok(None),
+        [b'"', rest @ ..] => {
+            let cut = quoted(rest)?;
+            Ok(Some(cut))
+        }
+        [b'(', rest @ ..] => {
+            let cut = keyword(rest)?;
+            Ok(Some(cut))
+        }
+        [byte, ..] => {
+            if is_word_byte(*byte) {
+                Ok(Some(word(line)))
+            } else {
+                Err(byte_fault(*byte))
+            }
+        }
+    }
+}
+
+/// The quoted text behind a quotation mark.
+fn quoted(line: &[u8]) -> Result<Cut<'_>, TextFault>
+    ensures exact { ok_map (λ cut. Some (cut_view cut)) result ≡ spec.quoted line.now }
+    ensures inside { IfOk result (λ cut. length cut.rest.now ≤ length line.now) }
+{
+    let (content, rest) = line.split_at(quoted_length(line));
+    closed(TokenKind::Quoted, b'"', content, rest)
+}
+
+/// The keyword behind an opening parenthesis.
+fn keyword(line: &[u8]) -> Result<Cut<'_>, TextFault>
+    ensures exact { ok_map (λ cut. Some (cut_view cut)) result ≡ spec.keyword line.now }
+    ensures inside { IfOk result (λ cut. length cut.rest.now ≤ length line.now) }
+{
+    let (content, rest) = line.split_at(word_length(line));
+    if content.is_empty() {
+        return Err(fault_at(rest));
+    }
+    closed(TokenKind::Keyword, b')', content, rest)
+}
+
+/// The word that a line begins with.
+fn word(line: &[u8]) -> Cut<'_>
+    ensures exact { cut_view result ≡ spec.word line.now }
+{
+    let (content, rest) = line.split_at(word_length(line));
+    Cut {
+        kind: TokenKind::Word,
+        content,
+        rest,
+    }
+}
+
+/// A token of this content, where this byte closes it.
+fn closed<'a>(
+    kind: TokenKind,
+    close: u8,
+    content: &'a [u8],
+    rest: &'a [u8],
+) -> Result<Cut<'a>, TextFault>
+    ensures exact { ok_map (λ cut. Some (cut_view cut)) result ≡ spec.closed kind close content.now rest.now }
+    ensures inside { IfOk result (λ cut. length cut.rest.now ≤ length rest.now) }
+{
+    match rest {
+        [byte, rest @ ..] if *byte == close => Ok(Cut {
+            kind,
+            content,
+            rest,
+        }),
+        _ => Err(fault_at(rest)),
+    }
+}
+
+/// How many bytes of quoted text the line begins with.
+fn quoted_length(line: &[u8]) -> usize
+    ensures count { result ≡ prefix_len spec.is_quoted_byte line.now }
+    ensures inside { result ≤ length line.now }
+{
+    line.iter()
+        .take_while(|byte| is_quoted_byte(**byte))
+        .count()
+}
+
+/// How many bytes of words the line begins with.
+fn word_length(line: &[u8]) -> usize
+    ensures count { result ≡ prefix_len spec.is_word_byte line.now }
+    ensures inside { result ≤ length line.now }
+{
+    line.iter().take_while(|byte| is_word_byte(**byte)).count()
+}
+
+/// Whether a byte may stand in a word or a keyword.
+fn is_word_byte(byte: u8) -> bool
+    ensures { result ≡ spec.is_word_byte byte }
+{
+    byte > b' ' && byte < 127 && !matches!(byte, b'"' | b'(' | b')')
+}
+
+/// Whether a byte may stand in quoted text.
+fn is_quoted_byte(byte: u8) -> bool
+    ensures { result ≡ spec.is_quoted_byte byte }
+{
+    !matches!(byte, b'"' | b'\r')
+}
+
+/// The fault of a token that these bytes don't go on with: of the first one, or of the line's end.
+fn fault_at(rest: &[u8]) -> TextFault
+    ensures { result ≡ spec.open_fault rest.now }
+{
+    match rest {
+        [] => TextFault::BadLine,
+        [byte, ..] => byte_fault(*byte),
+    }
+}
+
+/// The fault of a byte that can't stand where it stands.
+fn byte_fault(byte: u8) -> TextFault
+    ensures { result ≡ spec.byte_fault byte }
+{
+    if is_blank(byte) || (byte >= b' ' && byte < 127) {
+        TextFault::BadLine
+    } else {
+        TextFault::BadByte
+    }
+}

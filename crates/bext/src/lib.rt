@@ -1,0 +1,57 @@
+//! The chunk `bext` of Broadcast Wave (EBU Tech 3285), its CodingHistory aside.
+#![tactic(auto)]
+
+ghost use Rattle.std.specs.Prelude.{◌≡◌, ◌+◌, ◌≤◌, ◌++◌, length, take, drop, Some};
+ghost use Rattle.sound_terms.specs.Bext.{bext_of, bext_bytes};
+
+use byteorder::{ByteOrder, LittleEndian};
+pub use sound_terms::Bext;
+
+/// The version of `bext` that is written.
+const VERSION: u16 = 1;
+
+/// Reads the five text fields and the time reference from the contents of a chunk (EBU Tech 3285, 2.3). `None` where
+/// these are fewer than 346 bytes. Bytes behind these aren't looked at.
+pub fn read_bext(bytes: &[u8]) -> Option<Bext>
+    ensures { result ≡ bext_of bytes.now }
+{
+    if bytes.len() < 346 {
+        return None;
+    }
+    Some(Bext {
+        text: text_of(bytes),
+        time_reference: LittleEndian::read_u64(&bytes[338..]),
+    })
+}
+
+fn text_of(bytes: &[u8]) -> [u8; 338]
+    requires { 338 ≤ length bytes.now }
+    ensures { result ≡ take 338 bytes.now }
+{
+    let fields = &bytes[..338];
+    let mut text = [0; 338];
+    text.copy_from_slice(fields);
+    text
+}
+
+/// The 602 bytes that stand in front of the CodingHistory: the text fields, the time reference, version 1, and zeros
+/// for the UMID and the reserved bytes (EBU Tech 3285, 2.3).
+pub fn bytes_of(bext: &Bext) -> [u8; 602]
+    ensures bytes { result ≡ bext_bytes bext.now }
+    ensures again { bext_of result ≡ Some bext.now }
+{
+    let mut bytes = [0; 602];
+    put(&mut bytes, 0, &bext.text);
+    let time_reference = bext.time_reference;
+    put(&mut bytes, 338, &time_reference.to_le_bytes());
+    put(&mut bytes, 346, &VERSION.to_le_bytes());
+    bytes
+}
+
+/// Puts `word` over the bytes from `at` on.
+fn put(bytes: &mut [u8], at: usize, word: &[u8])
+    requires { at + length word.now ≤ length bytes.old }
+    ensures { bytes.new ≡ take at bytes.old ++ (word.now ++ drop (at + length word.now) bytes.old) }
+{
+    bytes[at..at + word.len()].copy_from_slice(word);
+}

@@ -1,0 +1,97 @@
+// Lists of groups in order of their starts.
+ghost use Rattle.std.specs.Prelude.{◌≡◌, ℕ, ◌↔◌, IsTrue, IfOk};
+ghost use Rattle.std.specs.List.{All, list_all};
+ghost use Rattle.sound_terms.specs.Mix.{Reading};
+ghost use Rattle.sound_terms.specs.Groups as spec;
+ghost use Rattle.sound_terms.specs.Groups.{AreGroups, IsGroup, IsPiece, are_whole, in_start_order, mix_of, reads};
+
+use crate::{Group, Piece, Shape};
+use std::alloc::{AllocError, Global};
+use std::marker::Model;
+
+/// Groups in order of start. A clause sees the list of the groups, each as the list of its pieces.
+#[derive(Debug, Drop)]
+pub struct Intervals {
+    groups: Vec<Group>,
+}
+
+impl Model for Intervals {
+    ghost use Rattle.std.specs.Prelude.{List};
+    ghost use Rattle.sound_terms.specs.declared.piece.Piece.{Piece};
+    ghost use Rattle.sound_terms.specs.Groups.{AreGroups};
+
+    ghost Value = { List (List Piece) };
+
+    ghost view = { λ intervals. intervals.groups.items };
+
+    ghost invariant = { λ intervals. AreGroups intervals.groups.items };
+}
+
+impl Intervals {
+    /// These groups, which stand in order of start.
+    pub fn of(groups: Vec<Group>) -> Self
+        requires { AreGroups groups.items }
+        ensures { result ≡ groups.items }
+    {
+        Intervals { groups }
+    }
+
+    /// These groups in order of start; of equal starts the earlier stays first.
+    pub fn ordered(mut groups: Vec<Group>) -> Result<Self, AllocError>
+        requires groups { All IsGroup groups.items }
+        requires pieces { All (All IsPiece) groups.items }
+        ensures order { IfOk result (λ intervals. intervals ≡ in_start_order groups.items) }
+        ensures same_mix { (reading : Reading) (channel time : ℕ) → IfOk result (λ intervals. mix_of reading intervals channel time ≡ mix_of reading groups.items channel time) }
+        ensures same_reads { (file channel frame : ℕ) → IfOk result (λ intervals. reads intervals file channel frame ≡ reads groups.items file channel frame) }
+        ensures same_whole { IfOk result (λ intervals. are_whole intervals ≡ are_whole groups.items) }
+    {
+        groups.sort_by_key(|group| group.start())?;
+        Ok(Intervals { groups })
+    }
+
+    /// The allocator that its groups take their memory from.
+    pub fn allocator(&self) -> Global {
+        *self.groups.allocator()
+    }
+
+    /// The groups, in order of start.
+    pub fn groups(&self) -> &[Group]
+        ensures lent { result.now ≡ self.now }
+        ensures sound { AreGroups self.now }
+    {
+        self.groups.as_slice()
+    }
+
+    /// Hands its groups out.
+    pub fn into_groups(self) -> Vec<Group>
+        ensures handed_out { result.items ≡ self }
+        ensures sound { AreGroups self }
+    {
+        self.groups
+    }
+
+    /// Whether every ramp has its whole length.
+    pub fn whole(&self) -> bool
+        ensures { result ≡ are_whole self.now }
+    {
+        self.groups.iter().all(is_whole_group)
+    }
+}
+
+/// Whether each ramp of the group has its whole length.
+fn is_whole_group(group: &Group) -> bool
+    ensures { result ≡ list_all spec.is_whole group.now }
+{
+    group.pieces().iter().all(is_whole)
+}
+
+/// Whether the piece is flat, or a ramp of its whole length.
+fn is_whole(piece: &Piece) -> bool
+    ensures { result ≡ spec.is_whole piece.now }
+{
+    match piece.shape {
+        Shape::Flat => true,
+        Shape::Rise { offset, den } | Shape::Fall { offset, den } => offset == 0
+            && den == piece.length,
+    }
+}

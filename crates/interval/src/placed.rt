@@ -1,0 +1,110 @@
+// Groups as events.
+ghost use Rattle.std.specs.Prelude.{◌≡◌, ◌≤◌, ◌∷◌, [], IsTrue, IfOk, option_to_list};
+ghost use Rattle.std.specs.List.{sum_by};
+ghost use Rattle.sampletime.specs.TimeCode.{day};
+ghost use Rattle.sound_terms.specs.Groups.{are_whole};
+ghost use Rattle.sound_terms.specs.Entries as entries;
+ghost use Rattle.sound_terms.specs.Entries.{event_of, length_of_group, placed_of};
+
+use crate::{Group, IntervalFault, Intervals, Piece, Placed, Shape};
+use std::alloc::AllocError;
+
+/// How many samples these pieces have together.
+fn length_of(pieces: &[Piece]) -> u64
+    requires { length_of_group pieces.now ≤ day }
+    ensures { result ≡ length_of_group pieces.now }
+{
+    let mut length = 0;
+    for piece in pieces {
+        length += piece.length;
+    }
+    length
+}
+
+/// How many samples of a piece rise.
+fn rising_in(piece: &Piece) -> u64
+    ensures { result ≡ entries.rising_in piece.now }
+{
+    match piece.shape {
+        Shape::Rise { .. } => piece.length,
+        Shape::Flat | Shape::Fall { .. } => 0,
+    }
+}
+
+/// How many samples of a piece fall.
+fn falling_in(piece: &Piece) -> u64
+    ensures { result ≡ entries.falling_in piece.now }
+{
+    match piece.shape {
+        Shape::Fall { .. } => piece.length,
+        Shape::Flat | Shape::Rise { .. } => 0,
+    }
+}
+
+/// How many samples of these pieces rise.
+fn rise_of(pieces: &[Piece]) -> u64
+    requires { sum_by entries.rising_in pieces.now ≤ day }
+    ensures { result ≡ sum_by entries.rising_in pieces.now }
+{
+    let mut rise = 0;
+    for piece in pieces {
+        rise += rising_in(piece);
+    }
+    rise
+}
+
+/// How many samples of these pieces fall.
+fn fall_of(pieces: &[Piece]) -> u64
+    requires { sum_by entries.falling_in pieces.now ≤ day }
+    ensures { result ≡ sum_by entries.falling_in pieces.now }
+{
+    let mut fall = 0;
+    for piece in pieces {
+        fall += falling_in(piece);
+    }
+    fall
+}
+
+impl Group {
+    /// Its event.
+    fn placed(&self) -> Option<Placed>
+        ensures { option_to_list result ≡ event_of self.now }
+    {
+        let pieces = self.pieces();
+        let first = pieces.first()?;
+        Some(Placed {
+            start: first.start,
+            length: length_of(pieces),
+            frame: first.frame,
+            file: first.file,
+            first: first.first,
+            dest: first.dest,
+            width: first.width,
+            rise: rise_of(pieces),
+            fall: fall_of(pieces),
+        })
+    }
+}
+
+impl Intervals {
+    /// The events of the groups, in order.
+    fn events(&self) -> Result<Vec<Placed>, AllocError>
+        ensures { IfOk result (λ events. events.items ≡ placed_of self.now) }
+    {
+        let mut events = Vec::new(self.allocator());
+        for group in self.groups() {
+            if let Some(event) = group.placed() {
+                events.push(event)?;
+            }
+        }
+        Ok(events)
+    }
+
+    /// One event for each group, in order; every ramp has its whole length.
+    pub fn to_events(&self) -> Result<Vec<Placed>, IntervalFault>
+        requires { IsTrue (are_whole self.now) }
+        ensures each { IfOk result (λ events. events.items ≡ placed_of self.now) }
+    {
+        Ok(self.events()?)
+    }
+}

@@ -1,0 +1,125 @@
+-- The fields of a line, each read by the content of its token.
+use Rattle.std.specs.Prelude.{ℕ, ◌+◌, ◌-◌, ◌*◌, ◌==◌, ◌&&◌, ◌||◌, nat_le, Bool, true, false, List, [], ◌∷◌, length, Option, None, Some, Result, Ok, Err, if◌then◌else◌, bytes_eq, codes, ok_or, unwrap_or}
+use Rattle.std.specs.Str.{str_to_ascii_lowercase}
+use Rattle.std.specs.List.{before_first, fold, list_all}
+use Rattle.sampletime.specs.TimeCode.{is_digit, samples_of}
+use Rattle.sound_terms.specs.declared.Channels.{Channels}
+use Rattle.list_terms.specs.declared.TokenKind.{TokenKind}
+use Rattle.list_terms.specs.declared.TokenKind.TheVariants.{Quoted, Keyword, Word}
+use Rattle.list_terms.specs.declared.TextFault.{TextFault}
+use Rattle.list_terms.specs.declared.TextFault.TheVariants.{BadTime, BadNumber, BadChannels, MissingField, Unsupported}
+use Rattle.list_terms.specs.Names.{behind_byte}
+use Rattle.list_terms.specs.Steps.{◌>>=◌}
+use Rattle.list_terms.specs.Tokens.{TokenText, token_at, all_tokens}
+
+-- two texts are one, but for the case of ASCII letters
+abbrev pub is_same_name : List ℕ → List ℕ → Bool
+is_same_name name other = bytes_eq (str_to_ascii_lowercase name) (str_to_ascii_lowercase other)
+
+-- the keyword of this name
+abbrev pub is_keyword : List ℕ → TokenText → Bool
+is_keyword name token = is_kind token.kind && is_same_name token.content name where
+  is_kind : TokenKind → Bool
+  is_kind Quoted = false
+  is_kind Keyword = true
+  is_kind Word = false
+
+-- the number that these digits spell
+abbrev pub spelled : List ℕ → ℕ
+spelled digits = fold (λ n digit. n * 10 + (digit - 48)) 0 digits
+
+-- one to six digits
+abbrev pub are_digits : List ℕ → Bool
+are_digits text = nat_le 1 (length text) && nat_le (length text) 6 && list_all is_digit text
+
+-- the number from 1 up to this limit that one to six digits spell
+unfoldable pub number_up_to : ℕ → List ℕ → Option ℕ
+number_up_to limit text =
+    if are_digits text && nat_le 1 (spelled text) && nat_le (spelled text) limit then Some (spelled text) else None
+
+abbrev pub channel_range : Option ℕ → Option ℕ → Option Channels
+channel_range None last = None
+channel_range (Some first) None = None
+channel_range (Some first) (Some last) = if nat_le first last then Some (record { first = first; last = last }) else None
+
+abbrev pub is_tilde : ℕ → Bool
+is_tilde byte = byte == 126
+
+-- `n` for one channel, `a~b` for those from a to b
+unfoldable pub channels_of : List ℕ → Option Channels
+channels_of text =
+    channel_range (number_up_to 64 (before_first is_tilde text)) (number_up_to 64 (unwrap_or (behind_byte 126 text) text))
+
+-- `_`, which stands for nothing
+abbrev pub is_missing : List ℕ → Bool
+is_missing text = bytes_eq text (codes "_")
+
+abbrev pub is_zero_digit : ℕ → Bool
+is_zero_digit byte = byte == 48
+
+abbrev pub is_stop : ℕ → Bool
+is_stop byte = byte == 46
+
+-- zeros, and further ones behind a full stop; at least one stands in front
+abbrev pub is_plain_zero : List ℕ → Bool
+is_plain_zero text =
+    nat_le 1 (length (before_first is_stop text)) && list_all is_zero_digit (before_first is_stop text)
+    && list_all is_zero_digit (unwrap_or (behind_byte 46 text) [])
+
+abbrev pub without_sign : List ℕ → List ℕ
+without_sign [] = []
+without_sign (byte ∷ rest) = if byte == 43 || byte == 45 then rest else byte ∷ rest
+
+-- `_`, or a plain zero with or without a sign
+unfoldable pub is_zero : List ℕ → Bool
+is_zero text = is_missing text || is_plain_zero (without_sign text)
+
+-- a number, and `.` with zeros or nothing behind it
+unfoldable pub is_whole_number : List ℕ → List ℕ → Bool
+is_whole_number number text =
+    bytes_eq (before_first is_stop text) number && list_all is_zero_digit (unwrap_or (behind_byte 46 text) [])
+
+-- the next token, which has to be there
+unfoldable pub field : List ℕ → Result (TokenText × List ℕ) TextFault
+field line = token_at line >>= (λ next. ok_or next MissingField)
+
+unfoldable pub number_field : List ℕ → Result (ℕ × List ℕ) TextFault
+number_field line = do
+  (token, rest) ← field line
+  number ← ok_or (number_up_to 32767 token.content) BadNumber
+  Ok (number, rest)
+
+unfoldable pub channels_field : List ℕ → Result (Channels × List ℕ) TextFault
+channels_field line = do
+  (token, rest) ← field line
+  channels ← ok_or (channels_of token.content) BadChannels
+  Ok (channels, rest)
+
+-- a time at this rate of frames, its separators, and what follows
+unfoldable pub time_field : ℕ → List ℕ → Result (ℕ × List ℕ × List ℕ) TextFault
+time_field rate line = do
+  (token, rest) ← field line
+  time ← ok_or (samples_of rate token.content) BadTime
+  Ok (time.0, time.1, rest)
+
+-- a time, or `_` where none is told
+unfoldable pub optional_time : ℕ → List ℕ → Result (Option ℕ) TextFault
+optional_time rate text = if is_missing text then Ok None else do
+  time ← ok_or (samples_of rate text) BadTime
+  Ok (Some time.0)
+
+unfoldable pub optional_time_field : ℕ → List ℕ → Result (Option ℕ × List ℕ) TextFault
+optional_time_field rate line = do
+  (token, rest) ← field line
+  time ← optional_time rate token.content
+  Ok (time, rest)
+
+-- the next token, which has to pass a test
+abbrev pub checked_field : (TokenText → Bool) → List ℕ → Result (List ℕ) TextFault
+checked_field test line = do
+  (token, rest) ← field line
+  if test token then Ok rest else Err Unsupported
+
+-- what follows is cut into whole tokens
+unfoldable pub end_line : List ℕ → Result (Unit {0}) TextFault
+end_line line = all_tokens (λ token. true) (length line) line

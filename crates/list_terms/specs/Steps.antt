@@ -1,0 +1,18 @@
+-- One step after another, each of which may fail.
+use Rattle.std.specs.Prelude.{Result, Ok, Err}
+
+-- a step and, where it gave a value, the next one
+infixl 10 ◌>>=◌
+abbrev pub ◌>>=◌ : {A B E : Type 0} → Result A E → (A → Result B E) → Result B E
+Ok x >>= f = f x
+Err e >>= f = Err e
+
+-- the value seen by `f`, and the fault as it is
+abbrev pub ok_map : {A B E : Type 0} → (A → B) → Result A E → Result B E
+ok_map f (Ok x) = Ok (f x)
+ok_map f (Err e) = Err e
+
+-- the value as it is, and the fault seen by `f`
+abbrev pub err_map : {A D E : Type 0} → (D → E) → Result A D → Result A E
+err_map f (Ok x) = Ok x
+err_map f (Err e) = Err (f e)

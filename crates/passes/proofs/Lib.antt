@@ -1,0 +1,3 @@
+pub mod Splitting
+pub mod LeftOut
+pub mod AllSilences

@@ -1,0 +1,7 @@
+-- Pieces as groups of their own.
+use Rattle.std.specs.Prelude.{List, [], ◌∷◌, map}
+use Rattle.sound_terms.specs.declared.piece.Piece.{Piece}
+
+-- each piece a group
+abbrev pub each_alone : List Piece → List (List Piece)
+each_alone pieces = map (λ p. p ∷ []) pieces

@@ -1,0 +1,4 @@
+pub mod Alone
+pub mod Fault
+pub mod Looks
+pub mod Silent

@@ -1,0 +1,63 @@
+// One sample at the front of bytes, at each depth.
+ghost use Rattle.std.specs.Prelude.{◌≡◌, ◌≤◌, ◌++◌, length, drop};
+ghost use Rattle.sound_terms.specs.Waves.{sample_bytes, sample_of};
+ghost use Rattle.pcm.specs.Samples.{FitsDepth};
+
+use byteorder::{ByteOrder, LittleEndian};
+
+/// The sample of 16 bits that the bytes begin with.
+#[inline(always)]
+pub fn read_sixteen(bytes: &[u8]) -> i32
+    requires { 2 ≤ length bytes.now }
+    ensures { result ≡ sample_of 16 bytes.now }
+{
+    i32::from(LittleEndian::read_i16(bytes))
+}
+
+/// The sample of 24 bits that the bytes begin with.
+#[inline(always)]
+pub fn read_twenty_four(bytes: &[u8]) -> i32
+    requires { 3 ≤ length bytes.now }
+    ensures { result ≡ sample_of 24 bytes.now }
+{
+    LittleEndian::read_i24(bytes)
+}
+
+/// The sample of 32 bits that the bytes begin with.
+#[inline(always)]
+pub fn read_thirty_two(bytes: &[u8]) -> i32
+    requires { 4 ≤ length bytes.now }
+    ensures { result ≡ sample_of 32 bytes.now }
+{
+    LittleEndian::read_i32(bytes)
+}
+
+/// Puts a sample of 16 bits over the first bytes.
+#[inline(always)]
+pub fn write_sixteen(bytes: &mut [u8], sample: i32)
+    requires room { 2 ≤ length bytes.old }
+    requires fit { FitsDepth 16 sample }
+    ensures { bytes.new ≡ sample_bytes 16 sample ++ drop 2 bytes.old }
+{
+    LittleEndian::write_i16(bytes, sample as i16);
+}
+
+/// Puts a sample of 24 bits over the first bytes.
+#[inline(always)]
+pub fn write_twenty_four(bytes: &mut [u8], sample: i32)
+    requires room { 3 ≤ length bytes.old }
+    requires fit { FitsDepth 24 sample }
+    ensures { bytes.new ≡ sample_bytes 24 sample ++ drop 3 bytes.old }
+{
+    LittleEndian::write_i24(bytes, sample);
+}
+
+/// Puts a sample of 32 bits over the first bytes.
+#[inline(always)]
+pub fn write_thirty_two(bytes: &mut [u8], sample: i32)
+    requires room { 4 ≤ length bytes.old }
+    requires fit { FitsDepth 32 sample }
+    ensures { bytes.new ≡ sample_bytes 32 sample ++ drop 4 bytes.old }
+{
+    LittleEndian::write_i32(bytes, sample);
+}

@@ -1,0 +1,72 @@
+//! The chunk `ds64` of RF64 (EBU Tech 3306), which tells the sizes that 32 bits can't.
+#![tactic(auto)]
+
+ghost use Rattle.std.specs.Prelude.{◌≡◌, ◌+◌, ◌≤◌, ◌++◌, length, take, drop, Some};
+ghost use Rattle.sound_terms.specs.Chunks.{number_at};
+ghost use Rattle.sound_terms.specs.Ds64.{ds64_of, ds64_bytes};
+
+use byteorder::{ByteOrder, LittleEndian};
+pub use sound_terms::Ds64;
+
+/// The bytes of the fields, in front of the table.
+const FIELDS: u64 = 28;
+
+/// The bytes of an entry of the table: the id of a chunk, and its size.
+const ENTRY: u64 = 12;
+
+/// Reads the first 28 bytes of a `ds64` whose chunk has this size: the sizes of the form and of `data`, the count of
+/// frames, each 8 bytes, and the count of entries of the table, 4 bytes (EBU Tech 3306, 3.2). `None` where the chunk
+/// is too short for its table.
+pub fn read_ds64(bytes: &[u8; 28], size: u32) -> Option<Ds64>
+    ensures { result ≡ ds64_of bytes.now size }
+{
+    let entries = u32_at(bytes, 24);
+    if u64::from(size) < FIELDS + ENTRY * u64::from(entries) {
+        return None;
+    }
+    Some(Ds64 {
+        riff_size: u64_at(bytes, 0),
+        data_size: u64_at(bytes, 8),
+        samples: u64_at(bytes, 16),
+        entries,
+    })
+}
+
+fn u32_at(bytes: &[u8], at: usize) -> u32
+    requires { at + 4 ≤ length bytes.now }
+    ensures { result ≡ number_at 4 at bytes.now }
+{
+    LittleEndian::read_u32(&bytes[at..])
+}
+
+fn u64_at(bytes: &[u8], at: usize) -> u64
+    requires { at + 8 ≤ length bytes.now }
+    ensures { result ≡ number_at 8 at bytes.now }
+{
+    LittleEndian::read_u64(&bytes[at..])
+}
+
+/// The 28 bytes of a `ds64` without a table: the sizes of the form and of `data`, and the count of frames.
+pub fn ds64_bytes(riff_size: u64, data_size: u64, samples: u64) -> [u8; 28]
+    ensures bytes { result ≡ ds64_bytes riff_size data_size samples }
+    ensures again { ds64_of result 28 ≡ Some (record {
+      riff_size = riff_size;
+      data_size = data_size;
+      samples = samples;
+      entries = 0;
+    }) }
+{
+    let mut bytes = [0; 28];
+    put(&mut bytes, 0, &riff_size.to_le_bytes());
+    put(&mut bytes, 8, &data_size.to_le_bytes());
+    put(&mut bytes, 16, &samples.to_le_bytes());
+    bytes
+}
+
+/// Puts `word` over the bytes from `at` on.
+fn put(bytes: &mut [u8], at: usize, word: &[u8])
+    requires { at + length word.now ≤ length bytes.old }
+    ensures { bytes.new ≡ take at bytes.old ++ (word.now ++ drop (at + length word.now) bytes.old) }
+{
+    bytes[at..at + word.len()].copy_from_slice(word);
+}

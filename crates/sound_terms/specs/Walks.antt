@@ -1,0 +1,87 @@
+-- The chunks that count in a file of RIFF WAVE or RF64 (EBU Tech 3306), or the first fault of the file: in turn no
+-- such file, a bad `ds64`, each chunk from the left, no `fmt `, no `data`.
+use Rattle.std.specs.Prelude.{ℕ, ◌+◌, ◌&&◌, nat_lt, not, List, [], ◌∷◌, ◌++◌, length, drop, Option, None, Some, Result, Ok, Err, if◌then◌else◌, option_map, codes, find, ◌==◌, bytes_eq}
+use Rattle.std.specs.Option.{ok_or}
+use Rattle.sound_terms.specs.declared.Chunks.{Chunks}
+use Rattle.sound_terms.specs.declared.Ds64.{Ds64}
+use Rattle.sound_terms.specs.declared.SoundFault.{SoundFault}
+use Rattle.sound_terms.specs.declared.SoundFault.TheVariants.{NotWave, NoFormat, NoData, Truncated, BadDs64}
+use Rattle.sound_terms.specs.Steps.{◌>>=◌}
+use Rattle.sound_terms.specs.Chunks.{Chunk, padded, chunks_from, table_of, first_of, is_uncounted, has_others}
+use Rattle.sound_terms.specs.Sounds.{span_of, is_riff, is_rf64}
+use Rattle.sound_terms.specs.Ds64.{ds64_in, ds64_size}
+
+-- the fault of a chunk behind these: its size can't be told, or it counts and passes the end of the file
+abbrev pub chunk_fault : ℕ → List Chunk → Chunk → Option SoundFault
+chunk_fault end before chunk = fault_by chunk.size where
+  fault_by : Option ℕ → Option SoundFault
+  fault_by None = Some BadDs64
+  fault_by (Some size) =
+      if nat_lt end (chunk.at + size) && not (is_uncounted before chunk) then Some Truncated else None
+
+-- the first of these faults, of chunks behind others
+abbrev pub first_fault : ℕ → List Chunk → List Chunk → Option SoundFault
+first_fault end before [] = None
+first_fault end before (chunk ∷ chunks) = fault_or (chunk_fault end before chunk) (first_fault end (before ++ chunk ∷ []) chunks) where
+  fault_or : Option SoundFault → Option SoundFault → Option SoundFault
+  fault_or None later = later
+  fault_or (Some fault) later = Some fault
+
+-- the chunks that count, of all chunks without a fault
+abbrev pub found_in : List Chunk → Result Chunks SoundFault
+found_in chunks = found (first_of (codes "fmt ") chunks) (first_of (codes "data") chunks) where
+  found : Option Chunk → Option Chunk → Result Chunks SoundFault
+  found None sound = Err NoFormat
+  found (Some format) None = Err NoData
+  found (Some format) (Some sound) = Ok (record {
+    format = span_of format;
+    sound = span_of sound;
+    bext = option_map span_of (first_of (codes "bext") chunks);
+    others = has_others [] chunks;
+  })
+
+-- the first fault of these chunks, else those that count
+abbrev pub checked_chunks : ℕ → List Chunk → Result Chunks SoundFault
+checked_chunks end chunks = checked (first_fault end [] chunks) where
+  checked : Option SoundFault → Result Chunks SoundFault
+  checked None = found_in chunks
+  checked (Some fault) = Err fault
+
+-- the size of a chunk of RIFF
+abbrev pub as_it_stands : List ℕ → ℕ → Option ℕ
+as_it_stands id size = Some size
+
+-- the size of a chunk of RF64: 4294967295 stands for the size that `ds64` tells, by its field or by its table
+abbrev pub size_in : ℕ → List (List ℕ × ℕ) → List ℕ → ℕ → Option ℕ
+size_in data_size table id size = if size == 4294967295
+    then (if bytes_eq id (codes "data") then Some data_size
+    else option_map (λ entry. entry.1) (find (λ entry. bytes_eq entry.0 id) table))
+    else Some size
+
+-- the sizes and the place of the chunks behind the head of the form, and in RF64 behind `ds64`
+pub record Layout : Type 0 where
+  pub size_of : List ℕ → ℕ → Option ℕ
+  pub place : ℕ
+
+abbrev pub riff_layout : Layout
+riff_layout = record { size_of = as_it_stands; place = 12 }
+
+abbrev pub rf64_layout : List ℕ → Ds64 → Layout
+rf64_layout file ds64 = record {
+  size_of = size_in ds64.data_size (table_of ds64.entries (drop 48 file));
+  place = 20 + padded (Some (ds64_size file));
+}
+
+-- RIFF WAVE, or RF64 with its `ds64`
+abbrev pub layout_of : List ℕ → Result Layout SoundFault
+layout_of file =
+    if is_riff file then Ok riff_layout
+    else (if is_rf64 file then ok_or (option_map (rf64_layout file) (ds64_in file)) BadDs64 else Err NotWave)
+
+-- all chunks of a file, but for the `ds64` that RF64 begins with
+abbrev pub chunks_in : List ℕ → Layout → List Chunk
+chunks_in file layout = chunks_from layout.size_of (length file) layout.place (drop layout.place file)
+
+-- what counts among the chunks of a file, or its first fault
+abbrev pub walked : List ℕ → Result Chunks SoundFault
+walked file = layout_of file >>= λ layout. checked_chunks (length file) (chunks_in file layout)

@@ -1,0 +1,49 @@
+// The sound as pieces of files, and what is kept of the files.
+
+/// How a piece fades at its sample i. A ramp that was cut keeps the length of the whole one, `den`, and begins at `offset`.
+#[derive(Clone, Copy, Debug, Default, PartialEq, Eq)]
+pub enum Shape {
+    /// All samples as they are.
+    #[default]
+    Flat,
+    /// (offset + i) / den of each sample.
+    Rise { offset: u64, den: u64 },
+    /// (den - offset - i) / den of each sample.
+    Fall { offset: u64, den: u64 },
+}
+
+/// A part of a file on the timeline: `length` samples from `start` on, from the file's frame `frame` on. `width` channels
+/// sound, those of the file from `first` on, on channels from `dest` on; both are counted from 1.
+#[derive(Clone, Copy, Debug, Default, PartialEq, Eq)]
+pub struct Piece {
+    pub start: u64,
+    pub length: u64,
+    pub frame: u64,
+    pub file: u32,
+    pub first: u8,
+    pub dest: u8,
+    pub width: u8,
+    pub shape: Shape,
+}
+
+/// The event of a group: its pieces as one, with the lengths of its fades.
+#[derive(Clone, Copy, Debug, PartialEq, Eq)]
+pub struct Placed {
+    pub start: u64,
+    pub length: u64,
+    pub frame: u64,
+    pub file: u32,
+    pub first: u8,
+    pub dest: u8,
+    pub width: u8,
+    pub rise: u64,
+    pub fall: u64,
+}
+
+/// Frames of a file that are kept: `length` of them, from `first` on.
+#[derive(Clone, Copy, Debug, PartialEq, Eq)]
+pub struct Run {
+    pub file: u32,
+    pub first: u64,
+    pub length: u64,
+}

@@ -1,0 +1,171 @@
+-- An out-fade and an in-fade of one length over the same samples give the samples again.
+use Rattle.std.proofs.Common.{◌≡◌, ◌≢◌, ℕ, suc, ◌+◌, ◌-◌, ◌*◌, ◌/◌, ◌%◌, ◌<◌, ◌≤◌, ◌^◌, Bool, true, false, refl, ap, ◌∙◌, arith}
+use Rattle.std.specs.Prelude.{ℤ, pos, negsuc, neg_ℤ, ◌+ℤ◌, ◌*ℤ◌, ◌≤ℤ◌, ◌<ℤ◌, ◌==◌, nat_le, nat_lt}
+use Rattle.std.specs.Int.{int_div_euclid, saturate_to_bits}
+use Rattle.std.proofs.lemmas.Bool.Decides.{nat_tests}
+use Rattle.std.proofs.lemmas.Bool.{eqb-true, eq-eqb}
+use Rattle.std.proofs.lemmas.Int.{ints}
+use Rattle.std.proofs.lemmas.Nat.{div-mul-add}
+use Rattle.std.proofs.Math.Nat.{div-add-mod, le_of_mul-le-mul_left, lt_of_mul-lt-mul_left}
+use Rattle.std.proofs.Math.IntN.{negsuc-*ℤ-pos}
+use Rattle.sound_terms.specs.Mix.{fade_fraction, full_scale, quantized, share_of}
+use Rattle.pcm.specs.Samples.{FitsDepth}
+use Rattle.sound_terms.specs.declared.Depth.{Depth}
+use Rattle.sound_terms.specs.declared.Depth.TheVariants.{Sixteen, TwentyFour, ThirtyTwo}
+use Rattle.sound_terms.specs.Depth.{bits_of}
+use Rattle.soundlaw.specs.Crossfade.{IsCrossfadeExact}
+use Rattle.soundlaw.proofs.Shares.{share_down, share_up}
+
+-- a sample, or one less: what both shares are together
+pub record IsNearly (sum sample : ℤ) : Type 0 where
+  pub less : ℕ
+  pub most : less ≤ 1
+  pub is : sum +ℤ pos less ≡ sample
+
+-- of two parts of a product, each rounded down
+rounded_down : (m n x y a b r s : ℕ) → x + y ≡ n → n * a + r ≡ m * x → n * b + s ≡ m * y → r < n → s < n → (a + b ≤ m) × (m < a + b + 2)
+rounded_down m n x y a b r s whole first second less small =
+    let all = ap (λ z. m * z) whole in
+    let low : n * (a + b) ≤ n * m = omega (arith, all, first, second) in
+    let high : n * m < n * (a + b + 2) = omega (arith, all, first, second) in
+    (le_of_mul-le-mul_left {k = n} low (omega arith), lt_of_mul-lt-mul_left n high)
+
+near_by : (a b c d v : ℤ) → a ≡ c → b ≡ d → IsNearly (c +ℤ d) v → IsNearly (a +ℤ b) v
+near_by a b c d v first second near = rw (first, second) near
+
+both_up : (m n i : ℕ) → i < n → IsNearly (share_of (pos m) (n - i, n) +ℤ share_of (pos m) (i, n)) (pos m)
+both_up m n i inside =
+    let first = div-add-mod (m * (n - i)) n in
+    let second = div-add-mod (m * i) n in
+    let near = rounded_down m n (n - i) i (m * (n - i) / n) (m * i / n) (m * (n - i) % n) (m * i % n) (omega arith) first second (omega arith) (omega arith) in
+    near_by _ _ _ _ (pos m) (share_up m (n - i) n) (share_up m i n) (record {
+      less = m - (m * (n - i) / n + m * i / n);
+      most = omega (arith, near);
+      is = omega (arith, ints, near);
+    })
+
+-- a product by the next multiple
+record IsShareBelow (k x n : ℕ) : Type 0 where
+  ceiling : ℕ
+  over : ℕ
+  is : share_of (negsuc k) (x, n) ≡ neg_ℤ (pos ceiling)
+  product : n * ceiling ≡ suc k * x + over
+  small : over < n
+
+share_below : (k x n : ℕ) → 0 < n → IsShareBelow k x n
+share_below k x n some = by_rest (suc k * x % n == 0) refl where
+  by_rest : (b : Bool) → (suc k * x % n == 0) ≡ b → IsShareBelow k x n
+  by_rest true e =
+      let none : suc k * x % n ≡ 0 = eqb-true (suc k * x % n) 0 e in
+      let parts = div-add-mod (suc k * x) n in
+      record { ceiling = suc k * x / n; over = 0; is = share_down k x n some ∙ rw e refl; product = omega (arith, parts, none); small = some }
+  by_rest false e =
+      let rest : suc k * x % n ≢ 0 = λ none. let yes = eq-eqb (suc k * x % n) 0 none in cc in
+      let parts = div-add-mod (suc k * x) n in
+      let less : suc k * x % n < n = omega arith in
+      record {
+        ceiling = suc k * x / n + 1;
+        over = n - suc k * x % n;
+        is = share_down k x n some ∙ rw e (omega (arith, ints));
+        product = omega (arith, parts, less);
+        small = omega (arith, rest);
+      }
+
+rounded_up : (m n x y a b r s : ℕ) → x + y ≡ n → n * a ≡ m * x + r → n * b ≡ m * y + s → r < n → s < n → (m ≤ a + b) × (a + b < m + 2)
+rounded_up m n x y a b r s whole first second less small =
+    let all = ap (λ z. m * z) whole in
+    let low : n * m ≤ n * (a + b) = omega (arith, all, first, second) in
+    let high : n * (a + b) < n * (m + 2) = omega (arith, all, first, second) in
+    (le_of_mul-le-mul_left {k = n} low (omega arith), lt_of_mul-lt-mul_left n high)
+
+both_down : (k n i : ℕ) → i < n → IsNearly (share_of (negsuc k) (n - i, n) +ℤ share_of (negsuc k) (i, n)) (negsuc k)
+both_down k n i inside =
+    let first = share_below k (n - i) n (omega arith) in
+    let second = share_below k i n (omega arith) in
+    let near = rounded_up (suc k) n (n - i) i first.ceiling second.ceiling first.over second.over (omega arith) first.product second.product first.small second.small in
+    near_by _ _ _ _ (negsuc k) first.is second.is (record {
+      less = (first.ceiling + second.ceiling) - suc k;
+      most = omega (arith, near);
+      is = omega (arith, ints, near);
+    })
+
+nearly : (v : ℤ) (n i : ℕ) → i < n → IsNearly (share_of v (n - i, n) +ℤ share_of v (i, n)) v
+nearly (pos m) n i inside = both_up m n i inside
+nearly (negsuc k) n i inside = both_down k n i inside
+
+-- the floor of a multiple and a rest
+floor_whole : (y : ℤ) (r step : ℕ) → r < step → int_div_euclid (y *ℤ pos step +ℤ pos r) (pos step) ≡ y
+floor_whole (pos m) r step small = ap pos (div-mul-add m step r small)
+floor_whole (negsuc k) r step small =
+    let product = negsuc-*ℤ-pos k step in
+    let turned : negsuc k *ℤ pos step +ℤ pos r ≡ negsuc (k * step + (step - r - 1)) = omega (arith, ints, product) in
+    ap (λ z. int_div_euclid z (pos step)) turned ∙ ap negsuc (div-mul-add k step (step - r - 1) (omega arith))
+
+-- the fractions of both fades at their i-th sample
+out_fraction : (rise n before i : ℕ) → i < n → rise + n ≤ before → fade_fraction rise n before (before - n + i) ≡ (n - i, n)
+out_fraction rise n before i inside fits =
+    let risen : nat_lt (before - n + i) rise ≡ false = grind (arith, nat_tests) in
+    let falls : nat_le (before - n) (before - n + i) ≡ true = grind (arith, nat_tests) in
+    let left : before - (before - n + i) ≡ n - i = omega arith in
+    rw (risen, falls, left) refl
+
+in_fraction : (n fall behind i : ℕ) → i < n → fade_fraction n fall behind i ≡ (i, n)
+in_fraction n fall behind i inside = let rising : nat_lt i n ≡ true = grind (arith, nat_tests) in rw rising refl
+
+-- what fits is held as it is
+held : (h : ℕ) (y : ℤ) → neg_ℤ (pos (2 ^ h)) ≤ℤ y → y <ℤ pos (2 ^ h) → saturate_to_bits h y ≡ y
+held h (pos n) low high = let below : n < 2 ^ h = omega (arith, ints, high) in ap pos (omega arith)
+held h (negsuc n) low high = let below : n + 1 ≤ 2 ^ h = omega (arith, ints, low) in ap negsuc (omega arith)
+
+-- a sum near a multiple of the step is rounded to it
+rounds : (h half step r : ℕ) (sum y : ℤ) → r < step → sum +ℤ pos half ≡ y *ℤ pos step +ℤ pos r → neg_ℤ (pos (2 ^ h)) ≤ℤ y → y <ℤ pos (2 ^ h)
+    → saturate_to_bits h (int_div_euclid (sum +ℤ pos half) (pos step)) ≡ y
+rounds h half step r sum y small parts low high =
+    ap (λ z. saturate_to_bits h (int_div_euclid z (pos step))) parts ∙ ap (saturate_to_bits h) (floor_whole y r step small) ∙ held h y low high
+
+from_16_to_16 : (x sum : ℤ) → FitsDepth 16 x → IsNearly sum (full_scale 16 x) → quantized 16 sum ≡ x *ℤ pos 1
+from_16_to_16 x sum fits near =
+    rounds 15 2147483648 4294967296 (2147483648 - near.less) sum (x *ℤ pos 1) (omega arith) (omega (arith, ints, near.is, near.most))
+    (omega (arith, ints, fits.0)) (omega (arith, ints, fits.1))
+
+from_16_to_24 : (x sum : ℤ) → FitsDepth 16 x → IsNearly sum (full_scale 16 x) → quantized 24 sum ≡ x *ℤ pos 256
+from_16_to_24 x sum fits near =
+    rounds 23 8388608 16777216 (8388608 - near.less) sum (x *ℤ pos 256) (omega arith) (omega (arith, ints, near.is, near.most))
+    (omega (arith, ints, fits.0)) (omega (arith, ints, fits.1))
+
+from_16_to_32 : (x sum : ℤ) → FitsDepth 16 x → IsNearly sum (full_scale 16 x) → quantized 32 sum ≡ x *ℤ pos 65536
+from_16_to_32 x sum fits near =
+    rounds 31 32768 65536 (32768 - near.less) sum (x *ℤ pos 65536) (omega arith) (omega (arith, ints, near.is, near.most))
+    (omega (arith, ints, fits.0)) (omega (arith, ints, fits.1))
+
+from_24_to_24 : (x sum : ℤ) → FitsDepth 24 x → IsNearly sum (full_scale 24 x) → quantized 24 sum ≡ x *ℤ pos 1
+from_24_to_24 x sum fits near =
+    rounds 23 8388608 16777216 (8388608 - near.less) sum (x *ℤ pos 1) (omega arith) (omega (arith, ints, near.is, near.most))
+    (omega (arith, ints, fits.0)) (omega (arith, ints, fits.1))
+
+from_24_to_32 : (x sum : ℤ) → FitsDepth 24 x → IsNearly sum (full_scale 24 x) → quantized 32 sum ≡ x *ℤ pos 256
+from_24_to_32 x sum fits near =
+    rounds 31 32768 65536 (32768 - near.less) sum (x *ℤ pos 256) (omega arith) (omega (arith, ints, near.is, near.most))
+    (omega (arith, ints, fits.0)) (omega (arith, ints, fits.1))
+
+from_32_to_32 : (x sum : ℤ) → FitsDepth 32 x → IsNearly sum (full_scale 32 x) → quantized 32 sum ≡ x *ℤ pos 1
+from_32_to_32 x sum fits near =
+    rounds 31 32768 65536 (32768 - near.less) sum (x *ℤ pos 1) (omega arith) (omega (arith, ints, near.is, near.most))
+    (omega (arith, ints, fits.0)) (omega (arith, ints, fits.1))
+
+by_depths : (source depth : Depth) (x sum : ℤ) → bits_of source ≤ bits_of depth → FitsDepth (bits_of source) x
+    → IsNearly sum (full_scale (bits_of source) x) → quantized (bits_of depth) sum ≡ x *ℤ pos (2 ^ (bits_of depth - bits_of source))
+by_depths Sixteen Sixteen x sum le fits near = from_16_to_16 x sum fits near
+by_depths Sixteen TwentyFour x sum le fits near = from_16_to_24 x sum fits near
+by_depths Sixteen ThirtyTwo x sum le fits near = from_16_to_32 x sum fits near
+by_depths TwentyFour Sixteen x sum le fits near = absurd (omega arith)
+by_depths TwentyFour TwentyFour x sum le fits near = from_24_to_24 x sum fits near
+by_depths TwentyFour ThirtyTwo x sum le fits near = from_24_to_32 x sum fits near
+by_depths ThirtyTwo Sixteen x sum le fits near = absurd (omega arith)
+by_depths ThirtyTwo TwentyFour x sum le fits near = absurd (omega arith)
+by_depths ThirtyTwo ThirtyTwo x sum le fits near = from_32_to_32 x sum fits near
+
+pub crossfade_is_exact : (depth : Depth) → IsCrossfadeExact depth
+crossfade_is_exact depth source n i rise before fall behind x le fits inside ends begins =
+    rw (out_fraction rise n before i inside ends, in_fraction n fall behind i inside)
+    (by_depths source depth x _ le fits (nearly (full_scale (bits_of source) x) n i inside))

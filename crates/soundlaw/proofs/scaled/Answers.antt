@@ -1,0 +1,16 @@
+use Rattle.std.proofs.Common.{◌≢◌, ◌*◌, ◌%◌, ◌∙◌, ap, eqb}
+use Rattle.std.proofs.lemmas.Bool.{eq-eqb}
+use Rattle.soundlaw.proofs.Shares.{quotient_by, rest_by, rounded_is_smaller}
+use Rattle.soundlaw.proofs.scaled.Goals as goal
+
+pub returns-clause-quotient : goal.returns-clause-quotient
+returns-clause-quotient c = quotient_by c.args.size c.args.num c.args.den c.requires.some
+
+pub returns-clause-exact : goal.returns-clause-exact
+returns-clause-exact c = ap (λ x. eqb x 0) (rest_by c.args.size c.args.num c.args.den)
+
+pub returns-clause-smaller : goal.returns-clause-smaller
+returns-clause-smaller c e =
+    let rest : c.args.size * c.args.num % c.args.den ≢ 0 =
+    λ none. let yes = eq-eqb (c.args.size % c.args.den * c.args.num % c.args.den) 0 (rest_by c.args.size c.args.num c.args.den ∙ none) in cc in
+    rw (quotient_by c.args.size c.args.num c.args.den c.requires.some) (rounded_is_smaller c.args.size c.args.num c.args.den c.requires.fraction c.requires.some rest)

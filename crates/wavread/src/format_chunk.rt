@@ -1,0 +1,33 @@
+// The format of a file.
+ghost use Rattle.std.specs.Prelude.{◌≡◌, ◌≤◌, ℕ, List, Some, IsTrue, IfOk, IsErrOf};
+ghost use Rattle.sound_terms.specs.Sounds.{bytes_of_span};
+ghost use Rattle.sound_terms.specs.Formats.{format_of};
+ghost use Rattle.work_terms.specs.Refusals.{Gives};
+ghost use Rattle.shelf.specs.Frame.{OnlyReads};
+ghost use Rattle.riff.specs.Fault.{number_of, as_media};
+
+use riff::{Format, MediaFault, read_fmt};
+use shelf::Shelf;
+use sound_terms::Span;
+
+/// The most bytes of a `fmt ` chunk that are read: those of WAVE_FORMAT_EXTENSIBLE.
+const FORMAT_LENGTH: usize = 40;
+
+/// The format that a `fmt ` chunk with these contents tells.
+pub fn read_format<S: Shelf>(
+    shelf: &mut S,
+    name: &str,
+    contents: Span,
+) -> Result<Format, MediaFault>
+    ensures exact { IsTrue (S.honest shelf.old) → (file : List ℕ) → S.stored shelf.old name.now ≡ Some file
+        → Gives (λ format. format) (λ fault. fault) number_of result (as_media (format_of (bytes_of_span file contents))) }
+    ensures channels { IfOk result (λ format. (1 ≤ format.channels) × (format.channels ≤ 64)) }
+    ensures only_reads { OnlyReads S.Shelf shelf.old shelf.new result (λ fault. fault ≡ MediaFault.Device) (λ _ failed. failed name.now) }
+{
+    let mut buffer = [0u8; FORMAT_LENGTH];
+    let length = contents.length.min(FORMAT_LENGTH as u64) as usize;
+    let bytes = &mut buffer[..length];
+    shelf.read_at(name, contents.at, bytes)?;
+    let format = read_fmt(bytes)?;
+    Ok(format)
+}

@@ -1,0 +1,12 @@
+//! Whole sound files: what a file of RIFF WAVE, Broadcast Wave or RF64 says (EBU Tech 3285, 3306), and its samples.
+#![tactic(auto)]
+
+mod bext_chunk;
+mod format_chunk;
+mod opening;
+mod sound;
+
+pub use opening::open;
+pub use riff::MediaFault;
+pub use sound::Sound;
+pub use sound_terms::{Bext, Depth};

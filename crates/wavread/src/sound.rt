@@ -1,0 +1,240 @@
+// An opened sound file.
+ghost use Rattle.std.specs.Prelude.{◌≡◌, ◌≤◌, ◌<◌, ◌+◌, ◌-◌, ◌*◌, ◌/◌, ◌^◌, ℕ, List, Some, pos, get_or, length, option_map, string_bytes, vec_len, IsTrue, IsErrOf, OnOk};
+ghost use Rattle.sound_terms.specs.Depth.{bits_of};
+ghost use Rattle.work_terms.specs.Disk.{IsRange};
+ghost use Rattle.shelf.specs.Frame.{OnlyReads};
+ghost use Rattle.sound_terms.specs.Waves.{sample_at};
+ghost use Rattle.wavread.specs.Facts.{facts_told, frame_bytes, AreFrames};
+
+use crate::bext_chunk::Told;
+use pcm::unpack;
+use riff::{Format, Span};
+use shelf::{Shelf, ShelfFault};
+use sound_terms::{Bext, Depth};
+use std::marker::Model;
+
+/// How many samples are read at once, of all channels: some frames of every file.
+const BLOCK: usize = 1024;
+
+/// The bytes of so many samples, of 32 bits at most.
+const BLOCK_BYTES: usize = 4 * BLOCK;
+
+/// A sound file that was opened: its name and what it says of itself, with 1 to 64 channels and at most 65,536 bytes
+/// of CodingHistory.
+#[derive(Drop)]
+pub struct Sound {
+    name: String,
+    channels: u8,
+    depth: Depth,
+    frames: u64,
+    place: u64,
+    bext: Option<Bext>,
+    history: Vec<u8>,
+    short_bext: bool,
+    history_cut: bool,
+    others: bool,
+}
+
+impl Model for Sound {
+    ghost use Rattle.std.specs.Prelude.{string_bytes};
+    ghost use Rattle.sound_terms.specs.Sounds.{SoundFacts};
+    ghost use Rattle.wavread.specs.Facts.{facts_told, IsSound};
+
+    ghost Value = { SoundFacts };
+
+    ghost view = { λ s. facts_told (string_bytes s.name) s.channels s.depth s.frames s.place s.bext s.history.items s.short_bext s.history_cut s.others };
+
+    ghost invariant = { λ s. IsSound (facts_told (string_bytes s.name) s.channels s.depth s.frames s.place s.bext s.history.items s.short_bext s.history_cut s.others) };
+}
+
+impl Sound {
+    ghost use Rattle.wavread.specs.Facts.{IsSound};
+
+    /// The file of these parts.
+    pub fn of(name: String, format: Format, sound: Span, told: Told, others: bool) -> Self
+        requires channels { (1 ≤ format.channels) × (format.channels ≤ 64) }
+        requires history { vec_len told.history ≤ 65536 }
+        requires ends { sound.at + sound.length < 2 ^ 64 }
+        ensures { result ≡ facts_told (string_bytes name) format.channels format.depth
+            (sound.length / (format.channels * (bits_of format.depth / 8))) sound.at told.bext told.history.items told.short told.cut others }
+    {
+        let frame = u64::from(format.channels) * u64::from(format.depth.bits() / 8);
+        Sound {
+            name,
+            channels: format.channels,
+            depth: format.depth,
+            frames: sound.length / frame,
+            place: sound.at,
+            bext: told.bext,
+            history: told.history,
+            short_bext: told.short,
+            history_cut: told.cut,
+            others,
+        }
+    }
+
+    /// The name of the file.
+    pub fn name(&self) -> &str
+        ensures { result.now ≡ self.now.name }
+    {
+        self.name.as_str()
+    }
+
+    /// The channels, 1 to 64.
+    pub fn channels(&self) -> u8
+        ensures channels { result ≡ self.now.channels }
+        ensures within { IsSound self.now }
+    {
+        self.channels
+    }
+
+    /// The bits of a sample.
+    pub fn depth(&self) -> Depth
+        ensures { bits_of result ≡ self.now.depth }
+    {
+        self.depth
+    }
+
+    /// The frames, each a sample of every channel.
+    pub fn frames(&self) -> u64
+        ensures { result ≡ self.now.frames }
+    {
+        self.frames
+    }
+
+    /// The texts and the time reference of its `bext`, where it has them.
+    pub fn bext(&self) -> &Option<Bext>
+        ensures text { option_map (λ b. b.text) result.now ≡ self.now.text }
+        ensures time_reference { option_map (λ b. b.time_reference) result.now ≡ self.now.time_reference }
+    {
+        &self.bext
+    }
+
+    /// The CodingHistory, at most 65,536 bytes.
+    pub fn history(&self) -> &[u8]
+        ensures history { result.now ≡ self.now.history }
+        ensures within { length result.now ≤ 65536 }
+    {
+        self.history.as_slice()
+    }
+
+    /// Whether its `bext` is too short for its fields.
+    pub fn short_bext(&self) -> bool
+        ensures { result ≡ self.now.short_bext }
+    {
+        self.short_bext
+    }
+
+    /// Whether the end of its CodingHistory isn't kept.
+    pub fn history_cut(&self) -> bool
+        ensures { result ≡ self.now.history_cut }
+    {
+        self.history_cut
+    }
+
+    /// Whether it has chunks that are not carried along.
+    pub fn others(&self) -> bool
+        ensures { result ≡ self.now.others }
+    {
+        self.others
+    }
+
+    /// The bytes of a frame: 2 to 256.
+    fn frame_length(&self) -> u64
+        ensures { result ≡ frame_bytes self.now }
+    {
+        u64::from(self.channels) * u64::from(self.depth.bits() / 8)
+    }
+
+    /// Fills `bytes` with whole frames, from this one on: interleaved, as they stand in the file. `Device` where a
+    /// read fails; the bytes are then unspecified.
+    pub fn read_bytes<S: Shelf>(
+        &self,
+        shelf: &mut S,
+        from: u64,
+        bytes: &mut [u8],
+    ) -> Result<(), ShelfFault>
+        requires whole { (frames : ℕ) × (length bytes.old ≡ frames * frame_bytes self.now) × (from + frames ≤ self.now.frames) }
+        ensures bytes { IsTrue (S.honest shelf.old)
+            → OnOk result (IsRange (S.stored shelf.old self.now.name) (self.now.place + from * frame_bytes self.now) bytes.new) }
+        ensures not_missing { IsErrOf result ShelfFault.NotFound → ⊥ }
+        ensures only_reads { OnlyReads S.Shelf shelf.old shelf.new result (λ fault. fault ≡ ShelfFault.Device) (λ _ failed. failed self.now.name) }
+    {
+        let place = self.place + from * self.frame_length();
+        shelf.read_at(self.name.as_str(), place, bytes)
+    }
+
+    /// Fills `samples` with those of a channel, counted from 1, from this frame on. `Device` where a read fails; the
+    /// samples are then unspecified.
+    pub fn read<S: Shelf>(
+        &self,
+        shelf: &mut S,
+        channel: u8,
+        from: u64,
+        samples: &mut [i32],
+    ) -> Result<(), ShelfFault>
+        requires channel { (1 ≤ channel) × (channel ≤ self.now.channels) }
+        requires inside { from + length samples.old ≤ self.now.frames }
+        ensures samples { IsTrue (S.honest shelf.old) → (file : List ℕ) → S.stored shelf.old self.now.name ≡ Some file
+            → OnOk result ((i : ℕ) → i < length samples.new → get_or samples.new i (pos 0)
+            ≡ sample_at file self.now.place self.now.channels self.now.depth (from + i) channel) }
+        ensures not_missing { IsErrOf result ShelfFault.NotFound → ⊥ }
+        ensures only_reads { OnlyReads S.Shelf shelf.old shelf.new result (λ fault. fault ≡ ShelfFault.Device) (λ _ failed. failed self.now.name) }
+    {
+        let channels = usize::from(self.channels());
+        let most = BLOCK / channels;
+        let mut block = [0i32; BLOCK];
+        let mut buffer = [0u8; BLOCK_BYTES];
+        let mut done = 0;
+        while done < samples.len() {
+            let count = most.min(samples.len() - done);
+            let frames = &mut block[..count * channels];
+            self.read_frames(shelf, from + done as u64, count, &mut buffer, frames)?;
+            pick(
+                frames,
+                channels,
+                usize::from(channel),
+                &mut samples[done..done + count],
+            );
+            done += count;
+        }
+        Ok(())
+    }
+
+    /// Reads so many frames from this one on, a sample of every channel after the other.
+    fn read_frames<S: Shelf>(
+        &self,
+        shelf: &mut S,
+        from: u64,
+        count: usize,
+        buffer: &mut [u8],
+        frames: &mut [i32],
+    ) -> Result<(), ShelfFault>
+        requires whole { length frames.old ≡ count * self.now.channels }
+        requires few { length frames.old ≤ 1024 }
+        requires room { length buffer.old ≡ 4096 }
+        requires inside { from + count ≤ self.now.frames }
+        ensures frames { IsTrue (S.honest shelf.old) → (file : List ℕ) → S.stored shelf.old self.now.name ≡ Some file
+            → OnOk result (AreFrames file (self.now.place + from * frame_bytes self.now) self.now.depth frames.new) }
+        ensures not_missing { IsErrOf result ShelfFault.NotFound → ⊥ }
+        ensures only_reads { OnlyReads S.Shelf shelf.old shelf.new result (λ fault. fault ≡ ShelfFault.Device) (λ _ failed. failed self.now.name) }
+    {
+        let depth = self.depth();
+        let bytes = &mut buffer[..frames.len() * usize::from(depth.bits() / 8)];
+        self.read_bytes(shelf, from, bytes)?;
+        unpack(depth, bytes, frames);
+        Ok(())
+    }
+}
+
+/// Takes one channel, counted from 1, out of frames of so many channels.
+fn pick(frames: &[i32], channels: usize, channel: usize, samples: &mut [i32])
+    requires whole { length frames.now ≡ length samples.old * channels }
+    requires channel { (1 ≤ channel) × (channel ≤ channels) }
+    requires few { length frames.now ≤ 1024 }
+    ensures { (i : ℕ) → i < length samples.new → get_or samples.new i (pos 0) ≡ get_or frames.now (i * channels + (channel - 1)) (pos 0) }
+{
+    for (i, sample) in samples.iter_mut().enumerate() {
+        *sample = frames[i * channels + (channel - 1)];
+    }
+}

@@ -1,0 +1,9 @@
+pub mod ContentReads
+pub mod FileInfo
+pub mod FileReads
+pub mod FormatReads
+pub mod FourChunks
+pub mod FrameReads
+pub mod HeaderBytes
+pub mod RenderReads
+pub mod RiffReads

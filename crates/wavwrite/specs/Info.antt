@@ -1,0 +1,46 @@
+-- What a written file tells of itself, within the limits of its fields, and what is read of it.
+use Rattle.std.specs.Prelude.{◌≡◌, ℕ, ◌-◌, ◌^◌, ◌<◌, ◌≤◌, List, length, Some, false}
+use Rattle.sound_terms.specs.declared.Depth.{Depth}
+use Rattle.sound_terms.specs.declared.Bext.{Bext}
+use Rattle.sound_terms.specs.Depth.{bits_of}
+use Rattle.sound_terms.specs.Waves.{SoundInfo, data_place, file_length}
+use Rattle.sound_terms.specs.Sounds.{SoundFacts}
+
+-- so many channels, a depth, so many frames, a `bext` and its CodingHistory
+abbrev pub info_of : ℕ → Depth → ℕ → Bext → List ℕ → SoundInfo
+info_of channels depth frames bext history = record {
+  channels = channels;
+  depth = bits_of depth;
+  frames = frames;
+  text = bext.text;
+  time_reference = bext.time_reference;
+  history = history;
+}
+
+-- what the fields can hold
+pub record IsWithin (info : SoundInfo) : Type 0 where
+  pub some_channels : 1 ≤ info.channels
+  pub few_channels : info.channels ≤ 64
+  pub text_whole : length info.text ≡ 338
+  pub time_fits : info.time_reference < 2 ^ 64
+  pub history_fits : length info.history ≤ 65536
+
+-- the size field of RIFF can tell the length
+abbrev pub Fits : SoundInfo → Type 0
+Fits info = file_length info - 8 ≤ 4294967294
+
+-- what is read of a written file of this name
+abbrev pub facts_of : List ℕ → SoundInfo → SoundFacts
+facts_of name info = record {
+  name = name;
+  channels = info.channels;
+  depth = info.depth;
+  frames = info.frames;
+  place = data_place info;
+  text = Some info.text;
+  time_reference = Some info.time_reference;
+  history = info.history;
+  short_bext = false;
+  history_cut = false;
+  others = false;
+}

@@ -1,0 +1,101 @@
+// What a written file tells of itself.
+ghost use Rattle.std.specs.Prelude.{◌≡◌, ◌≤◌, length, SomeIff};
+ghost use Rattle.sound_terms.specs.Depth.{bits_of};
+ghost use Rattle.wavwrite.specs.Info.{info_of};
+
+use sound_terms::{Bext, Depth};
+use std::marker::Model;
+
+/// The most bytes of a CodingHistory (EBU Tech 3285, 2.3) that are carried.
+const HISTORY_LIMIT: usize = 65_536;
+
+/// The most channels of a file.
+const MOST_CHANNELS: u8 = 64;
+
+/// What a sound file tells of itself beside its samples: 1 to 64 channels, the bits of a sample, the count of frames,
+/// and the fields of its `bext` with a CodingHistory of at most 65,536 bytes (EBU Tech 3285, 2.3).
+#[derive(Debug, Drop)]
+pub struct SoundInfo {
+    channels: u8,
+    depth: Depth,
+    frames: u64,
+    bext: Bext,
+    history: Vec<u8>,
+}
+
+impl Model for SoundInfo {
+    ghost use Rattle.sound_terms.specs.Waves as waves;
+    ghost use Rattle.wavwrite.specs.Info.{info_of, IsWithin};
+
+    ghost Value = { waves.SoundInfo };
+
+    ghost view = { λ s. info_of s.channels s.depth s.frames s.bext s.history.items };
+
+    ghost invariant = { λ s. IsWithin (info_of s.channels s.depth s.frames s.bext s.history.items) };
+}
+
+impl SoundInfo {
+    ghost use Rattle.wavwrite.specs.Info.{IsWithin};
+
+    /// What a file of these tells. `None` where there is no channel, where there are more than 64, and where the
+    /// CodingHistory is longer than 65,536 bytes.
+    pub fn new(
+        channels: u8,
+        depth: Depth,
+        frames: u64,
+        bext: Bext,
+        history: Vec<u8>,
+    ) -> Option<Self>
+        ensures { SomeIff result ((1 ≤ channels) × (channels ≤ 64) × (length history.items ≤ 65536))
+            (info_of channels depth frames bext history.items) }
+    {
+        if channels == 0 || channels > MOST_CHANNELS || history.len() > HISTORY_LIMIT {
+            return None;
+        }
+        Some(SoundInfo {
+            channels,
+            depth,
+            frames,
+            bext,
+            history,
+        })
+    }
+
+    /// The channels, 1 to 64.
+    pub fn channels(&self) -> u8
+        ensures channels { result ≡ self.now.channels }
+        ensures within { IsWithin self.now }
+    {
+        self.channels
+    }
+
+    /// The bits of a sample.
+    pub fn depth(&self) -> Depth
+        ensures { bits_of result ≡ self.now.depth }
+    {
+        self.depth
+    }
+
+    /// The frames, each a sample of every channel.
+    pub fn frames(&self) -> u64
+        ensures { result ≡ self.now.frames }
+    {
+        self.frames
+    }
+
+    /// The text fields and the time reference.
+    pub fn bext(&self) -> &Bext
+        ensures text { result.now.text ≡ self.now.text }
+        ensures time_reference { result.now.time_reference ≡ self.now.time_reference }
+    {
+        &self.bext
+    }
+
+    /// The CodingHistory, at most 65,536 bytes.
+    pub fn history(&self) -> &[u8]
+        ensures history { result.now ≡ self.now.history }
+        ensures within { length result.now ≤ 65536 }
+    {
+        self.history.as_slice()
+    }
+}

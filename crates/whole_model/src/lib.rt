@@ -1,0 +1,17 @@
+//! The project that an audio decision list spells: the lines of its header, its sources, its events, and what its user
+//! should know of it.
+#![tactic(auto)]
+
+mod bytes;
+mod header;
+mod place;
+mod project;
+mod source;
+
+pub use bytes::Bytes;
+pub use header::{Header, KeptLines};
+pub use list_terms::Notice;
+pub use place::{Place, place_of};
+pub use project::Project;
+pub use sound_terms::{Channels, Event, Fade};
+pub use source::Source;

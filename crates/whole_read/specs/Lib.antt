@@ -1,0 +1,6 @@
+pub mod Context
+pub mod Entries
+pub mod Fault
+pub mod Flags
+pub mod HeaderSoFar
+pub mod Views

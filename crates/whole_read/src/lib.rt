@@ -1,0 +1,59 @@
+//! Reads the text of an audio decision list (AES31-3) as a project.
+//!
+//! The profile is this project's own: seven sections are known, and four of them are cut into tokens. They may come in any
+//! order, names and keywords in any case, and any number of spaces and tabs between tokens. 48000 samples and 25 frames a
+//! second are the rates that are read.
+#![tactic(auto)]
+
+ghost use Rattle.std.specs.Prelude.{IfErr, IsTrue, ◌≡◌};
+ghost use Rattle.list_terms.specs.Text.{nothing_read, read_from, text_value};
+ghost use Rattle.list_terms.specs.Lines.{lines_of};
+ghost use Rattle.work_terms.specs.Refusals.{Gives, is_memory};
+ghost use Rattle.whole_read.specs.Fault.{Reads, line_of, refusal};
+
+mod draft;
+mod entry_lines;
+mod fault;
+mod fields;
+mod header;
+mod numbers;
+mod sections;
+mod tags;
+mod taken;
+
+use adltoken::Lines;
+use draft::Draft;
+pub use fault::AdlFault;
+use list_terms::{Location, TextFault};
+use std::alloc::Global;
+pub use whole_model::Project;
+
+/// The project that a list spells, or its first fault: that of the first line at fault, and of that line the leftmost.
+/// What follows the line `</ADL>` is ignored.
+pub fn read(alloc: Global, text: &[u8]) -> Result<Project, AdlFault>
+    ensures exact { Gives (λ project. project) refusal (λ r. r.number) result (text_value text.now) }
+    ensures memory_line { IfErr result (λ fault. IsTrue (is_memory (refusal fault).number) → line_of fault ≡ 0) }
+{
+    read_lines(alloc, text)
+}
+
+/// Reads the lines of a list, one after another.
+#[tactic(auto, unfolding(list_terms::specs::Text::read_from))]
+fn read_lines(alloc: Global, text: &[u8]) -> Result<Project, AdlFault>
+    ensures { Reads (λ project. project) result (read_from 25 nothing_read 0 (lines_of text.now)) }
+{
+    let mut draft = Draft::new(alloc)?;
+    let mut lines = Lines::new(text);
+    'lines: while let Some(line) = lines.next_line() {
+        draft.add(alloc, line, lines.number())?;
+        if draft.is_behind() {
+            return draft.finish(lines.number());
+        }
+    }
+    Err(AdlFault::Text {
+        fault: TextFault::SectionMismatch,
+        location: Location::Line {
+            line: lines.number().max(1),
+        },
+    })
+}

@@ -1,0 +1,142 @@
+// The source index and the event list so far.
+ghost use Rattle.std.specs.Prelude.{◌≡◌, ◌<◌, [], IfOk, IsTrue, OnOk};
+ghost use Rattle.std.specs.List.{list_all};
+ghost use Rattle.list_terms.specs.WholeProject.{is_event, is_number, is_source};
+ghost use Rattle.list_terms.specs.Steps.{ok_map};
+ghost use Rattle.list_terms.specs.Text.{all_events, closed_entries, entry_of, further_line, no_entry, source_with};
+ghost use Rattle.adltoken.specs.Views.{token_view};
+ghost use Rattle.whole_read.specs.Fault.{Says};
+ghost use Rattle.whole_read.specs.Flags.{AreFlags};
+
+use crate::entry_lines::{entry_with, event_fields, remark, source_fields};
+use crate::fault::LineFault;
+use crate::taken::Numbers;
+use adltoken::{TextFault, Token, Tokens};
+use list_terms::OpenEntry;
+use sampletime::Separators;
+use std::alloc::{AllocError, Global};
+use whole_model::{Event, Source};
+
+/// The sources so far, and their numbers.
+#[derive(Drop)]
+pub struct SourceIndex {
+    pub sources: Vec<Source>,
+    numbers: Numbers,
+    ghost flags: { AreFlags (λ s. s.number) sources.items numbers.taken.items },
+    pub ghost whole: { IsTrue (list_all is_source sources.items) },
+}
+
+impl SourceIndex {
+    /// No source.
+    pub fn new(alloc: Global) -> Result<Self, AllocError>
+        ensures { IfOk result (λ index. index.sources.items ≡ []) }
+    {
+        let numbers = Numbers::new(alloc)?;
+        Ok(SourceIndex {
+            sources: Vec::new(alloc),
+            numbers,
+        })
+    }
+
+    /// Adds the source that a line says behind its number, where no other has that number.
+    #[tactic(auto, unfolding(list_terms::specs::Text::source_with))]
+    pub fn add(
+        &mut self,
+        alloc: Global,
+        number: u32,
+        tokens: &mut Tokens<'_>,
+    ) -> Result<(), LineFault>
+        requires { IsTrue (is_number number) }
+        ensures { Says (λ _. self.new.sources.items) result (source_with 25 self.old.sources.items number tokens.old.rest.now) }
+    {
+        if self.numbers.contains(number) {
+            return Err(LineFault::Text(TextFault::DuplicateNumber));
+        }
+        let source = source_fields(alloc, number, tokens)?;
+        self.sources.push(source)?;
+        self.numbers.insert(number);
+        Ok(())
+    }
+}
+
+/// The events so far, the last entry, which further lines may be of, the separators of the first one's destination in,
+/// and the numbers of all.
+#[derive(Drop)]
+pub struct EventList {
+    pub events: Vec<Event>,
+    pub entry: Option<OpenEntry>,
+    pub separators: Option<Separators>,
+    numbers: Numbers,
+    ghost flags: { AreFlags (λ e. e.number) (all_events events.items entry) numbers.taken.items },
+    pub ghost whole: { IsTrue (list_all is_event (all_events events.items entry)) },
+}
+
+impl EventList {
+    ghost use Rattle.whole_read.specs.Entries.{entries_of};
+
+    /// No event.
+    pub fn new(alloc: Global) -> Result<Self, AllocError>
+        ensures { IfOk result (λ list. entries_of list ≡ no_entry) }
+    {
+        let numbers = Numbers::new(alloc)?;
+        Ok(EventList {
+            events: Vec::new(alloc),
+            entry: None,
+            separators: None,
+            numbers,
+        })
+    }
+
+    /// Puts the last entry behind those before it, so that it has no further line.
+    pub fn close(&mut self) -> Result<(), AllocError>
+        ensures { OnOk result (entries_of self.new ≡ closed_entries (entries_of self.old)) }
+    {
+        if let Some(entry) = self.entry {
+            self.events.push(entry.event)?;
+            self.entry = None;
+        }
+        Ok(())
+    }
+
+    /// Adds the event that a line says behind its number, where no other has that number.
+    #[tactic(auto, unfolding(list_terms::specs::Text::entry_of))]
+    pub fn add(&mut self, number: u32, tokens: &mut Tokens<'_>) -> Result<(), LineFault>
+        requires { IsTrue (is_number number) }
+        ensures { Says (λ _. entries_of self.new) result (entry_of 25 (entries_of self.old) number tokens.old.rest.now) }
+    {
+        if self.numbers.contains(number) {
+            return Err(LineFault::Text(TextFault::DuplicateNumber));
+        }
+        let (event, separators) = event_fields(number, tokens)?;
+        self.close()?;
+        self.entry = Some(OpenEntry {
+            event,
+            has_rise: false,
+            has_fall: false,
+        });
+        self.numbers.insert(number);
+        if self.separators.is_none() {
+            self.separators = Some(separators);
+        }
+        Ok(())
+    }
+
+    /// Adds what a line that is no entry of its own says of the entry before it.
+    #[tactic(auto, unfolding(list_terms::specs::Text::further_line))]
+    pub fn add_further(
+        &mut self,
+        token: &Token<'_>,
+        tokens: &mut Tokens<'_>,
+    ) -> Result<(), TextFault>
+        ensures { ok_map (λ _. entries_of self.new) result ≡ further_line 25 (entries_of self.old) (token_view token.now) tokens.old.rest.now }
+    {
+        match self.entry {
+            None => remark(token, tokens),
+            Some(entry) => {
+                let entry = entry_with(entry, token, tokens)?;
+                self.entry = Some(entry);
+                Ok(())
+            }
+        }
+    }
+}

@@ -1,0 +1,148 @@
+"""What a user takes for granted of the output: nothing is replaced, done means on the disk, handles suffice."""
+
+import resource
+import subprocess
+from functools import partial
+
+import model
+from harness import (
+    LIST, MEDIA, OUT, Mismatch, Scene, Suite, preloaded, same, same_files, same_outcome,
+)
+from tables import FIRST_LIST, wave
+
+MIDNIGHT = b"00.00.00.00/0000"
+ROUNDS = 50
+SOURCES = 300
+HANDLES = 20
+CUTS = 40
+
+
+def cuts_over(name: str, count: int) -> bytes:
+    """So many cuts of four frames of one source, one behind the other."""
+    entry_lines = [
+        model.entry_line(number, 1, MIDNIGHT, model.time_text(4 * number), model.time_text(4 * number + 4))
+        for number in range(count)
+    ]
+    return model.list_text([model.source_line(1, name, MIDNIGHT)], [
+        line.replace(b"(Entry) %04d" % number, b"(Entry) %04d" % (number + 1))
+        for number, line in enumerate(entry_lines)
+    ])
+
+
+def at_once(command: str):
+    """Two runs into one folder at the same time: at most one is done, and its files are whole and its own."""
+    def body(scene: Scene) -> None:
+        media = {"A.wav": wave(), "B.wav": wave([1, 2, 3, 4])}
+        texts = {"A.adl": cuts_over("A.wav", CUTS), "B.adl": cuts_over("B.wav", CUTS)}
+        scene.put(texts["A.adl"], media)
+        for name, text in texts.items():
+            (scene.folder / name).write_bytes(text)
+        done = 0
+        for _ in range(ROUNDS):
+            runs = {name: subprocess.Popen(
+                [scene.program, command, name, MEDIA, OUT], cwd=scene.folder,
+                stdout=subprocess.PIPE, stderr=subprocess.PIPE) for name in texts}
+            lines = {name: run.communicate(timeout=60)[0] for name, run in runs.items()}
+            winners = [name for name, run in runs.items() if run.returncode == 0]
+            if len(winners) > 1:
+                raise Mismatch(f"both runs are done: {lines}")
+            for name in winners:
+                same_files(scene.files(), model.answer(command, texts[name], media).files)
+            for name in set(texts) - set(winners):
+                if not lines[name].startswith((b"refused 20 at file OUT", b"refused 62 at file ")):
+                    raise Mismatch(f"the other run says {lines[name]!r}")
+            done += len(winners)
+            scene.empty_out()
+        if not done:
+            raise Mismatch("no run was done")
+    return body
+
+
+def run_logged(scene: Scene, command: str, environment: dict, fails: int = 0) -> tuple:
+    log = scene.folder / "log"
+    log.unlink(missing_ok=True)
+    got = scene.run(command, LIST, MEDIA, OUT, env={**environment, "SYNC_FAILS": str(fails)})
+    return got, log.read_text().splitlines() if log.exists() else []
+
+
+def syncs_of(command: str, media: int) -> list:
+    names = ["render.wav"] if command == "render" else [
+        *(f"M{number:05d}.wav" for number in range(1, media + 1)), "consolidated.adl"]
+    return [f"sync {name}" for output in names for name in (output, OUT)]
+
+
+def on_the_disk(command: str):
+    """Each output and its folder are synced, the list last, before the one write of the line; a sync that fails is 62."""
+    def body(scene: Scene) -> None:
+        text = cuts_over("A.wav", 3)
+        scene.put(text, {"A.wav": wave()})
+        environment = preloaded(scene, SYNC_LOG=str(scene.folder / "log"))
+        wanted = model.answer(command, text, {"A.wav": wave()})
+        syncs = syncs_of(command, 3)
+        got, log = run_logged(scene, command, environment)
+        same_outcome(got, 0, wanted.line)
+        same("what is synced and printed", log, [*syncs, "print out"])
+        scene.empty_out()
+        for fails in range(1, len(syncs) + 1):
+            got, log = run_logged(scene, command, environment, fails)
+            output = syncs[(fails - 1) // 2 * 2].split()[1]
+            same_outcome(got, 1, f"refused 62 at file {output}")
+            same("what is synced and printed", log, [*syncs[:fails], "print out", "print err"])
+            if b"Input/output error" not in got.error or output.encode() not in got.error:
+                raise Mismatch(f"standard error doesn't tell what failed: {got.error!r}")
+            scene.empty_out()
+    return body
+
+
+def few_handles(scene: Scene) -> None:
+    """Many sources in turn, with few handles."""
+    names = [f"S{number:03d}.wav" for number in range(SOURCES)]
+    media = {name: wave([number, 7]) for number, name in enumerate(names)}
+    source_lines = [model.source_line(number, name, MIDNIGHT) for number, name in enumerate(names, 1)]
+    entry_lines = [
+        model.entry_line(number, 1 + 7 * number % SOURCES, MIDNIGHT, *map(model.time_text, (2 * number, 2 * number + 2)))
+        for number in range(1, SOURCES + 1)
+    ]
+    text = model.list_text(source_lines, entry_lines)
+    scene.put(text, media)
+    limit = partial(resource.setrlimit, resource.RLIMIT_NOFILE, (HANDLES, HANDLES))
+    for command in model.COMMANDS:
+        wanted = model.answer(command, text, media)
+        same_outcome(scene.run(command, LIST, MEDIA, OUT, preexec_fn=limit), 0, wanted.line)
+        same_files(scene.files(), wanted.files)
+        scene.empty_out()
+
+
+def one_write_a_line(scene: Scene) -> None:
+    """Many runs into one log at once leave whole lines."""
+    scene.put(FIRST_LIST, {})
+    log = scene.folder / "lines"
+    with log.open("ab") as file:
+        runs = [subprocess.Popen([scene.program, "render", LIST, MEDIA, OUT], cwd=scene.folder, stdout=file, stderr=file)
+                for _ in range(60)]
+        for run in runs:
+            run.wait(timeout=60)
+    lines = log.read_bytes().splitlines()
+    same("the lines of refusals", lines.count(b"refused 21 at index 1 file A.wav"), 60)
+    same("the lines of explanations", sum(line.endswith(b"(adlcons explain 21)") for line in lines), 60)
+    same("all lines", len(lines), 120)
+
+
+def told_reasons(scene: Scene) -> None:
+    """What the second line tells beside the meaning: the line at fault, the system's word, what is unfinished."""
+    scene.put(FIRST_LIST.replace(b"(SEQ_FRAME_RATE) 25", b"(SEQ_FRAME_RATE) 24 \xc3\xa4\x01"), {})
+    got = scene.run("render", LIST, MEDIA, OUT)
+    if b"; the line is: (SEQ_FRAME_RATE) 24 %C3%A4%01;" not in got.error:
+        raise Mismatch(f"the line at fault isn't told: {got.error!r}")
+    got = scene.run("render", "none.adl", MEDIA, OUT)
+    if b"; the system says: No such file or directory" not in got.error:
+        raise Mismatch(f"the system's word isn't told: {got.error!r}")
+
+
+def run(suite: Suite) -> None:
+    for command in model.COMMANDS:
+        suite.case(f"two runs into one folder at once, {command}", at_once(command))
+        suite.case(f"done means on the disk, {command}", on_the_disk(command))
+    suite.case("few handles", few_handles)
+    suite.case("one write a line", one_write_a_line)
+    suite.case("what a refusal's explanation tells", told_reasons)

@@ -1,0 +1,73 @@
+/* Loaded before the program. It syncs nothing; SYNC_LOG names a file where syncs and prints are written down, and SYNC_FAILS
+   is the sync that fails, from 1. INPUT says how standard input is read: 'slow' a byte at a time, with an interruption before
+   each, 'broken' so and failing at the tenth byte, 'endless' as spaces that never end. */
+#define _GNU_SOURCE
+#include <dlfcn.h>
+#include <errno.h>
+#include <fcntl.h>
+#include <stdio.h>
+#include <stdlib.h>
+#include <string.h>
+#include <unistd.h>
+
+static ssize_t real_write(int fd, const void *bytes, size_t count) {
+    static ssize_t (*next)(int, const void *, size_t);
+    if (!next) next = (ssize_t (*)(int, const void *, size_t))dlsym(RTLD_NEXT, "write");
+    return next(fd, bytes, count);
+}
+
+static ssize_t real_read(int fd, void *bytes, size_t count) {
+    static ssize_t (*next)(int, void *, size_t);
+    if (!next) next = (ssize_t (*)(int, void *, size_t))dlsym(RTLD_NEXT, "read");
+    return next(fd, bytes, count);
+}
+
+static ssize_t failed(int error) {
+    errno = error;
+    return -1;
+}
+
+static void note(const char *what, const char *name) {
+    const char *log = getenv("SYNC_LOG");
+    char line[4200];
+    if (!log) return;
+    int fd = open(log, O_WRONLY | O_APPEND | O_CREAT, 0644);
+    int length = snprintf(line, sizeof line, "%s %s\n", what, name);
+    if (fd >= 0) {
+        real_write(fd, line, (size_t)length);
+        close(fd);
+    }
+}
+
+static int synced(int fd) {
+    static int count;
+    char link[64], path[4096];
+    snprintf(link, sizeof link, "/proc/self/fd/%d", fd);
+    ssize_t length = readlink(link, path, sizeof path - 1);
+    path[length < 0 ? 0 : length] = 0;
+    const char *slash = strrchr(path, '/');
+    note("sync", slash ? slash + 1 : path);
+    const char *fails = getenv("SYNC_FAILS");
+    return fails && ++count == atoi(fails) ? (int)failed(EIO) : 0;
+}
+
+int fsync(int fd) { return synced(fd); }
+
+int fdatasync(int fd) { return synced(fd); }
+
+ssize_t write(int fd, const void *bytes, size_t count) {
+    if (fd == 1 || fd == 2) note("print", fd == 1 ? "out" : "err");
+    return real_write(fd, bytes, count);
+}
+
+ssize_t read(int fd, void *bytes, size_t count) {
+    static int calls;
+    const char *input = getenv("INPUT");
+    if (fd != 0 || !input || count == 0) return real_read(fd, bytes, count);
+    if (!strcmp(input, "endless")) {
+        *(char *)bytes = ' ';
+        return 1;
+    }
+    if (++calls % 2) return failed(EINTR);
+    return !strcmp(input, "broken") && calls == 20 ? failed(EIO) : real_read(fd, bytes, 1);
+}
