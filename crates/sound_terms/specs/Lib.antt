@@ -1,4 +1,5 @@
 pub mod Bext
+pub mod Blocks
 pub mod Chunks
 pub mod Depth
 pub mod Ds64
@@ -7,6 +8,7 @@ pub mod FileVectors
 pub mod Formats
 pub mod GroupVectors
 pub mod Groups
+pub mod Homes
 pub mod Kept
 pub mod Laws
 pub mod Mix

@@ -5,9 +5,11 @@ ghost use Rattle.std.specs.Prelude.{◌≡◌};
 ghost use Rattle.sound_terms.specs.Depth.{bits_of};
 ghost use Rattle.sound_terms.specs.SoundFault.{number_of};
 
+mod block;
 mod piece;
 
-pub use piece::{Piece, Placed, Run, Shape};
+pub use block::{Instruction, Stretch};
+pub use piece::{Home, Piece, Placed, Run, Shape};
 use sampletime::SampleTime;
 
 /// The bits of a sample.

@@ -47,3 +47,12 @@ pub struct Run {
     pub first: u64,
     pub length: u64,
 }
+
+/// What a file's home index tells, the bound index of that file with the least base: that base, how many frames from the
+/// first on can be addressed, and which of the bound indexes it is, from 0.
+#[derive(Clone, Copy, Debug, PartialEq, Eq)]
+pub struct Home {
+    pub base: u64,
+    pub addressable: u64,
+    pub place: u32,
+}

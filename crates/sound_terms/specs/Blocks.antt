@@ -1,0 +1,142 @@
+-- A block of a rendering: what its instructions do, and the instructions that render pieces.
+use Rattle.std.specs.Prelude.{◌≡◌, ℕ, zero, suc, ◌+◌, ◌-◌, ◌*◌, ◌/◌, ◌≤◌, ◌&&◌, nat_lt, nat_le, min, max, Bool, ⊤, ℤ, pos, ◌+ℤ◌, List, [], ◌∷◌, ◌++◌, All, if◌then◌else◌}
+use Rattle.std.specs.Int.{saturate_to_bits}
+use Rattle.std.specs.List.{flat_map}
+use Rattle.sampletime.specs.TimeCode.{day}
+use Rattle.sound_terms.specs.declared.Depth.{Depth}
+use Rattle.sound_terms.specs.declared.block.Stretch.{Stretch}
+use Rattle.sound_terms.specs.declared.block.Instruction.{Instruction}
+use Rattle.sound_terms.specs.declared.block.Instruction.TheVariants.{Start, Add, Emit}
+use Rattle.sound_terms.specs.declared.piece.Piece.{Piece}
+use Rattle.sound_terms.specs.declared.piece.Shape.{Shape}
+use Rattle.sound_terms.specs.Depth.{bits_of}
+use Rattle.sound_terms.specs.Mix.{Reading, share_of, quantized}
+use Rattle.sound_terms.specs.Groups.{IsRamp, fraction_of}
+use Rattle.sound_terms.specs.Passes.{shape_behind}
+use Rattle.sound_terms.specs.Render.{Range}
+
+-- ---- what instructions do
+
+-- the frames of a block, the sum at each sample (from 0) and channel (from 1), and the samples that were handed out
+pub record BlockState : Type 0 where
+  pub frames : ℕ
+  pub sums : ℕ → ℕ → ℤ
+  pub out : List ℤ
+
+-- a sum is held inside 64 bits
+abbrev pub held : ℤ → ℤ
+held sum = saturate_to_bits 63 sum
+
+-- the stretch sounds at this sample of the block on this channel
+abbrev pub is_on : Stretch → ℕ → ℕ → Bool
+is_on s i channel =
+    nat_le s.dest channel && (nat_lt channel (s.dest + s.width) && (nat_le s.at i && nat_lt i (s.at + s.length)))
+
+-- what a stretch adds to a sum
+abbrev pub share_at : Reading → Stretch → Shape → ℕ → ℕ → ℤ
+share_at reading s shape i channel =
+    share_of (reading s.file (s.first + (channel - s.dest)) (s.frame + (i - s.at))) (fraction_of shape (i - s.at))
+
+abbrev pub sums_with : Reading → Stretch → Shape → (ℕ → ℕ → ℤ) → ℕ → ℕ → ℤ
+sums_with reading s shape sums i channel =
+    if is_on s i channel then held (sums i channel +ℤ share_at reading s shape i channel) else sums i channel
+
+-- the samples of sample i of a block at this depth: n channels, from this one on
+abbrev pub frame_samples : ℕ → (ℕ → ℕ → ℤ) → (i channel n : ℕ) → List ℤ
+frame_samples depth sums i channel zero = []
+frame_samples depth sums i channel (suc n) = quantized depth (sums i channel) ∷ frame_samples depth sums i (suc channel) n
+
+-- so n frames, from sample i on, frame by frame
+abbrev pub block_samples : ℕ → (ℕ → ℕ → ℤ) → (channels i n : ℕ) → List ℤ
+block_samples depth sums channels i zero = []
+block_samples depth sums channels i (suc n) =
+    frame_samples depth sums i 1 channels ++ block_samples depth sums channels (suc i) n
+
+-- what an instruction does to a block of so many channels
+abbrev pub executed : Reading → ℕ → Instruction → BlockState → BlockState
+executed reading channels (Start frames) old = record old { frames = frames; sums = λ i channel. pos 0 }
+executed reading channels (Add stretch shape) old = record old { sums = sums_with reading stretch shape old.sums }
+executed reading channels (Emit depth) old = record old { out = block_samples (bits_of depth) old.sums channels 0 old.frames }
+
+abbrev pub executed_all : Reading → ℕ → List Instruction → BlockState → BlockState
+executed_all reading channels [] state = state
+executed_all reading channels (instruction ∷ program) state =
+    executed_all reading channels program (executed reading channels instruction state)
+
+-- ---- the instructions of pieces
+
+-- frames of a block, the last one aside
+abbrev pub block_length : ℕ
+block_length = 4096
+
+abbrev pub block_count : Range → ℕ
+block_count range = (((range.to - range.from) + block_length) - 1) / block_length
+
+-- the time at which block k begins, and its frames
+abbrev pub block_start : Range → ℕ → ℕ
+block_start range k = range.from + k * block_length
+
+abbrev pub block_frames : Range → ℕ → ℕ
+block_frames range k = min block_length (range.to - block_start range k)
+
+-- the part of a piece from one time up to another, in a block that begins at `from`, on channels up to this one
+abbrev pub stretch_in : (from first last channels : ℕ) → Piece → Stretch
+stretch_in from first last channels p = record {
+  at = first - from;
+  length = last - first;
+  frame = p.frame + (first - p.start);
+  file = p.file;
+  first = p.first;
+  dest = p.dest;
+  width = min p.width ((channels + 1) - p.dest);
+}
+
+-- what of a piece sounds in the n samples from this time on, on so many channels; nothing where it doesn't
+abbrev pub lines_of : (from n channels : ℕ) → Piece → List Instruction
+lines_of from n channels p =
+    let first = max from p.start in
+    let last = min (from + n) (p.start + p.length) in
+    if nat_lt first last && nat_le p.dest channels
+    then Add (stretch_in from first last channels p) (shape_behind (first - p.start) p.shape) ∷ []
+    else []
+
+-- block k of a range, over pieces
+abbrev pub program_of : List Piece → Range → Depth → ℕ → List Instruction
+program_of pieces range depth k =
+    Start (block_frames range k) ∷ (flat_map (lines_of (block_start range k) (block_frames range k) range.channels) pieces ++ Emit depth ∷ [])
+
+-- the samples of block k by a mix
+abbrev pub mixed_block : Range → (ℕ → ℕ → ℤ) → ℕ → List ℤ
+mixed_block range mix k =
+    block_samples range.depth (λ i channel. mix channel (block_start range k + i)) range.channels 0 (block_frames range k)
+
+-- ---- which programs are formed
+
+-- a stretch lies inside a block of so many frames and channels
+pub record FitsBlock (frames channels : ℕ) (s : Stretch) : Type 0 where
+  pub some : 1 ≤ s.length
+  pub inside : s.at + s.length ≤ frames
+  pub wide : 1 ≤ s.width
+  pub source_from_one : 1 ≤ s.first
+  pub source_to_64 : s.first + s.width ≤ 65
+  pub dest_from_one : 1 ≤ s.dest
+  pub dest_inside : s.dest + s.width ≤ channels + 1
+  pub source_in_day : s.frame + s.length ≤ day
+
+abbrev pub IsFormed : (frames channels : ℕ) → Instruction → Type 0
+IsFormed frames channels (Start n) = ⊤
+IsFormed frames channels (Add stretch shape) = FitsBlock frames channels stretch × IsRamp shape stretch.length
+IsFormed frames channels (Emit depth) = ⊤
+
+-- the instruction adds a stretch
+abbrev pub AddsOne : Instruction → Type 0
+AddsOne (Start n) = ⊥
+AddsOne (Add stretch shape) = ⊤
+AddsOne (Emit depth) = ⊥
+
+-- a block begins with its frames and ends when it hands them out; between, stretches that lie inside it are added
+pub record IsBlockProgram (frames channels : ℕ) (depth : Depth) (program : List Instruction) : Type 0 where
+  pub lines : List Instruction
+  pub whole : program ≡ Start frames ∷ (lines ++ Emit depth ∷ [])
+  pub formed : All (IsFormed frames channels) lines
+  pub added : All AddsOne lines
