@@ -1,10 +1,13 @@
 pub mod Accepted
 pub mod Binding
+pub mod Bound
 pub mod EntryLines
 pub mod Fields
+pub mod Heard
 pub mod Lines
 pub mod Names
 pub mod Project
+pub mod Renewed
 pub mod Steps
 pub mod Text
 pub mod TextVectors

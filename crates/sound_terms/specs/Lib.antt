@@ -11,6 +11,7 @@ pub mod Groups
 pub mod Homes
 pub mod Kept
 pub mod Laws
+pub mod Media
 pub mod Mix
 pub mod Passes
 pub mod Render

@@ -1,0 +1,55 @@
+-- What a list sounds like over files, which list is accepted, and the first fault of every other.
+use Rattle.std.specs.Prelude.{◌≡◌, ℕ, ◌&&◌, nat_lt, nat_le, List, map, Option, None, Some, Result, Ok, Err, if◌then◌else◌, slice_get, ℤ, pos}
+use Rattle.sound_terms.specs.Mix.{Reading, full_scale, mix_at}
+use Rattle.sound_terms.specs.Waves.{sample_at}
+use Rattle.sound_terms.specs.Sounds.{SoundFacts}
+use Rattle.work_terms.specs.Disk.{Files}
+use Rattle.work_terms.specs.Refusals.{Refusal}
+use Rattle.list_terms.specs.Project.{ListProject}
+use Rattle.list_terms.specs.Binding.{Binding}
+use Rattle.list_terms.specs.Bound.{binding_of}
+use Rattle.list_terms.specs.Accepted.{event_fault}
+use Rattle.list_terms.specs.Text.{text_value}
+
+-- the samples of opened files at full scale, by the file's place among them; zero outside their channels and frames
+abbrev pub reading_by : Files → List SoundFacts → Reading
+reading_by files sounds file channel frame = of_sound (slice_get sounds file) where
+  of_bytes : SoundFacts → Option (List ℕ) → ℤ
+  of_bytes facts None = pos 0
+  of_bytes facts (Some bytes) =
+      if nat_lt frame facts.frames && (nat_le 1 channel && nat_le channel facts.channels)
+      then full_scale facts.depth (sample_at bytes facts.place facts.channels facts.depth frame channel)
+      else pos 0
+
+  of_sound : Option SoundFacts → ℤ
+  of_sound None = pos 0
+  of_sound (Some facts) = of_bytes facts (files facts.name)
+
+-- the opened files of a binding
+abbrev pub sounds_of : Binding → List SoundFacts
+sounds_of binding = map (λ file. file.facts) binding.files
+
+abbrev pub reading_of : Files → Binding → Reading
+reading_of files binding = reading_by files (sounds_of binding)
+
+-- what a bound project sounds like on a channel at a time
+abbrev pub project_mix : Files → ListProject → Binding → ℕ → ℕ → ℤ
+project_mix files project binding channel time = mix_at (reading_of files binding) binding.indexes project.events channel time
+
+-- the list over the files has no fault
+pub record IsAccepted (text : List ℕ) (files : Files) (project : ListProject) (binding : Binding) : Type 0 where
+  pub spelt : text_value text ≡ Ok project
+  pub bound : binding_of project files ≡ Ok binding
+  pub checked : event_fault binding project.events ≡ None
+
+-- the first fault of a list over these files: of its text, then of a file in index order, then of an entry in order
+abbrev pub bound_fault : ListProject → Result Binding Refusal → Option Refusal
+bound_fault project (Err refusal) = Some refusal
+bound_fault project (Ok binding) = event_fault binding project.events
+
+abbrev pub read_fault : Files → Result ListProject Refusal → Option Refusal
+read_fault files (Err refusal) = Some refusal
+read_fault files (Ok project) = bound_fault project (binding_of project files)
+
+abbrev pub project_fault : List ℕ → Files → Option Refusal
+project_fault text files = read_fault files (text_value text)

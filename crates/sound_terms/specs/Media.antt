@@ -1,0 +1,36 @@
+-- The media that are kept: for each run of frames a file of just these frames.
+use Rattle.std.specs.Prelude.{◌≡◌, ℕ, ◌+◌, ◌*◌, ◌/◌, ◌<◌, ◌≤◌, List, take, drop, unwrap_or, slice_get, Some}
+use Rattle.sound_terms.specs.declared.piece.Run.{Run}
+use Rattle.sound_terms.specs.Sounds.{SoundFacts}
+use Rattle.sound_terms.specs.Waves.{SoundInfo, file_of, zeros}
+
+-- the bytes of a frame of a file
+abbrev pub frame_length : SoundFacts → ℕ
+frame_length facts = facts.channels * (facts.depth / 8)
+
+-- what the medium of a run tells of itself: the channels, the depth and the texts of its source, and the time of its first
+-- frame, where the source's first frame stands at `base`
+abbrev pub medium_info : SoundFacts → ℕ → Run → SoundInfo
+medium_info facts base run = record {
+  channels = facts.channels;
+  depth = facts.depth;
+  frames = run.length;
+  text = unwrap_or facts.text (zeros 338);
+  time_reference = base + run.first;
+  history = facts.history;
+}
+
+-- the bytes of so many frames of a source, from this frame on
+abbrev pub frames_in : SoundFacts → List ℕ → (frame count : ℕ) → List ℕ
+frames_in facts bytes frame count = take (count * frame_length facts) (drop (facts.place + frame * frame_length facts) bytes)
+
+-- the medium of a run of a source of these bytes
+abbrev pub medium_of : SoundFacts → List ℕ → ℕ → Run → List ℕ
+medium_of facts bytes base run = file_of (medium_info facts base run) (frames_in facts bytes run.first run.length)
+
+-- the run is of an opened file, and lies inside it
+pub record IsRunOf (sounds : List SoundFacts) (run : Run) : Type 0 where
+  pub facts : SoundFacts
+  pub there : slice_get sounds run.file ≡ Some facts
+  pub some : 0 < run.length
+  pub inside : run.first + run.length ≤ facts.frames
