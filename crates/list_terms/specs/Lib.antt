@@ -5,6 +5,7 @@ pub mod EntryLines
 pub mod Fields
 pub mod Heard
 pub mod Lines
+pub mod MediaNames
 pub mod Names
 pub mod Project
 pub mod Renewed
