@@ -14,6 +14,8 @@ use Rattle.sound_terms.specs.Mix.{Reading, share_of, quantized}
 use Rattle.sound_terms.specs.Groups.{IsRamp, fraction_of}
 use Rattle.sound_terms.specs.Passes.{shape_behind}
 use Rattle.sound_terms.specs.Render.{Range}
+use Rattle.sound_terms.specs.Sounds.{SoundFacts}
+use Rattle.sound_terms.specs.Media.{LiesInFile}
 
 -- ---- what instructions do
 
@@ -65,7 +67,7 @@ executed_all reading channels (instruction ∷ program) state =
 
 -- ---- the instructions of pieces
 
--- frames of a block, the last one aside
+-- the frames of a block; the last one may have fewer
 abbrev pub block_length : ℕ
 block_length = 4096
 
@@ -140,3 +142,9 @@ pub record IsBlockProgram (frames channels : ℕ) (depth : Depth) (program : Lis
   pub whole : program ≡ Start frames ∷ (lines ++ Emit depth ∷ [])
   pub formed : All (IsFormed frames channels) lines
   pub added : All AddsOne lines
+
+-- what the instruction adds are frames and channels of an opened file
+abbrev pub LiesInFiles : List SoundFacts → Instruction → Type 0
+LiesInFiles sounds (Start n) = ⊤
+LiesInFiles sounds (Add stretch shape) = LiesInFile sounds stretch.file stretch.first stretch.width stretch.frame stretch.length
+LiesInFiles sounds (Emit depth) = ⊤

@@ -1,4 +1,5 @@
 pub mod Bext
+pub mod BlockVectors
 pub mod Blocks
 pub mod Chunks
 pub mod Depth

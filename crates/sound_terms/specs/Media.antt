@@ -1,5 +1,6 @@
 -- The media that are kept: for each run of frames a file of just these frames.
 use Rattle.std.specs.Prelude.{◌≡◌, ℕ, ◌+◌, ◌*◌, ◌/◌, ◌<◌, ◌≤◌, List, take, drop, unwrap_or, slice_get, Some}
+use Rattle.sound_terms.specs.declared.piece.Piece.{Piece}
 use Rattle.sound_terms.specs.declared.piece.Run.{Run}
 use Rattle.sound_terms.specs.Sounds.{SoundFacts}
 use Rattle.sound_terms.specs.Waves.{SoundInfo, file_of, zeros}
@@ -34,3 +35,14 @@ pub record IsRunOf (sounds : List SoundFacts) (run : Run) : Type 0 where
   pub there : slice_get sounds run.file ≡ Some facts
   pub some : 0 < run.length
   pub inside : run.first + run.length ≤ facts.frames
+
+-- channels of an opened file, so many from one counted from 1 on, and frames of it, so many from one counted from 0 on
+pub record LiesInFile (sounds : List SoundFacts) (file first width frame length : ℕ) : Type 0 where
+  pub facts : SoundFacts
+  pub there : slice_get sounds file ≡ Some facts
+  pub channels : first + width ≤ facts.channels + 1
+  pub frames : frame + length ≤ facts.frames
+
+-- the piece plays an opened file, and lies inside it
+abbrev pub IsPieceOf : List SoundFacts → Piece → Type 0
+IsPieceOf sounds p = LiesInFile sounds p.file p.first p.width p.frame p.length
