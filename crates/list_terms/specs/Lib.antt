@@ -1,6 +1,7 @@
 pub mod Accepted
 pub mod Binding
 pub mod Bound
+pub mod BoundHomes
 pub mod EntryLines
 pub mod Fields
 pub mod Heard
