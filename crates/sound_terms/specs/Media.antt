@@ -1,7 +1,8 @@
 -- The media that are kept: for each run of frames a file of just these frames.
-use Rattle.std.specs.Prelude.{◌≡◌, ℕ, ◌+◌, ◌*◌, ◌/◌, ◌<◌, ◌≤◌, List, take, drop, unwrap_or, slice_get, Some}
+use Rattle.std.specs.Prelude.{◌≡◌, ℕ, ◌+◌, ◌*◌, ◌/◌, ◌<◌, ◌≤◌, List, [], take, drop, unwrap_or, slice_get, None, Some, false}
 use Rattle.sound_terms.specs.declared.piece.Piece.{Piece}
 use Rattle.sound_terms.specs.declared.piece.Run.{Run}
+use Rattle.sound_terms.specs.Mix.{Reading}
 use Rattle.sound_terms.specs.Sounds.{SoundFacts}
 use Rattle.sound_terms.specs.Waves.{SoundInfo, file_of, zeros}
 
@@ -46,3 +47,28 @@ pub record LiesInFile (sounds : List SoundFacts) (file first width frame length 
 -- the piece plays an opened file, and lies inside it
 abbrev pub IsPieceOf : List SoundFacts → Piece → Type 0
 IsPieceOf sounds p = LiesInFile sounds p.file p.first p.width p.frame p.length
+
+-- the facts of no file
+abbrev pub no_sound : SoundFacts
+no_sound = record {
+  name = [];
+  channels = 0;
+  depth = 0;
+  frames = 0;
+  place = 0;
+  text = None;
+  time_reference = None;
+  history = [];
+  short_bext = false;
+  history_cut = false;
+  others = false;
+}
+
+-- the facts of the file of this number among those opened
+abbrev pub sound_at : List SoundFacts → ℕ → SoundFacts
+sound_at sounds file = unwrap_or (slice_get sounds file) no_sound
+
+-- one reading has the runs of another one as its files
+abbrev pub CopiesRuns : Reading → List Run → Reading → Type 0
+CopiesRuns given runs copied = (k channel i : ℕ) (run : Run) → slice_get runs k ≡ Some run → i < run.length
+    → copied k channel i ≡ given run.file channel (run.first + i)
