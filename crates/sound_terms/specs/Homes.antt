@@ -6,7 +6,6 @@ use Rattle.sound_terms.specs.declared.piece.Run.{Run}
 use Rattle.sound_terms.specs.declared.piece.Piece.{Piece}
 use Rattle.sound_terms.specs.Kept.{is_kept, HasFrame}
 use Rattle.sound_terms.specs.Groups.{pieces_of}
-use Rattle.sound_terms.specs.Sounds.{SoundFacts}
 
 -- the frames of a file that can be addressed, from the first on; none without a home
 abbrev pub addressable_by : List Home → ℕ → ℕ
@@ -31,13 +30,6 @@ kept_of groups homes handle file frame = is_kept (pieces_of groups) (addressable
 -- the piece plays frames that can be addressed
 abbrev pub LiesAtHome : List Home → Piece → Type 0
 LiesAtHome homes p = p.frame + p.length ≤ addressable_by homes p.file
-
--- the piece plays channels and frames that its file has
-pub record IsPieceOf (sounds : List SoundFacts) (p : Piece) : Type 0 where
-  pub sound : SoundFacts
-  pub there : slice_get sounds p.file ≡ Some sound
-  pub channels : p.first + p.width ≤ sound.channels + 1
-  pub frames : p.frame + p.length ≤ sound.frames
 
 -- a run has this frame of this file
 abbrev pub IsInRun : List Run → (file frame : ℕ) → Type 0
