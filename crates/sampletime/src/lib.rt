@@ -199,9 +199,10 @@ impl Parts {
 
     /// The time that these fields mean; `None` where one is past its limit or the day's end is passed.
     fn time(self) -> Option<SampleTime>
-        ensures { SomeIff result
+        ensures time { SomeIff result
             (IsTrue (is_in_day 25 self.hours self.minutes self.seconds self.frames self.remainder))
             (samples_of_parts 25 self.hours self.minutes self.seconds self.frames self.remainder) }
+        ensures in_day { IfSome result (λ time. time ≤ day) }
     {
         let frames = u64::from(self.frames);
         let remainder = u64::from(self.remainder);
@@ -220,8 +221,9 @@ impl Parts {
 
     /// The time, beside these bytes as separators; `None` where either is refused.
     fn parted_by(self, separators: [u8; 4]) -> Option<(SampleTime, Separators)>
-        ensures { result ≡ time_of_parts 25 (Some self.hours) (Some self.minutes) (Some self.seconds)
+        ensures value { result ≡ time_of_parts 25 (Some self.hours) (Some self.minutes) (Some self.seconds)
             (Some self.frames) (Some self.remainder) separators }
+        ensures in_day { IfSome result (λ p. p.0 ≤ day) }
     {
         let time = self.time()?;
         let separators = Separators::new(separators)?;
@@ -254,6 +256,7 @@ impl Parts {
 /// the day's end, 24 hours and all else zero. Every other text is `None`: nothing is carried into the next field.
 pub fn parse_time(text: &[u8]) -> Option<(SampleTime, Separators)>
     ensures value { result ≡ samples_of 25 text.now }
+    ensures in_day { IfSome result (λ p. p.0 ≤ day) }
     ensures again { IfSome result (λ p. text.now ≡ text_of 25 p.0 p.1) }
 {
     match text {
@@ -278,8 +281,9 @@ fn parse_fields(
     remainder: [u8; 4],
     separators: [u8; 4],
 ) -> Option<(SampleTime, Separators)>
-    ensures { result ≡ time_of_parts 25 (time_code.two_digits hours) (time_code.two_digits minutes)
+    ensures value { result ≡ time_of_parts 25 (time_code.two_digits hours) (time_code.two_digits minutes)
         (time_code.two_digits seconds) (time_code.two_digits frames) (time_code.four_digits remainder) separators }
+    ensures in_day { IfSome result (λ p. p.0 ≤ day) }
 {
     let parts = Parts {
         hours: two_digits(hours)?,

@@ -1,7 +1,7 @@
 // The whole project.
-ghost use Rattle.std.specs.Prelude.{◌≡◌, IfOk, IsTrue};
+ghost use Rattle.std.specs.Prelude.{◌≡◌, ◌≤◌, IfOk, IsTrue, length};
 ghost use Rattle.std.specs.List.{list_all};
-ghost use Rattle.list_terms.specs.WholeProject.{is_event, is_source};
+ghost use Rattle.list_terms.specs.WholeProject.{AreDistinct, AreEvents, AreSources, entry_numbers, index_numbers, is_event, is_source};
 ghost use Rattle.whole_model.specs.Header.{header_view, project_of, renewed_lists};
 
 use crate::header::Header;
@@ -25,16 +25,14 @@ pub struct Project {
 
 impl Model for Project {
     ghost use Rattle.list_terms.specs.Project.{ListProject};
-    ghost use Rattle.std.specs.Prelude.{IsTrue, ◌&&◌};
-    ghost use Rattle.std.specs.List.{list_all};
-    ghost use Rattle.list_terms.specs.WholeProject.{is_event, is_source};
+    ghost use Rattle.list_terms.specs.WholeProject.{AreEvents, AreSources};
     ghost use Rattle.whole_model.specs.Header.{header_view, project_of};
 
     ghost Value = { ListProject };
 
     ghost view = { λ p. project_of p.header p.sources.items p.events.items p.separators p.notices.items };
 
-    ghost invariant = { λ p. IsTrue (list_all is_source p.sources.items && list_all is_event p.events.items) };
+    ghost invariant = { λ p. AreSources p.sources.items × AreEvents p.events.items };
 }
 
 impl Project {
@@ -46,8 +44,8 @@ impl Project {
         separators: Separators,
         notices: Vec<Notice>,
     ) -> Self
-        requires sources { IsTrue (list_all is_source sources.items) }
-        requires events { IsTrue (list_all is_event events.items) }
+        requires sources { AreSources sources.items }
+        requires events { AreEvents events.items }
         ensures { result ≡ project_of header sources.items events.items separators notices.items }
     {
         Project {
@@ -62,8 +60,8 @@ impl Project {
     /// The project of these sources and events under the header of this one, without a notice. Its separators are those
     /// of this one, or the standard ones where it has no event.
     pub fn with(&self, sources: Vec<Source>, events: Vec<Event>) -> Result<Project, AllocError>
-        requires sources { IsTrue (list_all is_source sources.items) }
-        requires events { IsTrue (list_all is_event events.items) }
+        requires sources { AreSources sources.items }
+        requires events { AreEvents events.items }
         ensures renewed { IfOk result (λ project. project ≡ renewed_lists self.now sources.items events.items) }
     {
         let header = self.header.try_copy()?;
@@ -98,6 +96,8 @@ impl Project {
     pub fn sources(&self) -> &[Source]
         ensures sources { result.now ≡ self.now.sources }
         ensures whole { IsTrue (list_all is_source result.now) }
+        ensures distinct { AreDistinct (index_numbers result.now) }
+        ensures few { length result.now ≤ 32767 }
     {
         self.sources.as_slice()
     }
@@ -106,6 +106,8 @@ impl Project {
     pub fn events(&self) -> &[Event]
         ensures events { result.now ≡ self.now.events }
         ensures whole { IsTrue (list_all is_event result.now) }
+        ensures distinct { AreDistinct (entry_numbers result.now) }
+        ensures few { length result.now ≤ 32767 }
     {
         self.events.as_slice()
     }

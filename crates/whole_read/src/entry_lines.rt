@@ -1,10 +1,11 @@
 // What the lines of the source index, of the event list and of the two sections of settings say.
-ghost use Rattle.std.specs.Prelude.{◌≡◌, ◌-◌, IfOk, IsTrue, codes, is_some, length};
+ghost use Rattle.std.specs.Prelude.{◌≡◌, ◌≤◌, ◌-◌, IfOk, IsTrue, codes, is_some, length};
 ghost use Rattle.list_terms.specs.Steps.{ok_map};
 ghost use Rattle.list_terms.specs.Fields.{checked_field, is_missing, is_zero};
 ghost use Rattle.list_terms.specs.EntryLines as spec;
 ghost use Rattle.list_terms.specs.Names.{place_of_url};
 ghost use Rattle.list_terms.specs.WholeProject.{are_channels, is_event, is_number, is_source};
+ghost use Rattle.sampletime.specs.TimeCode.{day};
 ghost use Rattle.adltoken.specs.Views.{token_view};
 ghost use Rattle.whole_read.specs.Fault.{Says};
 ghost use Rattle.whole_read.specs.Views.{times_of};
@@ -128,7 +129,8 @@ pub struct Times {
 /// Reads the times at the end of a line: the times, and the separators of the destination in.
 #[tactic(auto, unfolding(list_terms::specs::EntryLines::time_fields))]
 fn time_fields(tokens: &mut Tokens<'_>) -> Result<(Times, Separators), TextFault>
-    ensures { ok_map (λ times. (times_of times.0, times.1)) result ≡ spec.time_fields 25 tokens.old.rest.now }
+    ensures value { ok_map (λ times. (times_of times.0, times.1)) result ≡ spec.time_fields 25 tokens.old.rest.now }
+    ensures in_day { IfOk result (λ times. (times.0.source_in ≤ day) × (times.0.dest_in ≤ day) × (times.0.dest_out ≤ day)) }
 {
     let (source_in, _) = time_field(tokens)?;
     let (dest_in, separators) = time_field(tokens)?;
@@ -145,7 +147,8 @@ fn time_fields(tokens: &mut Tokens<'_>) -> Result<(Times, Separators), TextFault
 /// Reads the length of a fade, and its curve where it is longer than zero: linear alone.
 #[tactic(auto, unfolding(list_terms::specs::EntryLines::fade_fields))]
 fn fade_fields(tokens: &mut Tokens<'_>) -> Result<SampleTime, TextFault>
-    ensures { result ≡ spec.fade_fields 25 tokens.old.rest.now }
+    ensures value { result ≡ spec.fade_fields 25 tokens.old.rest.now }
+    ensures in_day { IfOk result (λ length. length ≤ day) }
 {
     let length = optional_time_field(tokens)?.unwrap_or(SampleTime::ZERO);
     if length.get() != 0 {
@@ -176,7 +179,7 @@ pub fn entry_with(
 ) -> Result<OpenEntry, TextFault>
     ensures value { result ≡ spec.entry_with 25 entry (token_view token.now) tokens.old.rest.now }
     ensures number { IfOk result (λ new. new.event.number ≡ entry.event.number) }
-    ensures whole { IfOk result (λ new. is_event new.event ≡ is_event entry.event) }
+    ensures whole { IsTrue (is_event entry.event) → IfOk result (λ new. IsTrue (is_event new.event)) }
 {
     if is_keyword(b"Infade", token) {
         with_rise(entry, tokens)
@@ -197,7 +200,7 @@ pub fn entry_with(
 fn with_rise(entry: OpenEntry, tokens: &mut Tokens<'_>) -> Result<OpenEntry, TextFault>
     ensures value { result ≡ spec.told_rise 25 entry tokens.old.rest.now }
     ensures number { IfOk result (λ new. new.event.number ≡ entry.event.number) }
-    ensures whole { IfOk result (λ new. is_event new.event ≡ is_event entry.event) }
+    ensures whole { IsTrue (is_event entry.event) → IfOk result (λ new. IsTrue (is_event new.event)) }
 {
     if entry.has_rise {
         return Err(TextFault::RepeatedFade);
@@ -213,7 +216,7 @@ fn with_rise(entry: OpenEntry, tokens: &mut Tokens<'_>) -> Result<OpenEntry, Tex
 fn with_fall(entry: OpenEntry, tokens: &mut Tokens<'_>) -> Result<OpenEntry, TextFault>
     ensures value { result ≡ spec.told_fall 25 entry tokens.old.rest.now }
     ensures number { IfOk result (λ new. new.event.number ≡ entry.event.number) }
-    ensures whole { IfOk result (λ new. is_event new.event ≡ is_event entry.event) }
+    ensures whole { IsTrue (is_event entry.event) → IfOk result (λ new. IsTrue (is_event new.event)) }
 {
     if entry.has_fall {
         return Err(TextFault::RepeatedFade);

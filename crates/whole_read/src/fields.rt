@@ -1,11 +1,12 @@
 // The fields of a line.
-ghost use Rattle.std.specs.Prelude.{◌≡◌, [], IfOk, IsTrue, length, unwrap_or};
+ghost use Rattle.std.specs.Prelude.{◌≡◌, ◌≤◌, [], IfOk, IsTrue, length, unwrap_or};
 ghost use Rattle.std.specs.List.{list_all};
 ghost use Rattle.list_terms.specs.Steps.{ok_map};
 ghost use Rattle.list_terms.specs.Names.{behind_byte};
 ghost use Rattle.list_terms.specs.Tokens.{all_tokens, token_text};
 ghost use Rattle.list_terms.specs.Fields as spec;
-ghost use Rattle.list_terms.specs.WholeProject.{are_channels, is_number};
+ghost use Rattle.list_terms.specs.WholeProject.{are_channels, is_number, is_time_of_day};
+ghost use Rattle.sampletime.specs.TimeCode.{day};
 ghost use Rattle.adltoken.specs.Views.{token_view};
 
 use crate::numbers::{channels_of, number_up_to};
@@ -71,6 +72,7 @@ pub fn channels_field(tokens: &mut Tokens<'_>) -> Result<Channels, TextFault>
 #[tactic(auto, unfolding(list_terms::specs::Fields::time_field))]
 pub fn time_field(tokens: &mut Tokens<'_>) -> Result<(SampleTime, Separators), TextFault>
     ensures exact { ok_map (λ time. (time.0, time.1, tokens.new.rest.now)) result ≡ spec.time_field 25 tokens.old.rest.now }
+    ensures in_day { IfOk result (λ time. time.0 ≤ day) }
 {
     let token = field(tokens)?;
     parse_time(token.content).ok_or(TextFault::BadTime)
@@ -80,6 +82,7 @@ pub fn time_field(tokens: &mut Tokens<'_>) -> Result<(SampleTime, Separators), T
 #[tactic(auto, unfolding(list_terms::specs::Fields::optional_time_field))]
 pub fn optional_time_field(tokens: &mut Tokens<'_>) -> Result<Option<SampleTime>, TextFault>
     ensures exact { ok_map (λ time. (time, tokens.new.rest.now)) result ≡ spec.optional_time_field 25 tokens.old.rest.now }
+    ensures in_day { IfOk result (λ time. IsTrue (is_time_of_day time)) }
 {
     let token = field(tokens)?;
     optional_time(token.content)
@@ -89,6 +92,7 @@ pub fn optional_time_field(tokens: &mut Tokens<'_>) -> Result<Option<SampleTime>
 #[tactic(auto, unfolding(list_terms::specs::Fields::optional_time))]
 fn optional_time(text: &[u8]) -> Result<Option<SampleTime>, TextFault>
     ensures exact { result ≡ spec.optional_time 25 text.now }
+    ensures in_day { IfOk result (λ time. IsTrue (is_time_of_day time)) }
 {
     if is_missing(text) {
         return Ok(None);
