@@ -2,33 +2,14 @@
 ghost use Rattle.std.specs.Prelude.{◌≡◌, ◌≢◌, ◌≤◌, ◌+◌, ◌++◌, ℕ, [], List, MatchOption, IfOk, OnOk, option_to_list};
 ghost use Rattle.std.specs.List.{All, flat_map};
 ghost use Rattle.sound_terms.specs.Mix.{Reading};
-ghost use Rattle.sound_terms.specs.Groups.{IsGroup, IsPiece, IsRamp, mix_of, reads};
+ghost use Rattle.sound_terms.specs.Groups.{IsGroup, IsPiece, mix_of, reads};
 ghost use Rattle.interval.specs.Apart.{IsApart};
-ghost use Rattle.sound_terms.specs.Passes as spec;
 ghost use Rattle.sound_terms.specs.Passes.{as_group, cut_group, cut_groups, piece_before, piece_behind};
 
-use crate::{Group, IntervalFault, Intervals, Piece, Shape};
+use crate::{Group, IntervalFault, Intervals, Piece};
 use sampletime::SampleTime;
 use smallvec::SmallVec;
 use std::alloc::AllocError;
-
-/// The shape of what is left of a piece behind its first `count` samples.
-fn shape_behind(shape: Shape, count: u64) -> Shape
-    requires { IsRamp shape count }
-    ensures { result ≡ spec.shape_behind count shape }
-{
-    match shape {
-        Shape::Flat => Shape::Flat,
-        Shape::Rise { offset, den } => Shape::Rise {
-            offset: offset + count,
-            den,
-        },
-        Shape::Fall { offset, den } => Shape::Fall {
-            offset: offset + count,
-            den,
-        },
-    }
-}
 
 /// What of a piece lies before this time.
 fn before(piece: &Piece, time: u64) -> Option<Piece>
@@ -63,7 +44,7 @@ fn behind(piece: &Piece, time: u64) -> Option<Piece>
         start: time,
         length: piece.length - cut,
         frame: piece.frame + cut,
-        shape: shape_behind(piece.shape, cut),
+        shape: piece.shape.behind(cut),
         ..*piece
     })
 }

@@ -1,4 +1,7 @@
 // The sound as pieces of files, and what is kept of the files.
+ghost use Rattle.std.specs.Prelude.{◌≡◌};
+ghost use Rattle.sound_terms.specs.Groups.{IsRamp};
+ghost use Rattle.sound_terms.specs.Passes.{shape_behind};
 
 /// How a piece fades at its sample i. A ramp that was cut keeps the length of the whole one, `den`, and begins at `offset`.
 #[derive(Clone, Copy, Debug, Default, PartialEq, Eq)]
@@ -10,6 +13,26 @@ pub enum Shape {
     Rise { offset: u64, den: u64 },
     /// (den - offset - i) / den of each sample.
     Fall { offset: u64, den: u64 },
+}
+
+impl Shape {
+    /// The shape of what is left of a piece behind its first `count` samples.
+    pub fn behind(self, count: u64) -> Self
+        requires { IsRamp self count }
+        ensures { result ≡ shape_behind count self }
+    {
+        match self {
+            Shape::Flat => Shape::Flat,
+            Shape::Rise { offset, den } => Shape::Rise {
+                offset: offset + count,
+                den,
+            },
+            Shape::Fall { offset, den } => Shape::Fall {
+                offset: offset + count,
+                den,
+            },
+        }
+    }
 }
 
 /// A part of a file on the timeline: `length` samples from `start` on, from the file's frame `frame` on. `width` channels

@@ -1,0 +1,5 @@
+pub mod Reaching
+pub mod Passing
+pub mod Formed
+pub mod Shares
+pub mod Summing

@@ -1,0 +1,14 @@
+use Rattle.std.proofs.Common.{◌≡◌, ◌≤◌, ◌-◌, ◌++◌, length, drop}
+use Rattle.std.specs.List.{flat_map}
+use Rattle.sound_terms.specs.Blocks.{lines_of}
+use Rattle.renderplan.proofs.lines.push_lines.Given as goal
+
+abbrev pub invariant-loop-next : goal.invariant-loop-next
+invariant-loop-next l = record {
+  within : l.next ≤ length l.pieces;
+  pushed : l.program.items ++ flat_map (lines_of l.window.from l.window.frames l.window.channels) (drop l.next l.pieces)
+      ≡ l.fn.program.items ++ flat_map (lines_of l.window.from l.window.frames l.window.channels) l.pieces;
+}
+
+abbrev pub decreases-loop-next : goal.decreases-loop-next
+decreases-loop-next l = length l.pieces - l.next

@@ -1,0 +1,8 @@
+-- The number of each fault of a plan.
+use Rattle.std.specs.Prelude.{ℕ}
+use Rattle.renderplan.specs.declared.fault.PlanFault.{PlanFault}
+use Rattle.renderplan.specs.declared.fault.PlanFault.TheVariants.{Memory, EmptyRange}
+
+abbrev pub number_of : PlanFault → ℕ
+number_of Memory = 57
+number_of EmptyRange = 58

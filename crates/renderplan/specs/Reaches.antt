@@ -1,0 +1,30 @@
+-- Where neighbours among pieces sound, so that they can be passed over.
+use Rattle.std.specs.Prelude.{ℕ, ◌+◌, ◌-◌, ◌<◌, ◌≤◌, min, max, List, All, length, take, drop, slice_index_or}
+use Rattle.sound_terms.specs.declared.piece.Piece.{Piece}
+use Rattle.renderplan.specs.declared.reach.Reach.{Reach}
+
+-- the piece sounds from `least` on, and up to and without `greatest`
+abbrev pub LiesWithin : (least greatest : ℕ) → Piece → Type 0
+LiesWithin least greatest p = (least ≤ p.start) × (p.start + p.length ≤ greatest)
+
+-- so do the first pieces, as many as the reach counts
+pub record IsReach (pieces : List Piece) (reach : Reach) : Type 0 where
+  pub some : 1 ≤ reach.count
+  pub there : reach.count ≤ length pieces
+  pub within : All (LiesWithin reach.least reach.greatest) (take reach.count pieces)
+
+-- the reach of some pieces and of those behind them
+abbrev pub joined_reach : Reach → Reach → Reach
+joined_reach reach next = record {
+  count = reach.count + next.count;
+  least = min reach.least next.least;
+  greatest = max reach.greatest next.greatest;
+}
+
+-- the last n pieces
+abbrev pub last : ℕ → List Piece → List Piece
+last n pieces = drop (length pieces - n) pieces
+
+-- reach k is one of the last k + 1 pieces
+abbrev pub AreReaches : List Piece → List Reach → Type 0
+AreReaches pieces reaches = (k : ℕ) (d : Reach) → k < length reaches → IsReach (last (k + 1) pieces) (slice_index_or reaches k d)

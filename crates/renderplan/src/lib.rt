@@ -1,0 +1,12 @@
+//! A rendering as programs of blocks: which stretches of the files are added to the sums of each block, and under which
+//! shape.
+#![tactic(auto)]
+
+mod fault;
+mod lines;
+mod plan;
+mod reach;
+
+pub use fault::PlanFault;
+pub use plan::Plan;
+pub use sound_terms::{Depth, Instruction, Shape, Stretch};

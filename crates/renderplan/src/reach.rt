@@ -1,0 +1,84 @@
+// An index of pieces by what they can be passed over for.
+ghost use Rattle.std.specs.Prelude.{◌≡◌, ◌+◌, ◌<◌, ◌≤◌, ◌^◌, ◌||◌, nat_le, length, IfOk};
+ghost use Rattle.std.specs.List.{All};
+ghost use Rattle.sound_terms.specs.Groups.{IsPiece};
+ghost use Rattle.renderplan.specs.Reaches.{AreReaches, IsReach, joined_reach, last};
+
+use sound_terms::Piece;
+use std::alloc::{AllocError, Global};
+
+/// Where `count` pieces, one behind the other in their list, sound: not before `least`, and not from `greatest` on.
+#[derive(Clone, Copy, Debug, PartialEq, Eq)]
+pub struct Reach {
+    pub count: usize,
+    pub least: u64,
+    pub greatest: u64,
+}
+
+impl Reach {
+    /// That of one piece.
+    fn of(piece: &Piece) -> Self
+        requires { IsPiece piece.now }
+        ensures { result ≡ record { count = 1; least = piece.now.start; greatest = piece.now.start + piece.now.length } }
+    {
+        Reach {
+            count: 1,
+            least: piece.start,
+            greatest: piece.start + piece.length,
+        }
+    }
+
+    /// That of its pieces and of those behind them.
+    fn joined(self, next: Reach) -> Self
+        requires { self.count + next.count < 2 ^ 64 }
+        ensures { result ≡ joined_reach self next }
+    {
+        Reach {
+            count: self.count + next.count,
+            least: self.least.min(next.least),
+            greatest: self.greatest.max(next.greatest),
+        }
+    }
+
+    /// Whether none of its pieces sounds from one time up to, and without, another.
+    pub fn is_outside(self, from: u64, to: u64) -> bool
+        ensures { result ≡ (nat_le self.greatest from || nat_le to self.least) }
+    {
+        self.greatest <= from || to <= self.least
+    }
+}
+
+/// The reach of one piece more than there are reaches, by the reaches behind it.
+///
+/// Equal counts are joined, as 1 is added to a binary number. So a reach counts at least as many pieces as all that it
+/// is passed over for, and there are few of each count on the way through all pieces.
+fn next_reach(pieces: &[Piece], reaches: &[Reach]) -> Reach
+    requires more { length reaches.now < length pieces.now }
+    requires sound { All IsPiece pieces.now }
+    requires behind { AreReaches pieces.now reaches.now }
+    ensures { IsReach (last (length reaches.now + 1) pieces.now) result }
+{
+    let mut reach = Reach::of(&pieces[pieces.len() - 1 - reaches.len()]);
+    while reach.count <= reaches.len() {
+        let next = reaches[reaches.len() - reach.count];
+        if next.count != reach.count {
+            break;
+        }
+        reach = reach.joined(next);
+    }
+    reach
+}
+
+/// A reach for the pieces from each one on, that of the last piece first.
+pub fn reaches_of(alloc: Global, pieces: &[Piece]) -> Result<Vec<Reach>, AllocError>
+    requires { All IsPiece pieces.now }
+    ensures each { IfOk result (λ reaches. length reaches.items ≡ length pieces.now) }
+    ensures far { IfOk result (λ reaches. AreReaches pieces.now reaches.items) }
+{
+    let mut reaches = Vec::with_capacity(alloc, pieces.len())?;
+    while reaches.len() < pieces.len() {
+        let reach = next_reach(pieces, reaches.as_slice());
+        reaches.push(reach)?;
+    }
+    Ok(reaches)
+}
