@@ -1,3 +1,9 @@
 pub mod Splitting
 pub mod LeftOut
 pub mod AllSilences
+pub mod Index
+pub mod Putting
+pub mod Totals
+pub mod Longer
+pub mod Kept
+pub mod JoinedCuts

@@ -1,14 +1,19 @@
 //! What may be done to the groups of a sound without a change of any sum.
 #![tactic(auto)]
 
+mod ends;
 mod fades;
 mod fault;
+mod joining;
 mod looking;
+mod marks;
+mod output;
 mod samples;
 mod silence;
 
 pub use fades::split_fades;
 pub use fault::PassFault;
+pub use joining::join_cuts;
 pub use looking::silent_of;
 pub use samples::Samples;
 pub use silence::drop_silent;

@@ -181,7 +181,10 @@ fn the_silent_middle_of_an_entry_goes(rt: HostRuntime) -> Result<(), Fail> {
     assert_eq!(rt; sounding.groups().len(), 2);
     for (group, start) in sounding.groups().iter().zip([0, 8]) {
         assert_eq!(rt; group.pieces().len(), 1);
-        assert_eq!(rt; (group.pieces()[0].start, group.pieces()[0].length), (start, 4));
+        assert_eq!(rt;
+            (group.pieces()[0].start, group.pieces()[0].length),
+            (start, 4)
+        );
     }
     Ok(())
 }

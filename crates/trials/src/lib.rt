@@ -4,6 +4,8 @@
 #[cfg(test)]
 mod chunks;
 #[cfg(test)]
+mod cuts;
+#[cfg(test)]
 mod folders;
 #[cfg(test)]
 mod intervals;

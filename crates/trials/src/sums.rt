@@ -54,6 +54,9 @@ fn shares_go_down(rt: HostRuntime) {
     assert_eq!(rt; contribution(five, 2, 3), 14_316_557_653);
     assert_eq!(rt; contribution(five, 1, 3), 7_158_278_826);
     let day = 4_147_200_000;
-    assert_eq!(rt; contribution(-(1 << 47), day - 1, day), -140_737_488_321_393);
+    assert_eq!(rt;
+        contribution(-(1 << 47), day - 1, day),
+        -140_737_488_321_393
+    );
     assert_eq!(rt; contribution(1 << 47, day, day), 1 << 47);
 }

@@ -1,0 +1,95 @@
+// Flat pieces that go on without a gap, as one.
+ghost use Rattle.std.specs.Prelude.{◌≡◌, ◌∷◌, [], ◌<◌, ℕ, length, map, IsTrue, IfOk, OnOk, IsSome, slice_index_or, slice_set};
+ghost use Rattle.sound_terms.specs.declared.piece.Shape.TheVariants.{Flat};
+ghost use Rattle.sound_terms.specs.Mix.{Reading};
+ghost use Rattle.sound_terms.specs.Groups.{IsPiece, are_whole, mix_of, reads};
+ghost use Rattle.sound_terms.specs.Passes as spec;
+ghost use Rattle.sound_terms.specs.Passes.{lengthened, put_to_first};
+ghost use Rattle.passes.specs.Ends as ends;
+ghost use Rattle.passes.specs.Ends.{IsFirst, end_before, flat_end, is_end};
+
+use crate::PassFault;
+use crate::ends::End;
+use crate::output::Output;
+use interval::{Group, Intervals, Piece, Shape};
+use std::alloc::AllocError;
+
+/// The rank of a flat shape.
+const FLAT: u8 = 1;
+
+/// The piece of a group that is one flat piece.
+fn flat_alone(group: &Group) -> Option<Piece>
+    ensures { result ≡ ends.flat_alone group.now }
+{
+    match group.pieces() {
+        [piece] if piece.shape == Shape::Flat => Some(*piece),
+        _ => None,
+    }
+}
+
+/// Lengthens the group of this place, the first that takes the piece.
+fn lengthen(output: &mut Output, place: usize, piece: Piece) -> Result<(), AllocError>
+    requires flat { piece.shape ≡ Flat }
+    requires sound { IsPiece piece }
+    requires ends { output.old.ends ≡ map flat_end output.old.groups.items }
+    requires first { IsFirst (is_end (end_before 1 piece)) output.old.ends (Some place) }
+    ensures ends { OnOk result (output.new.ends ≡ map flat_end output.new.groups.items) }
+    ensures put { OnOk result (output.new.groups.items ≡ put_to_first (lengthened piece) (piece ∷ []) output.old.groups.items) }
+{
+    output.groups[place].lengthen(piece);
+    output.ends.set(place, End::of(&piece))
+}
+
+/// Puts a flat piece to the first one that it goes on from, and else behind the others.
+fn put_flat(output: &mut Output, piece: Piece) -> Result<(), AllocError>
+    requires flat { piece.shape ≡ Flat }
+    requires sound { IsPiece piece }
+    requires ends { output.old.ends ≡ map flat_end output.old.groups.items }
+    ensures ends { OnOk result (output.new.ends ≡ map flat_end output.new.groups.items) }
+    ensures put { OnOk result (output.new.groups.items ≡ put_to_first (lengthened piece) (piece ∷ []) output.old.groups.items) }
+{
+    match output.ends.first(End::before(&piece, FLAT)) {
+        Some(place) => lengthen(output, place, piece),
+        None => {
+            let alloc = *output.groups.allocator();
+            output.push(Group::alone(alloc, piece), Some(End::of(&piece)))
+        }
+    }
+}
+
+/// Puts a group to those that are put out.
+fn put_joined(output: &mut Output, group: Group) -> Result<(), AllocError>
+    requires ends { output.old.ends ≡ map flat_end output.old.groups.items }
+    ensures ends { OnOk result (output.new.ends ≡ map flat_end output.new.groups.items) }
+    ensures put { OnOk result (output.new.groups.items ≡ spec.put_joined output.old.groups.items group) }
+{
+    let _ = group.pieces();
+    match flat_alone(&group) {
+        Some(piece) => put_flat(output, piece),
+        None => output.push(group, None),
+    }
+}
+
+/// The groups put out one after the other.
+fn joined(intervals: Intervals) -> Result<Vec<Group>, AllocError>
+    ensures { IfOk result (λ groups. groups.items ≡ spec.join_cuts intervals) }
+{
+    let mut output = Output::new(intervals.allocator());
+    for group in intervals.into_groups() {
+        put_joined(&mut output, group)?;
+    }
+    Ok(output.groups)
+}
+
+/// Joins flat pieces that go on without a gap, in destination and source, on the same channels of one file: a group of one
+/// flat piece lengthens the first such group that it goes on from, and every other group stays as it is. A cut that isn't
+/// heard is gone then.
+pub fn join_cuts(intervals: Intervals) -> Result<Intervals, PassFault>
+    ensures gives { IfOk result (λ new. new ≡ spec.join_cuts intervals) }
+    ensures keeps_mix { (reading : Reading) (channel time : ℕ) → IfOk result (λ new. mix_of reading new channel time ≡ mix_of reading intervals channel time) }
+    ensures keeps_whole { IfOk result (λ new. are_whole new ≡ are_whole intervals) }
+    ensures same_reads { (file channel frame : ℕ) → IfOk result (λ new. reads new file channel frame ≡ reads intervals file channel frame) }
+{
+    let _ = intervals.groups();
+    Ok(Intervals::of(joined(intervals)?))
+}

@@ -1,0 +1,91 @@
+// Marks in a list, each found at its first place by an ordered index.
+ghost use Rattle.std.specs.Prelude.{◌≡◌, ◌++◌, ◌∷◌, [], ◌<◌, length, None, Some, slice_get, slice_set, OnOk};
+ghost use Rattle.passes.specs.Ends.{IsFirst, is_end};
+
+use crate::ends::End;
+use std::alloc::{AllocError, Global};
+use std::collections::BTreeSet;
+use std::marker::Model;
+
+/// A list of marks, some of them none, in which the first place of a mark is found without a search of all. A clause sees
+/// the list.
+#[derive(Drop)]
+pub(crate) struct Marks {
+    marks: Vec<Option<End>>,
+    places: BTreeSet<(End, usize)>,
+}
+
+impl Model for Marks {
+    ghost use Rattle.std.specs.Prelude.{List, Option};
+    ghost use Rattle.passes.specs.declared.ends.End.{End};
+    ghost use Rattle.passes.specs.Ends.{IsIndexOf};
+
+    ghost Value = { List (Option End) };
+
+    ghost view = { λ it. it.marks.items };
+
+    ghost invariant = { λ it. IsIndexOf it.marks.items it.places };
+}
+
+impl Marks {
+    /// No marks.
+    pub(crate) fn new(alloc: Global) -> Self
+        ensures { result ≡ [] }
+    {
+        Marks {
+            marks: Vec::new(alloc),
+            places: BTreeSet::new(alloc),
+        }
+    }
+
+    /// The first place of this mark.
+    pub(crate) fn first(&self, end: End) -> Option<usize>
+        ensures { IsFirst (is_end end) self.now result }
+    {
+        let mut behind = self.places.range((end, 0)..);
+        let found = behind.next()?;
+        if found.0 == end { Some(found.1) } else { None }
+    }
+
+    /// Puts a mark to a place that has none.
+    fn put(&mut self, place: usize, end: End) -> Result<(), AllocError>
+        requires { slice_get self.old place ≡ Some None }
+        ensures { OnOk result (self.new ≡ slice_set self.old place (Some end)) }
+    {
+        self.places.insert((end, place))?;
+        self.marks[place] = Some(end);
+        Ok(())
+    }
+
+    /// Takes the mark of a place away.
+    fn clear(&mut self, place: usize)
+        requires { place < length self.old }
+        ensures { self.new ≡ slice_set self.old place None }
+    {
+        if let Some(end) = self.marks[place] {
+            self.places.remove(&(end, place));
+            self.marks[place] = None;
+        }
+    }
+
+    /// Adds a mark, or none, behind the others.
+    pub(crate) fn push(&mut self, mark: Option<End>) -> Result<(), AllocError>
+        ensures { OnOk result (self.new ≡ self.old ++ mark ∷ []) }
+    {
+        let place = self.marks.len();
+        self.marks.push(None)?;
+        match mark {
+            Some(end) => self.put(place, end),
+            None => Ok(()),
+        }
+    }
+
+    /// Puts a mark in place of what a place has.
+    pub(crate) fn set(&mut self, place: usize, end: End) -> Result<(), AllocError>
+        requires { place < length self.old }
+        ensures { OnOk result (self.new ≡ slice_set self.old place (Some end)) }
+    {
+        self.clear(place);
+        self.put(place, end)
+    }
+}

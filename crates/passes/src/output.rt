@@ -1,0 +1,37 @@
+// The groups that a pass puts out.
+ghost use Rattle.std.specs.Prelude.{◌≡◌, ◌++◌, ◌∷◌, [], OnOk};
+
+use crate::ends::End;
+use crate::marks::Marks;
+use interval::Group;
+use std::alloc::{AllocError, Global};
+
+/// The groups that a pass has put out, each with the mark by which it is found.
+#[derive(Drop)]
+pub(crate) struct Output {
+    pub(crate) groups: Vec<Group>,
+    pub(crate) ends: Marks,
+}
+
+impl Output {
+    /// No groups.
+    pub(crate) fn new(alloc: Global) -> Self
+        ensures groups { result.groups.items ≡ [] }
+        ensures ends { result.ends ≡ [] }
+    {
+        Output {
+            groups: Vec::new(alloc),
+            ends: Marks::new(alloc),
+        }
+    }
+
+    /// Puts a group behind the others.
+    pub(crate) fn push(&mut self, group: Group, end: Option<End>) -> Result<(), AllocError>
+        ensures groups { OnOk result (self.new.groups.items ≡ self.old.groups.items ++ group ∷ []) }
+        ensures ends { OnOk result (self.new.ends ≡ self.old.ends ++ end ∷ []) }
+    {
+        self.ends.push(end)?;
+        self.groups.push(group)?;
+        Ok(())
+    }
+}
