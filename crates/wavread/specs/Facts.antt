@@ -39,6 +39,7 @@ facts_told name channels depth frames place bext history short_bext history_cut 
 pub record IsSound (facts : SoundFacts) : Type 0 where
   pub some_channels : 1 ≤ facts.channels
   pub few_channels : facts.channels ≤ 64
+  pub few_bits : facts.depth ≤ 32
   pub history_fits : length facts.history ≤ 65536
   pub few_frames : facts.frames < 2 ^ 64
   pub ends : facts.place + facts.frames * frame_bytes facts < 2 ^ 64

@@ -1,10 +1,12 @@
 // An opened sound file.
-ghost use Rattle.std.specs.Prelude.{◌≡◌, ◌≤◌, ◌<◌, ◌+◌, ◌-◌, ◌*◌, ◌/◌, ◌^◌, ℕ, List, Some, pos, get_or, length, option_map, string_bytes, vec_len, IsTrue, IsErrOf, OnOk};
+ghost use Rattle.std.specs.Prelude.{◌≡◌, ◌≤◌, ◌<◌, ◌+◌, ◌-◌, ◌*◌, ◌/◌, ◌^◌, ℕ, List, Some, pos, get_or, length, option_map, string_bytes, vec_len, IsTrue, IsErrOf, IsSome, OnOk};
+ghost use Rattle.std.specs.List.{All};
 ghost use Rattle.sound_terms.specs.Depth.{bits_of};
 ghost use Rattle.work_terms.specs.Disk.{IsRange};
 ghost use Rattle.shelf.specs.Frame.{OnlyReads};
 ghost use Rattle.sound_terms.specs.Waves.{sample_at};
 ghost use Rattle.wavread.specs.Facts.{facts_told, frame_bytes, AreFrames};
+ghost use Rattle.pcm.specs.Samples.{FitsDepth};
 
 use crate::bext_chunk::Told;
 use pcm::unpack;
@@ -201,8 +203,9 @@ impl Sound {
         Ok(())
     }
 
-    /// Reads so many frames from this one on, a sample of every channel after the other.
-    fn read_frames<S: Shelf>(
+    /// Fills `frames` with so many frames from this one on, a sample of every channel after the other. `buffer` has room
+    /// for their bytes, at least. `Device` where a read fails; the frames are then unspecified.
+    pub fn read_frames<S: Shelf>(
         &self,
         shelf: &mut S,
         from: u64,
@@ -211,11 +214,12 @@ impl Sound {
         frames: &mut [i32],
     ) -> Result<(), ShelfFault>
         requires whole { length frames.old ≡ count * self.now.channels }
-        requires few { length frames.old ≤ 1024 }
-        requires room { length buffer.old ≡ 4096 }
+        requires room { length frames.old * (self.now.depth / 8) ≤ length buffer.old }
         requires inside { from + count ≤ self.now.frames }
         ensures frames { IsTrue (S.honest shelf.old) → (file : List ℕ) → S.stored shelf.old self.now.name ≡ Some file
             → OnOk result (AreFrames file (self.now.place + from * frame_bytes self.now) self.now.depth frames.new) }
+        ensures there { IsTrue (S.honest shelf.old) → OnOk result (IsSome (S.stored shelf.old self.now.name)) }
+        ensures fit { OnOk result (All (FitsDepth self.now.depth) frames.new) }
         ensures not_missing { IsErrOf result ShelfFault.NotFound → ⊥ }
         ensures only_reads { OnlyReads S.Shelf shelf.old shelf.new result (λ fault. fault ≡ ShelfFault.Device) (λ _ failed. failed self.now.name) }
     {

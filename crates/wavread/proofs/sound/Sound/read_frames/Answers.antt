@@ -1,7 +1,7 @@
-use Rattle.std.proofs.Common.{◌≡◌, ◌≤◌, ◌+◌, ◌*◌, ◌/◌, ℕ, length, arith, subst, ap, ◌∙◌, length-take}
+use Rattle.std.proofs.Common.{◌≡◌, ◌≤◌, ◌+◌, ◌*◌, ◌/◌, ℕ, length, arith, subst, sym, ap, ◌∙◌, length-take}
 use Rattle.sound_terms.specs.Depth.{bits_of}
 use Rattle.wavread.specs.Facts.{AreFrames, frame_bytes}
-use Rattle.wavread.proofs.Frames.{few_bytes, frames_told}
+use Rattle.wavread.proofs.Frames.{frames_told}
 use Rattle.wavread.proofs.sound.Sound.read_frames.Goals as goal
 
 pub read_bytes-requires : goal.read_bytes-requires
@@ -9,12 +9,11 @@ read_bytes-requires g c =
     let frames = c.args.frames.now in
     let width : c.from.result ≡ bits_of c.depth-depth.result / 8 = c.from.ensures ∙ ap (λ b. b / 8) c.bits.ensures in
     let told : c.from.result ≡ c.args.self.now.depth / 8 = width ∙ ap (λ b. b / 8) c.depth-depth.ensures in
-    let narrow : c.from.result ≤ 4 = omega (arith, width, few_bytes c.depth-depth.result) in
-    let few = c.requires.few in
-    let room : length frames * c.from.result ≤ 1024 * 4 = grind (arith, narrow, few) in
+    let room : length frames * c.from.result ≤ length c.args.buffer.now =
+    subst (λ (w : ℕ). length frames * w ≤ length c.args.buffer.now) (sym told) c.requires.room in
     let taken : length frames * c.from.result ≡ c.args.count * frame_bytes c.args.self.now =
     ap (λ n. n * c.from.result) c.requires.whole ∙ ap (λ w. c.args.count * c.args.self.now.channels * w) told ∙ omega arith in
-    record { whole = (c.args.count, length-take (length frames * c.from.result) c.args.buffer.now ∙ omega (arith, room, taken, c.requires.room), c.requires.inside) }
+    record { whole = (c.args.count, length-take (length frames * c.from.result) c.args.buffer.now ∙ omega (arith, room, taken), c.requires.inside) }
 
 pub returns-clause-frames : goal.returns-clause-frames
 returns-clause-frames g c = λ honest file there.
@@ -23,11 +22,11 @@ returns-clause-frames g c = λ honest file there.
     let bits = bits_of c.depth-depth.result in
     let place = c.args.self.now.place + c.args.from * frame_bytes c.args.self.now in
     let width : c.from.result ≡ bits / 8 = c.from.ensures ∙ ap (λ b. b / 8) c.bits.ensures in
-    let narrow : c.from.result ≤ 4 = omega (arith, width, few_bytes c.depth-depth.result) in
-    let few = c.requires.few in
-    let room : length c.args.frames.now * c.from.result ≤ 1024 * 4 = grind (arith, narrow, few) in
+    let told : c.from.result ≡ c.args.self.now.depth / 8 = width ∙ ap (λ b. b / 8) c.depth-depth.ensures in
+    let room : length c.args.frames.now * c.from.result ≤ length c.args.buffer.now =
+    subst (λ (w : ℕ). length c.args.frames.now * w ≤ length c.args.buffer.now) (sym told) c.requires.room in
     let read : length c.read_bytes.new.bytes ≡ length c.args.frames.now * c.from.result =
-    c.read_bytes.auto.bytes ∙ length-take (length c.args.frames.now * c.from.result) c.args.buffer.now ∙ omega (arith, room, c.requires.room) in
+    c.read_bytes.auto.bytes ∙ length-take (length c.args.frames.now * c.from.result) c.args.buffer.now ∙ omega (arith, room) in
     let count : length c.read_bytes.new.bytes ≡ length c.args.frames.now * (bits / 8) =
     read ∙ ap (λ w. length c.args.frames.now * w) width in
     subst (λ (b : ℕ). AreFrames file place b samples) c.depth-depth.ensures
