@@ -72,7 +72,7 @@ module _ (r : Reading) (channel time : ℕ) where
   abbrev pub sum_at : List Piece → ℤ
   sum_at group = sum_of r group channel time
 
-  sum_of-append : (a b : List Piece) → sum_at (a ++ b) ≡ sum_at a +ℤ sum_at b
+  pub sum_of-append : (a b : List Piece) → sum_at (a ++ b) ≡ sum_at a +ℤ sum_at b
   sum_of-append [] b = omega (arith, ints)
   sum_of-append (p ∷ ps) b = omega (arith, ints, sum_of-append ps b)
 

@@ -9,18 +9,18 @@ use Rattle.sound_terms.specs.Groups.{AreGroups, IsGroup, IsPiece, RiseFrom, star
 use Rattle.sound_terms.specs.Passes.{chosen, is_flat, join_cuts, lengthened, put_joined, put_to_first}
 use Rattle.passes.proofs.Longer.{by_longer, longer_is_piece}
 
-abbrev Put : Type 0
+abbrev pub Put : Type 0
 Put = List (List Piece) → List Piece → List (List Piece)
 
-nothing : {X : Type 0} (P : X → Type 0) → All P []
+pub nothing : {X : Type 0} (P : X → Type 0) → All P []
 nothing P k d below = absurd (omega arith)
 
 module _ (P : List Piece → Type 0) where
   -- what a group is that another one is joined to
-  abbrev Keeps : (List Piece → Option (List Piece)) → Type 0
+  abbrev pub Keeps : (List Piece → Option (List Piece)) → Type 0
   Keeps takes = (group joined : List Piece) → takes group ≡ Some joined → P group → P joined
 
-  all_put : (takes : List Piece → Option (List Piece)) (own : List Piece) → Keeps takes → P own
+  pub all_put : (takes : List Piece → Option (List Piece)) (own : List Piece) → Keeps takes → P own
       → (groups : List (List Piece)) → All P groups → All P (put_to_first takes own groups)
   all_put takes own keeps is [] all = All-cons P own [] is (nothing P)
   all_put takes own keeps is (group ∷ groups) all =
@@ -34,7 +34,7 @@ module _ (P : List Piece → Type 0) where
   all_push : (own : List Piece) (groups : List (List Piece)) → P own → All P groups → All P (groups ++ own ∷ [])
   all_push own groups is all = All-append P groups (own ∷ []) all (All-cons P own [] is (nothing P))
 
-  all_fold : (put : Put) → ((out : List (List Piece)) (own : List Piece) → All P out → P own → All P (put out own))
+  pub all_fold : (put : Put) → ((out : List (List Piece)) (own : List Piece) → All P out → P own → All P (put out own))
       → (rest out : List (List Piece)) → All P out → All P rest → All P (fold put out rest)
   all_fold put keeps [] out all left = all
   all_fold put keeps (own ∷ rest) out all left =
@@ -59,15 +59,15 @@ rise_without low [] behind own rise = rise_more low (start_of own) behind rise.0
 rise_without low (group ∷ groups) behind own rise = (rise.0, rise_without (start_of group) groups behind own rise.1)
 
 -- a group that is joined to another one begins where that one does
-abbrev KeepsStart : (List Piece → Option (List Piece)) → Type 0
+abbrev pub KeepsStart : (List Piece → Option (List Piece)) → Type 0
 KeepsStart takes = (group joined : List Piece) → takes group ≡ Some joined → start_of joined ≡ start_of group
 
 -- putting keeps the order, also before what is left to be put
-abbrev KeepsOrder : Put → Type 0
+abbrev pub KeepsOrder : Put → Type 0
 KeepsOrder put = (low : ℕ) (out behind : List (List Piece)) (own : List Piece) → RiseFrom low (out ++ own ∷ behind)
     → RiseFrom low (put out own ++ behind)
 
-rise_put : (takes : List Piece → Option (List Piece)) → KeepsStart takes
+pub rise_put : (takes : List Piece → Option (List Piece)) → KeepsStart takes
     → (low : ℕ) (out behind : List (List Piece)) (own : List Piece)
     → RiseFrom low (out ++ own ∷ behind) → RiseFrom low (put_to_first takes own out ++ behind)
 rise_put takes same low [] behind own rise = rise
@@ -86,7 +86,7 @@ rise_push : (low : ℕ) (out behind : List (List Piece)) (own : List Piece) → 
     → RiseFrom low ((out ++ own ∷ []) ++ behind)
 rise_push low out behind own rise = rw append_assoc rise
 
-rise_fold : (put : Put) → KeepsOrder put → (rest out : List (List Piece)) → RiseFrom 0 (out ++ rest)
+pub rise_fold : (put : Put) → KeepsOrder put → (rest out : List (List Piece)) → RiseFrom 0 (out ++ rest)
     → RiseFrom 0 (fold put out rest)
 rise_fold put keeps [] out rise = rw append-nil at rise
 rise_fold put keeps (own ∷ rest) out rise = rise_fold put keeps rest (put out own) (keeps 0 out rest own rise)

@@ -7,3 +7,4 @@ pub mod Totals
 pub mod Longer
 pub mod Kept
 pub mod JoinedCuts
+pub mod Regrouped

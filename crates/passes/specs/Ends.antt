@@ -1,5 +1,5 @@
 -- What goes on with a group, and where it is found in a list.
-use Rattle.std.specs.Prelude.{◌≡◌, ℕ, zero, suc, ◌+◌, ◌<◌, ◌==◌, ◌&&◌, Bool, true, false, List, [], ◌∷◌, Option, None}
+use Rattle.std.specs.Prelude.{◌≡◌, ℕ, zero, suc, ◌+◌, ◌<◌, ◌==◌, ◌&&◌, nat_lt, Bool, true, false, List, [], ◌∷◌, Option, None}
 use Rattle.std.specs.Prelude.{Some, option_map, if◌then◌else◌}
 use Rattle.std.specs.declared.cmp.Ordering.{Ordering}
 use Rattle.std.specs.Ordering.{nat_cmp, ordering_then}
@@ -43,6 +43,15 @@ flat_alone (p ∷ q ∷ ps) = None
 abbrev pub flat_end : List Piece → Option End
 flat_end group = option_map end_of (flat_alone group)
 
+abbrev pub last_piece : List Piece → Option Piece
+last_piece [] = None
+last_piece (p ∷ []) = Some p
+last_piece (p ∷ q ∷ ps) = last_piece (q ∷ ps)
+
+-- the end of a group is that of its last piece
+abbrev pub group_end : List Piece → Option End
+group_end group = option_map end_of (last_piece group)
+
 -- the same in all that it tells
 abbrev pub is_same : End → End → Bool
 is_same a b =
@@ -52,6 +61,16 @@ is_same a b =
 abbrev pub is_end : End → Option End → Bool
 is_end end None = false
 is_end end (Some mark) = is_same end mark
+
+-- a piece goes on from this end, behind a shape of a lower rank
+abbrev pub follows : Piece → Option End → Bool
+follows p None = false
+follows p (Some end) = nat_lt end.rank (rank_of p.shape) && is_same (end_before end.rank p) end
+
+-- so does the first piece of a group
+abbrev pub group_follows : List Piece → Option End → Bool
+group_follows [] mark = false
+group_follows (p ∷ ps) mark = follows p mark
 
 -- a test holds at this place
 abbrev pub holds_at : {X : Type 0} → (X → Bool) → List X → ℕ → Bool
@@ -64,6 +83,12 @@ abbrev pub IsFirst : {X : Type 0} → (X → Bool) → List X → Option ℕ →
 IsFirst test xs None = (place : ℕ) → holds_at test xs place ≡ false
 IsFirst test xs (Some first) = (holds_at test xs first ≡ true) × ((place : ℕ) → place < first → holds_at test xs place
     ≡ false)
+
+-- the first of two places, where there are any
+abbrev pub earlier : Option ℕ → Option ℕ → Option ℕ
+earlier None other = other
+earlier (Some one) None = Some one
+earlier (Some one) (Some other) = if nat_lt other one then Some other else Some one
 
 -- by rank, then start, and so on
 abbrev pub end_cmp : End → End → Ordering

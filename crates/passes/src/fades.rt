@@ -1,10 +1,11 @@
 // Each piece as a group of its own.
-ghost use Rattle.std.specs.Prelude.{◌≡◌, ◌++◌, ℕ, IfOk, OnOk};
+ghost use Rattle.std.specs.Prelude.{◌≡◌, ◌++◌, ℕ, IfOk, IfErr, OnOk};
 ghost use Rattle.std.specs.List.{flat_map};
 ghost use Rattle.sound_terms.specs.Mix.{Reading};
 ghost use Rattle.sound_terms.specs.Groups.{are_whole, mix_of, reads};
 ghost use Rattle.sound_terms.specs.Passes as spec;
 ghost use Rattle.passes.specs.Alone.{each_alone};
+ghost use Rattle.passes.specs.declared.fault.PassFault.TheVariants.{Memory};
 
 use crate::PassFault;
 use interval::{Group, Intervals};
@@ -38,6 +39,7 @@ pub fn split_fades(intervals: Intervals) -> Result<Intervals, PassFault>
     ensures keeps_mix { (reading : Reading) (channel time : ℕ) → IfOk result (λ new. mix_of reading new channel time ≡ mix_of reading intervals channel time) }
     ensures keeps_whole { IfOk result (λ new. are_whole new ≡ are_whole intervals) }
     ensures same_reads { (file channel frame : ℕ) → IfOk result (λ new. reads new file channel frame ≡ reads intervals file channel frame) }
+    ensures memory { IfErr result (λ fault. fault ≡ Memory) }
 {
     let _ = intervals.groups();
     Ok(Intervals::ordered(pieces_alone(&intervals)?)?)

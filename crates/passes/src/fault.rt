@@ -1,6 +1,7 @@
 // Why a pass fails.
 ghost use Rattle.std.specs.Prelude.{◌≡◌};
 ghost use Rattle.passes.specs.Fault.{number_of};
+ghost use Rattle.passes.specs.declared.fault.PassFault.TheVariants.{Memory};
 
 use std::alloc::AllocError;
 use thiserror::Error;
@@ -29,6 +30,8 @@ impl PassFault {
 }
 
 impl From<AllocError> for PassFault {
+    ghost from_gives = { λ _ fault. fault ≡ Memory };
+
     fn from(_: AllocError) -> Self {
         PassFault::Memory
     }

@@ -1,5 +1,5 @@
 // Flat pieces that go on without a gap, as one.
-ghost use Rattle.std.specs.Prelude.{◌≡◌, ◌∷◌, [], ◌<◌, ℕ, length, map, IsTrue, IfOk, OnOk, IsSome, slice_index_or, slice_set};
+ghost use Rattle.std.specs.Prelude.{◌≡◌, ◌∷◌, [], ℕ, map, IfOk, IfErr, OnOk};
 ghost use Rattle.sound_terms.specs.declared.piece.Shape.TheVariants.{Flat};
 ghost use Rattle.sound_terms.specs.Mix.{Reading};
 ghost use Rattle.sound_terms.specs.Groups.{IsPiece, are_whole, mix_of, reads};
@@ -7,6 +7,7 @@ ghost use Rattle.sound_terms.specs.Passes as spec;
 ghost use Rattle.sound_terms.specs.Passes.{lengthened, put_to_first};
 ghost use Rattle.passes.specs.Ends as ends;
 ghost use Rattle.passes.specs.Ends.{IsFirst, end_before, flat_end, is_end};
+ghost use Rattle.passes.specs.declared.fault.PassFault.TheVariants.{Memory};
 
 use crate::PassFault;
 use crate::ends::End;
@@ -37,7 +38,7 @@ fn lengthen(output: &mut Output, place: usize, piece: Piece) -> Result<(), Alloc
     ensures put { OnOk result (output.new.groups.items ≡ put_to_first (lengthened piece) (piece ∷ []) output.old.groups.items) }
 {
     output.groups[place].lengthen(piece);
-    output.ends.set(place, End::of(&piece))
+    output.ends.set(place, Some(End::of(&piece)))
 }
 
 /// Puts a flat piece to the first one that it goes on from, and else behind the others.
@@ -89,6 +90,7 @@ pub fn join_cuts(intervals: Intervals) -> Result<Intervals, PassFault>
     ensures keeps_mix { (reading : Reading) (channel time : ℕ) → IfOk result (λ new. mix_of reading new channel time ≡ mix_of reading intervals channel time) }
     ensures keeps_whole { IfOk result (λ new. are_whole new ≡ are_whole intervals) }
     ensures same_reads { (file channel frame : ℕ) → IfOk result (λ new. reads new file channel frame ≡ reads intervals file channel frame) }
+    ensures memory { IfErr result (λ fault. fault ≡ Memory) }
 {
     let _ = intervals.groups();
     Ok(Intervals::of(joined(intervals)?))

@@ -4,6 +4,8 @@
 mod ends;
 mod fades;
 mod fault;
+mod grouping;
+mod in_turn;
 mod joining;
 mod looking;
 mod marks;
@@ -13,6 +15,8 @@ mod silence;
 
 pub use fades::split_fades;
 pub use fault::PassFault;
+pub use grouping::regroup;
+pub use in_turn::standard;
 pub use joining::join_cuts;
 pub use looking::silent_of;
 pub use samples::Samples;

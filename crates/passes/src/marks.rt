@@ -80,12 +80,15 @@ impl Marks {
         }
     }
 
-    /// Puts a mark in place of what a place has.
-    pub(crate) fn set(&mut self, place: usize, end: End) -> Result<(), AllocError>
+    /// Puts a mark, or none, in place of what a place has.
+    pub(crate) fn set(&mut self, place: usize, mark: Option<End>) -> Result<(), AllocError>
         requires { place < length self.old }
-        ensures { OnOk result (self.new ≡ slice_set self.old place (Some end)) }
+        ensures { OnOk result (self.new ≡ slice_set self.old place mark) }
     {
         self.clear(place);
-        self.put(place, end)
+        match mark {
+            Some(end) => self.put(place, end),
+            None => Ok(()),
+        }
     }
 }

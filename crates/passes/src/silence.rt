@@ -1,9 +1,10 @@
 // Groups without those that are silent.
-ghost use Rattle.std.specs.Prelude.{◌≡◌, ◌++◌, ℕ, IsTrue, IfOk};
+ghost use Rattle.std.specs.Prelude.{◌≡◌, ◌++◌, ℕ, IsTrue, IfOk, IfErr};
 ghost use Rattle.std.specs.List.{list_all};
 ghost use Rattle.sound_terms.specs.Groups.{SameMix, are_whole, reads};
 ghost use Rattle.sound_terms.specs.Passes as spec;
 ghost use Rattle.sound_terms.specs.Passes.{without_silent};
+ghost use Rattle.passes.specs.declared.fault.PassFault.TheVariants.{Memory};
 
 use crate::PassFault;
 use interval::{Group, Intervals};
@@ -46,6 +47,7 @@ pub fn drop_silent(intervals: Intervals, silent: &[bool]) -> Result<Intervals, P
     ensures keeps_mix { IfOk result (λ new. SameMix intervals silent.now new) }
     ensures keeps_whole { IfOk result (λ new. IsTrue (are_whole intervals) → IsTrue (are_whole new)) }
     ensures reads_no_more { (file channel frame : ℕ) → IfOk result (λ new. IsTrue (reads new file channel frame) → IsTrue (reads intervals file channel frame)) }
+    ensures memory { IfErr result (λ fault. fault ≡ Memory) }
 {
     let _ = intervals.groups();
     Ok(Intervals::of(sounding(intervals, silent)?))

@@ -1,0 +1,12 @@
+use Rattle.std.proofs.Common.{◌≡◌, map}
+use Rattle.std.specs.List.{fold}
+use Rattle.std.specs.Vec.Iter.{into_iter_items}
+use Rattle.sound_terms.specs.Passes.{put_grouped, regroup}
+use Rattle.passes.specs.Ends.{group_end}
+use Rattle.passes.proofs.grouping.grouped.Given as goal
+
+-- what is left is put to what is put out, and each group has its mark
+abbrev pub invariant-loop-group : goal.invariant-loop-group
+invariant-loop-group l =
+    (fold put_grouped l.output.groups.items (into_iter_items l.group-iterator) ≡ regroup l.fn.intervals)
+    × (l.output.ends ≡ map group_end l.output.groups.items)
