@@ -11,7 +11,7 @@ pub invariant_of-self : goal.invariant_of-self
 invariant_of-self c =
     let number = c.args.number in
     let free : list_any (λ e. e.number == number) (all_events c.args.self.now.events.items c.args.self.now.entry) ≡ false
-        = grind (arith, nat_tests, c.args.self.now.flags number) in
+    = grind (arith, nat_tests, c.args.self.now.flags number) in
     let before : c.close.new.self.events.items ≡ all_events c.args.self.now.events.items c.args.self.now.entry = search rules in
     record {
       flags = grind (arith, common_steps);
@@ -22,7 +22,7 @@ pub invariant_of-self-else-is_none : goal.invariant_of-self-else-is_none
 invariant_of-self-else-is_none c =
     let number = c.args.number in
     let free : list_any (λ e. e.number == number) (all_events c.args.self.now.events.items c.args.self.now.entry) ≡ false
-        = grind (arith, nat_tests, c.args.self.now.flags number) in
+    = grind (arith, nat_tests, c.args.self.now.flags number) in
     let before : c.close.new.self.events.items ≡ all_events c.args.self.now.events.items c.args.self.now.entry = search rules in
     record {
       flags = grind (arith, common_steps);
