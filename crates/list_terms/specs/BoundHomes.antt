@@ -1,5 +1,6 @@
 -- What holds of every binding, and the home index of each of its files.
-use Rattle.std.specs.Prelude.{◌≡◌, ℕ, ◌+◌, ◌<◌, ◌==◌, nat_le, List, [], ◌∷◌, length, All, Contains, Option, None, Some, if◌then◌else◌, slice_get, unwrap_or}
+use Rattle.std.specs.Prelude.{◌≡◌, ℕ, ◌+◌, ◌<◌, ◌==◌, nat_le, Bool, true, List, [], ◌∷◌, length, All, Option, None, Some, if◌then◌else◌, slice_get, unwrap_or}
+use Rattle.std.specs.List.{list_any}
 use Rattle.sound_terms.specs.declared.BoundIndex.{BoundIndex}
 use Rattle.sound_terms.specs.declared.piece.Home.{Home}
 use Rattle.list_terms.specs.Binding.{Binding, OpenedFile, addressable_from, file_named}
@@ -15,14 +16,14 @@ abbrev pub AreNamed : List OpenedFile → Type 0
 AreNamed files = (i : ℕ) (file : OpenedFile) → slice_get files i ≡ Some file → file_named file.facts.name files ≡ Some i
 
 -- some index is of this file
-abbrev pub HasIndex : List BoundIndex → ℕ → Type 0
-HasIndex indexes file = (index : BoundIndex) × Contains indexes index × (index.file ≡ file)
+abbrev pub has_index : List BoundIndex → ℕ → Bool
+has_index indexes file = list_any (λ index. index.file == file) indexes
 
 -- what holds of every binding
 pub record IsBinding (binding : Binding) : Type 0 where
   pub bound : All (IsBoundTo binding.files) binding.indexes
   pub named : AreNamed binding.files
-  pub used : (file : ℕ) → file < length binding.files → HasIndex binding.indexes file
+  pub used : (file : ℕ) → file < length binding.files → has_index binding.indexes file ≡ true
 
 -- what an index tells that stands at this place among those bound
 abbrev pub home_at : ℕ → BoundIndex → Home

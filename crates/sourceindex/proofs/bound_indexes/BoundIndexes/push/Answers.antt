@@ -1,0 +1,14 @@
+use Rattle.std.proofs.Common.{◌≡◌, ◌∷◌, ◌++◌, ◌<◌, [], None, arith, length}
+use Rattle.sourceindex.proofs.Places.{is_nothing, place_added, read_as}
+use Rattle.sourceindex.proofs.bound_indexes.BoundIndexes.push.Goals as goal
+
+pub invariant_of-self-then-is_none : goal.invariant_of-self-then-is_none
+invariant_of-self-then-is_none c =
+    let indexes = c.self.inside.indexes.items in
+    let places = c.self.inside.places.items in
+    let index = c.args.index in
+    let pushed : c.push.new.self.items ≡ indexes ++ index ∷ [] = c.in_ok-push.ensures.items in
+    let place : c.len-place.result ≡ length indexes = omega (arith, c.self.inside.indexes.ok.0) in
+    let below : index.number < length places = omega (arith, c.if-number-len.true, c.self.inside.places.ok.0) in
+    let free = read_as places index.number c.index.result.now None None below c.index.ensures (is_nothing c.index.result.now c.if-is_none.ensures) in
+    rw (pushed, place) (place_added indexes places index c.self.invariant below free)

@@ -1,0 +1,41 @@
+-- What the fault of a project tells: its index, the source of that index, and in which turn it comes.
+use Rattle.std.specs.Prelude.{◌≡◌, ℕ, true, List, Contains, ◌⊎◌, Some, Ok, IsSome, slice_get, take}
+use Rattle.work_terms.specs.Disk.{Files}
+use Rattle.work_terms.specs.Refusals.{Where, IndexFile}
+use Rattle.list_terms.specs.Project.{ListProject, Source}
+use Rattle.list_terms.specs.Names.{place_of_url}
+use Rattle.list_terms.specs.Binding.{Binding, is_used, nothing_bound}
+use Rattle.list_terms.specs.Bound.{with_sources}
+use Rattle.riff.specs.declared.fault.MediaFault.{MediaFault}
+use Rattle.riff.specs.declared.fault.MediaFault.TheVariants.{Memory}
+use Rattle.sourceindex.specs.declared.fault.BindFault.{BindFault}
+use Rattle.sourceindex.specs.declared.fault.BindFault.TheVariants.{SameName, Media}
+
+-- the source at this place has the number, and its URL names a file
+pub record IsSourceAt (project : ListProject) (place number : ℕ) : Type 0 where
+  pub source : Source
+  pub there : slice_get project.sources place ≡ Some source
+  pub number_is : source.number ≡ number
+  pub file : IsSome (place_of_url source.url)
+
+-- an entry of the project names the index of this number, which is the source at this place
+pub record IsUsedAt (project : ListProject) (place number : ℕ) : Type 0 where
+  pub at : IsSourceAt project place number
+  pub used : is_used project.events number ≡ true
+
+-- the index that is told is one of the project; an entry names it, but where no memory was left to tell that none does
+abbrev pub IsOfProject : ListProject → BindFault → Type 0
+IsOfProject project (SameName index) = (place : ℕ) × IsUsedAt project place index
+IsOfProject project (Media index place fault) =
+    IsSourceAt project place index × ((is_used project.events index ≡ true) ⊎ (fault ≡ Memory))
+
+-- no index before the one that is told is at fault
+abbrev pub ComesFirst : ListProject → Files → BindFault → Type 0
+ComesFirst project files (SameName index) = Unit {0}
+ComesFirst project files (Media index place fault) =
+    (binding : Binding) × (with_sources files project.events nothing_bound (take place project.sources) ≡ Ok binding)
+
+-- the place names a file of which this holds
+abbrev pub HoldsOfFile : (List ℕ → Type 0) → Where → Type 0
+HoldsOfFile P (IndexFile index name) = P name
+HoldsOfFile P _ = ⊥

@@ -1,0 +1,182 @@
+// A binding in the making.
+ghost use Rattle.std.specs.Prelude.{◌≡◌, ◌<◌, ◌⊎◌, IfErr, IsTrue, None, OnOk, Some, length, slice_get, true};
+ghost use Rattle.sound_terms.specs.Mix.{index_of};
+ghost use Rattle.shelf.specs.Frame.{OnlyReads};
+ghost use Rattle.list_terms.specs.Binding.{OpenedFile, file_named, is_used, nothing_bound, with_index, with_known_file};
+ghost use Rattle.list_terms.specs.Bound.{bound_source, bound_to_new, with_source};
+ghost use Rattle.list_terms.specs.BoundHomes.{IsBinding};
+ghost use Rattle.list_terms.specs.Heard.{sounds_of};
+ghost use Rattle.list_terms.specs.Names.{place_of_url};
+ghost use Rattle.sourceindex.specs.Fault.{name_of_source, refusal_of_source};
+ghost use Rattle.sourceindex.specs.Taken.{Takes};
+
+use crate::bound_indexes::BoundIndexes;
+use crate::fault::SourceFault;
+use crate::files::Files;
+use crate::told::{index_over, tell, tell_if};
+use crate::used_numbers::UsedNumbers;
+use list_terms::Notice;
+use shelf::Shelf;
+use sound_terms::BoundIndex;
+use std::alloc::{AllocError, Global};
+use std::marker::Model;
+use wavread::{MediaFault, Sound, open};
+use whole_model::{Bytes, Place, Source, place_of};
+
+/// What is bound so far.
+#[derive(Drop)]
+pub struct Binder {
+    files: Files,
+    indexes: BoundIndexes,
+    notices: Vec<Notice>,
+}
+
+impl Model for Binder {
+    ghost use Rattle.list_terms.specs.Binding.{Binding};
+
+    ghost Value = { Binding };
+
+    ghost view = { λ b. record { files = b.files; indexes = b.indexes; notices = b.notices.items } };
+}
+
+impl Binder {
+    /// Nothing is bound.
+    pub fn new(alloc: Global) -> Self
+        ensures { result ≡ nothing_bound }
+    {
+        Binder {
+            files: Files::new(alloc),
+            indexes: BoundIndexes::new(alloc),
+            notices: Vec::new(alloc),
+        }
+    }
+
+    /// The files that are opened.
+    pub fn sounds(&self) -> &[Sound]
+        ensures { result.now ≡ sounds_of self.now }
+    {
+        self.files.sounds()
+    }
+
+    /// The indexes that are bound.
+    pub fn indexes(&self) -> &[BoundIndex]
+        ensures { result.now ≡ self.now.indexes }
+    {
+        self.indexes.as_slice()
+    }
+
+    /// The bound index of this number.
+    pub fn index(&self, number: u32) -> Option<BoundIndex>
+        ensures { result ≡ index_of self.now.indexes number }
+    {
+        self.indexes.find(number)
+    }
+
+    /// What was told so far.
+    pub fn notices(&self) -> &[Notice]
+        ensures { result.now ≡ self.now.notices }
+    {
+        self.notices.as_slice()
+    }
+
+    /// Adds the index of this source, over the file at this place.
+    fn push_index(
+        &mut self,
+        alloc: Global,
+        source: &Source,
+        file: u32,
+        is_new: bool,
+    ) -> Result<(), AllocError>
+        requires { file < length self.old.files }
+        ensures { (opened : OpenedFile) → slice_get self.old.files file ≡ Some opened
+            → OnOk result (self.new ≡ with_index self.old source.now file opened.facts is_new self.old.files) }
+    {
+        let sound = self.files.sound(file);
+        self.indexes.push(alloc, index_over(source, sound, file))?;
+        tell(&mut self.notices, source, sound, is_new)
+    }
+
+    /// Binds the index of this source to a file that is opened already.
+    fn add_known(
+        &mut self,
+        alloc: Global,
+        source: &Source,
+        place: &Place,
+        file: u32,
+    ) -> Result<(), SourceFault>
+        requires place { place_of_url source.now.url ≡ Some place.now }
+        requires opened { file_named place.now.name self.old.files ≡ Some file }
+        ensures added { Takes source.now result self.new (with_known_file self.old source.now place.now file (slice_get self.old.files file)) }
+        ensures sound { IsBinding self.old → OnOk result (IsBinding self.new) }
+        ensures no_device { IfErr result (λ fault. fault ≡ SourceFault.Media MediaFault.Device → ⊥) }
+    {
+        if self.files.path(file) != place.path() {
+            return Err(SourceFault::SameName);
+        }
+        self.push_index(alloc, source, file, false)?;
+        Ok(())
+    }
+
+    /// Opens the file of this place, and binds the index of this source to it.
+    fn add_new<S: Shelf>(
+        &mut self,
+        alloc: Global,
+        source: &Source,
+        place: &Place,
+        shelf: &mut S,
+    ) -> Result<(), SourceFault>
+        requires place { place_of_url source.now.url ≡ Some place.now }
+        requires missing { file_named place.now.name self.old.files ≡ None }
+        ensures added { IsTrue (S.honest shelf.old)
+            → Takes source.now result self.new (bound_to_new (S.stored shelf.old) self.old source.now place.now) }
+        ensures sound { IsBinding self.old → OnOk result (IsBinding self.new) }
+        ensures only_reads { OnlyReads S.Shelf shelf.old shelf.new result (λ fault. fault ≡ SourceFault.Media MediaFault.Device) (λ _ failed. failed (name_of_source source.now)) }
+    {
+        let sound = open(alloc, shelf, place.name())?;
+        let path = Bytes::from_slice(alloc, place.path())?;
+        let file = self.files.push(alloc, path, sound)?;
+        self.push_index(alloc, source, file, true)?;
+        Ok(())
+    }
+
+    /// Binds the index of this source to the file that its URL names, which is opened where it isn't yet.
+    fn add<S: Shelf>(
+        &mut self,
+        alloc: Global,
+        source: &Source,
+        shelf: &mut S,
+    ) -> Result<(), SourceFault>
+        ensures added { IsTrue (S.honest shelf.old) → Takes source.now result self.new (bound_source (S.stored shelf.old) self.old source.now (place_of_url source.now.url)) }
+        ensures sound { IsBinding self.old → OnOk result (IsBinding self.new) }
+        ensures only_reads { OnlyReads S.Shelf shelf.old shelf.new result (λ fault. fault ≡ SourceFault.Media MediaFault.Device) (λ _ failed. failed (name_of_source source.now)) }
+    {
+        let Some(place) = place_of(alloc, source.url())? else {
+            return Ok(());
+        };
+        match self.files.position(place.name()) {
+            Some(file) => self.add_known(alloc, source, &place, file),
+            None => self.add_new(alloc, source, &place, shelf),
+        }
+    }
+
+    /// Takes one more source of the project: its index is bound where an entry names it, and else told as unused.
+    pub fn take<S: Shelf>(
+        &mut self,
+        alloc: Global,
+        source: &Source,
+        used: &UsedNumbers,
+        shelf: &mut S,
+    ) -> Result<(), SourceFault>
+        ensures taken { IsTrue (S.honest shelf.old) → Takes source.now result self.new (with_source (S.stored shelf.old) used.now.events.now self.old source.now) }
+        ensures used { IfErr result (λ fault. (fault ≡ SourceFault.Media MediaFault.Memory) ⊎ (is_used used.now.events.now source.now.number ≡ true)) }
+        ensures sound { IsBinding self.old → OnOk result (IsBinding self.new) }
+        ensures only_reads { OnlyReads S.Shelf shelf.old shelf.new result (λ fault. fault ≡ SourceFault.Media MediaFault.Device) (λ _ failed. failed (name_of_source source.now)) }
+    {
+        let number = source.number();
+        if used.contains(number) {
+            return self.add(alloc, source, shelf);
+        }
+        tell_if(&mut self.notices, true, 3, number)?;
+        Ok(())
+    }
+}

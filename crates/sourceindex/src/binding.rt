@@ -1,0 +1,38 @@
+// Binding a project to its files.
+ghost use Rattle.std.specs.Prelude.{◌≡◌, IsTrue, IfErr};
+ghost use Rattle.work_terms.specs.Refusals.{Gives};
+ghost use Rattle.shelf.specs.Frame.{OnlyReads};
+ghost use Rattle.list_terms.specs.Bound.{binding_of};
+ghost use Rattle.sourceindex.specs.Fault.{refusal_of};
+ghost use Rattle.sourceindex.specs.Own.{ComesFirst, HoldsOfFile, IsOfProject};
+
+use crate::binder::Binder;
+use crate::used_numbers::UsedNumbers;
+use crate::{BindFault, Bound};
+use shelf::Shelf;
+use std::alloc::Global;
+use whole_model::Project;
+
+/// Binds each index that an entry names, in the order of the source index: the file that its URL names is opened, once
+/// for all indexes that name it. No other file is opened.
+///
+/// `SameName` where an earlier index names the file by another path. `Media` where the file isn't accepted, with
+/// `Device` where a read fails, and `Memory` where no memory was left, also to tell of an index that no entry names.
+pub fn bind<S: Shelf>(alloc: Global, project: &Project, shelf: &mut S) -> Result<Bound, BindFault>
+    ensures exact { IsTrue (S.honest shelf.old)
+        → Gives (λ bound. bound) (refusal_of project.now.sources) (λ refusal. refusal.number) result (binding_of project.now (S.stored shelf.old)) }
+    ensures in_turn { IsTrue (S.honest shelf.old) → IfErr result (ComesFirst project.now (S.stored shelf.old)) }
+    ensures own { IfErr result (IsOfProject project.now) }
+    ensures only_reads { OnlyReads S.Shelf shelf.old shelf.new result (λ fault. (refusal_of project.now.sources fault).number ≡ 22)
+        (λ fault failed. HoldsOfFile failed (refusal_of project.now.sources fault).place) }
+{
+    let sources = project.sources();
+    let used = UsedNumbers::new(alloc, project.events());
+    let mut binder = Binder::new(alloc);
+    for (place, source) in sources.iter().enumerate() {
+        if let Err(fault) = binder.take(alloc, source, &used, shelf) {
+            return Err(fault.of_index(source.number(), place));
+        }
+    }
+    Ok(Bound::of(binder))
+}

@@ -1,0 +1,83 @@
+// The home index of each file.
+ghost use Rattle.std.specs.Prelude.{◌≡◌, List, [], IfOk, length, map, unwrap_or};
+ghost use Rattle.list_terms.specs.Binding.{OpenedFile};
+ghost use Rattle.list_terms.specs.BoundHomes.{homes_from, no_home};
+ghost use Rattle.sourceindex.specs.Homes.{AreLeast, least_so_far};
+
+use sound_terms::{BoundIndex, Home};
+use std::alloc::{AllocError, Global};
+
+/// Of a file without an index, which no binding has.
+const NO_HOME: Home = Home {
+    base: 0,
+    addressable: 0,
+    place: 0,
+};
+
+/// So many files without a home.
+fn no_homes(alloc: Global, files: usize) -> Result<Vec<Option<Home>>, AllocError>
+    ensures none { IfOk result (λ homes. AreLeast homes.items []) }
+    ensures count { IfOk result (λ homes. length homes.items ≡ files) }
+{
+    vec![in alloc; None; files]
+}
+
+/// Of the home so far and a later one that with the lesser base, of equal ones the first.
+fn least(home: Option<Home>, later: Home) -> Home
+    ensures { result ≡ least_so_far home later }
+{
+    match home {
+        Some(home) => if home.base <= later.base { home } else { later },
+        None => later,
+    }
+}
+
+/// The first with the least base of the indexes of each file; `None` where a file has no index. The error also stands for
+/// more indexes than 32 bits can number.
+fn least_homes(
+    alloc: Global,
+    indexes: &[BoundIndex],
+    files: usize,
+) -> Result<Vec<Option<Home>>, AllocError>
+    ensures least { IfOk result (λ homes. AreLeast homes.items indexes.now) }
+    ensures count { IfOk result (λ homes. length homes.items ≡ files) }
+{
+    let mut homes = no_homes(alloc, files)?;
+    for (i, index) in indexes.iter().enumerate() {
+        let Ok(place) = u32::try_from(i) else {
+            return Err(AllocError);
+        };
+        let home = Home {
+            base: index.base,
+            addressable: index.addressable,
+            place,
+        };
+        let file = index.file as usize;
+        if file < homes.len() {
+            homes[file] = Some(least(homes[file], home));
+        }
+    }
+    Ok(homes)
+}
+
+/// The homes of files that have one each.
+fn filled(alloc: Global, least: &[Option<Home>]) -> Result<Vec<Home>, AllocError>
+    ensures { IfOk result (λ homes. homes.items ≡ map (λ home. unwrap_or home no_home) least.now) }
+{
+    least
+        .iter()
+        .map(|home| home.unwrap_or(NO_HOME))
+        .collect(alloc)
+}
+
+/// The home of each of so many files, by the indexes that are bound to them.
+pub fn homes_by(
+    alloc: Global,
+    indexes: &[BoundIndex],
+    files: usize,
+) -> Result<Vec<Home>, AllocError>
+    ensures { (opened : List OpenedFile) → length opened ≡ files → IfOk result (λ homes. homes.items ≡ homes_from indexes.now 0 opened) }
+{
+    let least = least_homes(alloc, indexes, files)?;
+    filled(alloc, least.as_slice())
+}

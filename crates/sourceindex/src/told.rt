@@ -1,0 +1,96 @@
+// What an index tells of its file: the time of the first frame, what can be addressed, and notices.
+ghost use Rattle.std.specs.Prelude.{◌≡◌, ◌++◌, OnOk};
+ghost use Rattle.list_terms.specs.Binding as spec;
+ghost use Rattle.list_terms.specs.Binding.{addressable_from, notice_if};
+ghost use Rattle.sourceindex.specs.Taken.{is_other_base};
+
+use list_terms::Notice;
+use sampletime::SampleTime;
+use sound_terms::BoundIndex;
+use std::alloc::AllocError;
+use wavread::Sound;
+use whole_model::Source;
+
+/// The time reference of the file's `bext`, where it has one.
+fn time_reference(sound: &Sound) -> Option<u64>
+    ensures { result ≡ sound.now.time_reference }
+{
+    match sound.bext() {
+        Some(bext) => Some(bext.time_reference),
+        None => None,
+    }
+}
+
+/// The time of the file's first frame: the index's, else that of the file's `bext` (EBU Tech 3285), else midnight.
+fn base_of(source: &Source, sound: &Sound) -> u64
+    ensures { result ≡ spec.base_of source.now sound.now }
+{
+    match source.start() {
+        Some(start) => start.get(),
+        None => time_reference(sound).unwrap_or(0),
+    }
+}
+
+/// The source's index over the file at this place, with the frames from the first on up to the day's end.
+pub fn index_over(source: &Source, sound: &Sound, file: u32) -> BoundIndex
+    ensures { result ≡ record {
+      number = source.now.number;
+      file = file;
+      base = spec.base_of source.now sound.now;
+      addressable = addressable_from (spec.base_of source.now sound.now) sound.now;
+    } }
+{
+    let base = base_of(source, sound);
+    let left = SampleTime::DAY.get().saturating_sub(base);
+    BoundIndex {
+        number: source.number(),
+        file,
+        base,
+        addressable: sound.frames().min(left),
+    }
+}
+
+/// Adds a notice of this kind at an index where it is told.
+pub fn tell_if(
+    notices: &mut Vec<Notice>,
+    told: bool,
+    kind: u8,
+    number: u32,
+) -> Result<(), AllocError>
+    ensures { OnOk result (notices.new.items ≡ notices.old.items ++ notice_if told kind number) }
+{
+    if told {
+        notices.push(Notice {
+            kind,
+            at: u64::from(number),
+        })?;
+    }
+    Ok(())
+}
+
+/// Whether the file tells another time of its first frame than the index has.
+fn tells_other_base(source: &Source, sound: &Sound) -> bool
+    ensures { result ≡ is_other_base source.now sound.now }
+{
+    match time_reference(sound) {
+        Some(reference) => reference != base_of(source, sound),
+        None => false,
+    }
+}
+
+/// Adds the notices of an index over this file, and where the file is new those of the file.
+pub fn tell(
+    notices: &mut Vec<Notice>,
+    source: &Source,
+    sound: &Sound,
+    is_new: bool,
+) -> Result<(), AllocError>
+    ensures { OnOk result (notices.new.items ≡ notices.old.items ++ spec.notices_of is_new source.now sound.now) }
+{
+    let number = source.number();
+    tell_if(notices, tells_other_base(source, sound), 4, number)?;
+    tell_if(notices, is_new && sound.short_bext(), 5, number)?;
+    tell_if(notices, is_new && sound.others(), 6, number)?;
+    tell_if(notices, is_new && sound.history_cut(), 7, number)?;
+    Ok(())
+}
