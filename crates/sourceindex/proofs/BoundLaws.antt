@@ -1,16 +1,14 @@
 -- A binding with one more index is one.
-use Rattle.std.proofs.Common.{◌≡◌, ◌∙◌, ℕ, zero, suc, ◌+◌, ◌<◌, ◌≤◌, Bool, true, false, cond, ◌||◌, nat_eq, bytes_eq, List, [], ◌∷◌, ◌++◌, length, Option, None, Some, refl, sym, ap, subst, arith, length-append, eq-eqb}
-use Rattle.std.specs.List.{slice_get, list_any, position}
-use Rattle.std.specs.Option.{option_or}
+use Rattle.std.proofs.Common.{◌≡◌, ◌∙◌, ℕ, zero, suc, ◌≤◌, Bool, true, false, ◌||◌, nat_eq, bytes_eq, List, [], ◌∷◌, ◌++◌, length, None, Some, refl, subst, arith, length-append, eq-eqb}
+use Rattle.std.specs.List.{slice_get}
 use Rattle.std.proofs.lemmas.List.Elements.{All-push}
 use Rattle.std.proofs.lemmas.Bool.Decides.{nat_tests}
-use Rattle.std.proofs.lemmas.Option.{slice_get_within}
 use Rattle.std.proofs.lemmas.Slice.Eq.{bytes_eq-Decides}
 use Rattle.sound_terms.specs.declared.BoundIndex.{BoundIndex}
 use Rattle.sound_terms.specs.Sounds.{SoundFacts}
 use Rattle.list_terms.specs.Project.{Source}
 use Rattle.list_terms.specs.Binding.{Binding, OpenedFile, addressable_from, base_of, file_named, with_index}
-use Rattle.list_terms.specs.BoundHomes.{AreNamed, IsBinding, IsBoundTo, has_index}
+use Rattle.list_terms.specs.BoundHomes.{IsBinding, IsBoundTo, has_index}
 use Rattle.sourceindex.proofs.Places.{position-push}
 
 -- the index of this source over a file of these facts

@@ -1,7 +1,7 @@
 -- What the fault of a source tells of the project.
-use Rattle.std.proofs.Common.{◌≡◌, ◌∙◌, ◌⊎◌, ℕ, zero, suc, Bool, true, false, ◌&&◌, List, [], ◌∷◌, Option, None, Some, is_some, IsSome, IsTrue, inl, inr, refl, sym, ap, subst}
+use Rattle.std.proofs.Common.{◌≡◌, ◌∙◌, ◌⊎◌, ℕ, zero, suc, Bool, true, false, List, [], ◌∷◌, Option, None, Some, IsSome, inl, inr, refl, sym, ap, subst}
 use Rattle.std.specs.List.{list_all, slice_get}
-use Rattle.work_terms.specs.Disk.{Files, HasCause, HasRead, IsKept}
+use Rattle.work_terms.specs.Disk.{Files, HasRead, IsKept}
 use Rattle.list_terms.specs.Names.{Place, place_of_url}
 use Rattle.list_terms.specs.Project.{ListProject, Source}
 use Rattle.list_terms.specs.WholeProject.{is_number, is_source}

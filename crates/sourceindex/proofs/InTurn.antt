@@ -1,5 +1,5 @@
 -- Sources bound one after the other.
-use Rattle.std.proofs.Common.{◌≡◌, ◌∙◌, ℕ, ◌+◌, ◌<◌, Bool, true, false, List, [], ◌∷◌, ◌++◌, length, take, drop, Result, Ok, Err, Some, MatchBool, refl, sym, ap, add-one, take-append-drop, drop-cons, option_map, unwrap_or}
+use Rattle.std.proofs.Common.{◌≡◌, ◌∙◌, Bool, true, false, List, [], ◌∷◌, ◌++◌, Result, Ok, Err, MatchBool, refl, ap}
 use Rattle.sound_terms.specs.declared.Event.{Event}
 use Rattle.work_terms.specs.Disk.{Files}
 use Rattle.work_terms.specs.Refusals.{Refusal, is_excused}

@@ -7,7 +7,7 @@ use Rattle.sound_terms.specs.SoundFault as sound
 use Rattle.sound_terms.specs.declared.SoundFault.{SoundFault}
 use Rattle.sound_terms.specs.declared.SoundFault.TheVariants.{NotWave, NoFormat, NoData, Truncated, BadFormat, BadDs64, WrongRate}
 use Rattle.work_terms.specs.Disk.{Files}
-use Rattle.work_terms.specs.Refusals.{Refusal, Index, is_excused}
+use Rattle.work_terms.specs.Refusals.{Index, is_excused}
 use Rattle.list_terms.specs.Names.{Place, place_of_url}
 use Rattle.list_terms.specs.Project.{Source}
 use Rattle.list_terms.specs.Binding.{Binding, OpenedFile, file_named, with_index, with_known_file}

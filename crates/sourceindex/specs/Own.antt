@@ -1,12 +1,11 @@
 -- What the fault of a project tells: its index, the source of that index, and in which turn it comes.
-use Rattle.std.specs.Prelude.{◌≡◌, ℕ, true, List, Contains, ◌⊎◌, Some, Ok, IsSome, slice_get, take}
+use Rattle.std.specs.Prelude.{◌≡◌, ℕ, true, List, ◌⊎◌, Some, Ok, IsSome, slice_get, take}
 use Rattle.work_terms.specs.Disk.{Files}
 use Rattle.work_terms.specs.Refusals.{Where, IndexFile}
 use Rattle.list_terms.specs.Project.{ListProject, Source}
 use Rattle.list_terms.specs.Names.{place_of_url}
 use Rattle.list_terms.specs.Binding.{Binding, is_used, nothing_bound}
 use Rattle.list_terms.specs.Bound.{with_sources}
-use Rattle.riff.specs.declared.fault.MediaFault.{MediaFault}
 use Rattle.riff.specs.declared.fault.MediaFault.TheVariants.{Memory}
 use Rattle.sourceindex.specs.declared.fault.BindFault.{BindFault}
 use Rattle.sourceindex.specs.declared.fault.BindFault.TheVariants.{SameName, Media}

@@ -1,5 +1,5 @@
 -- What it means to take one more source into a binding.
-use Rattle.std.specs.Prelude.{◌≡◌, ℕ, ◌+◌, ◌-◌, nat_lt, Bool, MatchBool, Result, Ok, Err, option_map, unwrap_or}
+use Rattle.std.specs.Prelude.{◌≡◌, ◌+◌, ◌-◌, nat_lt, Bool, MatchBool, Result, Ok, Err, option_map, unwrap_or}
 use Rattle.sound_terms.specs.Sounds.{SoundFacts}
 use Rattle.work_terms.specs.Refusals.{Refusal, is_excused}
 use Rattle.list_terms.specs.Project.{Source}

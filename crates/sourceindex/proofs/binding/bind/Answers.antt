@@ -1,13 +1,11 @@
-use Rattle.std.proofs.Common.{◌≡◌, ◌∙◌, ◌+◌, ◌∷◌, ◌++◌, [], IsTrue, MatchBool, Some, Err, Ok, add-one, ap, drop, drop-cons, length, refl, rules, subst, sym, take, take-append-drop, take-suc, get_or}
+use Rattle.std.proofs.Common.{◌≡◌, ◌∙◌, ◌+◌, ◌∷◌, ◌++◌, [], IsTrue, MatchBool, Some, Err, add-one, ap, drop, drop-cons, length, refl, rules, subst, sym, take, take-append-drop, take-suc}
 use Rattle.std.specs.List.{slice_get}
 use Rattle.std.proofs.lemmas.Option.{slice_get_read}
-use Rattle.work_terms.specs.Disk.{HasRead}
 use Rattle.work_terms.specs.Refusals.{Refusal, is_excused}
 use Rattle.list_terms.specs.Project.{Source}
 use Rattle.list_terms.specs.Bound.{binding_of}
-use Rattle.sourceindex.specs.declared.fault.BindFault.{BindFault}
 use Rattle.sourceindex.specs.Fault.{numbered, refusal_of, refusal_of_source}
-use Rattle.sourceindex.specs.Own.{HoldsOfFile, IsOfProject}
+use Rattle.sourceindex.specs.Own.{IsOfProject}
 use Rattle.sourceindex.proofs.Faults.{names_file, own_index, read_on, same_refusal}
 use Rattle.sourceindex.proofs.InTurn.{one_more, refused_at}
 use Rattle.sourceindex.proofs.binding.bind.Goals as goal

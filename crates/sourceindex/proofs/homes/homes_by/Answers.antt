@@ -1,5 +1,4 @@
-use Rattle.std.proofs.Common.{◌≡◌, ◌∙◌, List, map, length, Result, Ok, Err, IfOk, ap, zero-add, sym, unwrap_or}
-use Rattle.sound_terms.specs.declared.piece.Home.{Home}
+use Rattle.std.proofs.Common.{◌∙◌, map, Result, Ok, Err, IfOk, ap, zero-add, sym, unwrap_or}
 use Rattle.list_terms.specs.BoundHomes.{home_from, no_home}
 use Rattle.sourceindex.proofs.HomeTable.{table_from}
 use Rattle.sourceindex.proofs.homes.homes_by.Goals as goal

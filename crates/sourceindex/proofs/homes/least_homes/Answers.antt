@@ -1,7 +1,7 @@
-use Rattle.std.proofs.Common.{◌≡◌, ◌∙◌, ◌+◌, ◌<◌, ◌∷◌, ◌++◌, [], ap, take, length, arith, add-one, take-suc, length-take-le, get_or, set, None, Some, sym, refl, length-set}
+use Rattle.std.proofs.Common.{◌≡◌, ◌∙◌, ◌+◌, ◌<◌, ◌∷◌, ◌++◌, [], ap, take, length, arith, add-one, take-suc, length-take-le, get_or, None, refl, length-set}
 use Rattle.sound_terms.specs.declared.BoundIndex.{BoundIndex}
 use Rattle.list_terms.specs.BoundHomes.{home_at}
-use Rattle.sourceindex.specs.Homes.{AreLeast, least_so_far}
+use Rattle.sourceindex.specs.Homes.{least_so_far}
 use Rattle.sourceindex.proofs.Places.{read_as}
 use Rattle.sourceindex.proofs.HomeTable.{least_put, least_skipped}
 use Rattle.sourceindex.proofs.homes.least_homes.Goals as goal

@@ -1,4 +1,4 @@
-use Rattle.std.proofs.Common.{◌≡◌, ◌∙◌, ◌∷◌, ◌++◌, [], None, arith, ap, length, is_ok, refl, string_bytes, sym, true}
+use Rattle.std.proofs.Common.{◌≡◌, ◌∙◌, ◌∷◌, ◌++◌, [], None, arith, ap, length, refl, string_bytes}
 use Rattle.list_terms.specs.Binding.{file_named}
 use Rattle.sourceindex.specs.Files.{opened_of}
 use Rattle.sourceindex.proofs.FilePlaces.{length-opened_of, opened_of-push, placed_push}

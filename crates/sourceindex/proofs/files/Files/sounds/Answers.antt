@@ -1,4 +1,4 @@
-use Rattle.std.proofs.Common.{◌≡◌, ◌∙◌, map, ap, sym}
+use Rattle.std.proofs.Common.{◌∙◌, map, ap, sym}
 use Rattle.list_terms.specs.Binding.{OpenedFile}
 use Rattle.sourceindex.proofs.FilePlaces.{sounds_opened}
 use Rattle.sourceindex.proofs.files.Files.sounds.Goals as goal
