@@ -81,8 +81,8 @@ holds_at test (x ∷ xs) (suc place) = holds_at test xs place
 -- the first place at which a test holds; none where it holds nowhere
 abbrev pub IsFirst : {X : Type 0} → (X → Bool) → List X → Option ℕ → Type 0
 IsFirst test xs None = (place : ℕ) → holds_at test xs place ≡ false
-IsFirst test xs (Some first) = (holds_at test xs first ≡ true) × ((place : ℕ) → place < first → holds_at test xs place
-    ≡ false)
+IsFirst test xs (Some first) =
+    (holds_at test xs first ≡ true) × ((place : ℕ) → place < first → holds_at test xs place ≡ false)
 
 -- the first of two places, where there are any
 abbrev pub earlier : Option ℕ → Option ℕ → Option ℕ
@@ -103,5 +103,5 @@ place_cmp a b = ordering_then (end_cmp a.0 b.0) (nat_cmp a.1 b.1)
 
 -- the index has each mark at each of its places, and nothing else
 abbrev pub IsIndexOf : List (Option End) → BTreeSet (End × ℕ) → Type 0
-IsIndexOf marks places = (end : End) (place : ℕ) → contains place_cmp places (end, place)
-    ≡ holds_at (is_end end) marks place
+IsIndexOf marks places =
+    (end : End) (place : ℕ) → contains place_cmp places (end, place) ≡ holds_at (is_end end) marks place

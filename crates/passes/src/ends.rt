@@ -6,6 +6,15 @@ ghost use Rattle.passes.specs.Ends.{end_before, end_of};
 
 use interval::{Piece, Shape};
 
+/// The rank of a rise: it stands first in a group.
+pub(crate) const RISE: u8 = 0;
+
+/// The rank of a flat shape.
+pub(crate) const FLAT: u8 = 1;
+
+/// The rank of a fall.
+const FALL: u8 = 2;
+
 /// The end of a piece: the rank of its shape, and the place from which another piece goes on in destination and source,
 /// on the same channels of the same file.
 #[derive(Clone, Copy, Debug, PartialEq, Eq, PartialOrd, Ord)]
@@ -24,9 +33,9 @@ fn rank_of(shape: Shape) -> u8
     ensures { result ≡ spec.rank_of shape }
 {
     match shape {
-        Shape::Rise { .. } => 0,
-        Shape::Flat => 1,
-        Shape::Fall { .. } => 2,
+        Shape::Rise { .. } => RISE,
+        Shape::Flat => FLAT,
+        Shape::Fall { .. } => FALL,
     }
 }
 

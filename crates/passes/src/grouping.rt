@@ -8,17 +8,11 @@ ghost use Rattle.passes.specs.Ends.{IsFirst, follows, group_end, group_follows};
 ghost use Rattle.passes.specs.declared.fault.PassFault.TheVariants.{Memory};
 
 use crate::PassFault;
-use crate::ends::End;
+use crate::ends::{End, FLAT, RISE};
 use crate::marks::Marks;
 use crate::output::Output;
 use interval::{Group, Intervals, Piece, Shape};
 use std::alloc::AllocError;
-
-/// The rank of a rise.
-const RISE: u8 = 0;
-
-/// The rank of a flat shape.
-const FLAT: u8 = 1;
 
 /// The first of two places, where there are any.
 fn earlier(one: Option<usize>, other: Option<usize>) -> Option<usize>

@@ -10,13 +10,10 @@ ghost use Rattle.passes.specs.Ends.{IsFirst, end_before, flat_end, is_end};
 ghost use Rattle.passes.specs.declared.fault.PassFault.TheVariants.{Memory};
 
 use crate::PassFault;
-use crate::ends::End;
+use crate::ends::{End, FLAT};
 use crate::output::Output;
 use interval::{Group, Intervals, Piece, Shape};
 use std::alloc::AllocError;
-
-/// The rank of a flat shape.
-const FLAT: u8 = 1;
 
 /// The piece of a group that is one flat piece.
 fn flat_alone(group: &Group) -> Option<Piece>

@@ -1,15 +1,16 @@
-// Long lists of pieces that are joined, against plain bodies.
+// Long lists of pieces that are joined and put into groups, against plain bodies.
 ghost use Rattle.std.specs.Prelude.{◌≤◌};
-ghost use Rattle.sound_terms.specs.Groups.{IsPiece};
+ghost use Rattle.sound_terms.specs.Groups.{IsPiece, IsRamp};
 
 use interval::{Group, Intervals, Piece, Shape};
-use passes::join_cuts;
+use passes::{join_cuts, regroup};
 use std::test::Fail;
 
-/// Ten flat frames of a file, the first at this time and this frame.
-fn ten_from(number: u64, apart: u64) -> Piece
+/// Ten frames of a file in this shape, each ten at this distance behind the ten before.
+fn ten_from(number: u64, apart: u64, shape: Shape) -> Piece
     requires few { number ≤ 1000 }
     requires near { apart ≤ 1000 }
+    requires ramp { IsRamp shape 10 }
     ensures { IsPiece result }
 {
     Piece {
@@ -20,18 +21,30 @@ fn ten_from(number: u64, apart: u64) -> Piece
         first: 1,
         dest: 1,
         width: 2,
-        shape: Shape::Flat,
+        shape,
     }
 }
 
-/// A thousand of them, each beginning so many frames behind the one before.
-fn thousand(rt: &HostRuntime, apart: u64) -> Result<Intervals, Fail>
+/// A rise, a flat part, a fall, in turn.
+fn in_turn(number: u64) -> Shape
+    ensures { IsRamp result 10 }
+{
+    match number % 3 {
+        0 => Shape::Rise { offset: 0, den: 10 },
+        1 => Shape::Flat,
+        _ => Shape::Fall { offset: 0, den: 10 },
+    }
+}
+
+/// A thousand pieces of ten frames, each beginning so many frames behind the one before; all flat, or in turn.
+fn thousand(rt: &HostRuntime, apart: u64, flat: bool) -> Result<Intervals, Fail>
     requires { apart ≤ 1000 }
 {
     let alloc = rt.alloc();
     let mut groups = Vec::new(alloc);
     for number in 0..1000 {
-        groups.push(Group::alone(alloc, ten_from(number, apart)))?;
+        let shape = if flat { Shape::Flat } else { in_turn(number) };
+        groups.push(Group::alone(alloc, ten_from(number, apart, shape)))?;
     }
     Ok(Intervals::ordered(groups)?)
 }
@@ -81,7 +94,7 @@ fn are_alone(intervals: &Intervals, pieces: &[Piece]) -> bool {
 
 #[test]
 fn a_thousand_pieces_that_go_on_are_one(rt: HostRuntime) -> Result<(), Fail> {
-    let given = thousand(&rt, 10)?;
+    let given = thousand(&rt, 10, true)?;
     let plain = joined_plainly(&rt, &given)?;
     let joined = join_cuts(given)?;
     assert_eq!(rt; plain.len(), 1);
@@ -91,10 +104,83 @@ fn a_thousand_pieces_that_go_on_are_one(rt: HostRuntime) -> Result<(), Fail> {
 
 #[test]
 fn a_thousand_pieces_with_gaps_stay_apart(rt: HostRuntime) -> Result<(), Fail> {
-    let given = thousand(&rt, 11)?;
+    let given = thousand(&rt, 11, true)?;
     let plain = joined_plainly(&rt, &given)?;
     let joined = join_cuts(given)?;
     assert_eq!(rt; plain.len(), 1000);
     assert!(rt; are_alone(&joined, plain.as_slice()));
+    Ok(())
+}
+
+/// The place of a shape in a group.
+fn rank_of(shape: Shape) -> u8 {
+    match shape {
+        Shape::Rise { .. } => 0,
+        Shape::Flat => 1,
+        Shape::Fall { .. } => 2,
+    }
+}
+
+/// Whether a piece may stand behind these.
+fn may_follow(pieces: &[Piece], later: &Piece) -> bool {
+    match pieces.last() {
+        Some(last) => goes_on(last, later) && rank_of(last.shape) < rank_of(later.shape),
+        None => false,
+    }
+}
+
+/// Adds a piece to the first group that it may follow, or puts it behind the others.
+fn group_plainly(groups: &mut Vec<Vec<Piece>>, later: &Piece) -> Result<(), Fail> {
+    let alloc = *groups.allocator();
+    for group in groups.iter_mut() {
+        if may_follow(group.as_slice(), later) {
+            group.push(*later)?;
+            return Ok(());
+        }
+    }
+    let mut own = Vec::new(alloc);
+    own.push(*later)?;
+    groups.push(own)?;
+    Ok(())
+}
+
+/// The pieces of groups of one piece in groups, by a search of all that is put out.
+fn grouped_plainly(rt: &HostRuntime, intervals: &Intervals) -> Result<Vec<Vec<Piece>>, Fail> {
+    let mut groups = Vec::new(rt.alloc());
+    for group in intervals.groups() {
+        for piece in group.pieces() {
+            group_plainly(&mut groups, piece)?;
+        }
+    }
+    Ok(groups)
+}
+
+/// Whether these are the groups of these pieces.
+fn are_grouped(intervals: &Intervals, groups: &[Vec<Piece>]) -> bool {
+    intervals.groups().len() == groups.len()
+        && intervals
+            .groups()
+            .iter()
+            .zip(groups)
+            .all(|(group, pieces)| group.pieces() == pieces.as_slice())
+}
+
+#[test]
+fn a_thousand_pieces_are_groups_of_three(rt: HostRuntime) -> Result<(), Fail> {
+    let given = thousand(&rt, 10, false)?;
+    let plain = grouped_plainly(&rt, &given)?;
+    let grouped = regroup(given)?;
+    assert_eq!(rt; plain.len(), 334);
+    assert!(rt; are_grouped(&grouped, plain.as_slice()));
+    Ok(())
+}
+
+#[test]
+fn a_thousand_pieces_with_gaps_stay_alone(rt: HostRuntime) -> Result<(), Fail> {
+    let given = thousand(&rt, 11, false)?;
+    let plain = grouped_plainly(&rt, &given)?;
+    let grouped = regroup(given)?;
+    assert_eq!(rt; plain.len(), 1000);
+    assert!(rt; are_grouped(&grouped, plain.as_slice()));
     Ok(())
 }

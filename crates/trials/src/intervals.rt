@@ -4,7 +4,7 @@ ghost use Rattle.sampletime.specs.TimeCode.{day};
 ghost use Rattle.sound_terms.specs.Entries.{IsPlayable};
 
 use interval::{Intervals, Piece, Placed, Shape, group_of};
-use passes::{Samples, drop_silent, silent_of, split_fades};
+use passes::{Samples, drop_silent, silent_of, split_fades, standard};
 use sampletime::SampleTime;
 use shelf::ShelfFault;
 use sound_terms::{BoundIndex, Channels, Event, Fade};
@@ -185,6 +185,21 @@ fn the_silent_middle_of_an_entry_goes(rt: HostRuntime) -> Result<(), Fail> {
             (group.pieces()[0].start, group.pieces()[0].length),
             (start, 4)
         );
+    }
+    Ok(())
+}
+
+#[test]
+fn the_standard_passes_leave_the_fades_of_an_entry_with_a_silent_middle(
+    rt: HostRuntime,
+) -> Result<(), Fail> {
+    let mut samples = OneSide { asked: 0 };
+    let left = standard(rt.alloc(), intervals(&rt, &entry()?)?, &mut samples)?;
+    assert_eq!(rt; samples.asked, 3);
+    assert_eq!(rt; left.groups().len(), 2);
+    for (group, start) in left.groups().iter().zip([0, 8]) {
+        assert_eq!(rt; group.pieces().len(), 1);
+        assert_eq!(rt; (group.start(), group.pieces()[0].length), (start, 4));
     }
     Ok(())
 }
