@@ -11,4 +11,4 @@ mod whole;
 pub use fault::HeaderFault;
 pub use info::SoundInfo;
 pub use sound_terms::{Bext, Depth};
-pub use whole::{fits, header};
+pub use whole::{data_length, fits, fits_with, header, place_of};

@@ -1,5 +1,5 @@
 use Rattle.wavwrite.proofs.FileInfo.{IsInfo, named_depth, small_info}
-use Rattle.wavwrite.proofs.FileReads.{reads_back, samples_stand}
+use Rattle.wavwrite.proofs.FileReads.{length-header_of, reads_back, samples_stand}
 use Rattle.wavwrite.proofs.RenderReads.{render_reads_back}
 use Rattle.wavwrite.proofs.whole.reads_back.Goals as goal
 
@@ -25,3 +25,6 @@ returns-clause-rendered c = λ range mix fits same.
       small = small_info info fits;
     } in
     render_reads_back info range mix is same
+
+pub returns-clause-head : goal.returns-clause-head
+returns-clause-head c = length-header_of c.args.info.now c.channels.ensures.within.text_whole

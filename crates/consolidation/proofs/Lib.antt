@@ -1,0 +1,3 @@
+mod CopiedReading
+mod MediaBound
+mod SameSound
