@@ -1,12 +1,12 @@
 // The plan of a rendering.
-ghost use Rattle.std.specs.Prelude.{◌≡◌, ◌+◌, ◌<◌, ◌≤◌, ◌↔◌, ℕ, List, IfOk, IfErr, IsErrOf};
+ghost use Rattle.std.specs.Prelude.{◌≡◌, ◌+◌, ◌<◌, ◌≤◌, ◌↔◌, List, IfOk, IfErr, IsErrOf};
 ghost use Rattle.std.specs.List.{All};
 ghost use Rattle.sound_terms.specs.Sounds.{SoundFacts};
 ghost use Rattle.sound_terms.specs.Media.{IsPieceOf};
 ghost use Rattle.sound_terms.specs.Mix.{IsFullScale, Reading};
 ghost use Rattle.sound_terms.specs.Groups as spec;
 ghost use Rattle.sound_terms.specs.Groups.{IsBounded, IsPiece, sum_of};
-ghost use Rattle.sound_terms.specs.Blocks.{BlockState, IsBlockProgram, LiesInFiles, block_count, block_frames, block_start, executed_all, mixed_block, program_of};
+ghost use Rattle.sound_terms.specs.Blocks.{BlockState, IsBlockProgram, LiesInFiles, block_count, block_frames, executed_all, mixed_block, program_of};
 ghost use Rattle.renderplan.specs.Planned.{IsPlan, range_of};
 
 use crate::PlanFault;

@@ -1,5 +1,5 @@
 // An index of pieces by what they can be passed over for.
-ghost use Rattle.std.specs.Prelude.{◌≡◌, ◌+◌, ◌<◌, ◌≤◌, ◌^◌, ◌||◌, nat_le, length, IfOk};
+ghost use Rattle.std.specs.Prelude.{◌≡◌, ◌+◌, ◌<◌, ◌^◌, ◌||◌, nat_le, length, IfOk};
 ghost use Rattle.std.specs.List.{All};
 ghost use Rattle.sound_terms.specs.Groups.{IsPiece};
 ghost use Rattle.renderplan.specs.Reaches.{AreReaches, IsReach, joined_reach, last};

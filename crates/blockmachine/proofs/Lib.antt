@@ -1,0 +1,5 @@
+pub mod Places
+pub mod Added
+pub mod Emitted
+pub mod Played
+pub mod Ran

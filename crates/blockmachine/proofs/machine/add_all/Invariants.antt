@@ -1,0 +1,14 @@
+use Rattle.std.proofs.Common.{◌≡◌, ℕ, IsTrue, length, take}
+use Rattle.sound_terms.specs.Blocks.{BlockState, executed_all}
+use Rattle.list_terms.specs.Heard.{reading_by}
+use Rattle.shelf.specs.Frame.{IsQuiet}
+use Rattle.blockmachine.specs.Sums.{AreSums}
+use Rattle.blockmachine.proofs.machine.add_all.Given as goal
+
+abbrev pub invariant-loop-line : goal.invariant-loop-line
+invariant-loop-line g l = record {
+  same_length : length l.sums ≡ length l.fn.sums;
+  quiet : IsQuiet g.S.Shelf l.fn.shelf l.shelf;
+  added : IsTrue (g.S.Shelf.honest l.fn.shelf) → (channels : ℕ) (before : BlockState) → AreSums l.fn.sums before.sums
+      → AreSums l.sums (executed_all (reading_by (g.S.Shelf.stored l.fn.shelf) l.sounds) channels (take l.line-index l.lines) before).sums;
+}

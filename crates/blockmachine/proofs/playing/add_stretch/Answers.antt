@@ -1,0 +1,36 @@
+use Rattle.std.proofs.Common.{ℕ, IsTrue, rules, sym, ◌∙◌, subst}
+use Rattle.std.specs.Prelude.{ℤ}
+use Rattle.sound_terms.specs.declared.block.Stretch.{Stretch}
+use Rattle.sound_terms.specs.Mix.{Reading}
+use Rattle.sound_terms.specs.Passes.{shape_behind}
+use Rattle.sound_terms.specs.Blocks.{sums_with}
+use Rattle.work_terms.specs.Disk.{Files}
+use Rattle.list_terms.specs.Heard.{reading_by}
+use Rattle.blockmachine.specs.Sums.{AreSums}
+use Rattle.blockmachine.proofs.Played.{part_more}
+use Rattle.blockmachine.proofs.playing.add_stretch.Goals as goal
+
+pub loop-done-preserved : goal.loop-done-preserved
+loop-done-preserved g c =
+    let stretch = c.args.stretch.now in
+    let done = c.loop-done.done in
+    let count = c.min-count.result in
+    let within = c.loop-done.invariant.within in
+    let quiet = c.loop-done.invariant.quiet in
+    record {
+      within = search rules;
+      same_length = search rules;
+      quiet = search rules;
+      added = λ honest before are.
+          let files : Files = g.S.Shelf.stored c.args.shelf.now in
+          let reading : Reading = reading_by files c.args.sounds.now in
+          let front : ℕ → ℕ → ℤ = sums_with reading (record stretch { length = done }) c.args.shape before in
+          let shape = shape_behind done c.args.shape in
+          let sums = c.add_part.new.sums in
+          let old = c.loop-done.invariant.added honest before are in
+          let new = c.in_ok-add_part.ensures.added (subst IsTrue (sym quiet.honest_same) honest) front old in
+          let same = subst (λ (stored : Files). AreSums sums (sums_with (reading_by stored c.args.sounds.now) c.part_of-part.result c.behind.result front)) quiet.same new in
+          let part = subst (λ (p : Stretch). AreSums sums (sums_with reading p c.behind.result front)) c.part_of-part.ensures same in
+          let shaped = rw c.behind.ensures at part in
+          λ i channel room first there. shaped i channel room first there ∙ part_more reading stretch c.args.shape done count before i channel;
+    }

@@ -1,0 +1,19 @@
+use Rattle.std.proofs.Common.{◌≡◌, ℕ, ◌-◌, ◌≤◌, IsTrue, length}
+use Rattle.std.specs.Prelude.{ℤ}
+use Rattle.sound_terms.specs.Blocks.{sums_with}
+use Rattle.list_terms.specs.Heard.{reading_by}
+use Rattle.shelf.specs.Frame.{IsQuiet}
+use Rattle.blockmachine.specs.Sums.{AreSums}
+use Rattle.blockmachine.proofs.playing.add_stretch.Given as goal
+
+abbrev pub invariant-loop-done : goal.invariant-loop-done
+invariant-loop-done g l = record {
+  within : l.done ≤ l.stretch.length;
+  same_length : length l.sums ≡ length l.fn.sums;
+  quiet : IsQuiet g.S.Shelf l.fn.shelf l.shelf;
+  added : IsTrue (g.S.Shelf.honest l.fn.shelf) → (before : ℕ → ℕ → ℤ) → AreSums l.fn.sums before
+      → AreSums l.sums (sums_with (reading_by (g.S.Shelf.stored l.fn.shelf) l.sounds) (record l.stretch { length = l.done }) l.shape before);
+}
+
+abbrev pub decreases-loop-done : goal.decreases-loop-done
+decreases-loop-done g l = l.stretch.length - l.done

@@ -1,0 +1,12 @@
+//! The machine that runs the program of a block: it reads what the program plays, sums it, and hands out samples.
+#![tactic(auto)]
+
+mod adding;
+mod emitting;
+mod fault;
+mod machine;
+mod playing;
+
+pub use fault::MachineFault;
+pub use machine::Machine;
+pub use sound_terms::{Depth, Instruction, Shape, Stretch};
