@@ -1,5 +1,5 @@
 // Pieces that continue one another.
-ghost use Rattle.std.specs.Prelude.{◌≡◌, ◌≢◌, MatchOption, ◌++◌, ◌∷◌, [], IsTrue, IsSome, OnOk, Some};
+ghost use Rattle.std.specs.Prelude.{◌≡◌, ◌≢◌, MatchOption, IfSome, ◌++◌, ◌∷◌, [], IsTrue, IsSome, OnOk, Some};
 ghost use Rattle.std.specs.List.{All};
 ghost use Rattle.sound_terms.specs.Groups.{IsGroup, IsPiece, start_of};
 ghost use Rattle.sound_terms.specs.Passes.{is_followed_by, lengthened};
@@ -44,7 +44,8 @@ impl Group {
     pub(crate) fn of(pieces: SmallVec<Piece, 3>) -> Option<Self>
         requires group { pieces.items ≢ [] → IsGroup pieces.items }
         requires sound { All IsPiece pieces.items }
-        ensures { MatchOption result (pieces.items ≡ []) (λ group. group ≡ pieces.items) }
+        ensures pieces { MatchOption result (pieces.items ≡ []) (λ group. group ≡ pieces.items) }
+        ensures formed { IfSome result (λ group. IsGroup group × All IsPiece group) }
     {
         if pieces.is_empty() {
             return None;

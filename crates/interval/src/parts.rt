@@ -1,8 +1,8 @@
 // The parts of an entry: its in-fade, its middle and its out-fade.
-ghost use Rattle.std.specs.Prelude.{ℕ, IsTrue, Some, ◌≡◌, ◌≤◌, ◌+◌, ◌++◌, MatchOption, []};
-ghost use Rattle.std.specs.List.{list_all};
+ghost use Rattle.std.specs.Prelude.{ℕ, IsTrue, Some, ◌≡◌, ◌≤◌, ◌+◌, ◌++◌, MatchOption, IfSome, []};
+ghost use Rattle.std.specs.List.{All, list_all};
 ghost use Rattle.sound_terms.specs.Mix.{Reading, contribution_at};
-ghost use Rattle.sound_terms.specs.Groups.{is_whole, sum_of};
+ghost use Rattle.sound_terms.specs.Groups.{IsGroup, IsPiece, is_whole, sum_of};
 ghost use Rattle.sound_terms.specs.Entries.{IsPlayable, parts_of, stretch_of};
 ghost use Rattle.smallvec.specs.SmallVec.{HasRoomFor};
 ghost use Rattle.sampletime.specs.TimeCode.{day};
@@ -75,6 +75,7 @@ fn pieces_of(alloc: Global, index: &BoundIndex, event: &Event) -> SmallVec<Piece
 pub fn group_of(alloc: Global, index: &BoundIndex, event: &Event) -> Option<Group>
     requires { IsPlayable index.now event.now }
     ensures parts { MatchOption result (parts_of index.now event.now ≡ []) (λ group. group ≡ parts_of index.now event.now) }
+    ensures formed { IfSome result (λ group. IsGroup group × All IsPiece group) }
     ensures same_sum { (reading : Reading) (channel time : ℕ)
         → sum_of reading (parts_of index.now event.now) channel time ≡ contribution_at reading (Some index.now) event.now channel time }
     ensures whole { IsTrue (list_all is_whole (parts_of index.now event.now)) }

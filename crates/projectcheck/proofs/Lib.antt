@@ -1,0 +1,3 @@
+pub mod Playable
+pub mod PartsLie
+pub mod InTurn

@@ -1,0 +1,3 @@
+pub mod AtHome
+pub mod EntrySound
+pub mod Fault

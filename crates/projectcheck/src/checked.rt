@@ -1,0 +1,59 @@
+// A project without a fault.
+ghost use Rattle.std.specs.Prelude.{◌≡◌, IfOk, None};
+ghost use Rattle.work_terms.specs.Refusals.{Answers};
+ghost use Rattle.list_terms.specs.Accepted.{event_fault};
+ghost use Rattle.projectcheck.specs.Fault.{refusal_of};
+
+use crate::{EventFault, fault_of};
+use sound_terms::Event;
+use sourceindex::Bound;
+use whole_model::Project;
+
+/// A project and what it is bound to, with no entry at fault.
+#[derive(Drop)]
+pub struct Checked {
+    project: Project,
+    bound: Bound,
+    ghost accepted: { event_fault bound project.events ≡ None },
+}
+
+impl Checked {
+    /// The project.
+    pub fn project(&self) -> &Project
+        ensures lent { result.now ≡ self.now.project }
+        ensures accepted { event_fault self.now.bound self.now.project.events ≡ None }
+    {
+        &self.project
+    }
+
+    /// What it is bound to.
+    pub fn bound(&self) -> &Bound
+        ensures { result.now ≡ self.now.bound }
+    {
+        &self.bound
+    }
+}
+
+/// Checks the entries in their order. The first that is at fault is told.
+fn check_entries(bound: &Bound, events: &[Event]) -> Result<(), EventFault>
+    ensures { Answers refusal_of result (event_fault bound.now events.now) }
+{
+    for event in events {
+        if let Some(fault) = fault_of(bound, event) {
+            return Err(EventFault {
+                entry: event.number,
+                fault,
+            });
+        }
+    }
+    Ok(())
+}
+
+/// The project with what it is bound to, where no entry is at fault. The first that is, in their order, is told.
+pub fn check(project: Project, bound: Bound) -> Result<Checked, EventFault>
+    ensures exact { Answers refusal_of result (event_fault bound project.events) }
+    ensures lends { IfOk result (λ checked. (checked.project ≡ project) × (checked.bound ≡ bound)) }
+{
+    check_entries(&bound, project.events())?;
+    Ok(Checked { project, bound })
+}
