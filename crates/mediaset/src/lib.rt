@@ -1,0 +1,11 @@
+//! Which frames of the sources are kept: those that are played and those near them, as runs.
+#![tactic(auto)]
+
+mod fault;
+mod kept;
+mod merging;
+mod spans;
+
+pub use fault::RunFault;
+pub use kept::runs;
+pub use sound_terms::{Home, Run};

@@ -1,0 +1,82 @@
+// Kept frames round single pieces.
+ghost use Rattle.std.specs.Prelude.{◌≡◌, ◌++◌, List, IfOk, OnOk, option_to_list};
+ghost use Rattle.std.specs.List.{All, flat_map};
+ghost use Rattle.sound_terms.specs.Groups.{IsPiece, pieces_of};
+ghost use Rattle.sound_terms.specs.Homes.{AreHomes};
+ghost use Rattle.mediaset.specs.Spans as spec;
+ghost use Rattle.mediaset.specs.Spans.{IsSpan};
+
+use interval::{Intervals, Piece};
+use sound_terms::Home;
+use std::alloc::{AllocError, Global};
+
+/// Frames of a file, from `first` up to, and without, `end`. The key tells the place of the file's home index, then the
+/// first frame.
+#[derive(Clone, Copy, Debug, PartialEq, Eq)]
+pub struct Span {
+    pub key: u64,
+    pub file: u32,
+    pub first: u64,
+    pub end: u64,
+}
+
+/// More than any frame of a day.
+const DAY_ROOM: u64 = 4_294_967_296;
+
+/// The frames at most `handle` away from those that a piece plays, as far as they can be addressed.
+fn span_of(piece: &Piece, homes: &[Home], handle: u64) -> Option<Span>
+    requires piece { IsPiece piece.now }
+    requires homes { AreHomes homes.now }
+    ensures { option_to_list result ≡ spec.span_of homes.now handle piece.now }
+{
+    let home = homes.get(piece.file as usize)?;
+    let first = piece.frame.saturating_sub(handle);
+    let end = (piece.frame + piece.length)
+        .saturating_add(handle)
+        .min(home.addressable);
+    if first >= end {
+        return None;
+    }
+    Some(Span {
+        key: u64::from(home.place) * DAY_ROOM + first,
+        file: piece.file,
+        first,
+        end,
+    })
+}
+
+/// Adds the spans of pieces.
+fn push_spans(
+    pieces: &[Piece],
+    homes: &[Home],
+    handle: u64,
+    spans: &mut Vec<Span>,
+) -> Result<(), AllocError>
+    requires pieces { All IsPiece pieces.now }
+    requires homes { AreHomes homes.now }
+    ensures { OnOk result (spans.new.items ≡ spans.old.items ++ flat_map (spec.span_of homes.now handle) pieces.now) }
+{
+    for piece in pieces {
+        if let Some(span) = span_of(piece, homes, handle) {
+            spans.push(span)?;
+        }
+    }
+    Ok(())
+}
+
+/// The spans of all pieces of groups.
+pub fn spans_of(
+    alloc: Global,
+    intervals: &Intervals,
+    homes: &[Home],
+    handle: u64,
+) -> Result<Vec<Span>, AllocError>
+    requires { AreHomes homes.now }
+    ensures { IfOk result (λ spans. spans.items ≡ flat_map (spec.span_of homes.now handle) (pieces_of intervals.now)) }
+{
+    let mut spans = Vec::new(alloc);
+    for group in intervals.groups() {
+        push_spans(group.pieces(), homes, handle, &mut spans)?;
+    }
+    Ok(spans)
+}
