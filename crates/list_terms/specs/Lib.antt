@@ -13,6 +13,7 @@ pub mod Renewed
 pub mod Steps
 pub mod Text
 pub mod TextVectors
+pub mod TokenLaws
 pub mod Tokens
 pub mod Vectors
 pub mod WholeProject

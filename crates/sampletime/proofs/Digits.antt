@@ -1,16 +1,7 @@
--- Two digits and a number below 100, four digits and a number below 10000.
-use Rattle.std.proofs.Common.{◌≡◌, ℕ, ◌+◌, ◌/◌, ◌%◌, ◌<◌, [], ◌∷◌, Some, arith}
+-- Digits are those of the number that they spell: two of one below 100, four of one below 10000.
+use Rattle.std.proofs.Common.{◌≡◌, ℕ, ◌+◌, ◌/◌, ◌%◌, [], ◌∷◌, Some, arith}
 use Rattle.std.proofs.lemmas.Bool.Decides.{nat_tests}
 use Rattle.sampletime.specs.TimeCode.{two_digits, four_digits}
-
--- the digits of a number spell it
-pub two_digits-of : (n : ℕ) → n < 100 → two_digits ((48 + n / 10) ∷ (48 + n % 10) ∷ []) ≡ Some n
-two_digits-of n h = grind (arith, nat_tests)
-
-pub four_digits-of :
-    (n : ℕ) → n < 10000
-    → four_digits ((48 + n / 1000) ∷ (48 + n / 100 % 10) ∷ (48 + n / 10 % 10) ∷ (48 + n % 10) ∷ []) ≡ Some n
-four_digits-of n h = grind (arith, nat_tests)
 
 -- digits are those of the number that they spell
 pub record AreDigitsOf (n a b : ℕ) : Type 0 where

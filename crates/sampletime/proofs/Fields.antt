@@ -1,19 +1,7 @@
 -- The fields of a time: parts of the number of its samples, which they give again.
-use Rattle.std.proofs.Common.{◌≡◌, ℕ, ◌/◌, ◌%◌, ◌<◌, ◌≤◌, true, arith}
+use Rattle.std.proofs.Common.{◌≡◌, ℕ, ◌/◌, ◌%◌, ◌<◌, true, arith}
 use Rattle.std.proofs.lemmas.Bool.Decides.{nat_tests}
-use Rattle.sampletime.specs.TimeCode.{day, is_in_day, samples_of_parts}
-
--- the fields of a moment of the day are in the day
-pub is_in_day-of :
-    (t : ℕ) → t ≤ day
-    → is_in_day 25 (t / 172800000) (t / 2880000 % 60) (t / 48000 % 60) (t / 1920 % 25) (t % 1920) ≡ true
-is_in_day-of t h = grind (arith, nat_tests)
-
--- and give its samples
-pub samples_of_parts-of :
-    (t : ℕ)
-    → samples_of_parts 25 (t / 172800000) (t / 2880000 % 60) (t / 48000 % 60) (t / 1920 % 25) (t % 1920) ≡ t
-samples_of_parts-of t = omega arith
+use Rattle.sampletime.specs.TimeCode.{is_in_day, samples_of_parts}
 
 -- these are the fields of that many samples
 pub record AreFieldsOf (t h m s f r : ℕ) : Type 0 where

@@ -1,29 +1,9 @@
 -- A time text and its samples, there and back.
-use Rattle.std.proofs.Common.{◌≡◌, ℕ, ◌/◌, ◌%◌, ◌≤◌, List, [], ◌∷◌, Option, Some, None, IfSome, Bool, true, false, ◌&&◌, if◌then◌else◌, IsTrue, refl, sym, ap, arith}
+use Rattle.std.proofs.Common.{◌≡◌, ℕ, ◌≤◌, List, [], ◌∷◌, Option, Some, None, IfSome, Bool, true, false, ◌&&◌, if◌then◌else◌, IsTrue, refl, sym, ap}
 use Rattle.sampletime.specs.TimeCode.{day, are_separators, is_in_day, two_digits, four_digits, time_of_parts, samples_of, samples_of_parts, text_of}
-use Rattle.sampletime.proofs.Digits.{two_digits-of, four_digits-of, two_digits-again, four_digits-again}
-use Rattle.sampletime.proofs.Fields.{is_in_day-of, samples_of_parts-of, fields-again}
-
--- fields in the day, between separators, are a time
-time_of_parts-in_day :
-    (h m s f r : ℕ) (separators : List ℕ) → is_in_day 25 h m s f r ≡ true → are_separators separators ≡ true
-    → time_of_parts 25 (Some h) (Some m) (Some s) (Some f) (Some r) separators ≡ Some (samples_of_parts 25 h m s f r, separators)
-time_of_parts-in_day h m s f r separators i e = rw (i, e)
-
-samples_of-text_of :
-    (t : ℕ) (separators : List ℕ) → t ≤ day → IsTrue (are_separators separators)
-    → samples_of 25 (text_of 25 t separators) ≡ Some (t, separators)
-samples_of-text_of t (a ∷ b ∷ c ∷ d ∷ []) h i =
-    let eh = two_digits-of (t / 172800000) (omega arith) in
-    let em = two_digits-of (t / 2880000 % 60) (omega arith) in
-    let es = two_digits-of (t / 48000 % 60) (omega arith) in
-    let ef = two_digits-of (t / 1920 % 25) (omega arith) in
-    let er = four_digits-of (t % 1920) (omega arith) in
-    let e = time_of_parts-in_day (t / 172800000) (t / 2880000 % 60) (t / 48000 % 60) (t / 1920 % 25) (t % 1920)
-    (a ∷ b ∷ c ∷ d ∷ []) (is_in_day-of t h) i in
-    let et = samples_of_parts-of t in
-    cc
-samples_of-text_of t _ h i = cc
+use Rattle.sampletime.specs.TimeLaws.{samples_of-text_of}
+use Rattle.sampletime.proofs.Digits.{two_digits-again, four_digits-again}
+use Rattle.sampletime.proofs.Fields.{fields-again}
 
 -- parts that have a time are numbers, in the day
 record HaveTime (h' m' s' f' r' : Option ℕ) (separators : List ℕ) (t : ℕ) (separators' : List ℕ) : Type 0 where

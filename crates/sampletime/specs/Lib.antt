@@ -1,1 +1,2 @@
 pub mod TimeCode
+pub mod TimeLaws

@@ -9,7 +9,7 @@ use Rattle.std.proofs.lemmas.Map.Keys.{IsDistinct-push}
 use Rattle.std.proofs.lemmas.Map.Steps.{length-le_from_distinct_below}
 use Rattle.sound_terms.specs.declared.Event.{Event}
 use Rattle.list_terms.specs.Project.{Source}
-use Rattle.list_terms.specs.WholeProject.{AreDistinct, AreEvents, AreSources, is_number}
+use Rattle.list_terms.specs.WholeProject.{AreDistinct, AreEvents, AreNumberedSources, is_number}
 
 module _ {X : Type 0} (number_of : X → ℕ) (fine : X → Bool) (each : (x : X) → fine x ≡ true → is_number (number_of x) ≡ true) where
   zero_is_free : (items : List X) → list_all fine items ≡ true → list_any (eqb 0) (map number_of items) ≡ false
@@ -28,7 +28,7 @@ module _ {X : Type 0} (number_of : X → ℕ) (fine : X → Bool) (each : (x : X
       let few = length-le_from_distinct_below (numbers ++ (0 ∷ [])) 32768 apart (below_with_zero items h) in
       omega (arith, few, length-append numbers (0 ∷ []), length-map items number_of)
 
-pub length-sources : (sources : List Source) → AreSources sources → length sources ≤ 32767
+pub length-sources : (sources : List Source) → AreNumberedSources sources → length sources ≤ 32767
 length-sources sources h = length-numbered (λ s. s.number) _ (λ s e. grind (arith, nat_tests)) sources h.distinct h.each
 
 pub length-events : (events : List Event) → AreEvents events → length events ≤ 32767

@@ -1,7 +1,8 @@
 // The whole project.
-ghost use Rattle.std.specs.Prelude.{◌≡◌, ◌≤◌, IfOk, IsTrue, length};
+ghost use Rattle.std.specs.Prelude.{◌≡◌, ◌≤◌, [], IfOk, IsTrue, length};
 ghost use Rattle.std.specs.List.{list_all};
-ghost use Rattle.list_terms.specs.WholeProject.{AreDistinct, AreEvents, AreSources, entry_numbers, index_numbers, is_event, is_source};
+ghost use Rattle.sampletime.specs.TimeCode.{default_separators};
+ghost use Rattle.list_terms.specs.WholeProject.{AreDistinct, AreEvents, AreSources, IsHeader, IsProject, entry_numbers, index_numbers, is_event, is_source};
 ghost use Rattle.whole_model.specs.Header.{header_view, project_of, renewed_lists};
 
 use crate::header::Header;
@@ -25,18 +26,19 @@ pub struct Project {
 
 impl Model for Project {
     ghost use Rattle.list_terms.specs.Project.{ListProject};
-    ghost use Rattle.list_terms.specs.WholeProject.{AreEvents, AreSources};
-    ghost use Rattle.whole_model.specs.Header.{header_view, project_of};
+    ghost use Rattle.list_terms.specs.WholeProject.{IsProject};
+    ghost use Rattle.whole_model.specs.Header.{project_of};
 
     ghost Value = { ListProject };
 
     ghost view = { λ p. project_of p.header p.sources.items p.events.items p.separators p.notices.items };
 
-    ghost invariant = { λ p. AreSources p.sources.items × AreEvents p.events.items };
+    ghost invariant = { λ p. IsProject (project_of p.header p.sources.items p.events.items p.separators p.notices.items) };
 }
 
 impl Project {
-    /// The project of these parts, at 48000 samples and 25 frames a second.
+    /// The project of these parts, at 48000 samples and 25 frames a second. One without an event has the standard
+    /// separators.
     pub fn new(
         header: Header,
         sources: Vec<Source>,
@@ -44,10 +46,13 @@ impl Project {
         separators: Separators,
         notices: Vec<Notice>,
     ) -> Self
+        requires header { IsHeader (header_view header) }
         requires sources { AreSources sources.items }
         requires events { AreEvents events.items }
+        requires standard { events.items ≡ [] → separators ≡ default_separators }
         ensures { result ≡ project_of header sources.items events.items separators notices.items }
     {
+        let _ = separators.bytes();
         Project {
             header,
             sources,
@@ -87,7 +92,8 @@ impl Project {
 
     /// The kept lines of its header.
     pub fn header(&self) -> &Header
-        ensures { header_view result.now ≡ self.now.header }
+        ensures header { header_view result.now ≡ self.now.header }
+        ensures whole { IsProject self.now }
     {
         &self.header
     }

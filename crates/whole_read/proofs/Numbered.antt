@@ -9,7 +9,7 @@ use Rattle.sound_terms.specs.declared.Event.{Event}
 use Rattle.list_terms.specs.declared.OpenEntry.{OpenEntry}
 use Rattle.list_terms.specs.Text.{all_events}
 use Rattle.list_terms.specs.Project.{Source}
-use Rattle.list_terms.specs.WholeProject.{AreDistinct, AreEvents, AreSources, is_event, is_source}
+use Rattle.list_terms.specs.WholeProject.{AreDistinct, AreEvents, AreNumberedSources, is_event, is_source}
 
 AreDistinct-nil : AreDistinct []
 unfolding IsDistinct
@@ -51,15 +51,15 @@ module _ {X : Type 0} (number_of : X → ℕ) (fine : X → Bool) where
       → AreDistinct (map number_of (items ++ y ∷ []))
   distinct-changed items x y distinct is = rw (map-push items y, is, ← map-push items x) distinct
 
-pub AreSources-nil : AreSources []
+pub AreSources-nil : AreNumberedSources []
 AreSources-nil = record { each = refl; distinct = AreDistinct-nil }
 
 pub AreEvents-nil : AreEvents []
 AreEvents-nil = record { each = refl; distinct = AreDistinct-nil }
 
 pub AreSources-push :
-    (sources : List Source) (source : Source) (n : ℕ) → AreSources sources → list_any (λ s. s.number == n) sources ≡ false
-    → source.number ≡ n → IsTrue (is_source source) → AreSources (sources ++ source ∷ [])
+    (sources : List Source) (source : Source) (n : ℕ) → AreNumberedSources sources → list_any (λ s. s.number == n) sources ≡ false
+    → source.number ≡ n → IsTrue (is_source source) → AreNumberedSources (sources ++ source ∷ [])
 AreSources-push sources source n h free is fine = record {
   each = all-push (λ s. s.number) is_source sources source h.each fine;
   distinct = distinct-push (λ s. s.number) is_source sources source n h.distinct free is;

@@ -1,9 +1,10 @@
 // What was read of a list so far.
-ghost use Rattle.std.specs.Prelude.{◌≡◌, ◌&&◌, IfOk, Ok, is_some};
+ghost use Rattle.std.specs.Prelude.{◌≡◌, ◌&&◌, IfOk, IsTrue, Ok, is_some};
 ghost use Rattle.list_terms.specs.Text as text;
 ghost use Rattle.list_terms.specs.Text.{nothing_read};
 ghost use Rattle.whole_read.specs.Fault.{Reads};
 ghost use Rattle.whole_read.specs.Context.{context_of};
+ghost use Rattle.whole_read.specs.SoFar.{IsSoFar};
 
 use crate::fault::{AdlFault, located};
 use crate::fields::{end_line, is_keyword, number_field};
@@ -295,6 +296,7 @@ impl<'a> Draft<'a> {
     /// The project, behind `</ADL>`: three sections have to be there, and both rates.
     #[tactic(auto, unfolding(list_terms::specs::Text::finished))]
     pub fn finish(self, line: u64) -> Result<Project, AdlFault>
+        requires { IsSoFar (context_of self) }
         ensures { Reads (λ project. project) result (text.finished 25 (context_of self.entry) line) }
     {
         if !self.has_sections() {
@@ -314,8 +316,10 @@ impl<'a> Draft<'a> {
         self.header.lines.sequence.is_some() && self.has_index && self.has_events
     }
 
-    /// The project of all that was read.
+    /// The project of all that was read, where both rates were told.
     fn project(self) -> Result<Project, AdlFault>
+        requires whole { IsSoFar (context_of self) }
+        requires rates { IsTrue (self.header.rates.sample_rate && self.header.rates.frame_rate) }
         ensures { Reads (λ project. project) result (Ok (text.project_of 25 (context_of self.entry))) }
     {
         let Draft {

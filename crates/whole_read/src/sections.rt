@@ -1,7 +1,7 @@
 // The source index and the event list so far.
 ghost use Rattle.std.specs.Prelude.{◌≡◌, ◌<◌, [], IfOk, IsTrue, OnOk};
 ghost use Rattle.std.proofs.Props.{props};
-ghost use Rattle.list_terms.specs.WholeProject.{AreEvents, AreSources, is_number};
+ghost use Rattle.list_terms.specs.WholeProject.{AreEvents, AreNumberedSources, is_number};
 ghost use Rattle.list_terms.specs.Steps.{ok_map};
 ghost use Rattle.list_terms.specs.Text.{all_events, closed_entries, entry_of, further_line, no_entry, source_with};
 ghost use Rattle.adltoken.specs.Views.{token_view};
@@ -23,7 +23,7 @@ pub struct SourceIndex {
     pub sources: Vec<Source>,
     numbers: Numbers,
     ghost flags: { AreFlags (λ s. s.number) sources.items numbers.taken.items },
-    pub ghost whole: { AreSources sources.items } by { Prim.hlevel props },
+    pub ghost whole: { AreNumberedSources sources.items } by { Prim.hlevel props },
 }
 
 impl SourceIndex {

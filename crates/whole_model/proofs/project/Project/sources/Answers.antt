@@ -4,4 +4,4 @@ use Rattle.whole_model.proofs.Counted.{length-sources}
 use Rattle.whole_model.proofs.project.Project.sources.Goals as goal
 
 pub returns-clause-few : goal.returns-clause-few
-returns-clause-few c = omega (arith, length-sources _ c.self.invariant.0, ap length c.as_slice.ensures.value)
+returns-clause-few c = omega (arith, length-sources _ c.self.invariant.sources.numbered, ap length c.as_slice.ensures.value)

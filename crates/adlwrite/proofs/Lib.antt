@@ -1,0 +1,13 @@
+pub mod Digits
+pub mod Events
+pub mod Facts
+pub mod Fields
+pub mod Head
+pub mod Lines
+pub mod OnePart
+pub mod PartsText
+pub mod Reading
+pub mod RoundTrip
+pub mod Sources
+pub mod TextLines
+pub mod Words

@@ -1,0 +1,95 @@
+-- The parts of a list, one after another, are its text.
+use Rattle.std.proofs.Common.{◌≡◌, ℕ, Bool, true, false, List, [], ◌∷◌, ◌++◌, Option, None, Some, refl, sym, append_assoc}
+use Rattle.std.specs.Prelude.{codes, flat_map, ◌==◌}
+use Rattle.std.proofs.lemmas.List.{append-nil}
+use Rattle.sound_terms.specs.declared.Event.{Event}
+use Rattle.list_terms.specs.Project.{ListProject, Source}
+use Rattle.list_terms.specs.WrittenText.{event_line, event_lines, fade_lines, line, section, source_line, text_of_project}
+use Rattle.adlwrite.specs.Parts.{body_text, curve_text, ending_text, entry_front, entry_text, entry_times, event_text, events_text, fade_text, head_text, header_text, line_end, lines_text, list_begin, list_end, name_end, numbered, opening_text, ranged, source_text, sources_text, texted, timed}
+
+source_is_its_line : (project : ListProject) (source : Source) → source_text project source ≡ line (source_line project source)
+unfolding source_text numbered texted timed line_end
+source_is_its_line project source = simp append_assoc
+
+entry_is_its_line : (project : ListProject) (event : Event) → entry_text project event ≡ line (event_line project event)
+unfolding entry_text entry_front entry_times numbered ranged timed line_end
+entry_is_its_line project event = simp append_assoc
+
+rise_is_its_line : (project : ListProject) (length : ℕ) → fade_text project (codes "(Infade) ") length ≡ flat_map line (fade_lines project (codes "(Infade)") length)
+unfolding fade_text timed curve_text
+rise_is_its_line project length = by_test (length == 0) refl where
+  by_test : (none : Bool) → (length == 0) ≡ none → fade_text project (codes "(Infade) ") length ≡ flat_map line (fade_lines project (codes "(Infade)") length)
+  by_test true e = rw e refl
+  by_test false e = rw e (simp (append_assoc, append-nil))
+
+fall_is_its_line : (project : ListProject) (length : ℕ) → fade_text project (codes "(Outfade) ") length ≡ flat_map line (fade_lines project (codes "(Outfade)") length)
+unfolding fade_text timed curve_text
+fall_is_its_line project length = by_test (length == 0) refl where
+  by_test : (none : Bool) → (length == 0) ≡ none → fade_text project (codes "(Outfade) ") length ≡ flat_map line (fade_lines project (codes "(Outfade)") length)
+  by_test true e = rw e refl
+  by_test false e = rw e (simp (append_assoc, append-nil))
+
+lines_append : (a b : List (List ℕ)) → flat_map line (a ++ b) ≡ flat_map line a ++ flat_map line b
+lines_append [] b = refl
+lines_append (t ∷ a) b = rw (lines_append a b) (sym (append_assoc (line t) (flat_map line a) (flat_map line b)))
+
+event_is_its_lines : (project : ListProject) (event : Event) → event_text project event ≡ flat_map line (event_lines project event)
+unfolding event_text
+event_is_its_lines project event =
+    rw (
+      entry_is_its_line project event,
+      rise_is_its_line project event.rise.length,
+      fall_is_its_line project event.fall.length,
+      lines_append (fade_lines project (codes "(Infade)") event.rise.length) (fade_lines project (codes "(Outfade)") event.fall.length),
+    ) refl
+
+sources_are_their_lines : (project : ListProject) (sources : List Source) → sources_text project sources ≡ flat_map line (flat_map (λ s. source_line project s ∷ []) sources)
+unfolding sources_text
+sources_are_their_lines project [] = refl
+sources_are_their_lines project (s ∷ sources) = rw (source_is_its_line project s, sources_are_their_lines project sources) refl
+
+events_are_their_lines : (project : ListProject) (events : List Event) → events_text project events ≡ flat_map line (flat_map (event_lines project) events)
+unfolding events_text
+events_are_their_lines project [] = refl
+events_are_their_lines project (e ∷ events) =
+    rw (event_is_its_lines project e, events_are_their_lines project events, lines_append (event_lines project e) (flat_map (event_lines project) events)) refl
+
+opening_is_a_line : (name : List ℕ) → opening_text name ≡ line (codes "<" ++ (name ++ codes ">"))
+unfolding opening_text texted name_end
+opening_is_a_line name = simp append_assoc
+
+ending_is_a_line : (name : List ℕ) → ending_text name ≡ line (codes "</" ++ (name ++ codes ">"))
+unfolding ending_text texted name_end
+ending_is_a_line name = simp append_assoc
+
+header_is_a_section : (name : List ℕ) (lines : Option (List (List ℕ))) → header_text name lines ≡ section name lines
+unfolding header_text lines_text
+header_is_a_section name None = refl
+header_is_a_section name (Some lines) = rw (opening_is_a_line name, ending_is_a_line name) refl
+
+regrouped :
+    (b p q r s t o m e o' m' e' f : List ℕ)
+    → (b ++ (p ++ (q ++ (r ++ (s ++ t))))) ++ (o ++ (m ++ (e ++ (o' ++ (m' ++ (e' ++ f))))))
+    ≡ b ++ (p ++ (q ++ (r ++ (s ++ (t ++ ((o ++ (m ++ e)) ++ ((o' ++ (m' ++ e')) ++ f)))))))
+regrouped b p q r s t o m e o' m' e' f = simp append_assoc
+
+pub text_is_its_parts : (project : ListProject) → head_text project ++ body_text project ≡ text_of_project project
+unfolding head_text body_text text_of_project list_begin list_end
+text_is_its_parts project =
+    rw (
+      header_is_a_section (codes "VERSION") project.header.version,
+      header_is_a_section (codes "PROJECT") project.header.project,
+      header_is_a_section (codes "SYSTEM") project.header.system,
+      header_is_a_section (codes "SEQUENCE") project.header.sequence,
+      header_is_a_section (codes "TRACKLIST") project.header.track_list,
+      opening_is_a_line (codes "SOURCE_INDEX"),
+      ending_is_a_line (codes "SOURCE_INDEX"),
+      opening_is_a_line (codes "EVENT_LIST"),
+      ending_is_a_line (codes "EVENT_LIST"),
+      sources_are_their_lines project project.sources,
+      events_are_their_lines project project.events,
+    )
+    (regrouped (line (codes "<ADL>")) (section (codes "VERSION") project.header.version) (section (codes "PROJECT") project.header.project)
+    (section (codes "SYSTEM") project.header.system) (section (codes "SEQUENCE") project.header.sequence) (section (codes "TRACKLIST") project.header.track_list)
+    (line (codes "<SOURCE_INDEX>")) (flat_map line (flat_map (λ s. source_line project s ∷ []) project.sources)) (line (codes "</SOURCE_INDEX>"))
+    (line (codes "<EVENT_LIST>")) (flat_map line (flat_map (event_lines project) project.events)) (line (codes "</EVENT_LIST>")) (line (codes "</ADL>")))

@@ -1,0 +1,104 @@
+-- What is written for a project is read as that project.
+use Rattle.std.proofs.Common.{◌≡◌, ℕ, ◌+◌, true, false, List, [], ◌∷◌, ◌++◌, Option, None, Some, Ok, MatchOption, refl, ap, sym, subst, append_assoc}
+use Rattle.std.specs.Prelude.{codes, flat_map, is_some, map, unwrap_or}
+use Rattle.sampletime.specs.TimeCode.{default_separators}
+use Rattle.list_terms.specs.declared.Rates.{Rates}
+use Rattle.list_terms.specs.declared.Section.TheVariants as section
+use Rattle.list_terms.specs.declared.Stage.TheVariants.{Behind, Inside, Outside}
+use Rattle.list_terms.specs.Project.{ListProject, Source}
+use Rattle.list_terms.specs.Text.{Entries, HeaderRead, all_events, before_list, finished, no_entry, no_header, nothing_read, opened, outside, section_of, text_value, with_line}
+use Rattle.list_terms.specs.WholeProject.{IsProject, both_rates, lines_of_section, no_rates, told_rates, without_notices}
+use Rattle.list_terms.specs.WrittenText.{event_lines, source_line, text_of_project}
+use Rattle.adlwrite.proofs.Events.{events_are_read}
+use Rattle.adlwrite.proofs.Head.{count, version_is_read}
+use Rattle.adlwrite.proofs.Reading.{Gives, ending, in_head, last_line, one_line, opening, so_far, written_section}
+use Rattle.adlwrite.proofs.Sources.{sources_are_read}
+use Rattle.adlwrite.proofs.TextLines.{lines_of-text_of_project, written_lines}
+
+list_begins : (n : ℕ) → with_line 25 nothing_read n (codes "<ADL>") ≡ Ok (in_head Outside [] no_header)
+unfolding with_line before_list
+list_begins n = refl
+
+index_begins :
+    (known : List ℕ) (header : HeaderRead) (n : ℕ)
+    → with_line 25 (in_head Outside known header) n (codes "<SOURCE_INDEX>")
+    ≡ Ok (so_far (Inside section.SourceIndex) (codes "SOURCE_INDEX") header true [] false no_entry)
+unfolding with_line outside opened section_of
+index_begins known header n = refl
+
+events_begin :
+    (known : List ℕ) (header : HeaderRead) (sources : List Source) (n : ℕ)
+    → with_line 25 (so_far Outside known header true sources false no_entry) n (codes "<EVENT_LIST>")
+    ≡ Ok (so_far (Inside section.EventList) (codes "EVENT_LIST") header true sources true no_entry)
+unfolding with_line outside opened section_of
+events_begin known header sources n = refl
+
+list_ends :
+    (known : List ℕ) (header : HeaderRead) (sources : List Source) (entries : Entries) (n : ℕ)
+    → with_line 25 (so_far Outside known header true sources true entries) n (codes "</ADL>")
+    ≡ Ok (so_far Behind known header true sources true entries)
+unfolding with_line outside
+list_ends known header sources entries n = refl
+
+-- SEQUENCE is there, since it tells both rates
+has_sequence : (sequence : Option (List (List ℕ))) → told_rates no_rates (lines_of_section sequence) ≡ Ok both_rates → is_some sequence ≡ true
+has_sequence None h = let e : no_rates ≡ both_rates = cc in ap (λ (r : Rates). r.sample_rate) e
+has_sequence (Some lines) h = refl
+
+-- the separators that were found are those of the project
+separators_again :
+    (project : ListProject) (found : Option (List ℕ)) → IsProject project
+    → MatchOption found (project.events ≡ []) (λ f. f ≡ project.separators) → unwrap_or found default_separators ≡ project.separators
+separators_again project None h none = sym (h.standard none)
+separators_again project (Some found) h same = same
+
+module _ (project : ListProject) (h : IsProject project) where
+  abbrev header_read : HeaderRead
+  header_read = record { lines = project.header; kept = 0 + count project.header.version + count project.header.project + count project.header.system + count project.header.sequence + count project.header.track_list; rates = both_rates }
+
+  ends :
+      (last : Entries) → all_events last.events last.entry ≡ project.events
+      → MatchOption last.separators (project.events ≡ []) (λ f. f ≡ project.separators) → (n : ℕ)
+      → finished 25 (so_far Behind (codes "EVENT_LIST") header_read true project.sources true last) n ≡ Ok (without_notices project)
+  unfolding finished
+  ends last same found n =
+      rw (has_sequence project.header.sequence h.header.rates, same, separators_again project last.separators h found, h.rate) refl
+
+  events_end :
+      Gives (so_far Outside (codes "SOURCE_INDEX") header_read true project.sources false no_entry)
+      (written_section (codes "EVENT_LIST") (Some (flat_map (event_lines project) project.events)) ++ (codes "</ADL>" ∷ [])) (without_notices project)
+  events_end =
+      let lines = flat_map (event_lines project) project.events in
+      let end = ending (codes "EVENT_LIST") in
+      subst (λ more. Gives (so_far Outside (codes "SOURCE_INDEX") header_read true project.sources false no_entry)
+      (opening (codes "EVENT_LIST") ∷ more) (without_notices project)) (sym (append_assoc lines (end ∷ []) (codes "</ADL>" ∷ [])))
+      (one_line _ _ (opening (codes "EVENT_LIST")) (lines ++ (end ∷ codes "</ADL>" ∷ [])) (without_notices project)
+      (events_begin (codes "SOURCE_INDEX") header_read project.sources) refl
+      (events_are_read project h.rate h.separators header_read project.sources no_entry [] project.events (codes "</ADL>" ∷ []) (without_notices project)
+      refl refl h.events.each h.events.distinct
+      (λ last same found. last_line _ _ (codes "</ADL>") (without_notices project)
+      (list_ends (codes "EVENT_LIST") header_read project.sources last) refl (ends last same found))))
+
+  index_and_events :
+      (known : List ℕ)
+      → Gives (in_head Outside known header_read)
+      (written_section (codes "SOURCE_INDEX") (Some (map (source_line project) project.sources))
+      ++ (written_section (codes "EVENT_LIST") (Some (flat_map (event_lines project) project.events)) ++ (codes "</ADL>" ∷ []))) (without_notices project)
+  index_and_events known =
+      let lines = map (source_line project) project.sources in
+      let end = ending (codes "SOURCE_INDEX") in
+      let rest = written_section (codes "EVENT_LIST") (Some (flat_map (event_lines project) project.events)) ++ (codes "</ADL>" ∷ []) in
+      subst (λ more. Gives (in_head Outside known header_read) (opening (codes "SOURCE_INDEX") ∷ more) (without_notices project))
+      (sym (append_assoc lines (end ∷ []) rest))
+      (one_line _ _ (opening (codes "SOURCE_INDEX")) (lines ++ (end ∷ rest)) (without_notices project) (index_begins known header_read) refl
+      (sources_are_read project h.rate h.separators header_read [] project.sources rest (without_notices project)
+      h.sources.numbered.each h.sources.texts h.sources.numbered.distinct events_end))
+
+  list_is_read : Gives nothing_read (written_lines project) (without_notices project)
+  list_is_read =
+      one_line nothing_read (in_head Outside [] no_header) (codes "<ADL>") _ (without_notices project) list_begins refl
+      (version_is_read project.header h.header _ (without_notices project) [] index_and_events)
+
+pub text_value-text_of_project : (project : ListProject) → IsProject project → text_value (text_of_project project) ≡ Ok (without_notices project)
+unfolding text_value
+text_value-text_of_project project h = rw (lines_of-text_of_project project h, list_is_read project h 0) refl

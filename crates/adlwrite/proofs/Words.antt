@@ -1,0 +1,183 @@
+-- Numbers, channels and times are written as words that are read as those numbers, channels and times.
+use Rattle.std.proofs.Common.{◌≡◌, ℕ, ◌+◌, ◌/◌, ◌%◌, ◌<◌, ◌≤◌, Bool, true, false, List, [], ◌∷◌, ◌++◌, Option, None, Some, IsTrue, refl, ap, ◌∙◌, arith}
+use Rattle.std.specs.Prelude.{decimal, nat_le, ◌==◌, ◌&&◌}
+use Rattle.std.specs.List.{before_first, list_all, position_or_len}
+use Rattle.std.proofs.lemmas.Bool.Decides.{nat_tests}
+use Rattle.sampletime.specs.TimeCode.{are_separators, day, is_digit, is_separator, text_of, text_of_parts}
+use Rattle.sound_terms.specs.declared.Channels.{Channels}
+use Rattle.list_terms.specs.Fields.{are_digits, channels_of, channel_range, is_tilde, number_up_to}
+use Rattle.list_terms.specs.Names.{behind_byte}
+use Rattle.list_terms.specs.Tokens.{is_word_byte}
+use Rattle.list_terms.specs.TokenLaws.{is_word, take_more}
+use Rattle.list_terms.specs.WholeProject.{are_channels, is_number}
+use Rattle.list_terms.specs.WrittenText.{channels_text, number_text}
+use Rattle.adlwrite.proofs.Digits.{decimal-spells, number_text-spells, number_up_to-spelled}
+
+-- ---- words
+
+words_from_digits : (text : List ℕ) → list_all is_digit text ≡ true → list_all is_word_byte text ≡ true
+words_from_digits [] h = refl
+words_from_digits (b ∷ text) h = grind (arith, nat_tests, words_from_digits text)
+
+all_digits : (text : List ℕ) → are_digits text ≡ true → list_all is_digit text ≡ true
+all_digits text h = grind (arith, nat_tests)
+
+digits_are_a_word : (text : List ℕ) → are_digits text ≡ true → is_word text ≡ true
+digits_are_a_word [] h = absurd (cc)
+digits_are_a_word (b ∷ text) h = words_from_digits (b ∷ text) (all_digits (b ∷ text) h)
+
+pub number_is_a_word : (n : ℕ) → n ≤ 32767 → is_word (number_text n) ≡ true
+number_is_a_word n h = digits_are_a_word (number_text n) (number_text-spells n h).digits
+
+pub number_is_read : (n : ℕ) → IsTrue (is_number n) → number_up_to 32767 (number_text n) ≡ Some n
+number_is_read n h =
+    let low : 1 ≤ n = grind (arith, nat_tests) in
+    let high : n ≤ 32767 = grind (arith, nat_tests) in
+    number_up_to-spelled 32767 n (number_text n) low high (number_text-spells n high)
+
+-- ---- channels
+
+words_append : (s t : List ℕ) → list_all is_word_byte s ≡ true → list_all is_word_byte t ≡ true → list_all is_word_byte (s ++ t) ≡ true
+words_append [] t hs ht = ht
+words_append (b ∷ s) t hs ht = grind (arith, nat_tests, words_append s t)
+
+is_word_append : (s t : List ℕ) → is_word s ≡ true → list_all is_word_byte t ≡ true → is_word (s ++ t) ≡ true
+is_word_append [] t hs ht = absurd (cc)
+is_word_append (b ∷ s) t hs ht = words_append (b ∷ s) t hs ht
+
+before_tilde : (digits rest : List ℕ) → list_all is_digit digits ≡ true → before_first is_tilde (digits ++ (126 ∷ rest)) ≡ digits
+before_tilde [] rest h = refl
+before_tilde (d ∷ digits) rest h =
+    let other : (d == 126) ≡ false = grind (arith, nat_tests) in
+    rw (other, take_more (position_or_len is_tilde (digits ++ (126 ∷ rest))) d (digits ++ (126 ∷ rest)))
+    (ap (λ t. d ∷ t) (before_tilde digits rest (grind (arith, nat_tests))))
+
+without_tilde : (digits : List ℕ) → list_all is_digit digits ≡ true → before_first is_tilde digits ≡ digits
+without_tilde [] h = refl
+without_tilde (d ∷ digits) h =
+    let other : (d == 126) ≡ false = grind (arith, nat_tests) in
+    rw (other, take_more (position_or_len is_tilde digits) d digits) (ap (λ t. d ∷ t) (without_tilde digits (grind (arith, nat_tests))))
+
+behind_tilde : (digits rest : List ℕ) → list_all is_digit digits ≡ true → behind_byte 126 (digits ++ (126 ∷ rest)) ≡ Some rest
+behind_tilde [] rest h = refl
+behind_tilde (d ∷ digits) rest h =
+    let other : (d == 126) ≡ false = grind (arith, nat_tests) in rw other (behind_tilde digits rest (grind (arith, nat_tests)))
+
+no_tilde : (digits : List ℕ) → list_all is_digit digits ≡ true → behind_byte 126 digits ≡ None
+no_tilde [] h = refl
+no_tilde (d ∷ digits) h =
+    let other : (d == 126) ≡ false = grind (arith, nat_tests) in rw other (no_tilde digits (grind (arith, nat_tests)))
+
+range_is_read : (first last : ℕ) → nat_le first last ≡ true → channel_range (Some first) (Some last) ≡ Some (record { first = first; last = last })
+range_is_read first last h = rw h refl
+
+one_is_read : (n : ℕ) → 1 ≤ n → n ≤ 64 → channels_of (decimal n) ≡ Some (record { first = n; last = n })
+unfolding channels_of
+one_is_read n low high =
+    let h = decimal-spells n high in
+    let digits = all_digits (decimal n) h.digits in
+    let n-le : nat_le n n ≡ true = grind (arith, nat_tests) in
+    rw (no_tilde (decimal n) digits, without_tilde (decimal n) digits, number_up_to-spelled 64 n (decimal n) low high h, n-le)
+
+two_are_read :
+    (first last : ℕ) → 1 ≤ first → first ≤ last → last ≤ 64
+    → channels_of (decimal first ++ (126 ∷ decimal last)) ≡ Some (record { first = first; last = last })
+unfolding channels_of
+two_are_read first last low order high =
+    let h = decimal-spells first (omega arith) in
+    let k = decimal-spells last high in
+    let digits = all_digits (decimal first) h.digits in
+    let ordered : nat_le first last ≡ true = grind (arith, nat_tests) in
+    rw (
+      behind_tilde (decimal first) (decimal last) digits,
+      before_tilde (decimal first) (decimal last) digits,
+      number_up_to-spelled 64 first (decimal first) low (omega arith) h,
+      number_up_to-spelled 64 last (decimal last) (omega arith) high k,
+      ordered,
+    )
+
+same_channels :
+    (channels : Channels) → channels.first ≡ channels.last
+    → let one : Option Channels = Some (record { first = channels.first; last = channels.first }) in one ≡ Some channels
+same_channels channels e = ap (λ (last : ℕ). let c : Channels = record { first = channels.first; last = last } in Some c) e
+
+-- channels are written as a word that is read as those channels
+pub record IsReadAs (channels : Channels) (text : List ℕ) : Type 0 where
+  pub word : is_word text ≡ true
+  pub value : channels_of text ≡ Some channels
+
+pub channels_are_read : (channels : Channels) → IsTrue (are_channels channels) → IsReadAs channels (channels_text channels)
+channels_are_read channels h = by_test (channels.first == channels.last) refl where
+  low : 1 ≤ channels.first
+  low = grind (arith, nat_tests)
+
+  order : channels.first ≤ channels.last
+  order = grind (arith, nat_tests)
+
+  high : channels.last ≤ 64
+  high = grind (arith, nat_tests)
+
+  by_test : (one : Bool) → (channels.first == channels.last) ≡ one → IsReadAs channels (channels_text channels)
+  by_test true e = rw e (record {
+    word = digits_are_a_word (decimal channels.first) (decimal-spells channels.first (omega (arith, order, high))).digits;
+    value = one_is_read channels.first low (omega (arith, order, high)) ∙ same_channels channels (grind (arith, nat_tests));
+  })
+  by_test false e = rw e (record {
+    word = is_word_append (decimal channels.first) (126 ∷ decimal channels.last)
+        (digits_are_a_word (decimal channels.first) (decimal-spells channels.first (omega (arith, order, high))).digits)
+        (words_from_digits (decimal channels.last) (all_digits (decimal channels.last) (decimal-spells channels.last high).digits));
+    value = two_are_read channels.first channels.last low order high;
+  })
+
+-- ---- times
+
+digit_is_of_words : (n : ℕ) → n < 10 → is_word_byte (48 + n) ≡ true
+digit_is_of_words n h = grind (arith, nat_tests)
+
+separator_is_of_words : (b : ℕ) → is_separator b ≡ true → is_word_byte b ≡ true
+separator_is_of_words b h = grind (arith, nat_tests)
+
+-- bytes of words alone
+record AreOfWords (text : List ℕ) : Type 0 where
+  each : list_all is_word_byte text ≡ true
+
+nothing : AreOfWords []
+nothing = record { each = refl }
+
+with_byte : (b : ℕ) {rest : List ℕ} → is_word_byte b ≡ true → AreOfWords rest → AreOfWords (b ∷ rest)
+with_byte b h all = record { each = rw h all.each }
+
+with_digit : (n : ℕ) {rest : List ℕ} → n < 10 → AreOfWords rest → AreOfWords ((48 + n) ∷ rest)
+with_digit n h all = with_byte (48 + n) (digit_is_of_words n h) all
+
+with_two : (n : ℕ) {rest : List ℕ} → n < 100 → AreOfWords rest → AreOfWords ((48 + n / 10) ∷ (48 + n % 10) ∷ rest)
+with_two n h all = with_digit (n / 10) (omega arith) (with_digit (n % 10) (omega arith) all)
+
+parts_are_of_words :
+    (h m s f r a b c d : ℕ) → h < 100 → m < 100 → s < 100 → f < 100 → r < 10000 → is_word_byte a ≡ true → is_word_byte b ≡ true
+    → is_word_byte c ≡ true → is_word_byte d ≡ true → AreOfWords (text_of_parts h m s f r (a ∷ b ∷ c ∷ d ∷ []))
+parts_are_of_words h m s f r a b c d hh hm hs hf hr ia ib ic id =
+    with_two h hh (with_byte a ia (with_two m hm (with_byte b ib (with_two s hs (with_byte c ic (with_two f hf (with_byte d id
+    (with_digit (r / 1000) (omega arith) (with_digit (r / 100 % 10) (omega arith) (with_digit (r / 10 % 10) (omega arith)
+    (with_digit (r % 10) (omega arith) nothing)))))))))))
+
+four_true : (a b c d : Bool) → (a && b && c && d) ≡ true → (a ≡ true) × (b ≡ true) × (c ≡ true) × (d ≡ true)
+four_true true true true d h = (refl, refl, refl, h)
+four_true true true false d h = absurd (cc)
+four_true true false c d h = absurd (cc)
+four_true false b c d h = absurd (cc)
+
+pub time_is_a_word : (t : ℕ) (separators : List ℕ) → t ≤ day → IsTrue (are_separators separators) → is_word (text_of 25 t separators) ≡ true
+time_is_a_word t (a ∷ b ∷ c ∷ d ∷ []) h i =
+    let each = four_true (is_separator a) (is_separator b) (is_separator c) (is_separator d) i in
+    let ia = separator_is_of_words a each.0 in
+    let ib = separator_is_of_words b each.1 in
+    let ic = separator_is_of_words c each.2 in
+    let id = separator_is_of_words d each.3 in
+    (parts_are_of_words (t / 172800000) (t / 2880000 % 60) (t / 48000 % 60) (t / 1920 % 25) (t % 1920) a b c d
+    (omega arith) (omega arith) (omega arith) (omega arith) (omega arith) ia ib ic id).each
+time_is_a_word t [] h i = absurd (cc)
+time_is_a_word t (a ∷ []) h i = absurd (cc)
+time_is_a_word t (a ∷ b ∷ []) h i = absurd (cc)
+time_is_a_word t (a ∷ b ∷ c ∷ []) h i = absurd (cc)
+time_is_a_word t (a ∷ b ∷ c ∷ d ∷ e ∷ rest) h i = absurd (cc)
