@@ -27,7 +27,8 @@ abbrev without_fades : Event → Event
 without_fades event = record event { rise = record { length = 0 }; fall = record { length = 0 } }
 
 fall_of_zero :
-    (event : Event) (length : ℕ) → length ≡ 0 → event.fall ≡ record { length = 0 } → record event { fall = record { length = length } } ≡ event
+    (event :
+    Event) (length : ℕ) → length ≡ 0 → event.fall ≡ record { length = 0 } → record event { fall = record { length = length } } ≡ event
 fall_of_zero event length z none =
     ap (λ (l : ℕ). let e : Event = record event { fall = record { length = l } } in e) z
     ∙ ap (λ (f : Fade). let e : Event = record event { fall = f } in e) (sym none)
@@ -61,7 +62,8 @@ module _
 
   -- the last entry with a fade
   rise_line_is_read :
-      (events : List Event) (entry : OpenEntry) (found : Option (List ℕ)) (length n : ℕ) → length ≤ 4147200000 → (length == 0) ≡ false → entry.has_rise ≡ false
+      (events :
+      List Event) (entry : OpenEntry) (found : Option (List ℕ)) (length n : ℕ) → length ≤ 4147200000 → (length == 0) ≡ false → entry.has_rise ≡ false
       → with_line 25 (so_far (Inside section.EventList) (codes "EVENT_LIST") header true sources true (record { events = events; entry = Some entry; separators = found }))
       n (codes "(Infade)" ++ (codes " " ++ (time_text project (Some length) ++ codes " LIN _ _ _")))
       ≡ Ok (so_far (Inside section.EventList) (codes "EVENT_LIST") header true sources true
@@ -72,7 +74,8 @@ module _
       rw (is_no_end (codes "EVENT_LIST") (codes "Infade)" ++ fields), rise_is_read project rate separators entry length h some new)
 
   fall_line_is_read :
-      (events : List Event) (entry : OpenEntry) (found : Option (List ℕ)) (length n : ℕ) → length ≤ 4147200000 → (length == 0) ≡ false → entry.has_fall ≡ false
+      (events :
+      List Event) (entry : OpenEntry) (found : Option (List ℕ)) (length n : ℕ) → length ≤ 4147200000 → (length == 0) ≡ false → entry.has_fall ≡ false
       → with_line 25 (so_far (Inside section.EventList) (codes "EVENT_LIST") header true sources true (record { events = events; entry = Some entry; separators = found }))
       n (codes "(Outfade)" ++ (codes " " ++ (time_text project (Some length) ++ codes " LIN _ _ _")))
       ≡ Ok (so_far (Inside section.EventList) (codes "EVENT_LIST") header true sources true
@@ -90,8 +93,10 @@ module _
       (record { events = events; entry = Some (record { event = event; has_rise = has_rise; has_fall = has_fall }); separators = found })) lines result
 
   falls_are_read :
-      (events : List Event) (event : Event) (has_rise : Bool) (found : Option (List ℕ)) (length : ℕ) (rest : List (List ℕ)) (result : ListProject)
-      → length ≤ 4147200000 → event.fall ≡ record { length = 0 } → GivesBehind events (record event { fall = record { length = length } }) found rest result
+      (events :
+      List Event) (event : Event) (has_rise : Bool) (found : Option (List ℕ)) (length : ℕ) (rest : List (List ℕ)) (result : ListProject)
+      → length ≤ 4147200000 → event.fall ≡ record { length = 0 }
+      → GivesBehind events (record event { fall = record { length = length } }) found rest result
       → Gives (so_far (Inside section.EventList) (codes "EVENT_LIST") header true sources true
       (record { events = events; entry = Some (record { event = event; has_rise = has_rise; has_fall = false }); separators = found }))
       (fade_lines project (codes "(Outfade)") length ++ rest) result
@@ -139,7 +144,9 @@ module _
   abbrev pub AreFound : Option (List ℕ) → List Event → Type 0
   AreFound found events = MatchOption found (events ≡ []) (λ f. f ≡ project.separators)
 
-  found_again : (found : Option (List ℕ)) (events : List Event) → AreFound found events → unwrap_or found project.separators ≡ project.separators
+  found_again :
+      (found :
+      Option (List ℕ)) (events : List Event) → AreFound found events → unwrap_or found project.separators ≡ project.separators
   found_again None events h = refl
   found_again (Some found) events h = h
 

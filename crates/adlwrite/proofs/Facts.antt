@@ -19,7 +19,8 @@ and_right true b h = h
 and_right false b h = absurd (cc)
 
 pub all_weaker :
-    (p q : ℕ → Bool) (each : (b : ℕ) → p b ≡ true → q b ≡ true) (text : List ℕ) → list_all p text ≡ true → list_all q text ≡ true
+    (p q : ℕ → Bool) (each : (b : ℕ) → p b ≡ true → q b ≡ true) (text : List ℕ) → list_all p text ≡ true
+    → list_all q text ≡ true
 all_weaker p q each [] h = refl
 all_weaker p q each (b ∷ text) h =
     rw (each b (and_left (p b) (list_all p text) h)) (all_weaker p q each text (and_right (p b) (list_all p text) h))

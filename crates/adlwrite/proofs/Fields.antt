@@ -70,7 +70,8 @@ optional_time_is_a_word None project r i h = refl
 optional_time_is_a_word (Some t) project r i h = rw r (time_is_a_word t project.separators (grind (arith, nat_tests)) i)
 
 pub optional_time_field-written :
-    (time : Option ℕ) (project : ListProject) (rest : List ℕ) → project.rate ≡ 25 → IsTrue (are_separators project.separators)
+    (time :
+    Option ℕ) (project : ListProject) (rest : List ℕ) → project.rate ≡ 25 → IsTrue (are_separators project.separators)
     → IsTrue (is_time_of_day time) → stops is_word_byte rest ≡ true
     → optional_time_field 25 (32 ∷ (time_text project time ++ rest)) ≡ Ok (time, rest)
 unfolding optional_time_field
@@ -113,5 +114,6 @@ uid_is_cut uid rest (Ok (Some (token, behind))) e h s =
     rw (← same) (cut_again token rest content s)
 
 pub uid_field-written :
-    (uid rest : List ℕ) → is_one_token uid ≡ true → stops is_word_byte rest ≡ true → uid_field (32 ∷ (uid ++ rest)) ≡ Ok (uid, rest)
+    (uid rest : List ℕ) → is_one_token uid ≡ true → stops is_word_byte rest ≡ true
+    → uid_field (32 ∷ (uid ++ rest)) ≡ Ok (uid, rest)
 uid_field-written uid rest h s = uid_is_cut uid rest (token_at uid) refl h s

@@ -27,7 +27,8 @@ told-track_list : (rates : Rates) (lines : List (List ℕ)) → told section.Tra
 told-track_list rates [] = refl
 told-track_list rates (text ∷ lines) = told-track_list rates lines
 
-system_line_is_read : (rates : Rates) (text : List ℕ) → is_system_line text ≡ true → system_rates 25 rates text ≡ Ok rates
+system_line_is_read :
+    (rates : Rates) (text : List ℕ) → is_system_line text ≡ true → system_rates 25 rates text ≡ Ok rates
 system_line_is_read rates text h =
     by_parts (is_tag text) refl (system_line 25 text) refl (and_left (not (is_tag text)) _ h) (and_right (not (is_tag text)) _ h) where
       by_parts :
@@ -37,7 +38,9 @@ system_line_is_read rates text h =
       by_parts false t (Err fault) s untagged ok = let f : false ≡ true = rw s at ok in absurd (cc)
       by_parts false t (Ok said) s untagged ok = rw (t, s) refl
 
-told-system : (rates : Rates) (lines : List (List ℕ)) → list_all is_system_line lines ≡ true → told section.System rates lines ≡ Ok rates
+told-system :
+    (rates :
+    Rates) (lines : List (List ℕ)) → list_all is_system_line lines ≡ true → told section.System rates lines ≡ Ok rates
 told-system rates [] h = refl
 told-system rates (text ∷ lines) h =
     rw (system_line_is_read rates text (and_left (is_system_line text) (list_all is_system_line lines) h))
@@ -74,7 +77,9 @@ put_track_list lines h = record h { track_list = lines }
 abbrev pub count : Option (List (List ℕ)) → ℕ
 count lines = length (lines_of_section lines)
 
-version_as_header : (c : Context) (n : ℕ) (text : List ℕ) → in_section 25 c n text section.Version ≡ in_header 25 c n text section.Version
+version_as_header :
+    (c :
+    Context) (n : ℕ) (text : List ℕ) → in_section 25 c n text section.Version ≡ in_header 25 c n text section.Version
 unfolding in_section
 version_as_header c n text = refl
 
@@ -85,7 +90,9 @@ version_opens :
 unfolding with_line outside opened section_of
 version_opens before header n none = rw none
 
-project_as_header : (c : Context) (n : ℕ) (text : List ℕ) → in_section 25 c n text section.Project ≡ in_header 25 c n text section.Project
+project_as_header :
+    (c :
+    Context) (n : ℕ) (text : List ℕ) → in_section 25 c n text section.Project ≡ in_header 25 c n text section.Project
 unfolding in_section
 project_as_header c n text = refl
 
@@ -96,7 +103,8 @@ project_opens :
 unfolding with_line outside opened section_of
 project_opens before header n none = rw none
 
-system_as_header : (c : Context) (n : ℕ) (text : List ℕ) → in_section 25 c n text section.System ≡ in_header 25 c n text section.System
+system_as_header :
+    (c : Context) (n : ℕ) (text : List ℕ) → in_section 25 c n text section.System ≡ in_header 25 c n text section.System
 unfolding in_section
 system_as_header c n text = refl
 
@@ -107,7 +115,9 @@ system_opens :
 unfolding with_line outside opened section_of
 system_opens before header n none = rw none
 
-sequence_as_header : (c : Context) (n : ℕ) (text : List ℕ) → in_section 25 c n text section.Sequence ≡ in_header 25 c n text section.Sequence
+sequence_as_header :
+    (c :
+    Context) (n : ℕ) (text : List ℕ) → in_section 25 c n text section.Sequence ≡ in_header 25 c n text section.Sequence
 unfolding in_section
 sequence_as_header c n text = refl
 
@@ -118,7 +128,9 @@ sequence_opens :
 unfolding with_line outside opened section_of
 sequence_opens before header n none = rw none
 
-track_list_as_header : (c : Context) (n : ℕ) (text : List ℕ) → in_section 25 c n text section.TrackList ≡ in_header 25 c n text section.TrackList
+track_list_as_header :
+    (c :
+    Context) (n : ℕ) (text : List ℕ) → in_section 25 c n text section.TrackList ≡ in_header 25 c n text section.TrackList
 unfolding in_section
 track_list_as_header c n text = refl
 

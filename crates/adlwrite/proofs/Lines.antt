@@ -18,11 +18,13 @@ use Rattle.adlwrite.proofs.Fields.{channels_field-written, number_field-written,
 
 -- ---- fields that are always the same
 
-file_is_read : (rest : List ℕ) → checked_field (is_keyword (codes "F")) (codes " (F) \"" ++ rest) ≡ Ok (codes " \"" ++ rest)
+file_is_read :
+    (rest : List ℕ) → checked_field (is_keyword (codes "F")) (codes " (F) \"" ++ rest) ≡ Ok (codes " \"" ++ rest)
 unfolding field token_at
 file_is_read rest = refl
 
-cut_keyword_is_read : (rest : List ℕ) → checked_field (is_keyword (codes "Cut")) (codes " (Cut) I " ++ rest) ≡ Ok (codes " I " ++ rest)
+cut_keyword_is_read :
+    (rest : List ℕ) → checked_field (is_keyword (codes "Cut")) (codes " (Cut) I " ++ rest) ≡ Ok (codes " I " ++ rest)
 unfolding field token_at
 cut_keyword_is_read rest = refl
 
@@ -46,7 +48,8 @@ nothing_ends = refl
 
 module _ (project : ListProject) (rate : project.rate ≡ 25) (separators : IsTrue (are_separators project.separators)) where
   last_optional_time :
-      (time : Option ℕ) → IsTrue (is_time_of_day time) → optional_time_field 25 (32 ∷ time_text project time) ≡ Ok (time, [])
+      (time :
+      Option ℕ) → IsTrue (is_time_of_day time) → optional_time_field 25 (32 ∷ time_text project time) ≡ Ok (time, [])
   last_optional_time time h =
       ap (λ text. optional_time_field 25 (32 ∷ text)) (sym (append-nil (time_text project time)))
       ∙ optional_time_field-written time project [] rate separators h refl

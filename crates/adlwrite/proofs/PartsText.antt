@@ -7,7 +7,8 @@ use Rattle.list_terms.specs.Project.{ListProject, Source}
 use Rattle.list_terms.specs.WrittenText.{event_line, event_lines, fade_lines, line, section, source_line, text_of_project}
 use Rattle.adlwrite.specs.Parts.{body_text, curve_text, ending_text, entry_front, entry_text, entry_times, event_text, events_text, fade_text, head_text, header_text, line_end, lines_text, list_begin, list_end, name_end, numbered, opening_text, ranged, source_text, sources_text, texted, timed}
 
-source_is_its_line : (project : ListProject) (source : Source) → source_text project source ≡ line (source_line project source)
+source_is_its_line :
+    (project : ListProject) (source : Source) → source_text project source ≡ line (source_line project source)
 unfolding source_text numbered texted timed line_end
 source_is_its_line project source = simp append_assoc
 
@@ -15,17 +16,25 @@ entry_is_its_line : (project : ListProject) (event : Event) → entry_text proje
 unfolding entry_text entry_front entry_times numbered ranged timed line_end
 entry_is_its_line project event = simp append_assoc
 
-rise_is_its_line : (project : ListProject) (length : ℕ) → fade_text project (codes "(Infade) ") length ≡ flat_map line (fade_lines project (codes "(Infade)") length)
+rise_is_its_line :
+    (project :
+    ListProject) (length : ℕ) → fade_text project (codes "(Infade) ") length ≡ flat_map line (fade_lines project (codes "(Infade)") length)
 unfolding fade_text timed curve_text
 rise_is_its_line project length = by_test (length == 0) refl where
-  by_test : (none : Bool) → (length == 0) ≡ none → fade_text project (codes "(Infade) ") length ≡ flat_map line (fade_lines project (codes "(Infade)") length)
+  by_test :
+      (none :
+      Bool) → (length == 0) ≡ none → fade_text project (codes "(Infade) ") length ≡ flat_map line (fade_lines project (codes "(Infade)") length)
   by_test true e = rw e refl
   by_test false e = rw e (simp (append_assoc, append-nil))
 
-fall_is_its_line : (project : ListProject) (length : ℕ) → fade_text project (codes "(Outfade) ") length ≡ flat_map line (fade_lines project (codes "(Outfade)") length)
+fall_is_its_line :
+    (project :
+    ListProject) (length : ℕ) → fade_text project (codes "(Outfade) ") length ≡ flat_map line (fade_lines project (codes "(Outfade)") length)
 unfolding fade_text timed curve_text
 fall_is_its_line project length = by_test (length == 0) refl where
-  by_test : (none : Bool) → (length == 0) ≡ none → fade_text project (codes "(Outfade) ") length ≡ flat_map line (fade_lines project (codes "(Outfade)") length)
+  by_test :
+      (none :
+      Bool) → (length == 0) ≡ none → fade_text project (codes "(Outfade) ") length ≡ flat_map line (fade_lines project (codes "(Outfade)") length)
   by_test true e = rw e refl
   by_test false e = rw e (simp (append_assoc, append-nil))
 
@@ -33,7 +42,8 @@ lines_append : (a b : List (List ℕ)) → flat_map line (a ++ b) ≡ flat_map l
 lines_append [] b = refl
 lines_append (t ∷ a) b = rw (lines_append a b) (sym (append_assoc (line t) (flat_map line a) (flat_map line b)))
 
-event_is_its_lines : (project : ListProject) (event : Event) → event_text project event ≡ flat_map line (event_lines project event)
+event_is_its_lines :
+    (project : ListProject) (event : Event) → event_text project event ≡ flat_map line (event_lines project event)
 unfolding event_text
 event_is_its_lines project event =
     rw (
@@ -43,12 +53,16 @@ event_is_its_lines project event =
       lines_append (fade_lines project (codes "(Infade)") event.rise.length) (fade_lines project (codes "(Outfade)") event.fall.length),
     ) refl
 
-sources_are_their_lines : (project : ListProject) (sources : List Source) → sources_text project sources ≡ flat_map line (flat_map (λ s. source_line project s ∷ []) sources)
+sources_are_their_lines :
+    (project :
+    ListProject) (sources : List Source) → sources_text project sources ≡ flat_map line (flat_map (λ s. source_line project s ∷ []) sources)
 unfolding sources_text
 sources_are_their_lines project [] = refl
 sources_are_their_lines project (s ∷ sources) = rw (source_is_its_line project s, sources_are_their_lines project sources) refl
 
-events_are_their_lines : (project : ListProject) (events : List Event) → events_text project events ≡ flat_map line (flat_map (event_lines project) events)
+events_are_their_lines :
+    (project :
+    ListProject) (events : List Event) → events_text project events ≡ flat_map line (flat_map (event_lines project) events)
 unfolding events_text
 events_are_their_lines project [] = refl
 events_are_their_lines project (e ∷ events) =

@@ -21,7 +21,8 @@ abbrev pub Gives : Context → List (List ℕ) → ListProject → Type 0
 Gives c lines project = (n : ℕ) → read_from 25 c n lines ≡ Ok project
 
 pub one_line :
-    (c next : Context) (line : List ℕ) (lines : List (List ℕ)) (project : ListProject) → ((n : ℕ) → with_line 25 c n line ≡ Ok next)
+    (c next : Context) (line : List ℕ) (lines : List (List ℕ)) (project : ListProject)
+    → ((n : ℕ) → with_line 25 c n line ≡ Ok next)
     → is_behind next.stage ≡ false → Gives next lines project → Gives c (line ∷ lines) project
 unfolding read_from
 one_line c next line lines project e before gives n = rw (e (n + 1), before) (gives (n + 1))
@@ -80,7 +81,9 @@ not_true false h = refl
 -- a section whose lines are kept
 module _
     (section : Section) (name : List ℕ) (put : Option (List (List ℕ)) → Header → Header)
-    (keeps : (text : List ℕ) (front : List (List ℕ)) (h : Header) → keep section text (put (Some front) h) ≡ put (Some (front ++ text ∷ [])) h)
+    (keeps :
+    (text :
+    List ℕ) (front : List (List ℕ)) (h : Header) → keep section text (put (Some front) h) ≡ put (Some (front ++ text ∷ [])) h)
     (as_header : (c : Context) (n : ℕ) (text : List ℕ) → in_section 25 c n text section ≡ in_header 25 c n text section)
     (ends : is_end name (trimmed (ending name)) ≡ true) where
   line_is_kept :
@@ -134,7 +137,8 @@ module _
       let none : kept + 0 ≡ kept = omega arith in rw (same, ← absent, ← none) gives
 
   pub kept_section :
-      (before : List ℕ) (lines : List (List ℕ)) (h : Header) (kept : ℕ) (rates after : Rates) (rest : List (List ℕ)) (project : ListProject)
+      (before :
+      List ℕ) (lines : List (List ℕ)) (h : Header) (kept : ℕ) (rates after : Rates) (rest : List (List ℕ)) (project : ListProject)
       → ((n : ℕ) → with_line 25 (in_head Outside before (record { lines = h; kept = kept; rates = rates })) n (opening name)
       ≡ Ok (in_head (Inside section) name (record { lines = put (Some []) h; kept = kept; rates = rates })))
       → list_all (is_kept name) lines ≡ true → kept + length lines ≤ 65535 → told section rates lines ≡ Ok after
@@ -145,7 +149,8 @@ module _
 
   -- a section that may be there
   pub optional_section :
-      (before : List ℕ) (option : Option (List (List ℕ))) (h : Header) (kept : ℕ) (rates after : Rates) (rest : List (List ℕ)) (project : ListProject)
+      (before :
+      List ℕ) (option : Option (List (List ℕ))) (h : Header) (kept : ℕ) (rates after : Rates) (rest : List (List ℕ)) (project : ListProject)
       → put None h ≡ h
       → ((n : ℕ) → with_line 25 (in_head Outside before (record { lines = h; kept = kept; rates = rates })) n (opening name)
       ≡ Ok (in_head (Inside section) name (record { lines = put (Some []) h; kept = kept; rates = rates })))

@@ -41,14 +41,17 @@ unfolding with_line outside
 list_ends known header sources entries n = refl
 
 -- SEQUENCE is there, since it tells both rates
-has_sequence : (sequence : Option (List (List ℕ))) → told_rates no_rates (lines_of_section sequence) ≡ Ok both_rates → is_some sequence ≡ true
+has_sequence :
+    (sequence :
+    Option (List (List ℕ))) → told_rates no_rates (lines_of_section sequence) ≡ Ok both_rates → is_some sequence ≡ true
 has_sequence None h = let e : no_rates ≡ both_rates = cc in ap (λ (r : Rates). r.sample_rate) e
 has_sequence (Some lines) h = refl
 
 -- the separators that were found are those of the project
 separators_again :
     (project : ListProject) (found : Option (List ℕ)) → IsProject project
-    → MatchOption found (project.events ≡ []) (λ f. f ≡ project.separators) → unwrap_or found default_separators ≡ project.separators
+    → MatchOption found (project.events ≡ []) (λ f. f ≡ project.separators)
+    → unwrap_or found default_separators ≡ project.separators
 separators_again project None h none = sym (h.standard none)
 separators_again project (Some found) h same = same
 
@@ -99,6 +102,7 @@ module _ (project : ListProject) (h : IsProject project) where
       one_line nothing_read (in_head Outside [] no_header) (codes "<ADL>") _ (without_notices project) list_begins refl
       (version_is_read project.header h.header _ (without_notices project) [] index_and_events)
 
-pub text_value-text_of_project : (project : ListProject) → IsProject project → text_value (text_of_project project) ≡ Ok (without_notices project)
+pub text_value-text_of_project :
+    (project : ListProject) → IsProject project → text_value (text_of_project project) ≡ Ok (without_notices project)
 unfolding text_value
 text_value-text_of_project project h = rw (lines_of-text_of_project project h, list_is_read project h 0) refl

@@ -29,7 +29,8 @@ is_no_end name rest = front_is_no_end name rest _
 
 module _ {X : Type 0} (number_of : X → ℕ) where
   at_place :
-      (n : ℕ) (front : List X) (x : X) (xs : List X) → AllByRecursion (λ y. (n == y) ≡ false) (map number_of (front ++ x ∷ xs))
+      (n :
+      ℕ) (front : List X) (x : X) (xs : List X) → AllByRecursion (λ y. (n == y) ≡ false) (map number_of (front ++ x ∷ xs))
       → (n == number_of x) ≡ false
   at_place n [] x xs all = all.0
   at_place n (f ∷ front) x xs all = at_place n front x xs all.1
@@ -76,7 +77,8 @@ module _ (project : ListProject) (rate : project.rate ≡ 25) (separators : IsTr
 
   pub sources_are_read :
       (front written : List Source) (rest : List (List ℕ)) (result : ListProject)
-      → IsTrue (list_all is_source written) → IsTrue (list_all has_whole_texts written) → AreDistinct (index_numbers (front ++ written))
+      → IsTrue (list_all is_source written) → IsTrue (list_all has_whole_texts written)
+      → AreDistinct (index_numbers (front ++ written))
       → Gives (so_far Outside (codes "SOURCE_INDEX") header true (front ++ written) false no_entry) rest result
       → Gives (so_far (Inside section.SourceIndex) (codes "SOURCE_INDEX") header true front false no_entry)
       (map (source_line project) written ++ (ending (codes "SOURCE_INDEX") ∷ rest)) result

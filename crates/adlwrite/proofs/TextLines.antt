@@ -32,7 +32,8 @@ without_cr-cr [] = refl
 without_cr-cr (b ∷ []) = refl
 without_cr-cr (b ∷ c ∷ text) = ap (λ t. b ∷ t) (without_cr-cr (c ∷ text))
 
-lines_in-lines : (lines : List (List ℕ)) → list_all (list_all is_line_byte) lines ≡ true → lines_in (flat_map line lines) ≡ lines
+lines_in-lines :
+    (lines : List (List ℕ)) → list_all (list_all is_line_byte) lines ≡ true → lines_in (flat_map line lines) ≡ lines
 unfolding cut_lines
 lines_in-lines [] h = refl
 lines_in-lines (text ∷ lines) h =
@@ -67,7 +68,9 @@ section_is_its_lines name (Some lines) rest text e =
     ∙ sym (flat_map-append (lines ++ (ending name ∷ [])) rest
     ∙ ap (λ t. t ++ flat_map line rest) (flat_map-append lines (ending name ∷ []) ∙ ap (λ t. middle ++ t) (append-nil end))))
 
-source_lines : (project : ListProject) (sources : List Source) → flat_map (λ s. source_line project s ∷ []) sources ≡ map (source_line project) sources
+source_lines :
+    (project :
+    ListProject) (sources : List Source) → flat_map (λ s. source_line project s ∷ []) sources ≡ map (source_line project) sources
 source_lines project [] = refl
 source_lines project (s ∷ sources) = ap (λ ls. source_line project s ∷ ls) (source_lines project sources)
 
@@ -88,7 +91,8 @@ pub record IsLine (text : List ℕ) : Type 0 where
   pub each : list_all is_line_byte text ≡ true
 
 all-append :
-    {X : Type 0} (test : X → Bool) (s t : List X) → list_all test s ≡ true → list_all test t ≡ true → list_all test (s ++ t) ≡ true
+    {X :
+    Type 0} (test : X → Bool) (s t : List X) → list_all test s ≡ true → list_all test t ≡ true → list_all test (s ++ t) ≡ true
 all-append test [] t a b = b
 all-append test (x ∷ s) t a b =
     rw (and_left (test x) (list_all test s) a) (all-append test s t (and_right (test x) (list_all test s) a) b)
@@ -123,12 +127,16 @@ kept_are_lines name (text ∷ lines) h =
     first_line text (record { each = and_left (list_all is_line_byte text) _ is })
     (kept_are_lines name lines (and_right (is_kept name text) (list_all (is_kept name) lines) h))
 
-section_of_lines : (name : List ℕ) (lines : List (List ℕ)) → IsLine name → AreLines lines → AreLines (written_section name (Some lines))
+section_of_lines :
+    (name :
+    List ℕ) (lines : List (List ℕ)) → IsLine name → AreLines lines → AreLines (written_section name (Some lines))
 section_of_lines name lines is all =
     first_line (opening name) (literal (codes "<") refl (part name is (record { each = refl })))
     (front_lines lines all (first_line (ending name) (literal (codes "</") refl (part name is (record { each = refl }))) no_lines))
 
-kept_section_of_lines : (name : List ℕ) (lines : Option (List (List ℕ))) → IsLine name → IsTrue (are_kept name lines) → AreLines (written_section name lines)
+kept_section_of_lines :
+    (name :
+    List ℕ) (lines : Option (List (List ℕ))) → IsLine name → IsTrue (are_kept name lines) → AreLines (written_section name lines)
 kept_section_of_lines name None is h = no_lines
 kept_section_of_lines name (Some lines) is h = section_of_lines name lines is (kept_are_lines name lines h)
 
@@ -143,7 +151,9 @@ module _ (project : ListProject) (rate : project.rate ≡ 25) (separators : IsTr
   number_is_line : (n : ℕ) → IsTrue (is_number n) → IsLine (number_text n)
   number_is_line n h = word_is_line (number_text n) (number_is_a_word n (grind (arith, nat_tests)))
 
-  source_is_line : (source : Source) → IsTrue (is_source source) → IsTrue (has_whole_texts source) → IsLine (source_line project source)
+  source_is_line :
+      (source :
+      Source) → IsTrue (is_source source) → IsTrue (has_whole_texts source) → IsLine (source_line project source)
   source_is_line source h k =
       let facts = source_facts source h k in
       literal (codes "(Index) ") refl (part (number_text source.number) (number_is_line source.number facts.number)
@@ -162,7 +172,8 @@ module _ (project : ListProject) (rate : project.rate ≡ 25) (separators : IsTr
       (literal (codes " ") refl (part (time_text project (Some event.dest_in)) (time_is_line event.dest_in facts.dest_in)
       (literal (codes " ") refl (time_is_line event.dest_out facts.dest_out)))))))))))))
 
-  fades_are_lines : (keyword : List ℕ) (length : ℕ) → IsLine keyword → length ≤ day → AreLines (fade_lines project keyword length)
+  fades_are_lines :
+      (keyword : List ℕ) (length : ℕ) → IsLine keyword → length ≤ day → AreLines (fade_lines project keyword length)
   fades_are_lines keyword length is h = by_test (length == 0) refl where
     by_test : (none : Bool) → (length == 0) ≡ none → AreLines (fade_lines project keyword length)
     by_test true e = rw e no_lines
@@ -179,7 +190,8 @@ module _ (project : ListProject) (rate : project.rate ≡ 25) (separators : IsTr
       (source_is_line s (and_left (is_source s) (list_all is_source sources) h) (and_left (has_whole_texts s) (list_all has_whole_texts sources) k))
       (sources_are_lines sources (and_right (is_source s) (list_all is_source sources) h) (and_right (has_whole_texts s) (list_all has_whole_texts sources) k))
 
-  events_are_lines : (events : List Event) → IsTrue (list_all is_event events) → AreLines (flat_map (event_lines project) events)
+  events_are_lines :
+      (events : List Event) → IsTrue (list_all is_event events) → AreLines (flat_map (event_lines project) events)
   events_are_lines [] h = no_lines
   events_are_lines (e ∷ events) h =
       let facts = event_facts e (and_left (is_event e) (list_all is_event events) h) in

@@ -37,7 +37,9 @@ number_is_read n h =
 
 -- ---- channels
 
-words_append : (s t : List ℕ) → list_all is_word_byte s ≡ true → list_all is_word_byte t ≡ true → list_all is_word_byte (s ++ t) ≡ true
+words_append :
+    (s t : List ℕ) → list_all is_word_byte s ≡ true → list_all is_word_byte t ≡ true
+    → list_all is_word_byte (s ++ t) ≡ true
 words_append [] t hs ht = ht
 words_append (b ∷ s) t hs ht = grind (arith, nat_tests, words_append s t)
 
@@ -45,7 +47,8 @@ is_word_append : (s t : List ℕ) → is_word s ≡ true → list_all is_word_by
 is_word_append [] t hs ht = absurd (cc)
 is_word_append (b ∷ s) t hs ht = words_append (b ∷ s) t hs ht
 
-before_tilde : (digits rest : List ℕ) → list_all is_digit digits ≡ true → before_first is_tilde (digits ++ (126 ∷ rest)) ≡ digits
+before_tilde :
+    (digits rest : List ℕ) → list_all is_digit digits ≡ true → before_first is_tilde (digits ++ (126 ∷ rest)) ≡ digits
 before_tilde [] rest h = refl
 before_tilde (d ∷ digits) rest h =
     let other : (d == 126) ≡ false = grind (arith, nat_tests) in
@@ -58,7 +61,8 @@ without_tilde (d ∷ digits) h =
     let other : (d == 126) ≡ false = grind (arith, nat_tests) in
     rw (other, take_more (position_or_len is_tilde digits) d digits) (ap (λ t. d ∷ t) (without_tilde digits (grind (arith, nat_tests))))
 
-behind_tilde : (digits rest : List ℕ) → list_all is_digit digits ≡ true → behind_byte 126 (digits ++ (126 ∷ rest)) ≡ Some rest
+behind_tilde :
+    (digits rest : List ℕ) → list_all is_digit digits ≡ true → behind_byte 126 (digits ++ (126 ∷ rest)) ≡ Some rest
 behind_tilde [] rest h = refl
 behind_tilde (d ∷ digits) rest h =
     let other : (d == 126) ≡ false = grind (arith, nat_tests) in rw other (behind_tilde digits rest (grind (arith, nat_tests)))
@@ -68,7 +72,9 @@ no_tilde [] h = refl
 no_tilde (d ∷ digits) h =
     let other : (d == 126) ≡ false = grind (arith, nat_tests) in rw other (no_tilde digits (grind (arith, nat_tests)))
 
-range_is_read : (first last : ℕ) → nat_le first last ≡ true → channel_range (Some first) (Some last) ≡ Some (record { first = first; last = last })
+range_is_read :
+    (first last : ℕ) → nat_le first last ≡ true
+    → channel_range (Some first) (Some last) ≡ Some (record { first = first; last = last })
 range_is_read first last h = rw h refl
 
 one_is_read : (n : ℕ) → 1 ≤ n → n ≤ 64 → channels_of (decimal n) ≡ Some (record { first = n; last = n })
@@ -106,7 +112,8 @@ pub record IsReadAs (channels : Channels) (text : List ℕ) : Type 0 where
   pub word : is_word text ≡ true
   pub value : channels_of text ≡ Some channels
 
-pub channels_are_read : (channels : Channels) → IsTrue (are_channels channels) → IsReadAs channels (channels_text channels)
+pub channels_are_read :
+    (channels : Channels) → IsTrue (are_channels channels) → IsReadAs channels (channels_text channels)
 channels_are_read channels h = by_test (channels.first == channels.last) refl where
   low : 1 ≤ channels.first
   low = grind (arith, nat_tests)
@@ -154,7 +161,8 @@ with_two : (n : ℕ) {rest : List ℕ} → n < 100 → AreOfWords rest → AreOf
 with_two n h all = with_digit (n / 10) (omega arith) (with_digit (n % 10) (omega arith) all)
 
 parts_are_of_words :
-    (h m s f r a b c d : ℕ) → h < 100 → m < 100 → s < 100 → f < 100 → r < 10000 → is_word_byte a ≡ true → is_word_byte b ≡ true
+    (h m s f r a b c d : ℕ) → h < 100 → m < 100 → s < 100 → f < 100 → r < 10000 → is_word_byte a ≡ true
+    → is_word_byte b ≡ true
     → is_word_byte c ≡ true → is_word_byte d ≡ true → AreOfWords (text_of_parts h m s f r (a ∷ b ∷ c ∷ d ∷ []))
 parts_are_of_words h m s f r a b c d hh hm hs hf hr ia ib ic id =
     with_two h hh (with_byte a ia (with_two m hm (with_byte b ib (with_two s hs (with_byte c ic (with_two f hf (with_byte d id
@@ -167,7 +175,9 @@ four_true true true false d h = absurd (cc)
 four_true true false c d h = absurd (cc)
 four_true false b c d h = absurd (cc)
 
-pub time_is_a_word : (t : ℕ) (separators : List ℕ) → t ≤ day → IsTrue (are_separators separators) → is_word (text_of 25 t separators) ≡ true
+pub time_is_a_word :
+    (t :
+    ℕ) (separators : List ℕ) → t ≤ day → IsTrue (are_separators separators) → is_word (text_of 25 t separators) ≡ true
 time_is_a_word t (a ∷ b ∷ c ∷ d ∷ []) h i =
     let each = four_true (is_separator a) (is_separator b) (is_separator c) (is_separator d) i in
     let ia = separator_is_of_words a each.0 in

@@ -65,7 +65,8 @@ token_at-keyword first content rest h =
     rw (take_at (first ∷ content) (41 ∷ rest) end at, drop_at (first ∷ content) (41 ∷ rest) end at)
 
 pub token_at-word :
-    (first : ℕ) (content rest : List ℕ) → list_all is_word_byte (first ∷ content) ≡ true → stops is_word_byte rest ≡ true
+    (first :
+    ℕ) (content rest : List ℕ) → list_all is_word_byte (first ∷ content) ≡ true → stops is_word_byte rest ≡ true
     → token_at ((first ∷ content) ++ rest) ≡ Ok (Some (record { kind = Word; content = first ∷ content }, rest))
 unfolding token_at
 token_at-word first content rest h s =
@@ -89,12 +90,14 @@ token_at-token_text Word (first ∷ content) rest h s = token_at-word first cont
 
 -- ---- what is cut
 
-pub list_all-take : (test : ℕ → Bool) (n : ℕ) (text : List ℕ) → list_all test text ≡ true → list_all test (take n text) ≡ true
+pub list_all-take :
+    (test : ℕ → Bool) (n : ℕ) (text : List ℕ) → list_all test text ≡ true → list_all test (take n text) ≡ true
 list_all-take test zero text h = refl
 list_all-take test (suc n) [] h = refl
 list_all-take test (suc n) (b ∷ text) h = grind (arith, nat_tests, list_all-take test n text)
 
-pub list_all-drop : (test : ℕ → Bool) (n : ℕ) (text : List ℕ) → list_all test text ≡ true → list_all test (drop n text) ≡ true
+pub list_all-drop :
+    (test : ℕ → Bool) (n : ℕ) (text : List ℕ) → list_all test text ≡ true → list_all test (drop n text) ≡ true
 list_all-drop test zero text h = h
 list_all-drop test (suc n) [] h = refl
 list_all-drop test (suc n) (b ∷ text) h = list_all-drop test n text (grind (arith, nat_tests))
@@ -127,7 +130,8 @@ module _ (test : ℕ → Bool) (token : TokenText) (rest : List ℕ) where
       rw (← same, ← same_rest) (record { content = is; inside = inside; behind = all })
 
   closed-cut :
-      (kind : TokenKind) (close : ℕ) (content behind : List ℕ) → is_content kind content ≡ true → list_all test content ≡ true
+      (kind :
+      TokenKind) (close : ℕ) (content behind : List ℕ) → is_content kind content ≡ true → list_all test content ≡ true
       → list_all test behind ≡ true → closed kind close content behind ≡ Ok (Some (token, rest)) → IsCut test token rest
   closed-cut kind close content [] is inside all e = absurd (cc)
   closed-cut kind close content (byte ∷ behind) is inside all e = by_test (byte == close) refl where
@@ -135,7 +139,8 @@ module _ (test : ℕ → Bool) (token : TokenText) (rest : List ℕ) where
     by_test true c = cut_as kind content behind is inside (grind (arith, nat_tests)) (rw c at e)
     by_test false c = let no : closed kind close content (byte ∷ behind) ≡ Err (byte_fault byte) = rw c refl in absurd (cc)
 
-  keyword-cut : (line : List ℕ) → list_all test line ≡ true → keyword line ≡ Ok (Some (token, rest)) → IsCut test token rest
+  keyword-cut :
+      (line : List ℕ) → list_all test line ≡ true → keyword line ≡ Ok (Some (token, rest)) → IsCut test token rest
   keyword-cut line all e =
       by_content (take_while is_word_byte line) refl (list_all-take_while is_word_byte line)
       (list_all-take test (prefix_len is_word_byte line) line all) where
@@ -148,7 +153,8 @@ module _ (test : ℕ → Bool) (token : TokenText) (rest : List ℕ) where
             closed-cut Keyword 41 (first ∷ content) (drop (prefix_len is_word_byte line) line) is inside
             (list_all-drop test (prefix_len is_word_byte line) line all) (sym (rw c refl) ∙ e)
 
-  token_from-cut : (line : List ℕ) → list_all test line ≡ true → token_from line ≡ Ok (Some (token, rest)) → IsCut test token rest
+  token_from-cut :
+      (line : List ℕ) → list_all test line ≡ true → token_from line ≡ Ok (Some (token, rest)) → IsCut test token rest
   token_from-cut [] all e = absurd (cc)
   token_from-cut (byte ∷ line) all e = by_tests (byte == 34) refl (byte == 40) refl (is_word_byte byte) refl where
     by_tests :

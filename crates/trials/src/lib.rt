@@ -25,3 +25,5 @@ mod time_code;
 mod whole_lists;
 #[cfg(test)]
 mod whole_projects;
+#[cfg(test)]
+mod written_lists;

@@ -12,10 +12,13 @@ use Rattle.list_terms.specs.WholeProject.{IsHeader, is_line_byte}
 use Rattle.whole_read.specs.SoFar.{IsHeaderSoFar}
 use Rattle.whole_read.proofs.HeaderSoFar.{and_both, and_left, and_right}
 
-both_told : (rates : Rates) → (rates.sample_rate && rates.frame_rate) ≡ true → rates ≡ record { sample_rate = true; frame_rate = true }
+both_told :
+    (rates :
+    Rates) → (rates.sample_rate && rates.frame_rate) ≡ true → rates ≡ record { sample_rate = true; frame_rate = true }
 both_told rates h = rw (and_left rates.sample_rate rates.frame_rate h, and_right rates.sample_rate rates.frame_rate h) refl
 
-pub IsHeader-from_so_far : (h : HeaderRead) → IsHeaderSoFar h → IsTrue (h.rates.sample_rate && h.rates.frame_rate) → IsHeader h.lines
+pub IsHeader-from_so_far :
+    (h : HeaderRead) → IsHeaderSoFar h → IsTrue (h.rates.sample_rate && h.rates.frame_rate) → IsHeader h.lines
 IsHeader-from_so_far h is told = record {
   version = is.version;
   project = is.project;
@@ -27,7 +30,8 @@ IsHeader-from_so_far h is told = record {
   few = omega (arith, is.counted, is.few);
 }
 
-pub default-from_none : (found : Option (List ℕ)) → found ≡ None → unwrap_or found default_separators ≡ default_separators
+pub default-from_none :
+    (found : Option (List ℕ)) → found ≡ None → unwrap_or found default_separators ≡ default_separators
 default-from_none found h = rw h refl
 
 -- ---- lines
@@ -35,7 +39,9 @@ default-from_none found h = rw h refl
 abbrev are_lines : List (List ℕ) → Bool
 are_lines lines = list_all (list_all is_line_byte) lines
 
-onto_first-line : (b : ℕ) (lines : List (List ℕ)) → is_line_byte b ≡ true → are_lines lines ≡ true → are_lines (onto_first b lines) ≡ true
+onto_first-line :
+    (b :
+    ℕ) (lines : List (List ℕ)) → is_line_byte b ≡ true → are_lines lines ≡ true → are_lines (onto_first b lines) ≡ true
 onto_first-line b [] h all = rw h refl
 onto_first-line b (l ∷ lines) h all = rw h all
 
@@ -43,7 +49,8 @@ cut_lines-lines : (text : List ℕ) → are_lines (cut_lines text) ≡ true
 unfolding cut_lines
 cut_lines-lines [] = refl
 cut_lines-lines (b ∷ text) = by_test (b == 10) refl (cut_lines-lines text) where
-  by_test : (ends : Bool) → (b == 10) ≡ ends → are_lines (cut_lines text) ≡ true → are_lines (cut_lines (b ∷ text)) ≡ true
+  by_test :
+      (ends : Bool) → (b == 10) ≡ ends → are_lines (cut_lines text) ≡ true → are_lines (cut_lines (b ∷ text)) ≡ true
   by_test true e ih = rw e ih
   by_test false e ih = rw e (onto_first-line b (cut_lines text) (rw e refl) ih)
 
@@ -69,7 +76,8 @@ lines_of-lines text = map-lines (cut_lines (without_mark text)) (cut_lines-lines
 
 -- the first of some lines, and the others
 pub first_of-lines :
-    (lines rest : List (List ℕ)) (text : List ℕ) → lines ≡ text ∷ rest → list_all (list_all is_line_byte) lines ≡ true → list_all is_line_byte text ≡ true
+    (lines rest : List (List ℕ)) (text : List ℕ) → lines ≡ text ∷ rest → list_all (list_all is_line_byte) lines ≡ true
+    → list_all is_line_byte text ≡ true
 first_of-lines lines rest text e h = and_left (list_all is_line_byte text) (are_lines rest) (rw e at h)
 
 pub rest_of-lines :
@@ -79,8 +87,10 @@ rest_of-lines lines rest text e h = and_right (list_all is_line_byte text) (are_
 
 -- where no entry was read no separators were found
 pub standard-from_entries :
-    (events : List Event) (entry : Option OpenEntry) (found : Option (List ℕ)) (old_events : List Event) (old_found : Option (List ℕ))
-    (separators : List ℕ) → events ≡ all_events old_events entry → found ≡ old_found → separators ≡ unwrap_or found default_separators
+    (events :
+    List Event) (entry : Option OpenEntry) (found : Option (List ℕ)) (old_events : List Event) (old_found : Option (List ℕ))
+    (separators :
+    List ℕ) → events ≡ all_events old_events entry → found ≡ old_found → separators ≡ unwrap_or found default_separators
     → (all_events old_events entry ≡ [] → old_found ≡ None) → events ≡ [] → separators ≡ default_separators
 standard-from_entries events entry found old_events old_found separators same kept chosen none nothing =
     chosen ∙ ap (λ f. unwrap_or f default_separators) (kept ∙ none (sym same ∙ nothing))

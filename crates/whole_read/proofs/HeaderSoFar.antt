@@ -24,7 +24,9 @@ and_right false b h = absurd (cc)
 pub and_both : (a b : Bool) → a ≡ true → b ≡ true → (a && b) ≡ true
 and_both a b h k = rw (h, k) refl
 
-pub all_push : {X : Type 0} (test : X → Bool) (xs : List X) (x : X) → list_all test xs ≡ true → test x ≡ true → list_all test (xs ++ x ∷ []) ≡ true
+pub all_push :
+    {X :
+    Type 0} (test : X → Bool) (xs : List X) (x : X) → list_all test xs ≡ true → test x ≡ true → list_all test (xs ++ x ∷ []) ≡ true
 all_push test [] x h k = rw k refl
 all_push test (y ∷ xs) x h k =
     rw (and_left (test y) (list_all test xs) h) (all_push test xs x (and_right (test y) (list_all test xs) h) k)
@@ -32,12 +34,15 @@ all_push test (y ∷ xs) x h k =
 -- ---- one line more
 
 all_with :
-    (test : List ℕ → Bool) (text : List ℕ) (lines : Option (List (List ℕ))) → list_all test (lines_of_section lines) ≡ true
+    (test :
+    List ℕ → Bool) (text : List ℕ) (lines : Option (List (List ℕ))) → list_all test (lines_of_section lines) ≡ true
     → test text ≡ true → list_all test (lines_of_section (with_text text lines)) ≡ true
 all_with test text None h k = refl
 all_with test text (Some front) h k = all_push test front text h k
 
-length_with : (text : List ℕ) (lines : Option (List (List ℕ))) → length (lines_of_section (with_text text lines)) ≤ length (lines_of_section lines) + 1
+length_with :
+    (text :
+    List ℕ) (lines : Option (List (List ℕ))) → length (lines_of_section (with_text text lines)) ≤ length (lines_of_section lines) + 1
 length_with text None = omega arith
 length_with text (Some front) = omega (arith, length-append front (text ∷ []))
 
@@ -61,7 +66,9 @@ told_with :
 told_with told next None text there h k = absurd (cc)
 told_with told next (Some front) text there h k = told_rates-push no_rates told next front text h k
 
-pub is_kept_line : (name text : List ℕ) → list_all is_line_byte text ≡ true → is_end name (trimmed text) ≡ false → is_kept name text ≡ true
+pub is_kept_line :
+    (name text : List ℕ) → list_all is_line_byte text ≡ true → is_end name (trimmed text) ≡ false
+    → is_kept name text ≡ true
 is_kept_line name text h k = and_both (list_all is_line_byte text) (not (is_end name (trimmed text))) h (rw k refl)
 
 -- what a line of SYSTEM says
@@ -69,9 +76,12 @@ record SaysNothing (rates told : Rates) (text : List ℕ) : Type 0 where
   same : rates ≡ told
   line : is_system_line text ≡ true
 
-system_rates-says : (rates told : Rates) (text : List ℕ) → system_rates 25 rates text ≡ Ok told → SaysNothing rates told text
+system_rates-says :
+    (rates told : Rates) (text : List ℕ) → system_rates 25 rates text ≡ Ok told → SaysNothing rates told text
 system_rates-says rates told text h = by_parts (is_tag text) refl (system_line 25 text) refl where
-  by_parts : (tag : Bool) → is_tag text ≡ tag → (said : Result (Unit {0}) TextFault) → system_line 25 text ≡ said → SaysNothing rates told text
+  by_parts :
+      (tag :
+      Bool) → is_tag text ≡ tag → (said : Result (Unit {0}) TextFault) → system_line 25 text ≡ said → SaysNothing rates told text
   by_parts true t said s = let f : system_rates 25 rates text ≡ Err SectionMismatch = rw t refl in absurd (cc)
   by_parts false t (Err fault) s = let f : system_rates 25 rates text ≡ Err fault = rw (t, s) refl in absurd (cc)
   by_parts false t (Ok said) s =
@@ -205,7 +215,8 @@ module _ (header : HeaderRead) (is : IsHeaderSoFar header) where
     few = is.few;
   }
 
-  pub opens_sequence : is_some header.lines.sequence ≡ false → IsHeaderSoFar (record header { lines = record header.lines { sequence = Some [] } })
+  pub opens_sequence :
+      is_some header.lines.sequence ≡ false → IsHeaderSoFar (record header { lines = record header.lines { sequence = Some [] } })
   opens_sequence new = record {
     version = is.version;
     project = is.project;

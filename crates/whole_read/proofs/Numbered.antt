@@ -18,7 +18,8 @@ AreDistinct-nil = tt
 -- a test that each item passes, and a number of its own for each
 module _ {X : Type 0} (number_of : X → ℕ) (fine : X → Bool) where
   not_among :
-      (items : List X) (n : ℕ) → list_any (λ item. number_of item == n) items ≡ false → list_any (eqb n) (map number_of items) ≡ false
+      (items :
+      List X) (n : ℕ) → list_any (λ item. number_of item == n) items ≡ false → list_any (eqb n) (map number_of items) ≡ false
   not_among [] n h = refl
   not_among (x ∷ items) n h = grind (arith, nat_tests, not_among items n)
 
@@ -26,12 +27,14 @@ module _ {X : Type 0} (number_of : X → ℕ) (fine : X → Bool) where
   map-push [] x = refl
   map-push (y ∷ items) x = ap (λ ns. number_of y ∷ ns) (map-push items x)
 
-  all-push : (items : List X) (x : X) → list_all fine items ≡ true → fine x ≡ true → list_all fine (items ++ x ∷ []) ≡ true
+  all-push :
+      (items : List X) (x : X) → list_all fine items ≡ true → fine x ≡ true → list_all fine (items ++ x ∷ []) ≡ true
   all-push [] x h is = grind (arith, nat_tests)
   all-push (y ∷ items) x h is = grind (arith, nat_tests, all-push items x)
 
   all-changed :
-      (items : List X) (x y : X) → list_all fine (items ++ x ∷ []) ≡ true → fine y ≡ true → list_all fine (items ++ y ∷ []) ≡ true
+      (items :
+      List X) (x y : X) → list_all fine (items ++ x ∷ []) ≡ true → fine y ≡ true → list_all fine (items ++ y ∷ []) ≡ true
   all-changed [] x y h is = grind (arith, nat_tests)
   all-changed (z ∷ items) x y h is = grind (arith, nat_tests, all-changed items x y)
 
@@ -40,7 +43,8 @@ module _ {X : Type 0} (number_of : X → ℕ) (fine : X → Bool) where
   all-last (z ∷ items) x h = grind (arith, nat_tests, all-last items x)
 
   distinct-push :
-      (items : List X) (x : X) (n : ℕ) → AreDistinct (map number_of items) → list_any (λ item. number_of item == n) items ≡ false
+      (items :
+      List X) (x : X) (n : ℕ) → AreDistinct (map number_of items) → list_any (λ item. number_of item == n) items ≡ false
       → number_of x ≡ n → AreDistinct (map number_of (items ++ x ∷ []))
   distinct-push items x n distinct free is =
       let new = IsDistinct-push nat_eq_equiv (map number_of items) n distinct (not_among items n free) in
@@ -58,7 +62,8 @@ pub AreEvents-nil : AreEvents []
 AreEvents-nil = record { each = refl; distinct = AreDistinct-nil }
 
 pub AreSources-push :
-    (sources : List Source) (source : Source) (n : ℕ) → AreNumberedSources sources → list_any (λ s. s.number == n) sources ≡ false
+    (sources :
+    List Source) (source : Source) (n : ℕ) → AreNumberedSources sources → list_any (λ s. s.number == n) sources ≡ false
     → source.number ≡ n → IsTrue (is_source source) → AreNumberedSources (sources ++ source ∷ [])
 AreSources-push sources source n h free is fine = record {
   each = all-push (λ s. s.number) is_source sources source h.each fine;
@@ -75,7 +80,8 @@ AreEvents-push events event n h free is fine = record {
 
 -- the last entry with what a further line says
 pub AreEvents-changed :
-    (events : List Event) (entry : Option OpenEntry) (old : OpenEntry) (new : Event) → AreEvents (all_events events entry)
+    (events :
+    List Event) (entry : Option OpenEntry) (old : OpenEntry) (new : Event) → AreEvents (all_events events entry)
     → entry ≡ Some old → new.number ≡ old.event.number → (IsTrue (is_event old.event) → IsTrue (is_event new))
     → AreEvents (events ++ new ∷ [])
 AreEvents-changed events entry old new h there is fine = changed (rw there at h) where

@@ -62,17 +62,22 @@ is_end-same name other text h = by_tag (tag_of text) refl where
   by_tag (Some []) t = rw t refl
   by_tag (Some (b ∷ rest)) t = rw (t, same) refl
 
-pub ends_version : (name text : List ℕ) → section_of name ≡ section.Version → is_end (codes "VERSION") text ≡ is_end name text
+pub ends_version :
+    (name text : List ℕ) → section_of name ≡ section.Version → is_end (codes "VERSION") text ≡ is_end name text
 ends_version name text e = sym (is_end-same name (codes "VERSION") text (passed_as name section.Version e))
 
-pub ends_project : (name text : List ℕ) → section_of name ≡ section.Project → is_end (codes "PROJECT") text ≡ is_end name text
+pub ends_project :
+    (name text : List ℕ) → section_of name ≡ section.Project → is_end (codes "PROJECT") text ≡ is_end name text
 ends_project name text e = sym (is_end-same name (codes "PROJECT") text (passed_as name section.Project e))
 
-pub ends_system : (name text : List ℕ) → section_of name ≡ section.System → is_end (codes "SYSTEM") text ≡ is_end name text
+pub ends_system :
+    (name text : List ℕ) → section_of name ≡ section.System → is_end (codes "SYSTEM") text ≡ is_end name text
 ends_system name text e = sym (is_end-same name (codes "SYSTEM") text (passed_as name section.System e))
 
-pub ends_sequence : (name text : List ℕ) → section_of name ≡ section.Sequence → is_end (codes "SEQUENCE") text ≡ is_end name text
+pub ends_sequence :
+    (name text : List ℕ) → section_of name ≡ section.Sequence → is_end (codes "SEQUENCE") text ≡ is_end name text
 ends_sequence name text e = sym (is_end-same name (codes "SEQUENCE") text (passed_as name section.Sequence e))
 
-pub ends_track_list : (name text : List ℕ) → section_of name ≡ section.TrackList → is_end (codes "TRACKLIST") text ≡ is_end name text
+pub ends_track_list :
+    (name text : List ℕ) → section_of name ≡ section.TrackList → is_end (codes "TRACKLIST") text ≡ is_end name text
 ends_track_list name text e = sym (is_end-same name (codes "TRACKLIST") text (passed_as name section.TrackList e))

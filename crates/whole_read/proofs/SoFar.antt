@@ -31,7 +31,8 @@ not_nil (y ∷ xs) x e = absurd (cc)
 
 -- ---- a line of the header
 
-with_text_there : (text : List ℕ) (lines : Option (List (List ℕ))) → is_some lines ≡ true → is_some (with_text text lines) ≡ true
+with_text_there :
+    (text : List ℕ) (lines : Option (List (List ℕ))) → is_some lines ≡ true → is_some (with_text text lines) ≡ true
 with_text_there text None h = h
 with_text_there text (Some front) h = refl
 
@@ -46,7 +47,8 @@ module _ (c : Context) (is : IsSoFar c) (n : ℕ) (text : List ℕ) (whole : lis
   unfolding in_header kept_line
   in_header_so_far s more there = by_cases (nat_le 65535 c.header.kept) refl (rates_with 25 s c.header.rates text) refl where
     by_cases :
-        (full : Bool) → nat_le 65535 c.header.kept ≡ full → (said : Result Rates TextFault) → rates_with 25 s c.header.rates text ≡ said
+        (full :
+        Bool) → nat_le 65535 c.header.kept ≡ full → (said : Result Rates TextFault) → rates_with 25 s c.header.rates text ≡ said
         → IfOk (err_map (at_line n) (ok_map (λ header. record c { header = header }) (kept_line c.header s text (rates_with 25 s c.header.rates text)))) IsSoFar
     by_cases true f said e = rw f tt
     by_cases false f (Err fault) e = rw (f, e) tt
@@ -67,19 +69,25 @@ module _ (c : Context) (is : IsSoFar c) (n : ℕ) (text : List ℕ) (whole : lis
   dropped_line_so_far : (rest : List ℕ) → IfOk (dropped_line c n rest) IsSoFar
   unfolding dropped_line
   dropped_line_so_far rest = by_end (end_line rest) refl where
-    by_end : (end : Result (Unit {0}) TextFault) → end_line rest ≡ end → IfOk (err_map (at_line n) (ok_map (λ _. with_notice c 2 n) (end_line rest))) IsSoFar
+    by_end :
+        (end :
+        Result (Unit {0}) TextFault) → end_line rest ≡ end → IfOk (err_map (at_line n) (ok_map (λ _. with_notice c 2 n) (end_line rest))) IsSoFar
     by_end (Ok x) e = rw e (record { name = is.name; in_sequence = is.in_sequence; header = is.header; texts = is.texts; standard = is.standard })
     by_end (Err f) e = rw e tt
 
   source_index_so_far : IfOk (in_source_index 25 c n text) IsSoFar
   unfolding in_source_index
   source_index_so_far = by_cut (is_tag text) refl (token_at text) refl where
-    by_keyword : (token : TokenText) (rest : List ℕ) → list_all is_line_byte rest ≡ true → (named : Bool) → is_keyword (codes "Index") token ≡ named
+    by_keyword :
+        (token :
+        TokenText) (rest : List ℕ) → list_all is_line_byte rest ≡ true → (named : Bool) → is_keyword (codes "Index") token ≡ named
         → IfOk (if is_keyword (codes "Index") token then index_line 25 c n rest else dropped_line c n rest) IsSoFar
     by_keyword token rest h true e = rw e (index_line_so_far rest h)
     by_keyword token rest h false e = rw e (dropped_line_so_far rest)
 
-    by_cut : (tag : Bool) → is_tag text ≡ tag → (cut : Result (Option Cut) TextFault) → token_at text ≡ cut → IfOk (in_source_index 25 c n text) IsSoFar
+    by_cut :
+        (tag :
+        Bool) → is_tag text ≡ tag → (cut : Result (Option Cut) TextFault) → token_at text ≡ cut → IfOk (in_source_index 25 c n text) IsSoFar
     by_cut true t cut e = rw t tt
     by_cut false t (Err f) e = rw (t, e) tt
     by_cut false t (Ok None) e = rw (t, e) is
@@ -90,7 +98,8 @@ module _ (c : Context) (is : IsSoFar c) (n : ℕ) (text : List ℕ) (whole : lis
 
   -- an entry that was read found separators
   entries_so_far :
-      (entries : Entries) → (all_events entries.events entries.entry ≡ [] → entries.separators ≡ None) → IsSoFar (record c { entries = entries })
+      (entries :
+      Entries) → (all_events entries.events entries.entry ≡ [] → entries.separators ≡ None) → IsSoFar (record c { entries = entries })
   entries_so_far entries standard =
       record { name = is.name; in_sequence = is.in_sequence; header = is.header; texts = is.texts; standard = standard }
 
@@ -99,7 +108,8 @@ module _ (c : Context) (is : IsSoFar c) (n : ℕ) (text : List ℕ) (whole : lis
   entry_line_so_far rest =
       if_bind (err_map (at_line n) (number_field rest)) _ IsSoFar (λ f. by_test f.0 f.1 (list_any (λ other. other.number == f.0) (all_events c.entries.events c.entries.entry)) refl) where
         by_test :
-            (number : ℕ) (line : List ℕ) (taken : Bool) → list_any (λ other. other.number == number) (all_events c.entries.events c.entries.entry) ≡ taken
+            (number :
+            ℕ) (line : List ℕ) (taken : Bool) → list_any (λ other. other.number == number) (all_events c.entries.events c.entries.entry) ≡ taken
             → IfOk (err_map (at_entry n number) (ok_map (λ entries. record c { entries = entries }) (entry_of 25 c.entries number line))) IsSoFar
         by_test number line true e = rw e tt
         by_test number line false e = rw e (by_event (event_fields 25 number line)) where
@@ -110,14 +120,20 @@ module _ (c : Context) (is : IsSoFar c) (n : ℕ) (text : List ℕ) (whole : lis
           by_event (Ok event) = entries_so_far (with_event c.entries event.0 event.1) (λ none. absurd (not_nil (all_events c.entries.events c.entries.entry) event.0 none))
           by_event (Err f) = tt
 
-  further_line_so_far : (token : TokenText) (rest : List ℕ) → IfOk (err_map (at_open n c.entries.entry) (ok_map (λ entries. record c { entries = entries }) (further_line 25 c.entries token rest))) IsSoFar
+  further_line_so_far :
+      (token :
+      TokenText) (rest : List ℕ) → IfOk (err_map (at_open n c.entries.entry) (ok_map (λ entries. record c { entries = entries }) (further_line 25 c.entries token rest))) IsSoFar
   unfolding further_line
   further_line_so_far token rest = by_entry c.entries.entry where
-    by_remark : (said : Result (Unit {0}) TextFault) → IfOk (err_map (at_open n c.entries.entry) (ok_map (λ entries. record c { entries = entries }) (ok_map (λ _. c.entries) said))) IsSoFar
+    by_remark :
+        (said :
+        Result (Unit {0}) TextFault) → IfOk (err_map (at_open n c.entries.entry) (ok_map (λ entries. record c { entries = entries }) (ok_map (λ _. c.entries) said))) IsSoFar
     by_remark (Ok x) = entries_so_far c.entries is.standard
     by_remark (Err f) = tt
 
-    by_new : (said : Result OpenEntry TextFault) → IfOk (err_map (at_open n c.entries.entry) (ok_map (λ entries. record c { entries = entries }) (ok_map (λ new. record c.entries { entry = Some new }) said))) IsSoFar
+    by_new :
+        (said :
+        Result OpenEntry TextFault) → IfOk (err_map (at_open n c.entries.entry) (ok_map (λ entries. record c { entries = entries }) (ok_map (λ new. record c.entries { entry = Some new }) said))) IsSoFar
     by_new (Ok new) = entries_so_far (record c.entries { entry = Some new }) (λ none. absurd (not_nil c.entries.events new.event none))
     by_new (Err f) = tt
 
@@ -125,7 +141,9 @@ module _ (c : Context) (is : IsSoFar c) (n : ℕ) (text : List ℕ) (whole : lis
     further None = ok_map (λ _. c.entries) (remark token rest)
     further (Some entry) = ok_map (λ new. record c.entries { entry = Some new }) (entry_with 25 entry token rest)
 
-    by_entry : (entry : Option OpenEntry) → IfOk (err_map (at_open n c.entries.entry) (ok_map (λ entries. record c { entries = entries }) (further entry))) IsSoFar
+    by_entry :
+        (entry :
+        Option OpenEntry) → IfOk (err_map (at_open n c.entries.entry) (ok_map (λ entries. record c { entries = entries }) (further entry))) IsSoFar
     by_entry None = by_remark (remark token rest)
     by_entry (Some entry) = by_new (entry_with 25 entry token rest)
 
@@ -138,14 +156,17 @@ module _ (c : Context) (is : IsSoFar c) (n : ℕ) (text : List ℕ) (whole : lis
     by_keyword token rest true e = rw e (entry_line_so_far rest)
     by_keyword token rest false e = rw e (further_line_so_far token rest)
 
-    by_cut : (tag : Bool) → is_tag text ≡ tag → (cut : Result (Option Cut) TextFault) → token_at text ≡ cut → IfOk (in_event_list 25 c n text) IsSoFar
+    by_cut :
+        (tag :
+        Bool) → is_tag text ≡ tag → (cut : Result (Option Cut) TextFault) → token_at text ≡ cut → IfOk (in_event_list 25 c n text) IsSoFar
     by_cut true t cut e = rw t tt
     by_cut false t (Err f) e = rw (t, e) tt
     by_cut false t (Ok None) e = rw (t, e) is
     by_cut false t (Ok (Some (token, rest))) e = rw (t, e) (by_keyword token rest (is_keyword (codes "Entry") token) refl)
 
   module _ (inside : is_end c.name (trimmed text) ≡ false) where
-    in_section_so_far : (s : Section) → c.stage ≡ stage.Inside s → section_of c.name ≡ s → IfOk (in_section 25 c n text s) IsSoFar
+    in_section_so_far :
+        (s : Section) → c.stage ≡ stage.Inside s → section_of c.name ≡ s → IfOk (in_section 25 c n text s) IsSoFar
     unfolding in_section in_unsupported
     in_section_so_far section.Version st e =
         in_header_so_far section.Version
@@ -179,7 +200,8 @@ module _ (c : Context) (is : IsSoFar c) (n : ℕ) (text : List ℕ) (whole : lis
   -- ---- sections
 
   in_stage :
-      (new : Stage) (name : List ℕ) → IsOpen new name → (new ≡ stage.Inside section.Sequence → is_some c.header.lines.sequence ≡ true)
+      (new :
+      Stage) (name : List ℕ) → IsOpen new name → (new ≡ stage.Inside section.Sequence → is_some c.header.lines.sequence ≡ true)
       → IsSoFar (record c { stage = new; name = name })
   in_stage new name known there =
       record { name = known; in_sequence = there; header = is.header; texts = is.texts; standard = is.standard }
@@ -247,5 +269,6 @@ module _ (c : Context) (is : IsSoFar c) (n : ℕ) (text : List ℕ) (whole : lis
 
 -- one line more
 pub IsSoFar-line :
-    (c next : Context) (n : ℕ) (text : List ℕ) → IsSoFar c → list_all is_line_byte text ≡ true → with_line 25 c n text ≡ Ok next → IsSoFar next
+    (c next : Context) (n : ℕ) (text : List ℕ) → IsSoFar c → list_all is_line_byte text ≡ true
+    → with_line 25 c n text ≡ Ok next → IsSoFar next
 IsSoFar-line c next n text is whole e = rw e at (with_line_so_far c is n text whole)

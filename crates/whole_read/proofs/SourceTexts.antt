@@ -76,7 +76,9 @@ number_rest line h =
 
 -- ---- the URL and the identifier
 
-weaker : (p q : ℕ → Bool) → ((b : ℕ) → p b ≡ true → q b ≡ true) → (text : List ℕ) → list_all p text ≡ true → list_all q text ≡ true
+weaker :
+    (p q : ℕ → Bool) → ((b : ℕ) → p b ≡ true → q b ≡ true) → (text : List ℕ) → list_all p text ≡ true
+    → list_all q text ≡ true
 weaker p q each [] h = refl
 weaker p q each (b ∷ text) h =
     rw (each b (and_left (p b) (list_all p text) h)) (weaker p q each text (and_right (p b) (list_all p text) h))
@@ -85,7 +87,8 @@ word_is_quotable : (text : List ℕ) → is_word text ≡ true → list_all is_q
 word_is_quotable [] h = absurd (cc)
 word_is_quotable (b ∷ text) h = weaker is_word_byte is_quoted_byte (λ c e. grind (arith, nat_tests)) (b ∷ text) h
 
-content_is_quotable : (kind : TokenKind) (content : List ℕ) → is_content kind content ≡ true → list_all is_quoted_byte content ≡ true
+content_is_quotable :
+    (kind : TokenKind) (content : List ℕ) → is_content kind content ≡ true → list_all is_quoted_byte content ≡ true
 content_is_quotable Quoted content h = h
 content_is_quotable Keyword content h = word_is_quotable content h
 content_is_quotable Word content h = word_is_quotable content h
@@ -96,12 +99,15 @@ both_bytes (b ∷ text) h k =
     rw (and_left (is_quoted_byte b) (list_all is_quoted_byte text) h, and_left (is_line_byte b) (list_all is_line_byte text) k)
     (both_bytes text (and_right (is_quoted_byte b) (list_all is_quoted_byte text) h) (and_right (is_line_byte b) (list_all is_line_byte text) k))
 
-text_is_line : (kind : TokenKind) (content : List ℕ) → IsText content → IsText (token_text (record { kind = kind; content = content }))
+text_is_line :
+    (kind :
+    TokenKind) (content : List ℕ) → IsText content → IsText (token_text (record { kind = kind; content = content }))
 text_is_line Quoted content h = all_push is_line_byte content 34 h refl
 text_is_line Keyword content h = all_push is_line_byte content 41 h refl
 text_is_line Word content h = h
 
-text_is_one_token : (token : TokenText) → is_content token.kind token.content ≡ true → is_one_token (token_text token) ≡ true
+text_is_one_token :
+    (token : TokenText) → is_content token.kind token.content ≡ true → is_one_token (token_text token) ≡ true
 text_is_one_token token h =
     let again = ap token_at (sym (append-nil (token_text token))) ∙ token_at-token_text token.kind token.content [] h refl in
     rw again ((bytes_eq-Decides (token_text token) (token_text token)).1 refl)
@@ -120,7 +126,8 @@ url_is_quotable line h =
     if_then (field line) _ (λ f. IsCut is_line_byte f.0 f.1) (λ f. Read (list_all is_quotable) f.0 f.1) (field_is_cut line h)
     (λ f cut. by_place f cut (is_some (place_of_url f.0.content)) refl) where
       by_place :
-          (f : TokenText × List ℕ) → IsCut is_line_byte f.0 f.1 → (there : Bool) → is_some (place_of_url f.0.content) ≡ there
+          (f :
+          TokenText × List ℕ) → IsCut is_line_byte f.0 f.1 → (there : Bool) → is_some (place_of_url f.0.content) ≡ there
           → IfOk {T = List ℕ × List ℕ} (if is_some (place_of_url f.0.content) then Ok (f.0.content, f.1) else Err BadUrl) (λ g. Read (list_all is_quotable) g.0 g.1)
       by_place f cut true e =
           rw e (record { text_is = both_bytes f.0.content (content_is_quotable f.0.kind f.0.content cut.content) cut.inside; rest_is = cut.behind })
