@@ -1,5 +1,7 @@
 pub mod Places
 pub mod Added
 pub mod Emitted
+pub mod Fits
+pub mod Full
 pub mod Played
 pub mod Ran

@@ -4,10 +4,13 @@ ghost use Rattle.std.specs.List.{All};
 ghost use Rattle.sound_terms.specs.declared.Depth as declared;
 ghost use Rattle.sound_terms.specs.declared.block.Instruction as word;
 ghost use Rattle.sound_terms.specs.declared.block.Instruction.TheVariants as instruction;
+ghost use Rattle.sound_terms.specs.Depth.{bits_of};
+ghost use Rattle.pcm.specs.Samples.{FitsDepth};
 ghost use Rattle.sound_terms.specs.Blocks.{BlockState, IsBlockProgram, IsFormed, AddsOne, LiesInFiles, executed, executed_all};
 ghost use Rattle.list_terms.specs.Heard.{reading_by};
 ghost use Rattle.shelf.specs.Frame.{OnlyReads};
 ghost use Rattle.blockmachine.specs.Fault.{FailsAt, IsSource};
+ghost use Rattle.blockmachine.specs.Playing.{PlaysFull};
 ghost use Rattle.blockmachine.specs.Sums.{AreSums, channel_room};
 
 use crate::MachineFault;
@@ -59,6 +62,7 @@ fn add_line<S: Shelf>(
     requires room { length samples.old * 4 ≤ length bytes.old }
     ensures added { IsTrue (S.honest shelf.old) → OnOk result ((channels : ℕ) (before : BlockState) → AreSums sums.old before.sums
         → AreSums sums.new (executed (reading_by (S.stored shelf.old) sounds.now) channels line.now before).sums) }
+    ensures full { IsTrue (S.honest shelf.old) → OnOk result (PlaysFull (reading_by (S.stored shelf.old) sounds.now) line.now) }
     ensures source { IfErr result IsSource }
     ensures only_reads { OnlyReads S.Shelf shelf.old shelf.new result (λ fault. IsSource fault) (λ fault failed. FailsAt sounds.now fault failed) }
 {
@@ -87,6 +91,7 @@ fn add_all<S: Shelf>(
     requires room { length samples.old * 4 ≤ length bytes.old }
     ensures added { IsTrue (S.honest shelf.old) → OnOk result ((channels : ℕ) (before : BlockState) → AreSums sums.old before.sums
         → AreSums sums.new (executed_all (reading_by (S.stored shelf.old) sounds.now) channels lines.now before).sums) }
+    ensures full { IsTrue (S.honest shelf.old) → OnOk result (All (PlaysFull (reading_by (S.stored shelf.old) sounds.now)) lines.now) }
     ensures source { IfErr result IsSource }
     ensures only_reads { OnlyReads S.Shelf shelf.old shelf.new result (λ fault. IsSource fault) (λ fault failed. FailsAt sounds.now fault failed) }
 {
@@ -131,6 +136,8 @@ fn run_lines<S: Shelf>(
     ensures ran { IsTrue (S.honest shelf.old) → OnOk result ((frames : ℕ) (start : BlockState) → length out.old ≡ frames * channels
         → out.new ≡ (executed_all (reading_by (S.stored shelf.old) sounds.now) channels
         (instruction.Start frames ∷ (lines.now ++ instruction.Emit depth ∷ [])) start).out) }
+    ensures fit { OnOk result (All (FitsDepth (bits_of depth)) out.new) }
+    ensures full { IsTrue (S.honest shelf.old) → OnOk result (All (PlaysFull (reading_by (S.stored shelf.old) sounds.now)) lines.now) }
     ensures source { IfErr result IsSource }
     ensures only_reads { OnlyReads S.Shelf shelf.old shelf.new result (λ fault. IsSource fault) (λ fault failed. FailsAt sounds.now fault failed) }
 {
@@ -177,6 +184,9 @@ impl Machine {
         requires inside { All (LiesInFiles sounds.now) program.now }
         ensures ran { IsTrue (S.honest shelf.old) → OnOk result ((start : BlockState)
             → out.new ≡ (executed_all (reading_by (S.stored shelf.old) sounds.now) self.old.channels program.now start).out) }
+        ensures fit { OnOk result ((frames : ℕ) (depth : declared.Depth) → IsBlockProgram frames self.old.channels depth program.now
+            → All (FitsDepth (bits_of depth)) out.new) }
+        ensures full { IsTrue (S.honest shelf.old) → OnOk result (All (PlaysFull (reading_by (S.stored shelf.old) sounds.now)) program.now) }
         ensures ready { self.new ≡ self.old }
         ensures source { IfErr result IsSource }
         ensures only_reads { OnlyReads S.Shelf shelf.old shelf.new result (λ fault. IsSource fault) (λ fault failed. FailsAt sounds.now fault failed) }

@@ -9,7 +9,7 @@ ghost use Rattle.list_terms.specs.Heard.{reading_by};
 ghost use Rattle.shelf.specs.Frame.{OnlyReads};
 ghost use Rattle.blockmachine.specs.Fault.{FailsAt, IsSource};
 ghost use Rattle.pcm.specs.Samples.{FitsDepth};
-ghost use Rattle.blockmachine.specs.Playing.{Plays};
+ghost use Rattle.blockmachine.specs.Playing.{IsFull, Plays};
 ghost use Rattle.blockmachine.specs.Sums.{AreSums, IsInside};
 
 use crate::MachineFault;
@@ -38,12 +38,13 @@ fn read_part<S: Shelf>(
     requires room { length frames.old * 4 ≤ length bytes.old }
     ensures plays { IsTrue (S.honest shelf.old) → OnOk result ((facts : SoundFacts) → slice_get sounds.now part.now.file ≡ Some facts
         → Plays (reading_by (S.stored shelf.old) sounds.now) part.now facts.channels facts.depth frames.new) }
+    ensures full { IsTrue (S.honest shelf.old) → OnOk result (IsFull (reading_by (S.stored shelf.old) sounds.now) part.now) }
     ensures fit { OnOk result ((facts : SoundFacts) → slice_get sounds.now part.now.file ≡ Some facts → All (FitsDepth facts.depth) frames.new) }
     ensures source { IfErr result IsSource }
     ensures only_reads { OnlyReads S.Shelf shelf.old shelf.new result (λ fault. IsSource fault) (λ fault failed. FailsAt sounds.now fault failed) }
 {
     let sound = &sounds[part.file as usize];
-    let _ = sound.channels();
+    let _ = (sound.channels(), sound.depth());
     match sound.read_frames(shelf, part.frame, part.length as usize, bytes, frames) {
         Ok(()) => Ok(()),
         Err(_) => Err(MachineFault::Source { file: part.file }),
@@ -67,6 +68,7 @@ fn add_part<S: Shelf>(
     requires ramp { IsRamp shape part.now.length }
     ensures added { IsTrue (S.honest shelf.old) → OnOk result ((before : ℕ → ℕ → ℤ) → AreSums sums.old before
         → AreSums sums.new (sums_with (reading_by (S.stored shelf.old) sounds.now) part.now shape before)) }
+    ensures full { IsTrue (S.honest shelf.old) → OnOk result (IsFull (reading_by (S.stored shelf.old) sounds.now) part.now) }
     ensures source { IfErr result IsSource }
     ensures only_reads { OnlyReads S.Shelf shelf.old shelf.new result (λ fault. IsSource fault) (λ fault failed. FailsAt sounds.now fault failed) }
 {
@@ -110,6 +112,7 @@ pub fn add_stretch<S: Shelf>(
     requires ramp { IsRamp shape stretch.now.length }
     ensures added { IsTrue (S.honest shelf.old) → OnOk result ((before : ℕ → ℕ → ℤ) → AreSums sums.old before
         → AreSums sums.new (sums_with (reading_by (S.stored shelf.old) sounds.now) stretch.now shape before)) }
+    ensures full { IsTrue (S.honest shelf.old) → OnOk result (IsFull (reading_by (S.stored shelf.old) sounds.now) stretch.now) }
     ensures source { IfErr result IsSource }
     ensures only_reads { OnlyReads S.Shelf shelf.old shelf.new result (λ fault. IsSource fault) (λ fault failed. FailsAt sounds.now fault failed) }
 {

@@ -9,8 +9,8 @@ use Rattle.std.proofs.Math.IntN.{negsuc-*ℤ-pos, pos-*ℤ-pos}
 use Rattle.sound_terms.specs.declared.piece.Piece.{Piece}
 use Rattle.sound_terms.specs.declared.piece.Shape.{Shape}
 use Rattle.sound_terms.specs.declared.piece.Shape.TheVariants.{Flat, Rise, Fall}
-use Rattle.sound_terms.specs.Mix.{IsFullScale, Reading, share_of}
-use Rattle.sound_terms.specs.Groups.{IsPiece, IsRamp, fraction_of, part_of}
+use Rattle.sound_terms.specs.Mix.{Reading, share_of}
+use Rattle.sound_terms.specs.Groups.{IsPiece, IsRamp, fraction_of, is_under, part_of}
 use Rattle.sound_terms.specs.Blocks.{held}
 
 -- as large as the sum of m samples at most
@@ -49,15 +49,11 @@ ramp_fraction v Flat n i ramp below within = share_within v 1 1 within (omega ar
 ramp_fraction v (Rise offset den) n i ramp below within = share_within v (offset + i) den within (omega (arith, ramp.0)) (omega (arith, ramp.0))
 ramp_fraction v (Fall offset den) n i ramp below within = share_within v (den - (offset + i)) den within (omega arith) (omega (arith, ramp.0))
 
-full_within : (reading : Reading) → IsFullScale reading → (file channel frame : ℕ) → IsWithin 1 (reading file channel frame)
-full_within reading full file channel frame =
-    let there = full file channel frame in (omega (arith, ints, there.0), omega (arith, ints, there.1))
-
 -- whether the piece holds a time, as a count
 abbrev pub holds : Piece → ℕ → ℕ
 holds p time = if nat_le p.start time && nat_lt time (p.start + p.length) then 1 else 0
 
-gated : (a b h : Bool) (x : ℤ) → (h ≡ true → IsWithin 1 x) → IsWithin (if h then 1 else 0) (if a && (b && h) then x else pos 0)
+gated : (a b h : Bool) (x : ℤ) → ((a && (b && h)) ≡ true → IsWithin 1 x) → IsWithin (if h then 1 else 0) (if a && (b && h) then x else pos 0)
 gated true true true x here = here refl
 gated true true false x here = (omega (arith, ints), omega (arith, ints))
 gated true false h x here = nothing h where
@@ -69,13 +65,14 @@ gated false b h x here = nothing h where
   nothing true = (omega (arith, ints), omega (arith, ints))
   nothing false = (omega (arith, ints), omega (arith, ints))
 
--- what a piece adds at a time, by whether it holds it
-pub part_within : (reading : Reading) → IsFullScale reading → (p : Piece) → IsPiece p → (channel time : ℕ)
+-- what a piece adds at a time, by whether it holds it, where what it plays is full scale
+pub part_within : (reading : Reading) (p : Piece) → IsPiece p → (channel time : ℕ)
+    → (is_under p channel time ≡ true → IsWithin 1 (reading p.file (p.first + (channel - p.dest)) (p.frame + (time - p.start))))
     → IsWithin (holds p time) (part_of reading p channel time)
-part_within reading full p ok channel time =
+part_within reading p ok channel time full =
     gated (nat_le p.dest channel) (nat_lt channel (p.dest + p.width)) (nat_le p.start time && nat_lt time (p.start + p.length)) _ within where
-      within : (nat_le p.start time && nat_lt time (p.start + p.length)) ≡ true
+      within : is_under p channel time ≡ true
           → IsWithin 1 (share_of (reading p.file (p.first + (channel - p.dest)) (p.frame + (time - p.start))) (fraction_of p.shape (time - p.start)))
-      within here =
+      within under =
           let inside : time - p.start < p.length = grind (arith, nat_tests, ok.some) in
-          ramp_fraction _ p.shape p.length (time - p.start) ok.ramp inside (full_within reading full _ _ _)
+          ramp_fraction _ p.shape p.length (time - p.start) ok.ramp inside (full under)

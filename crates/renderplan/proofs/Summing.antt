@@ -4,7 +4,7 @@ use Rattle.std.specs.Prelude.{ℤ, pos, ◌+ℤ◌, ◌&&◌, max, min, nat_le, 
 use Rattle.std.specs.List.{flat_map}
 use Rattle.std.proofs.lemmas.Bool.Decides.{nat_tests}
 use Rattle.std.proofs.lemmas.Int.{ints}
-use Rattle.std.proofs.lemmas.List.Elements.{All-head, All-tail}
+use Rattle.std.proofs.lemmas.List.Elements.{All-cons, All-head, All-nil, All-tail}
 use Rattle.sound_terms.specs.declared.Depth.{Depth}
 use Rattle.sound_terms.specs.declared.block.Instruction.{Instruction}
 use Rattle.sound_terms.specs.declared.block.Instruction.TheVariants.{Start, Add, Emit}
@@ -12,11 +12,12 @@ use Rattle.sound_terms.specs.declared.piece.Piece.{Piece}
 use Rattle.sound_terms.specs.declared.piece.Shape.{Shape}
 use Rattle.sound_terms.specs.declared.piece.Shape.TheVariants.{Flat, Rise, Fall}
 use Rattle.sound_terms.specs.Depth.{bits_of}
-use Rattle.sound_terms.specs.Mix.{IsFullScale, Reading, share_of}
+use Rattle.sound_terms.specs.Mix.{Reading, share_of}
 use Rattle.sound_terms.specs.Groups.{IsBounded, IsPiece, fraction_of, holding, is_under, part_of, sum_of}
 use Rattle.sound_terms.specs.Passes.{shape_behind}
 use Rattle.sound_terms.specs.Render.{Range}
 use Rattle.sound_terms.specs.Blocks.{AddsOne, BlockState, block_frames, block_samples, block_start, executed_all, frame_samples, held, is_on, lines_of, mixed_block, program_of, share_at, stretch_in}
+use Rattle.renderplan.specs.Planned.{PlaysFull}
 use Rattle.renderplan.proofs.Formed.{all_of_parts, line_adds}
 use Rattle.renderplan.proofs.Shares.{IsWithin, held_few, holds, part_within, within_add}
 
@@ -24,6 +25,16 @@ executed_all-append : (reading : Reading) (channels : ℕ) (a b : List Instructi
     → executed_all reading channels (a ++ b) s ≡ executed_all reading channels b (executed_all reading channels a s)
 executed_all-append reading channels [] b s = refl
 executed_all-append reading channels (i ∷ a) b s = executed_all-append reading channels a b _
+
+-- what holds of all of two lists, of the first and of the second
+all_front : {X : Type 0} (P : X → Type 0) (xs ys : List X) → All P (xs ++ ys) → All P xs
+all_front P [] ys all = All-nil P
+all_front P (x ∷ xs) ys all =
+    All-cons P x xs (All-head P x (xs ++ ys) all) (all_front P xs ys (All-tail P x (xs ++ ys) all))
+
+all_behind : {X : Type 0} (P : X → Type 0) (xs ys : List X) → All P (xs ++ ys) → All P ys
+all_behind P [] ys all = all
+all_behind P (x ∷ xs) ys all = all_behind P xs ys (All-tail P x (xs ++ ys) all)
 
 -- what only adds leaves the frames of the block
 frames_kept : (reading : Reading) (channels : ℕ) (program : List Instruction) (s : BlockState) → All AddsOne program
@@ -119,33 +130,53 @@ module _ (reading : Reading) (from n channels : ℕ) where
               let on = same_under p i c below inside there ∙ under in
               rw (e, f, on, under) refl
 
+  -- what the piece plays there is full scale where all that its line plays is
+  full_under : (p : Piece) (i c : ℕ) → i < n → c ≤ channels → All (PlaysFull reading) (lines_of from n channels p)
+      → is_under p c (from + i) ≡ true → IsWithin 1 (reading p.file (p.first + (c - p.dest)) (p.frame + (from + i - p.start)))
+  full_under p i c below inside full under =
+      let first = max from p.start in
+      let last = min (from + n) (p.start + p.length) in
+      let some : nat_lt first last ≡ true = grind (arith, nat_tests) in
+      let there : nat_le p.dest channels ≡ true = grind (arith, nat_tests) in
+      let line = Add (stretch_in from first last channels p) (shape_behind (first - p.start) p.shape) in
+      let plays = All-head (PlaysFull reading) line [] (rw (some, there) at full) in
+      let frames : p.frame + (first - p.start) + (i - (first - from)) ≡ p.frame + (from + i - p.start) = grind (arith, nat_tests) in
+      let both = plays (c - p.dest) (i - (first - from)) (grind (arith, nat_tests)) (grind (arith, nat_tests)) in
+      subst (λ (frame : ℕ). IsWithin 1 (reading p.file (p.first + (c - p.dest)) frame)) frames
+      (omega (arith, ints, both.0), omega (arith, ints, both.1))
+
   -- as the sum of both, where few pieces were added
-  line_sum : IsFullScale reading → (p : Piece) (s : BlockState) (i c m : ℕ) → IsPiece p → i < n → c ≤ channels
+  line_sum : (p : Piece) (s : BlockState) (i c m : ℕ) → All (PlaysFull reading) (lines_of from n channels p) → IsPiece p → i < n → c ≤ channels
       → m + holds p (from + i) ≤ 32767 → IsWithin m (s.sums i c)
       → (executed_all reading channels (lines_of from n channels p) s).sums i c ≡ s.sums i c +ℤ part_of reading p c (from + i)
-  line_sum full p s i c m ok below inside few within =
-      let both = within_add m (holds p (from + i)) (s.sums i c) (part_of reading p c (from + i)) within (part_within reading full p ok c (from + i)) in
+  line_sum p s i c m full ok below inside few within =
+      let part = part_within reading p ok c (from + i) (full_under p i c below inside full) in
+      let both = within_add m (holds p (from + i)) (s.sums i c) (part_of reading p c (from + i)) within part in
       line_effect p s i c below inside ∙ held_sum (is_under p c (from + i)) (m + holds p (from + i)) (s.sums i c) _ few both
 
-  lines_sum : IsFullScale reading → (pieces : List Piece) (s : BlockState) (i c m : ℕ) → All IsPiece pieces → i < n → c ≤ channels
+  lines_sum : (pieces : List Piece) (s : BlockState) (i c m : ℕ) → All (PlaysFull reading) (flat_map (lines_of from n channels) pieces)
+      → All IsPiece pieces → i < n → c ≤ channels
       → m + holding (from + i) pieces ≤ 32767 → IsWithin m (s.sums i c)
       → (executed_all reading channels (flat_map (lines_of from n channels) pieces) s).sums i c ≡ s.sums i c +ℤ sum_of reading pieces c (from + i)
-  lines_sum full [] s i c m all below inside few within = omega (arith, ints)
-  lines_sum full (p ∷ ps) s i c m all below inside few within =
+  lines_sum [] s i c m full all below inside few within = omega (arith, ints)
+  lines_sum (p ∷ ps) s i c m full all below inside few within =
       let ok = All-head IsPiece p ps all in
-      let first = line_sum full p s i c m ok below inside (omega (arith, few)) within in
-      let both = within_add m (holds p (from + i)) (s.sums i c) (part_of reading p c (from + i)) within (part_within reading full p ok c (from + i)) in
+      let here = all_front (PlaysFull reading) (lines_of from n channels p) _ full in
+      let later = all_behind (PlaysFull reading) (lines_of from n channels p) _ full in
+      let first = line_sum p s i c m here ok below inside (omega (arith, few)) within in
+      let part = part_within reading p ok c (from + i) (full_under p i c below inside here) in
+      let both = within_add m (holds p (from + i)) (s.sums i c) (part_of reading p c (from + i)) within part in
       let next : BlockState = executed_all reading channels (lines_of from n channels p) s in
       let split = executed_all-append reading channels (lines_of from n channels p) (flat_map (lines_of from n channels) ps) s in
-      let rest = lines_sum full ps next i c (m + holds p (from + i)) (All-tail IsPiece p ps all) below inside (omega (arith, few))
+      let rest = lines_sum ps next i c (m + holds p (from + i)) later (All-tail IsPiece p ps all) below inside (omega (arith, few))
       (subst (λ (z : ℤ). IsWithin (m + holds p (from + i)) z) (sym first) both) in
       ap (λ (state : BlockState). state.sums i c) split ∙ rest ∙ omega (arith, ints, first)
 
 -- the samples of a block are those of the mix
-pub program_sums : (reading : Reading) → IsFullScale reading → (pieces : List Piece) (range : Range) (depth : Depth) (k : ℕ) (start : BlockState)
-    → All IsPiece pieces → IsBounded 32767 pieces → range.depth ≡ bits_of depth
+pub program_sums : (reading : Reading) (pieces : List Piece) (range : Range) (depth : Depth) (k : ℕ) (start : BlockState)
+    → All (PlaysFull reading) (program_of pieces range depth k) → All IsPiece pieces → IsBounded 32767 pieces → range.depth ≡ bits_of depth
     → (executed_all reading range.channels (program_of pieces range depth k) start).out ≡ mixed_block range (sum_of reading pieces) k
-program_sums reading full pieces range depth k start all bounded told =
+program_sums reading pieces range depth k start plays all bounded told =
     let from = block_start range k in
     let n = block_frames range k in
     let lines = flat_map (lines_of from n range.channels) pieces in
@@ -155,8 +186,10 @@ program_sums reading full pieces range depth k start all bounded told =
     let frames : added.frames ≡ n =
     frames_kept reading range.channels lines begun
     (all_of_parts IsPiece AddsOne (lines_of from n range.channels) (line_adds from n range.channels) pieces all) in
+    let full : All (PlaysFull reading) lines =
+    all_front (PlaysFull reading) lines (Emit depth ∷ []) (All-tail (PlaysFull reading) (Start n) (lines ++ Emit depth ∷ []) plays) in
     let sums : (i c : ℕ) → 0 ≤ i → i < 0 + n → 1 ≤ c → c ≤ range.channels → added.sums i c ≡ sum_of reading pieces c (from + i) =
-    λ i c low high first last. lines_sum reading from n range.channels full pieces begun i c 0 all (omega arith) last
+    λ i c low high first last. lines_sum reading from n range.channels pieces begun i c 0 full all (omega arith) last
     (omega (arith, bounded (from + i))) (omega (arith, ints), omega (arith, ints)) ∙ omega (arith, ints) in
     ap (λ (state : BlockState). state.out) split
     ∙ ap (λ m. block_samples (bits_of depth) added.sums range.channels 0 m) frames

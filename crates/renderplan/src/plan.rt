@@ -3,11 +3,11 @@ ghost use Rattle.std.specs.Prelude.{◌≡◌, ◌+◌, ◌<◌, ◌≤◌, ◌�
 ghost use Rattle.std.specs.List.{All};
 ghost use Rattle.sound_terms.specs.Sounds.{SoundFacts};
 ghost use Rattle.sound_terms.specs.Media.{IsPieceOf};
-ghost use Rattle.sound_terms.specs.Mix.{IsFullScale, Reading};
+ghost use Rattle.sound_terms.specs.Mix.{Reading};
 ghost use Rattle.sound_terms.specs.Groups as spec;
 ghost use Rattle.sound_terms.specs.Groups.{IsBounded, IsPiece, sum_of};
 ghost use Rattle.sound_terms.specs.Blocks.{BlockState, IsBlockProgram, LiesInFiles, block_count, block_frames, executed_all, mixed_block, program_of};
-ghost use Rattle.renderplan.specs.Planned.{IsPlan, range_of};
+ghost use Rattle.renderplan.specs.Planned.{IsPlan, PlaysFull, range_of};
 
 use crate::PlanFault;
 use crate::lines::{Window, push_lines};
@@ -134,7 +134,7 @@ impl Plan {
     pub fn block(&self, k: u64) -> Result<Vec<Instruction>, PlanFault>
         requires { k < block_count self.now.range }
         ensures program { IfOk result (λ program. program.items ≡ program_of self.now.pieces self.now.range self.now.depth k) }
-        ensures sums { IfOk result (λ program. (reading : Reading) → IsFullScale reading → (start : BlockState)
+        ensures sums { IfOk result (λ program. (reading : Reading) → All (PlaysFull reading) program.items → (start : BlockState)
             → (executed_all reading self.now.range.channels program.items start).out ≡ mixed_block self.now.range (sum_of reading self.now.pieces) k) }
         ensures formed { IfOk result (λ program. IsBlockProgram (block_frames self.now.range k) self.now.range.channels self.now.depth program.items) }
         ensures inside { (sounds : List SoundFacts) → All (IsPieceOf sounds) self.now.pieces

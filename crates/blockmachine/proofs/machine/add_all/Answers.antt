@@ -1,11 +1,13 @@
-use Rattle.std.proofs.Common.{◌≡◌, ◌+◌, List, [], ◌∷◌, IsTrue, take, get_or, sym, ap, ◌∙◌, subst, arith, rules}
+use Rattle.std.proofs.Common.{◌≡◌, ◌+◌, All, List, [], ◌∷◌, IsTrue, take, get_or, sym, ap, ◌∙◌, subst, arith, rules}
 use Rattle.std.proofs.lemmas.List.{take_all, take_more}
+use Rattle.std.proofs.lemmas.List.Elements.{All-more}
 use Rattle.sound_terms.specs.declared.block.Instruction.{Instruction}
 use Rattle.sound_terms.specs.declared.block.Instruction.TheVariants.{Start}
 use Rattle.sound_terms.specs.Mix.{Reading}
 use Rattle.sound_terms.specs.Blocks.{BlockState, executed, executed_all}
 use Rattle.work_terms.specs.Disk.{Files}
 use Rattle.list_terms.specs.Heard.{reading_by}
+use Rattle.blockmachine.specs.Playing.{PlaysFull}
 use Rattle.blockmachine.specs.Sums.{AreSums}
 use Rattle.blockmachine.proofs.Ran.{executed_all-append}
 use Rattle.blockmachine.proofs.machine.add_all.Goals as goal
@@ -32,6 +34,13 @@ loop-line-preserved g c =
           sym (executed_all-append reading channels (take n lines) (line ∷ []) before)
           ∙ ap (λ (l : List Instruction). executed_all reading channels l before) (sym (take_more lines n (Start 0) (omega arith))) in
           subst (λ (state : BlockState). AreSums sums state.sums) whole same;
+      full = λ honest.
+          let reading : Reading = reading_by (g.S.Shelf.stored c.args.shelf.now) c.args.sounds.now in
+          let lines = c.args.lines.now in
+          let n = c.loop-line.line-index in
+          let new = c.in_ok-add_line.ensures.full (subst IsTrue (sym quiet.honest_same) honest) in
+          let same = subst (λ (stored : Files). PlaysFull (reading_by stored c.args.sounds.now) (get_or lines n (Start 0))) quiet.same new in
+          All-more (PlaysFull reading) lines n (Start 0) (omega arith) (c.loop-line.invariant.full honest) same;
     }
 
 pub returns-clause-added : goal.returns-clause-added
@@ -41,3 +50,10 @@ returns-clause-added g c = λ honest channels before are.
     let reading : Reading = reading_by (g.S.Shelf.stored c.args.shelf.now) c.args.sounds.now in
     let all : take c.loop-line.line-index lines ≡ lines = take_all c.loop-line.line-index lines c.loop-line-test.false in
     subst (λ (l : List Instruction). AreSums sums (executed_all reading channels l before).sums) all (c.loop-line.invariant.added honest channels before are)
+
+pub returns-clause-full : goal.returns-clause-full
+returns-clause-full g c = λ honest.
+    let lines = c.args.lines.now in
+    let reading : Reading = reading_by (g.S.Shelf.stored c.args.shelf.now) c.args.sounds.now in
+    let all : take c.loop-line.line-index lines ≡ lines = take_all c.loop-line.line-index lines c.loop-line-test.false in
+    subst (λ (l : List Instruction). All (PlaysFull reading) l) all (c.loop-line.invariant.full honest)

@@ -1,7 +1,8 @@
-use Rattle.std.proofs.Common.{◌≡◌, ℕ, IsTrue, length, take}
+use Rattle.std.proofs.Common.{◌≡◌, ℕ, All, IsTrue, length, take}
 use Rattle.sound_terms.specs.Blocks.{BlockState, executed_all}
 use Rattle.list_terms.specs.Heard.{reading_by}
 use Rattle.shelf.specs.Frame.{IsQuiet}
+use Rattle.blockmachine.specs.Playing.{PlaysFull}
 use Rattle.blockmachine.specs.Sums.{AreSums}
 use Rattle.blockmachine.proofs.machine.add_all.Given as goal
 
@@ -11,4 +12,6 @@ invariant-loop-line g l = record {
   quiet : IsQuiet g.S.Shelf l.fn.shelf l.shelf;
   added : IsTrue (g.S.Shelf.honest l.fn.shelf) → (channels : ℕ) (before : BlockState) → AreSums l.fn.sums before.sums
       → AreSums l.sums (executed_all (reading_by (g.S.Shelf.stored l.fn.shelf) l.sounds) channels (take l.line-index l.lines) before).sums;
+  full : IsTrue (g.S.Shelf.honest l.fn.shelf)
+      → All (PlaysFull (reading_by (g.S.Shelf.stored l.fn.shelf) l.sounds)) (take l.line-index l.lines);
 }

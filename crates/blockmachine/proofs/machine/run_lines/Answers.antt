@@ -1,11 +1,14 @@
-use Rattle.std.proofs.Common.{◌≡◌, ◌/◌, [], ◌∷◌, length, sym, ap, ◌∙◌}
-use Rattle.std.specs.Prelude.{pos}
+use Rattle.std.proofs.Common.{refl, ◌≡◌, ◌+◌, ◌-◌, ◌*◌, ◌/◌, ℕ, All, [], ◌∷◌, length, sym, ap, ◌∙◌}
+use Rattle.std.specs.Prelude.{ℤ, pos, slice_index_or}
 use Rattle.std.proofs.Math.Nat.{mul-div_left}
 use Rattle.sound_terms.specs.declared.block.Instruction.TheVariants.{Emit}
 use Rattle.sound_terms.specs.Depth.{bits_of}
 use Rattle.sound_terms.specs.Mix.{Reading}
 use Rattle.sound_terms.specs.Blocks.{BlockState, block_samples, executed_all}
 use Rattle.list_terms.specs.Heard.{reading_by}
+use Rattle.pcm.specs.Samples.{FitsDepth}
+use Rattle.blockmachine.specs.Sums.{channel_room}
+use Rattle.blockmachine.proofs.Fits.{fits_block}
 use Rattle.blockmachine.proofs.Ran.{executed_all-append, frames_kept}
 use Rattle.blockmachine.proofs.machine.run_lines.Goals as goal
 
@@ -22,3 +25,8 @@ returns-clause-ran g c = λ honest frames start long.
     c.emit.ensures added.sums sums
     ∙ ap (block_samples (bits_of c.args.depth) added.sums channels 0) (count ∙ sym kept)
     ∙ sym (ap (λ (state : BlockState). state.out) (executed_all-append reading channels lines (Emit c.args.depth ∷ []) begun))
+
+pub returns-clause-fit : goal.returns-clause-fit
+returns-clause-fit g c =
+    let all : ℕ → ℕ → ℤ = λ i channel. slice_index_or c.add_all.new.sums ((channel - 1) * channel_room + i) (pos 0) in
+    rw (c.emit.ensures all (λ i channel room first there. refl)) (fits_block c.args.depth all c.args.channels 0 (length c.args.out.now / c.args.channels))

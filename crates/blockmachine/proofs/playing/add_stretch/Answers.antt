@@ -6,7 +6,9 @@ use Rattle.sound_terms.specs.Passes.{shape_behind}
 use Rattle.sound_terms.specs.Blocks.{sums_with}
 use Rattle.work_terms.specs.Disk.{Files}
 use Rattle.list_terms.specs.Heard.{reading_by}
+use Rattle.blockmachine.specs.Playing.{IsFull}
 use Rattle.blockmachine.specs.Sums.{AreSums}
+use Rattle.blockmachine.proofs.Full.{full_more}
 use Rattle.blockmachine.proofs.Played.{part_more}
 use Rattle.blockmachine.proofs.playing.add_stretch.Goals as goal
 
@@ -33,4 +35,10 @@ loop-done-preserved g c =
           let part = subst (λ (p : Stretch). AreSums sums (sums_with reading p c.behind.result front)) c.part_of-part.ensures same in
           let shaped = rw c.behind.ensures at part in
           λ i channel room first there. shaped i channel room first there ∙ part_more reading stretch c.args.shape done count before i channel;
+      full = λ honest.
+          let old = c.loop-done.invariant.full honest in
+          let new = c.in_ok-add_part.ensures.full (subst IsTrue (sym quiet.honest_same) honest) in
+          let same = subst (λ (stored : Files). IsFull (reading_by stored c.args.sounds.now) c.part_of-part.result) quiet.same new in
+          full_more (reading_by (g.S.Shelf.stored c.args.shelf.now) c.args.sounds.now) stretch done count old
+          (subst (λ (p : Stretch). IsFull (reading_by (g.S.Shelf.stored c.args.shelf.now) c.args.sounds.now) p) c.part_of-part.ensures same);
     }

@@ -3,6 +3,7 @@ use Rattle.std.specs.Prelude.{ℤ}
 use Rattle.sound_terms.specs.Blocks.{sums_with}
 use Rattle.list_terms.specs.Heard.{reading_by}
 use Rattle.shelf.specs.Frame.{IsQuiet}
+use Rattle.blockmachine.specs.Playing.{IsFull}
 use Rattle.blockmachine.specs.Sums.{AreSums}
 use Rattle.blockmachine.proofs.playing.add_stretch.Given as goal
 
@@ -13,6 +14,8 @@ invariant-loop-done g l = record {
   quiet : IsQuiet g.S.Shelf l.fn.shelf l.shelf;
   added : IsTrue (g.S.Shelf.honest l.fn.shelf) → (before : ℕ → ℕ → ℤ) → AreSums l.fn.sums before
       → AreSums l.sums (sums_with (reading_by (g.S.Shelf.stored l.fn.shelf) l.sounds) (record l.stretch { length = l.done }) l.shape before);
+  full : IsTrue (g.S.Shelf.honest l.fn.shelf)
+      → IsFull (reading_by (g.S.Shelf.stored l.fn.shelf) l.sounds) (record l.stretch { length = l.done });
 }
 
 abbrev pub decreases-loop-done : goal.decreases-loop-done

@@ -1,8 +1,12 @@
-use Rattle.std.proofs.Common.{◌≡◌, ◌≤◌, ◌-◌, ◌*◌, ℕ, List, All, length, take, drop, sym, ap, ◌∙◌, subst}
+use Rattle.std.proofs.Common.{◌≡◌, ◌≤◌, ◌-◌, ◌*◌, ℕ, List, Some, All, length, take, drop, sym, ap, ◌∙◌, subst}
+use Rattle.std.proofs.lemmas.Option.{same_Some}
 use Rattle.std.proofs.lemmas.List.Elements.{All-drop, All-take, All-weaker}
 use Rattle.sound_terms.specs.declared.block.Instruction.{Instruction}
 use Rattle.sound_terms.specs.declared.block.Instruction.TheVariants.{Start, Emit}
+use Rattle.sound_terms.specs.declared.Depth.{Depth}
+use Rattle.sound_terms.specs.Depth.{bits_of}
 use Rattle.sound_terms.specs.Blocks.{AddsOne, IsFormed, LiesInFiles}
+use Rattle.pcm.specs.Samples.{FitsDepth}
 use Rattle.blockmachine.specs.Sums.{Extent}
 use Rattle.blockmachine.proofs.Ran.{between_ends, formed_longer}
 use Rattle.blockmachine.proofs.machine.Machine.run.Goals as goal
@@ -37,3 +41,25 @@ run_lines-requires-clause-whole g c =
     let frames : fits.0 ≤ 4096 = subst (λ (n : ℕ). fits.0 ≤ n) (sym (ap (λ (e : Extent). e.frames) c.self.view_is)) fits.2 in
     let channels : c.self.inside.channels ≡ c.args.self.now.channels = ap (λ (e : Extent). e.channels) c.self.view_is in
     (fits.0, frames, fits.4 ∙ ap (λ n. fits.0 * n) (sym channels))
+
+pub returns-in_ok-run_lines-clause-fit : goal.returns-in_ok-run_lines-clause-fit
+returns-in_ok-run_lines-clause-fit g c = λ frames depth block.
+    let told = c.depth_of.ensures frames depth block.lines block.whole in
+    let same : c.in-Some.depth ≡ depth = same_Some c.in-Some.depth depth (sym c.in-Some.is ∙ told) in
+    subst (λ (d : Depth). All (FitsDepth (bits_of d)) c.run_lines.new.out) same c.in_ok-run_lines.ensures.fit
+
+pub returns-in_default-clause-ran : goal.returns-in_default-clause-ran
+returns-in_default-clause-ran g c =
+    let fits = c.requires.fits in
+    let told = c.depth_of.ensures fits.0 fits.1 fits.3.lines fits.3.whole in
+    absurd (c.in_default.not-Some fits.1 told)
+
+pub returns-in_default-clause-fit : goal.returns-in_default-clause-fit
+returns-in_default-clause-fit g c = λ frames depth block.
+    absurd (c.in_default.not-Some depth (c.depth_of.ensures frames depth block.lines block.whole))
+
+pub returns-in_default-clause-full : goal.returns-in_default-clause-full
+returns-in_default-clause-full g c =
+    let fits = c.requires.fits in
+    let told = c.depth_of.ensures fits.0 fits.1 fits.3.lines fits.3.whole in
+    absurd (c.in_default.not-Some fits.1 told)

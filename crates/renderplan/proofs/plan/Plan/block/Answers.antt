@@ -17,4 +17,4 @@ returns-clause-sums c reading full start =
     let plan = c.args.self.now in
     let planned = c.program.ensures.planned in
     rw c.in_ok-program.ensures.program
-    (program_sums reading full plan.pieces plan.range plan.depth c.args.k start planned.pieces_ok planned.bounded planned.depth_told)
+    (program_sums reading plan.pieces plan.range plan.depth c.args.k start (rw c.in_ok-program.ensures.program at full) planned.pieces_ok planned.bounded planned.depth_told)
