@@ -1,0 +1,14 @@
+mod RunOf
+mod Numbering
+mod Names
+mod Maximal
+mod Stretching
+mod Placing
+mod Playing
+mod MediaUrls
+mod NewLists
+mod GroupSum
+mod Relinked
+mod NoFault
+mod Used
+mod Whole

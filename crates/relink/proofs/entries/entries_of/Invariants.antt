@@ -1,0 +1,7 @@
+use Rattle.std.proofs.Common.{◌≡◌, take}
+use Rattle.list_terms.specs.Renewed.{numbered, run_event}
+use Rattle.relink.proofs.entries.entries_of.Given as goal
+
+-- the entries of the groups before the place
+abbrev pub invariant-loop-place : goal.invariant-loop-place
+invariant-loop-place l = l.events.items ≡ numbered (run_event l.homes l.runs) 1 (take l.place l.groups)

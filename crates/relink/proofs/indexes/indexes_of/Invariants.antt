@@ -1,0 +1,7 @@
+use Rattle.std.proofs.Common.{◌≡◌, take}
+use Rattle.list_terms.specs.Renewed.{numbered, run_source}
+use Rattle.relink.proofs.indexes.indexes_of.Given as goal
+
+-- the indexes of the runs before the place
+abbrev pub invariant-loop-place : goal.invariant-loop-place
+invariant-loop-place l = l.sources.items ≡ numbered (run_source l.homes) 1 (take l.place l.runs)

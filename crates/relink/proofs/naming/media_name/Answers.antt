@@ -1,0 +1,6 @@
+use Rattle.std.proofs.Common.{rules}
+use Rattle.relink.proofs.Names.{name_printed}
+use Rattle.relink.proofs.naming.media_name.Goals as goal
+
+pub returns : goal.returns
+returns c = search (rules, name_printed)

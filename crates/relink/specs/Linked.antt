@@ -1,0 +1,44 @@
+-- Runs and events of groups that an index and an entry can be made of.
+use Rattle.std.specs.Prelude.{◌≡◌, ℕ, ◌+◌, ◌≤◌, List, All, Some, slice_get}
+use Rattle.sampletime.specs.TimeCode.{day}
+use Rattle.sound_terms.specs.declared.piece.Home.{Home}
+use Rattle.sound_terms.specs.declared.piece.Piece.{Piece}
+use Rattle.sound_terms.specs.declared.piece.Placed.{Placed}
+use Rattle.sound_terms.specs.declared.piece.Run.{Run}
+use Rattle.sound_terms.specs.Homes.{base_by}
+use Rattle.list_terms.specs.Renewed.{run_base}
+use Rattle.list_terms.specs.Binding.{OpenedFile}
+
+-- the run ends before the day does
+abbrev pub EndsInDay : List Home → Run → Type 0
+EndsInDay homes run = run_base homes run + run.length ≤ day
+
+-- an event whose channels, times and fades an entry can have
+pub record IsPlaced (homes : List Home) (e : Placed) : Type 0 where
+  pub wide : 1 ≤ e.width
+  pub source_from_one : 1 ≤ e.first
+  pub source_to_64 : e.first + e.width ≤ 65
+  pub dest_from_one : 1 ≤ e.dest
+  pub dest_to_64 : e.dest + e.width ≤ 65
+  pub some : 1 ≤ e.length
+  pub in_day : e.start + e.length ≤ day
+  pub fades : e.rise + e.fall ≤ e.length
+  pub source_in_day : base_by homes e.file + (e.frame + e.length) ≤ day
+
+-- all frames of an event are in the run of this place
+pub record LiesInRun (runs : List Run) (e : Placed) : Type 0 where
+  pub place : ℕ
+  pub run : Run
+  pub there : slice_get runs place ≡ Some run
+  pub same_file : run.file ≡ e.file
+  pub from : run.first ≤ e.frame
+  pub to : e.frame + e.length ≤ run.first + run.length
+
+abbrev pub IsLinkable : List Home → List Run → Placed → Type 0
+IsLinkable homes runs e = IsPlaced homes e × LiesInRun runs e
+
+-- the file of each run is there, with every channel of its source that a piece plays
+abbrev pub HaveChannels : List Piece → List Run → List OpenedFile → Type 0
+HaveChannels pieces runs files = (k : ℕ) (run : Run) → slice_get runs k ≡ Some run
+    → (file : OpenedFile) × (slice_get files k ≡ Some file)
+    × All (λ (p : Piece). p.file ≡ run.file → p.first + p.width ≤ file.facts.channels + 1) pieces

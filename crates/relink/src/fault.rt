@@ -1,0 +1,54 @@
+// Why a list isn't linked to the media.
+ghost use Rattle.std.specs.Prelude.{◌≡◌};
+ghost use Rattle.relink.specs.Fault.{number_of};
+
+use interval::IntervalFault;
+use std::alloc::AllocError;
+use thiserror::Error;
+
+/// Why a list isn't linked to the media.
+#[derive(Clone, Copy, Debug, PartialEq, Eq, Error)]
+pub enum RelinkFault {
+    /// 55: more groups than the entries of a list can be.
+    #[error("too many entries")]
+    TooManyEntries,
+    /// 56
+    #[error("out of memory")]
+    Memory,
+}
+
+impl RelinkFault {
+    /// The number of the refusal.
+    pub fn number(&self) -> u8
+        ensures { result ≡ number_of self.now }
+    {
+        match self {
+            RelinkFault::TooManyEntries => 55,
+            RelinkFault::Memory => 56,
+        }
+    }
+}
+
+impl From<AllocError> for RelinkFault {
+    ghost use Rattle.std.specs.Prelude.{◌≡◌};
+    ghost use Rattle.relink.specs.declared.fault.RelinkFault.TheVariants.{Memory};
+
+    ghost from_gives = { λ _ fault. fault ≡ Memory };
+
+    fn from(_: AllocError) -> Self {
+        RelinkFault::Memory
+    }
+}
+
+impl From<IntervalFault> for RelinkFault {
+    ghost use Rattle.std.specs.Prelude.{◌≡◌};
+    ghost use Rattle.relink.specs.declared.fault.RelinkFault.TheVariants.{Memory};
+
+    ghost from_gives = { λ _ fault. fault ≡ Memory };
+
+    fn from(fault: IntervalFault) -> Self {
+        match fault {
+            IntervalFault::Memory => RelinkFault::Memory,
+        }
+    }
+}

@@ -1,0 +1,14 @@
+//! The list over the media of a consolidation: an index for each run of kept frames, and an entry for each group.
+#![tactic(auto)]
+
+mod entries;
+mod fault;
+mod homes;
+mod indexes;
+mod naming;
+mod relinking;
+mod search;
+
+pub use fault::RelinkFault;
+pub use naming::media_name;
+pub use relinking::relink;

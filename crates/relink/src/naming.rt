@@ -1,0 +1,12 @@
+// The names of media.
+ghost use Rattle.std.specs.Prelude.{◌≡◌, IfOk, string_bytes};
+ghost use Rattle.list_terms.specs.Renewed as spec;
+
+use std::alloc::{AllocError, Global};
+
+/// The name of the medium of this number: `M`, the number in at least five digits, and `.wav`.
+pub fn media_name(alloc: Global, number: u32) -> Result<String, AllocError>
+    ensures { IfOk result (λ name. string_bytes name ≡ spec.media_name number) }
+{
+    format!(in alloc; "M{number:05}.wav")
+}
