@@ -1,5 +1,5 @@
 // The whole project.
-ghost use Rattle.std.specs.Prelude.{◌≡◌, ◌≤◌, [], IfOk, IsTrue, length};
+ghost use Rattle.std.specs.Prelude.{slice_get, ◌≡◌, ◌≤◌, [], IfOk, IsTrue, length};
 ghost use Rattle.std.specs.List.{list_all};
 ghost use Rattle.sampletime.specs.TimeCode.{default_separators};
 ghost use Rattle.list_terms.specs.WholeProject.{AreDistinct, AreEvents, AreSources, IsHeader, IsProject, entry_numbers, index_numbers, is_event, is_source};
@@ -130,6 +130,18 @@ impl Project {
         ensures { result.now ≡ self.now.notices }
     {
         self.notices.as_slice()
+    }
+
+    /// Hands out the source at this place, counted from 0.
+    pub fn into_source(self, place: usize) -> Option<Source>
+        ensures { result ≡ slice_get self.sources place }
+    {
+        let mut sources = self.sources;
+        if place < sources.len() {
+            Some(sources.swap_remove(place))
+        } else {
+            None
+        }
     }
 }
 

@@ -1,0 +1,37 @@
+-- What a call that opens a list answers, and what it leaves of the sources.
+use Rattle.std.specs.Prelude.{◌≡◌, ℕ, List, Result, Err, Some, IfErr, IsOk, length, ◌++◌}
+use Rattle.shelf.specs.declared.source.Shelf as source
+use Rattle.shelf.specs.Frame.{OnlyReads}
+use Rattle.work_terms.specs.Disk.{Files}
+use Rattle.work_terms.specs.Refusals.{IsDue, Refusal, Where, IndexFile, File}
+use Rattle.list_terms.specs.Project.{ListProject}
+use Rattle.list_terms.specs.Binding.{Binding}
+use Rattle.list_terms.specs.Heard.{IsAccepted}
+use Rattle.list_terms.specs.Text.{text_value}
+use Rattle.opening.specs.Faults.{refusal_of}
+use Rattle.opening.specs.declared.fault.Fault.{Fault}
+use Rattle.opening.specs.declared.checking.Accepted as declared
+
+-- the place names a file of which this holds
+abbrev pub HoldsOfFile : (List ℕ → Type 0) → Where → Type 0
+HoldsOfFile P (IndexFile index name) = P name
+HoldsOfFile P (File name) = P name
+HoldsOfFile P _ = ⊥
+
+-- a call that only reads sources: 22 tells that their device failed, at the file that is named
+abbrev pub ReadsSources : {S X : Type 0} → source.Ghosts S → S → S → Result X Fault → Type 0
+ReadsSources shelf old new result =
+    OnlyReads shelf old new result (λ fault. (refusal_of fault).number ≡ 22) (λ fault failed. HoldsOfFile failed (refusal_of fault).place)
+
+-- a text with a fault is refused, whatever the files are
+abbrev pub RefusesBadText : {X : Type 0} → List ℕ → Result X Fault → Type 0
+RefusesBadText text result = (refusal : Refusal) → text_value text ≡ Err refusal → IfErr result (λ fault. IsDue (refusal_of fault) (Some refusal)) × (IsOk result → ⊥)
+
+-- what is told of an accepted list: its notices and then those of its files, and how many entries and bound indexes it has
+pub record Reports (text : List ℕ) (files : Files) (told : declared.Accepted) : Type 0 where
+  pub project : ListProject
+  pub binding : Binding
+  pub accepted : IsAccepted text files project binding
+  pub notices : told.notices.items ≡ project.notices ++ binding.notices
+  pub entries : told.entries ≡ length project.events
+  pub indexes : told.indexes ≡ length binding.indexes

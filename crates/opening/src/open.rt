@@ -1,0 +1,90 @@
+// Opens the project of a list.
+ghost use Rattle.std.specs.Prelude.{◌≡◌, ◌≤◌, Err, Ok, false, IsTrue, IfOk, IfErr, MatchBool, ⊤};
+ghost use Rattle.work_terms.specs.Refusals.{Answers, is_excused, turn_of};
+ghost use Rattle.list_terms.specs.Bound.{binding_of};
+ghost use Rattle.list_terms.specs.Heard.{IsAccepted, project_fault};
+ghost use Rattle.list_terms.specs.Text.{text_value};
+ghost use Rattle.sourceindex.specs.Fault as binding;
+ghost use Rattle.sourceindex.specs.Own.{IsOfProject};
+ghost use Rattle.opening.specs.Commands.{ReadsSources, RefusesBadText};
+ghost use Rattle.opening.specs.Faults.{refusal_of};
+ghost use Rattle.opening.specs.Own.{IsOfBinding, IsOfOpening};
+
+use crate::Fault;
+use projectcheck::{Checked, check};
+use shelf::Shelf;
+use sourceindex::{BindFault, Bound, bind};
+use std::alloc::Global;
+use whole_model::Project;
+use whole_read::read;
+
+/// Reads the list.
+fn read_list(alloc: Global, list: &[u8]) -> Result<Project, Fault>
+    ensures spelt { IfOk result (λ project. text_value list.now ≡ Ok project) }
+    ensures refused { IfErr result (λ fault. MatchBool (is_excused (refusal_of fault).number) ⊤ (text_value list.now ≡ Err (refusal_of fault))) }
+    ensures first { IfErr result (λ fault. (refusal_of fault).number ≤ 18) }
+    ensures early { IfErr result (λ fault. (refusal_of fault).late ≡ false) }
+    ensures own { IfErr result (IsOfOpening list.now) }
+{
+    match read(alloc, list) {
+        Ok(project) => Ok(project),
+        Err(fault) => Err(Fault::List(fault)),
+    }
+}
+
+/// The fault of a project that isn't bound, with the source that it is about.
+fn told_of(project: Project, fault: BindFault) -> Fault
+    requires { IsOfProject project fault }
+    ensures refusal { refusal_of result ≡ binding.refusal_of project.sources fault }
+    ensures own { IsOfBinding project result }
+{
+    match fault {
+        BindFault::SameName { index } => Fault::SameName { index },
+        BindFault::Media {
+            index,
+            place,
+            fault,
+        } => match project.into_source(place) {
+            Some(source) => Fault::Media { source, fault },
+            None => Fault::SameName { index },
+        },
+    }
+}
+
+/// Binds the used indexes of a project.
+fn bind_project<S: Shelf>(
+    alloc: Global,
+    project: Project,
+    shelf: &mut S,
+) -> Result<(Project, Bound), Fault>
+    ensures same { IfOk result (λ bound. bound.0 ≡ project) }
+    ensures bound { IsTrue (S.honest shelf.old) → IfOk result (λ bound. binding_of project (S.stored shelf.old) ≡ Ok bound.1) }
+    ensures refused { IsTrue (S.honest shelf.old)
+        → IfErr result (λ fault. MatchBool (is_excused (refusal_of fault).number) ⊤ (binding_of project (S.stored shelf.old) ≡ Err (refusal_of fault))) }
+    ensures second { IfErr result (λ fault. turn_of (refusal_of fault) ≡ 2) }
+    ensures own { IfErr result (IsOfBinding project) }
+    ensures only_reads { ReadsSources S.Shelf shelf.old shelf.new result }
+{
+    match bind(alloc, &project, shelf) {
+        Ok(bound) => Ok((project, bound)),
+        Err(fault) => Err(told_of(project, fault)),
+    }
+}
+
+/// Reads the list, binds its used indexes, and checks its entries: the first fault of the text, then of a file in the order
+/// of the source index, then of an entry in the order of the list.
+pub fn open_project<S: Shelf>(alloc: Global, list: &[u8], shelf: &mut S) -> Result<Checked, Fault>
+    ensures accepted { IsTrue (S.honest shelf.old) → IfOk result (λ checked. IsAccepted list.now (S.stored shelf.old) checked.project checked.bound) }
+    ensures spelt { IfOk result (λ checked. text_value list.now ≡ Ok checked.project) }
+    ensures refusals { IsTrue (S.honest shelf.old) → Answers refusal_of result (project_fault list.now (S.stored shelf.old)) }
+    ensures bad_text { RefusesBadText list.now result }
+    ensures own { IfErr result (IsOfOpening list.now) }
+    ensures only_reads { ReadsSources S.Shelf shelf.old shelf.new result }
+{
+    let project = read_list(alloc, list)?;
+    let (project, bound) = bind_project(alloc, project, shelf)?;
+    match check(project, bound) {
+        Ok(checked) => Ok(checked),
+        Err(fault) => Err(Fault::Entry(fault)),
+    }
+}
