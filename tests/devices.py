@@ -9,14 +9,16 @@ from typing import Callable
 
 import model
 from harness import (
-    LIST, MEDIA, OUT, Mismatch, Scene, Skipped, Suite, same, same_bytes, same_files, same_outcome,
+    LIST, MEDIA, OUT, Mismatch, Scene, Skipped, Suite, same, same_bytes, same_files, same_outcome, words_of,
 )
-from tables import FIRST_LIST, rendered_bytes, wave
+from tables import FIRST_LIST, rendered_bytes, size_changed, wave
 
 NOBODY = 65534
+RENDER = words_of("render", model.Options(depth=16))
 FRAMES = 20_000
 DISK_SIZE = "32k"
 MEMORY = 64 * 2 ** 20
+LONG = 48 * 2 ** 20
 
 
 def as_other_user(scene: Scene) -> dict:
@@ -42,7 +44,7 @@ def unreadable(path: str, line: str):
         prepared(scene)
         how = as_other_user(scene)
         (scene.folder / path).chmod(0)
-        got = [scene.run(command, LIST, MEDIA, OUT, **how) for command in model.COMMANDS]
+        got = [scene.run(command, LIST, MEDIA, OUT, **how) for command in model.WRITING]
         (scene.folder / path).chmod(0o700)
         for outcome in got:
             same_outcome(outcome, 1, line)
@@ -63,7 +65,7 @@ def source_is_folder(scene: Scene) -> None:
     """It is there, and no device reads it as a file."""
     scene.put(FIRST_LIST)
     (scene.folder / MEDIA / "A.wav").mkdir()
-    for command in model.COMMANDS:
+    for command in model.WRITING:
         same_outcome(scene.run(command, LIST, MEDIA, OUT), 1, "refused 22 at index 1 file A.wav")
         same_files(scene.files(), {})
 
@@ -160,23 +162,43 @@ def no_memory_for_list(scene: Scene) -> None:
     same_files(scene.files(), {})
 
 
-def no_memory_for_sums(scene: Scene) -> None:
-    """A rendering holds a sum of 8 bytes for each sample of its range."""
+def memory_of_long_rendering(scene: Scene) -> None:
+    """A rendering is made in blocks: it takes no memory that grows with its range."""
     entry_lines = [
         model.entry_line(number, 1, b"00.00.00.00/0000", begin, begin)
-        for number, begin in ((1, b"00.00.00.00/0000"), (2, model.time_text(MEMORY // 8)))
+        for number, begin in ((1, b"00.00.00.00/0000"), (2, model.time_text(LONG)))
     ]
     text = model.list_text([model.source_line(1, "A.wav", b"00.00.00.00/0000")], entry_lines)
     scene.put(text, {"A.wav": wave()})
-    same_outcome(scene.run("render", LIST, MEDIA, OUT, **memory_limit(MEMORY)), 1, "refused 57")
-    same_files(scene.files(), {})
+    got = scene.run(*RENDER, **memory_limit(MEMORY))
+    same_outcome(got, 0, f"rendered {LONG} frames 1 channels")
+    same("the written bytes", (scene.folder / OUT / "render.wav").stat().st_size, 690 + 2 * LONG)
+
+
+def memory_of_long_consolidation(scene: Scene) -> None:
+    """A source of 100 MB, silent but for its last sample, is searched and copied in blocks."""
+    size = 2 * LONG
+    scene.put(model.list_text([model.source_line(1, "A.wav", b"00.00.00.00/0000")], [
+        model.entry_line(1, 1, *(model.time_text(value) for value in (0, 0, size // 2)))]))
+    with (scene.folder / MEDIA / "A.wav").open("wb") as file:
+        file.write(size_changed(wave([]), 36 + size)[:40] + size.to_bytes(4, "little"))
+        file.truncate(44 + size - 1)
+        file.seek(0, os.SEEK_END)
+        file.write(b"\1")
+    got = scene.run(*words_of("consolidate"), **memory_limit(MEMORY))
+    same_outcome(got, 0, "written 1 media 1 entries")
+    medium = scene.folder / OUT / "M00001.wav"
+    same("the written bytes", medium.stat().st_size, 690 + size)
+    with medium.open("rb") as file:
+        file.seek(-2, os.SEEK_END)
+        same("the last sample", file.read(), b"\0\1")
 
 
 def unprinted(scene: Scene) -> None:
     """A line that can't be printed changes neither the files nor the status."""
     prepared(scene)
     with Path("/dev/full").open("wb") as full:
-        got = scene.run("render", LIST, MEDIA, OUT, stdout=full)
+        got = scene.run(*RENDER, stdout=full)
     same("the status", got.status, 0)
     same_bytes("render.wav", scene.files()["render.wav"], rendered_bytes())
 
@@ -184,7 +206,7 @@ def unprinted(scene: Scene) -> None:
 def closed_outputs(scene: Scene) -> None:
     """Without standard output and standard error the files are the same, and hold nothing that was printed."""
     prepared(scene)
-    got = scene.run("render", LIST, MEDIA, OUT, preexec_fn=lambda: (os.close(1), os.close(2)))
+    got = scene.run(*RENDER, preexec_fn=lambda: (os.close(1), os.close(2)))
     same("the status", got.status, 0)
     same_bytes("render.wav", scene.files()["render.wav"], rendered_bytes())
 
@@ -199,7 +221,8 @@ def run(suite: Suite) -> None:
     suite.case("a limit of size, consolidated", limited("consolidate", "M00001.wav"))
     suite.case("a limit of size at the list", limited_list)
     suite.case("no memory for the list", no_memory_for_list)
-    suite.case("no memory for the sums", no_memory_for_sums)
+    suite.case("the memory of a long rendering", memory_of_long_rendering)
+    suite.case("the memory of a long consolidation", memory_of_long_consolidation)
     suite.case("a full disk, rendered", on_small_disk(full_disk_rendered))
     suite.case("a full disk, consolidated", on_small_disk(full_disk_consolidated))
     if Path("/dev/full").exists():

@@ -5,15 +5,18 @@ from functools import partial
 
 import model
 from harness import (
-    LIST, OUT, Scene, Suite, expect_done, expect_line, expect_refused, same_files, same_outcome,
+    Scene, Suite, expect_done, expect_line, expect_refused, same, same_files, same_outcome, words_of,
 )
-from harness import MEDIA as MEDIA_FOLDER
-from tables import FIRST_LIST, wave
+from tables import FIRST_LIST, data_chunk, format_chunk, riff_file, wave
 
 MIDNIGHT = b"00.00.00.00/0000"
 MEMORY_LIMIT = 4 * 2 ** 30
 DAY_END = b"24.00.00.00/0000"
-MEDIA = {"A.wav": wave(), "B.wav": wave(range(10))}
+MEDIA = {
+    "A.wav": wave(), "B.wav": wave(range(10)),
+    "C.wav": riff_file(format_chunk(channels=3), data_chunk([1, 20, 300, -1, -20, -300, 2, 40, 600])),
+}
+LONGEST_AT_16_BITS = 2_147_483_306
 
 
 def sample(value: int) -> bytes:
@@ -22,6 +25,17 @@ def sample(value: int) -> bytes:
 
 def entry(number: int, source_in: int, dest_in: int, dest_out: int, index: int = 1) -> bytes:
     return model.entry_line(number, index, sample(source_in), sample(dest_in), sample(dest_out))
+
+
+def wide(source: bytes, dest: bytes) -> bytes:
+    """An entry of three samples on these channels."""
+    return entry(1, 0, 0, 3).replace(b" 1 1 ", b" %s %s " % (source, dest))
+
+
+def faded(number: int, length: int, rise: int, fall: int) -> bytes:
+    """An entry from the first frame on, with both fades."""
+    fades = model.fade_line(b"Infade", rise), model.fade_line(b"Outfade", fall)
+    return b"\n".join((entry(number, 0, 0, length), *fades))
 
 
 def over(base: bytes, *entry_lines: bytes, name: str = "A.wav") -> bytes:
@@ -56,11 +70,32 @@ REFUSED = {
         over(b"23.59.59.24/1918", entry(1, 4_147_199_998, 0, 3), name="B.wav"), "refused 46 at entry 1"),
     "the first entry at fault": (
         over(MIDNIGHT, entry(9, 0, 0, 4), entry(3, 0, 5, 4), entry(1, 0, 0, 4, index=2)), "refused 42 at entry 3"),
+    "fades longer than the entry": (over(MIDNIGHT, faded(7, 10, 6, 5), name="B.wav"), "refused 43 at entry 7"),
+    "a fade of an entry of no length": (over(MIDNIGHT, faded(1, 0, 1, 0)), "refused 43 at entry 1"),
+    "a channel that the file hasn't": (over(MIDNIGHT, wide(b"2", b"1")), "refused 44 at entry 1"),
+    "a last channel that the file hasn't": (over(MIDNIGHT, wide(b"1~2", b"1~2")), "refused 44 at entry 1"),
+    "a channel that the file hasn't, in an entry of no length": (
+        over(MIDNIGHT, entry(1, 0, 0, 0).replace(b" 1 1 ", b" 2 1 ")), "refused 44 at entry 1"),
+    "the end before the fades": (over(MIDNIGHT, b"\n".join((
+        entry(1, 0, 5, 4), model.fade_line(b"Infade", 1)))), "refused 42 at entry 1"),
+    "the fades before the channels": (
+        over(MIDNIGHT, faded(1, 4, 3, 2).replace(b" 1 1 ", b" 2 1 ")), "refused 43 at entry 1"),
+    "the channels before the frames": (
+        over(MIDNIGHT, entry(1, 0, 0, 5).replace(b" 1 1 ", b" 2 1 ")), "refused 44 at entry 1"),
+    "the first entry at fault by lines, not by numbers": (
+        over(MIDNIGHT, entry(2, 0, 0, 4, index=2), entry(1, 0, 5, 4)), "refused 41 at entry 2"),
     "the index before the end": (over(MIDNIGHT, entry(1, 0, 5, 4, index=2)), "refused 41 at entry 1"),
     "the end before the frames": (over(MIDNIGHT, entry(1, 9, 5, 4)), "refused 42 at entry 1"),
 }
 
 ACCEPTED = {
+    "fades that meet": over(MIDNIGHT, faded(7, 10, 6, 4), name="B.wav"),
+    "a rise over all": over(MIDNIGHT, faded(1, 4, 4, 0)),
+    "a fall over all": over(MIDNIGHT, faded(1, 4, 0, 4)),
+    "fades of one sample": over(MIDNIGHT, faded(1, 4, 1, 1)),
+    "channels of a wide file": over(MIDNIGHT, wide(b"2~3", b"5~6"), name="C.wav"),
+    "channels over one another": over(
+        MIDNIGHT, wide(b"1~3", b"1~3"), wide(b"2~3", b"2~3").replace(b"0001 (Cut)", b"0002 (Cut)"), name="C.wav"),
     "the first frame": over(MIDNIGHT, entry(1, 0, 0, 1)),
     "the last frame": over(MIDNIGHT, entry(1, 3, 0, 1)),
     "a base": over(b"10.00.00.00/0000", model.entry_line(
@@ -95,18 +130,35 @@ def empty_range(scene: Scene) -> None:
 
 def too_long(scene: Scene) -> None:
     """One frame more than a RIFF file can tell is 61, also where there is no memory for so many sums."""
-    begin = model.LONGEST_RENDERED + 1
+    begin = LONGEST_AT_16_BITS + 1
     scene.put(over(MIDNIGHT, entry(1, 0, 0, 0), entry(2, 0, begin, begin)), MEDIA)
     limit = partial(resource.setrlimit, resource.RLIMIT_AS, (MEMORY_LIMIT, MEMORY_LIMIT))
-    got = scene.run("render", LIST, MEDIA_FOLDER, OUT, preexec_fn=limit)
+    got = scene.run(*words_of("render", model.Options(depth=16)), preexec_fn=limit)
     same_outcome(got, 1, "refused 61")
     same_files(scene.files(), {})
 
 
+def further_faults(scene: Scene) -> None:
+    """A check tells the entries at fault behind the first one, 20 of them and how many more, or the files."""
+    entries = [entry(number, 0, 5, 4) if number % 2 else entry(number, 0, 0, 5) for number in range(1, 31)]
+    told = [f"also {42 if number % 2 else 46} at entry {number}" for number in range(2, 22)]
+    for count, wanted in ((1, ()), (3, told[:2]), (21, told), (22, [*told, "and 1 more"]), (30, [*told, "and 9 more"])):
+        text = over(MIDNIGHT, *entries[:count])
+        same("what the model tells", model.answer("check", text, MEDIA).further, tuple(wanted))
+        expect_refused(scene, text, MEDIA, "refused 42 at entry 1")
+    names = ("None.wav", "A.wav", "B.wav", "Bad.wav", "Bad.wav", "Gone.wav")
+    sources = [model.source_line(number, name, MIDNIGHT) for number, name in enumerate(names, 1)]
+    text = model.list_text(sources, [entry(number, 0, 5, 4, index=number) for number in range(1, 7)])
+    media = {**MEDIA, "Bad.wav": b"no sound"}
+    wanted = ("also 23 at index 4 file Bad.wav", "also 21 at index 6 file Gone.wav")
+    same("what the model tells", model.answer("check", text, media).further, wanted)
+    expect_refused(scene, text, media, "refused 21 at index 1 file None.wav")
+
+
 def list_before_files(scene: Scene) -> None:
     """The list's fault comes first, then the file's, then the entry's, then the range's."""
-    text = FIRST_LIST.replace(b"</ADL>", b"</adl>").replace(b"I 0001", b"I 0002")
-    expect_refused(scene, text, {}, "refused 13 at line 12")
+    text = FIRST_LIST.replace(b"</ADL>", b"</ADX>").replace(b"I 0001", b"I 0002")
+    expect_refused(scene, text, {}, "refused 03 at line 12")
     expect_refused(scene, over(MIDNIGHT, entry(1, 0, 5, 4)), {"A.wav": b""}, "refused 23 at index 1 file A.wav")
     expect_line(scene, "render", over(MIDNIGHT, entry(1, 0, 5, 5, index=2)), MEDIA, "refused 41 at entry 1")
 
@@ -119,3 +171,4 @@ def run(suite: Suite) -> None:
     suite.case("an empty range", empty_range)
     suite.case("a file too long for RIFF", too_long)
     suite.case("the order of refusals", list_before_files)
+    suite.case("further faults", further_faults)

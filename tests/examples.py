@@ -8,7 +8,11 @@ import model
 from harness import LIST, MEDIA, Mismatch, Scene, Suite, expect_answer, same, same_files
 
 FOLDER = Path(__file__).resolve().parent.parent / "examples"
-EXAMPLES = ("dialogue", "layers", "overrun")
+
+# What the words of the examples' pages choose.
+EXAMPLES = {
+    "dialogue": model.Options(handle=4800), "layers": model.Options(handle=0), "overrun": model.STANDARD,
+}
 
 
 def made_media(target: Path) -> dict:
@@ -20,11 +24,13 @@ def made_media(target: Path) -> dict:
     }
 
 
-def check_page(example: str, answer: model.Answer) -> None:
-    """The example's page has the printed line, and each written file with its length."""
+def check_page(example: str, command: str, answer: model.Answer) -> None:
+    """The example's page has the command, the printed line, and each written file with its length."""
     page = (FOLDER / example / "README.txt").read_text().splitlines()
+    places = {"check": "", "render": " RENDERED", "consolidate": " CONSOLIDATED"}
+    words = [f"adlcons {command} {example}.adl media{places[command]}", *EXAMPLES[example].words(command)]
     sizes = [f"{name} {len(data)} bytes" for name, data in answer.files.items()]
-    for line in (answer.line, *sizes):
+    for line in (" ".join(words), answer.line, *sizes):
         if f"    {line}" not in page:
             raise Mismatch(f"examples/{example}/README.txt has no line {line!r}")
 
@@ -33,9 +39,9 @@ def runs(example: str, command: str, all_media: dict):
     def body(scene: Scene) -> None:
         text = (FOLDER / example / f"{example}.adl").read_bytes()
         scene.put(text, all_media[example])
-        wanted = model.answer(command, text, all_media[example])
-        check_page(example, wanted)
-        expect_answer(scene, command, wanted)
+        wanted = model.answer(command, text, all_media[example], EXAMPLES[example])
+        check_page(example, command, wanted)
+        expect_answer(scene, command, wanted, EXAMPLES[example])
     return body
 
 

@@ -6,7 +6,7 @@ from functools import partial
 
 import model
 from harness import (
-    LIST, MEDIA, OUT, Mismatch, Scene, Suite, preloaded, same, same_files, same_outcome,
+    LIST, MEDIA, OUT, Mismatch, Scene, Suite, preloaded, same, same_answer, same_files, same_outcome, words_of,
 )
 from tables import FIRST_LIST, wave
 
@@ -15,24 +15,27 @@ ROUNDS = 50
 SOURCES = 300
 HANDLES = 20
 CUTS = 40
+EXACT = model.Options(handle=0)
+
+
+def sound_of(count: int, sample: int) -> bytes:
+    """A file of so many stretches of four frames, with a frame between them."""
+    return wave([sample, sample + 1, -sample, 1, 0] * count)
 
 
 def cuts_over(name: str, count: int) -> bytes:
-    """So many cuts of four frames of one source, one behind the other."""
+    """So many cuts of four frames of one source, one behind the other, that leave out a frame between them."""
     entry_lines = [
-        model.entry_line(number, 1, MIDNIGHT, model.time_text(4 * number), model.time_text(4 * number + 4))
-        for number in range(count)
+        model.entry_line(place + 1, 1, *(model.time_text(value) for value in (5 * place, 4 * place, 4 * place + 4)))
+        for place in range(count)
     ]
-    return model.list_text([model.source_line(1, name, MIDNIGHT)], [
-        line.replace(b"(Entry) %04d" % number, b"(Entry) %04d" % (number + 1))
-        for number, line in enumerate(entry_lines)
-    ])
+    return model.list_text([model.source_line(1, name, MIDNIGHT)], entry_lines)
 
 
 def at_once(command: str):
     """Two runs into one folder at the same time: at most one is done, and its files are whole and its own."""
     def body(scene: Scene) -> None:
-        media = {"A.wav": wave(), "B.wav": wave([1, 2, 3, 4])}
+        media = {"A.wav": sound_of(CUTS, 1000), "B.wav": sound_of(CUTS, 7)}
         texts = {"A.adl": cuts_over("A.wav", CUTS), "B.adl": cuts_over("B.wav", CUTS)}
         scene.put(texts["A.adl"], media)
         for name, text in texts.items():
@@ -40,14 +43,14 @@ def at_once(command: str):
         done = 0
         for _ in range(ROUNDS):
             runs = {name: subprocess.Popen(
-                [scene.program, command, name, MEDIA, OUT], cwd=scene.folder,
+                [scene.program, command, name, MEDIA, OUT, *EXACT.words(command)], cwd=scene.folder,
                 stdout=subprocess.PIPE, stderr=subprocess.PIPE) for name in texts}
             lines = {name: run.communicate(timeout=60)[0] for name, run in runs.items()}
             winners = [name for name, run in runs.items() if run.returncode == 0]
             if len(winners) > 1:
                 raise Mismatch(f"both runs are done: {lines}")
             for name in winners:
-                same_files(scene.files(), model.answer(command, texts[name], media).files)
+                same_files(scene.files(), model.answer(command, texts[name], media, EXACT).files)
             for name in set(texts) - set(winners):
                 if not lines[name].startswith((b"refused 20 at file OUT", b"refused 62 at file ")):
                     raise Mismatch(f"the other run says {lines[name]!r}")
@@ -61,33 +64,39 @@ def at_once(command: str):
 def run_logged(scene: Scene, command: str, environment: dict, fails: int = 0) -> tuple:
     log = scene.folder / "log"
     log.unlink(missing_ok=True)
-    got = scene.run(command, LIST, MEDIA, OUT, env={**environment, "SYNC_FAILS": str(fails)})
+    got = scene.run(*words_of(command, EXACT), env={**environment, "SYNC_FAILS": str(fails)})
     return got, log.read_text().splitlines() if log.exists() else []
 
 
 def syncs_of(command: str, media: int) -> list:
-    names = ["render.wav"] if command == "render" else [
-        *(f"M{number:05d}.wav" for number in range(1, media + 1)), "consolidated.adl"]
-    return [f"sync {name}" for output in names for name in (output, OUT)]
+    """What is synced, and the file that is refused where that fails. All media are there before the first is synced, so
+    their folder is synced once; the list comes behind them."""
+    if command == "render":
+        return [("render.wav", "render.wav"), (OUT, "render.wav")]
+    names = [f"M{number:05d}.wav" for number in range(1, media + 1)]
+    files = [(name, name) for name in (*names, "consolidated.adl")]
+    return [files[0], (OUT, names[0]), *files[1:], (OUT, "consolidated.adl")]
 
 
 def on_the_disk(command: str):
-    """Each output and its folder are synced, the list last, before the one write of the line; a sync that fails is 62."""
+    """Each output and its folder are synced, the list last, before the line is written; a sync that fails is 62."""
     def body(scene: Scene) -> None:
         text = cuts_over("A.wav", 3)
-        scene.put(text, {"A.wav": wave()})
+        media = {"A.wav": sound_of(3, 1000)}
+        scene.put(text, media)
         environment = preloaded(scene, SYNC_LOG=str(scene.folder / "log"))
-        wanted = model.answer(command, text, {"A.wav": wave()})
+        wanted = model.answer(command, text, media, EXACT)
         syncs = syncs_of(command, 3)
         got, log = run_logged(scene, command, environment)
-        same_outcome(got, 0, wanted.line)
-        same("what is synced and printed", log, [*syncs, "print out"])
+        same_answer(got, wanted)
+        told = ["print out"] if wanted.saved is None else ["print out", "print err"]
+        same("what is synced and printed", log, [f"sync {name}" for name, _ in syncs] + told)
         scene.empty_out()
-        for fails in range(1, len(syncs) + 1):
+        for fails, (_, output) in enumerate(syncs, 1):
             got, log = run_logged(scene, command, environment, fails)
-            output = syncs[(fails - 1) // 2 * 2].split()[1]
             same_outcome(got, 1, f"refused 62 at file {output}")
-            same("what is synced and printed", log, [*syncs[:fails], "print out", "print err"])
+            logged = [*(f"sync {name}" for name, _ in syncs[:fails]), "print out", "print err"]
+            same("what is synced and printed", log, logged)
             if b"Input/output error" not in got.error or output.encode() not in got.error:
                 raise Mismatch(f"standard error doesn't tell what failed: {got.error!r}")
             scene.empty_out()
@@ -100,15 +109,16 @@ def few_handles(scene: Scene) -> None:
     media = {name: wave([number, 7]) for number, name in enumerate(names)}
     source_lines = [model.source_line(number, name, MIDNIGHT) for number, name in enumerate(names, 1)]
     entry_lines = [
-        model.entry_line(number, 1 + 7 * number % SOURCES, MIDNIGHT, *map(model.time_text, (2 * number, 2 * number + 2)))
+        model.entry_line(
+            number, 1 + 7 * number % SOURCES, MIDNIGHT, *map(model.time_text, (2 * number, 2 * number + 2)))
         for number in range(1, SOURCES + 1)
     ]
     text = model.list_text(source_lines, entry_lines)
     scene.put(text, media)
     limit = partial(resource.setrlimit, resource.RLIMIT_NOFILE, (HANDLES, HANDLES))
-    for command in model.COMMANDS:
-        wanted = model.answer(command, text, media)
-        same_outcome(scene.run(command, LIST, MEDIA, OUT, preexec_fn=limit), 0, wanted.line)
+    for command in model.WRITING:
+        wanted = model.answer(command, text, media, EXACT)
+        same_answer(scene.run(*words_of(command, EXACT), preexec_fn=limit), wanted)
         same_files(scene.files(), wanted.files)
         scene.empty_out()
 
@@ -118,8 +128,8 @@ def one_write_a_line(scene: Scene) -> None:
     scene.put(FIRST_LIST, {})
     log = scene.folder / "lines"
     with log.open("ab") as file:
-        runs = [subprocess.Popen([scene.program, "render", LIST, MEDIA, OUT], cwd=scene.folder, stdout=file, stderr=file)
-                for _ in range(60)]
+        words = [scene.program, "render", LIST, MEDIA, OUT]
+        runs = [subprocess.Popen(words, cwd=scene.folder, stdout=file, stderr=file) for _ in range(60)]
         for run in runs:
             run.wait(timeout=60)
     lines = log.read_bytes().splitlines()
@@ -140,7 +150,7 @@ def told_reasons(scene: Scene) -> None:
 
 
 def run(suite: Suite) -> None:
-    for command in model.COMMANDS:
+    for command in model.WRITING:
         suite.case(f"two runs into one folder at once, {command}", at_once(command))
         suite.case(f"done means on the disk, {command}", on_the_disk(command))
     suite.case("few handles", few_handles)

@@ -91,49 +91,73 @@ def same_bytes(what: str, got: bytes, wanted: bytes) -> None:
         )
 
 
-def same_outcome(got: Outcome, status: int, line: str) -> None:
-    """One line on standard output, and on standard error nothing, or one line that explains the refusal."""
-    same("standard output", got.output, line.encode() + b"\n")
+EXPLANATION = r"[^\n]+: [^\n]+; [^\n]+ \(adlcons explain %d\)\n"
+FURTHER = r"%s(?:: [^\n]+)?\n"
+SAVED = r"of (\d+) bytes of samples in the sources (\d+) are kept; (\d+) bytes were written\n"
+
+
+def same_outcome(got: Outcome, status: int, line: str, notices: tuple = (), further: tuple = ()) -> None:
+    """Notices and one line on standard output. On standard error one line that explains the refusal, with one for each
+    further fault, or one that tells what a consolidation saved; else nothing."""
+    same("standard output", got.output.decode(), "".join(f"{each}\n" for each in (*notices, line)))
     if status == 1:
-        number = int(line.split()[1])
-        wanted = rb"[^\n]+: [^\n]+; [^\n]+ \(adlcons explain %d\)\n" % number
-        if not re.fullmatch(wanted, got.error):
-            raise Mismatch(f"standard error explains {line}\n    got      {brief(got.error)}")
+        told = "".join(FURTHER % re.escape(each) for each in further)
+        same_shape(f"the explanation of {line}", got.error, EXPLANATION % int(line.split()[1]) + told)
     else:
-        same("standard error", got.error, b"")
+        same_shape("standard error", got.error, SAVED if line.startswith("written") else "")
     same("the status", got.status, status)
 
 
-def expect_answer(scene: Scene, command: str, wanted: model.Answer) -> None:
+def same_shape(what: str, got: bytes, pattern: str) -> None:
+    if not re.fullmatch(pattern, got.decode()):
+        raise Mismatch(f"{what}\n    expected {pattern}\n    got      {brief(got)}")
+
+
+def same_answer(got: Outcome, wanted: model.Answer) -> None:
+    """What was printed, and the status."""
+    same_outcome(got, wanted.status, wanted.line, wanted.notices, wanted.further)
+    if wanted.saved is not None:
+        told = tuple(map(int, re.fullmatch(SAVED, got.error.decode()).groups()))
+        same("the bytes of samples in the sources, those kept, and all that were written", told, wanted.saved)
+
+
+def words_of(command: str, options: model.Options = model.STANDARD) -> list:
+    """The words of a command over the scene's places."""
+    places = [LIST, MEDIA] if command == "check" else [LIST, MEDIA, OUT]
+    return [command, *places, *options.words(command)]
+
+
+def expect_answer(scene: Scene, command: str, wanted: model.Answer, options: model.Options = model.STANDARD) -> None:
     """Runs a command over the scene's list, which leaves list and media as they are."""
     before = (scene.folder / LIST).read_bytes(), scene.files(MEDIA)
-    got = scene.run(command, LIST, MEDIA, OUT)
-    same_outcome(got, wanted.status, wanted.line)
+    same_answer(scene.run(*words_of(command, options)), wanted)
     same_files(scene.files(), wanted.files)
     same("the list and the media", ((scene.folder / LIST).read_bytes(), scene.files(MEDIA)), before)
 
 
-def expect_line(scene: Scene, command: str, text: bytes, media: dict, line: str) -> None:
-    """The command prints this line for the list, and the model says so too; so do status and files."""
-    wanted = model.answer(command, text, media)
+def expect_line(
+        scene: Scene, command: str, text: bytes, media: dict, line: str,
+        options: model.Options = model.STANDARD) -> None:
+    """The command prints this line for the list, and the model says so too; so do notices, status and files."""
+    wanted = model.answer(command, text, media, options)
     same("the line of the model", wanted.line, line)
     scene.put(text, media)
-    expect_answer(scene, command, wanted)
+    expect_answer(scene, command, wanted, options)
     scene.empty_out()
 
 
 def expect_refused(scene: Scene, text: bytes, media: dict, line: str) -> None:
-    """Both commands refuse the list with this line, and write nothing."""
+    """All commands refuse the list with this line, and write nothing."""
     for command in model.COMMANDS:
         expect_line(scene, command, text, media, line)
 
 
-def expect_done(scene: Scene, text: bytes, media: dict) -> None:
-    """Both commands accept the list, and do what the model does."""
+def expect_done(scene: Scene, text: bytes, media: dict, options: model.Options = model.STANDARD) -> None:
+    """All commands accept the list, and do what the model does."""
     for command in model.COMMANDS:
-        wanted = model.answer(command, text, media)
+        wanted = model.answer(command, text, media, options)
         same("the status of the model", wanted.status, 0)
-        expect_line(scene, command, text, media, wanted.line)
+        expect_line(scene, command, text, media, wanted.line, options)
 
 
 PRELOAD = Path(__file__).resolve().parent / "preload.c"

@@ -3,9 +3,14 @@
 import os
 
 import model
-from harness import LIST, MEDIA, OUT, Mismatch, Scene, Suite, expect_answer, preloaded, same, same_files, same_outcome
+from harness import (
+    LIST, MEDIA, OUT, Mismatch, Outcome, Scene, Suite, expect_answer, preloaded, same, same_answer, same_files,
+    same_outcome, same_shape,
+)
 from tables import FIRST_LIST, rendered_bytes, wave
 
+AT_16_BITS = model.Options(depth=16)
+DEPTH = AT_16_BITS.words("render")
 RENDERED = model.Answer(0, "rendered 4 frames 1 channels", {"render.wav": rendered_bytes()})
 MEDIA_FILES = {"A.wav": wave()}
 
@@ -20,7 +25,7 @@ def refused(line: str, *words: str, out: dict = None):
         prepared(scene)
         for name, data in (out or {}).items():
             (scene.folder / OUT / name).write_bytes(data)
-        for command in model.COMMANDS:
+        for command in model.WRITING:
             same_outcome(scene.run(command, *words), 1, line)
             same_files(scene.files(), out or {})
     return body
@@ -28,20 +33,19 @@ def refused(line: str, *words: str, out: dict = None):
 
 def from_standard_input(scene: Scene) -> None:
     scene.put(b"no list", MEDIA_FILES)
-    for command in model.COMMANDS:
+    for command in model.WRITING:
         wanted = model.answer(command, FIRST_LIST, MEDIA_FILES)
-        got = scene.run(command, "-", MEDIA, OUT, given=FIRST_LIST)
-        same_outcome(got, wanted.status, wanted.line)
+        same_answer(scene.run(command, "-", MEDIA, OUT, given=FIRST_LIST), wanted)
         same_files(scene.files(), wanted.files)
         scene.empty_out()
-    same_outcome(scene.run("render", "-", MEDIA, OUT, given=b""), 1, "refused 13 at line 1")
+    same_outcome(scene.run("render", "-", MEDIA, OUT, given=b""), 1, "refused 03 at line 1")
 
 
 def long_standard_input(scene: Scene) -> None:
     """More than one read of it."""
     scene.put(b"", MEDIA_FILES)
     text = FIRST_LIST + b"behind the list\n" * 100_000
-    got = scene.run("render", "-", MEDIA, OUT, given=text)
+    got = scene.run("render", "-", MEDIA, OUT, *DEPTH, given=text)
     same_outcome(got, 0, RENDERED.line)
     same_files(scene.files(), RENDERED.files)
 
@@ -57,7 +61,7 @@ def odd_standard_input(scene: Scene) -> None:
     """It comes byte by byte between interruptions, breaks off, or never ends."""
     prepared(scene)
     slow = preloaded(scene, INPUT="slow")
-    same_outcome(scene.run("render", "-", MEDIA, OUT, given=FIRST_LIST, env=slow), 0, RENDERED.line)
+    same_outcome(scene.run("render", "-", MEDIA, OUT, *DEPTH, given=FIRST_LIST, env=slow), 0, RENDERED.line)
     same_files(scene.files(), RENDERED.files)
     scene.empty_out()
     for how, word in (("broken", b"; the system says: Input/output error"), ("endless", b"or it doesn't end; check")):
@@ -73,12 +77,12 @@ def dash_is_no_file(scene: Scene) -> None:
     (scene.folder / "-").write_bytes(b"no list")
     same_outcome(scene.run("render", "-", MEDIA, OUT, given=FIRST_LIST), 0, RENDERED.line)
     scene.empty_out()
-    same_outcome(scene.run("render", "./-", MEDIA, OUT, given=FIRST_LIST), 1, "refused 13 at line 1")
+    same_outcome(scene.run("render", "./-", MEDIA, OUT, given=FIRST_LIST), 1, "refused 03 at line 1")
 
 
 def list_is_folder(scene: Scene) -> None:
     (scene.folder / LIST).mkdir()
-    for command in model.COMMANDS:
+    for command in model.WRITING:
         same_outcome(scene.run(command, LIST, MEDIA, OUT), 1, f"refused 21 at file {LIST}")
 
 
@@ -98,7 +102,7 @@ def control_characters(scene: Scene) -> None:
 def output_with_folder(scene: Scene) -> None:
     prepared(scene)
     (scene.folder / OUT / "inside").mkdir()
-    for command in model.COMMANDS:
+    for command in model.WRITING:
         same_outcome(scene.run(command, LIST, MEDIA, OUT), 1, f"refused 20 at file {OUT}")
     same("the output", scene.files(), {"inside": None})
 
@@ -106,7 +110,7 @@ def output_with_folder(scene: Scene) -> None:
 def output_again(scene: Scene) -> None:
     """A second run finds its output full, and leaves it."""
     prepared(scene)
-    expect_answer(scene, "render", RENDERED)
+    expect_answer(scene, "render", RENDERED, AT_16_BITS)
     same_outcome(scene.run("render", LIST, MEDIA, OUT), 1, f"refused 20 at file {OUT}")
     same_outcome(scene.run("consolidate", LIST, MEDIA, OUT), 1, f"refused 20 at file {OUT}")
     same_files(scene.files(), RENDERED.files)
@@ -119,17 +123,38 @@ def other_places(scene: Scene) -> None:
     (scene.folder / MEDIA / "inside").mkdir()
     whole_paths = str(scene.folder / MEDIA), str(scene.folder / OUT)
     for media, out in ((MEDIA, OUT), (f"{MEDIA}/", f"{OUT}/"), ("link", OUT), whole_paths):
-        same_outcome(scene.run("render", LIST, media, out), 0, RENDERED.line)
+        same_outcome(scene.run("render", LIST, media, out, *DEPTH), 0, RENDERED.line)
         same_files(scene.files(), RENDERED.files)
         scene.empty_out()
-    same_outcome(scene.run("render", LIST, MEDIA, f"{MEDIA}/inside"), 0, RENDERED.line)
+    same_outcome(scene.run("render", LIST, MEDIA, f"{MEDIA}/inside", *DEPTH), 0, RENDERED.line)
     same_files(scene.files(f"{MEDIA}/inside"), RENDERED.files)
 
 
 def linked_source(scene: Scene) -> None:
     scene.put(FIRST_LIST, {"B.wav": wave()})
     (scene.folder / MEDIA / "A.wav").symlink_to("B.wav")
-    expect_answer(scene, "render", RENDERED)
+    expect_answer(scene, "render", RENDERED, AT_16_BITS)
+
+
+def checked_places(scene: Scene) -> None:
+    """`check` reads list and media like the others, and looks at no output."""
+    prepared(scene)
+    line = "accepted 1 entries 1 indexes"
+    (scene.folder / OUT / "x").write_bytes(b"")
+    same_outcome(scene.run("check", LIST, MEDIA), 0, line)
+    same_outcome(scene.run("check", "-", MEDIA, given=FIRST_LIST), 0, line)
+    same_outcome(scene.run("check", "none.adl", MEDIA), 1, "refused 21 at file none.adl")
+
+
+def missing_media(scene: Scene) -> None:
+    """A folder of media that isn't there is as an empty one, and is told in a line of its own."""
+    prepared(scene)
+    for words in (("check", LIST, "none"), ("render", LIST, "none", OUT), ("consolidate", LIST, "none", OUT)):
+        got = scene.run(*words)
+        told, _, explained = got.error.partition(b"\n")
+        same_outcome(Outcome(got.status, got.output, explained), 1, "refused 21 at index 1 file A.wav")
+        same_shape("what is told of the folder", told, r"[^\n]*none[^\n]*No such file or directory[^\n]*")
+    same_files(scene.files(), {})
 
 
 def run(suite: Suite) -> None:
@@ -153,7 +178,8 @@ def run(suite: Suite) -> None:
     suite.case("a second run into one output", output_again)
     suite.case("the list before the output", refused("refused 21 at file none.adl", "none.adl", MEDIA, "none"))
     suite.case("the output before the media", refused(unlisted, LIST, "nowhere", "none"))
-    suite.case("no such media", refused("refused 21 at index 1 file A.wav", LIST, "none", OUT))
+    suite.case("no such media", missing_media)
+    suite.case("the places of a check", checked_places)
     suite.case("control characters in names", control_characters)
     suite.case("other ways to name the places", other_places)
     suite.case("a source that is a link", linked_source)

@@ -3,27 +3,33 @@
 import struct
 
 import model
-from harness import Scene, Suite, expect_done, expect_refused
-from tables import FIRST_LIST, data_chunk, format_chunk, riff_chunk, riff_file, wave, with_line_after
+from harness import Scene, Suite, expect_done, expect_refused, same
+from tables import (
+    FIRST_LIST, bext_chunk, data_chunk, extensible_chunk, format_chunk, rf64_file, riff_chunk, riff_file, size_changed,
+    sizes_chunk, wave, with_line_after,
+)
 
 SAMPLES = (1000, -1000, 32767, -32768)
 FORMAT = format_chunk()
 DATA = data_chunk(SAMPLES)
 OTHER_DATA = data_chunk((7, 7, 7, 7))
+UNTOLD = 0xFFFFFFFF
+LARGE_DATA = size_changed(DATA, UNTOLD)
+UNTOLD_LIST = size_changed(riff_chunk(b"LIST", b""), UNTOLD)
+NO_FILE = 2 ** 64 - 1
 
 
-def size_changed(chunk: bytes, size: int) -> bytes:
-    return chunk[:4] + struct.pack("<I", size) + chunk[8:]
+def sizes_of(size: int, count: int, told_size: int = None) -> bytes:
+    """A `ds64` of so many bytes, that tells so many entries, of 8 bytes of data."""
+    body = struct.pack("<QQQI", 0, 8, 4, count).ljust(size, b"\0")[:size]
+    return size_changed(riff_chunk(b"ds64", body), size if told_size is None else told_size)
 
 
-def rf64_file() -> bytes:
-    sizes = riff_chunk(b"ds64", struct.pack("<QQQI", 80, 8, 4, 0))
-    return riff_file(sizes, FORMAT, size_changed(DATA, 0xFFFFFFFF), name=b"RF64")
-
-
-def extensible_format() -> bytes:
-    more = struct.pack("<HHI", 22, 16, 4) + bytes.fromhex("0100000000001000800000aa00389b71")
-    return format_chunk(tag=0xFFFE, more=more)
+def deep(depth: int, channels: int = 1) -> bytes:
+    """Four frames at a depth, each channel with numbers of its own."""
+    unit = 2 ** (depth - 16)
+    samples = [sample * unit + channel for sample in (1000, -1000, 0, -32768) for channel in range(channels)]
+    return riff_file(format_chunk(channels=channels, bits=depth), data_chunk(samples, depth))
 
 
 REFUSED = {
@@ -32,55 +38,100 @@ REFUSED = {
     "another first word": (23, riff_file(FORMAT, DATA, name=b"RIFX")),
     "another form": (23, riff_file(FORMAT, DATA, form=b"AVI ")),
     "text": (23, b"this is no sound file at all"),
-    "RF64": (23, rf64_file()),
+    "BW64": (23, b"BW64" + rf64_file(sizes_chunk(8), FORMAT, LARGE_DATA)[4:]),
     "a head alone": (24, riff_file()),
+    "chunks of nothing alone": (24, riff_file(*[riff_chunk(b"JUNK", b"")] * 1000)),
     "no format": (24, riff_file(DATA)),
     "a format in capitals": (24, riff_file(riff_chunk(b"FMT ", FORMAT[8:]), DATA)),
     "no data": (25, riff_file(FORMAT)),
     "data behind a chunk that passes the end": (
         25, riff_file(FORMAT, size_changed(riff_chunk(b"LIST", b""), 99), DATA)),
     "data past the end": (26, wave()[:-1]),
-    "data of a size that was never filled in": (26, riff_file(FORMAT, size_changed(DATA, 0xFFFFFFFF))),
+    "data of a size that was never filled in": (26, riff_file(FORMAT, LARGE_DATA)),
     "data past the end, and no format": (26, riff_file(size_changed(DATA, 9))),
     "a format past the end": (26, riff_file(DATA, size_changed(FORMAT, 17))),
-    "bext past the end": (26, riff_file(FORMAT, DATA, size_changed(riff_chunk(b"bext", bytes(602)), 603))),
+    "bext past the end": (26, riff_file(FORMAT, DATA, size_changed(bext_chunk(), 603))),
     "another tag": (27, riff_file(format_chunk(tag=3), DATA)),
-    "EXTENSIBLE": (27, riff_file(extensible_format(), DATA)),
     "no channels": (27, riff_file(format_chunk(channels=0), DATA)),
-    "two channels": (27, riff_file(format_chunk(channels=2), DATA)),
+    "65 channels": (27, riff_file(format_chunk(channels=65), DATA)),
     "8 bits": (27, riff_file(format_chunk(bits=8), DATA)),
-    "24 bits": (27, riff_file(format_chunk(bits=24), DATA)),
-    "32 bits": (27, riff_file(format_chunk(bits=32), DATA)),
+    "20 bits": (27, riff_file(format_chunk(bits=20, block=3), DATA)),
     "another block": (27, riff_file(format_chunk(block=4), DATA)),
     "a format of 15 bytes": (27, riff_file(riff_chunk(b"fmt ", FORMAT[8:23]), DATA)),
     "an empty format": (27, riff_file(riff_chunk(b"fmt ", b""), DATA)),
-    "two channels at another rate": (27, riff_file(format_chunk(channels=2, rate=44100), DATA)),
+    "EXTENSIBLE of 39 bytes": (27, riff_file(riff_chunk(b"fmt ", extensible_chunk()[8:47]), DATA)),
+    "EXTENSIBLE of another count": (27, riff_file(extensible_chunk(size=21), DATA)),
+    "EXTENSIBLE with float samples": (
+        27, riff_file(extensible_chunk(bits=32, sub_format="0300000000001000800000aa00389b71"), DATA)),
+    "no depth at another rate": (27, riff_file(format_chunk(bits=8, rate=44100), DATA)),
     "44100": (29, riff_file(format_chunk(rate=44100), DATA)),
     "47999": (29, riff_file(format_chunk(rate=47999), DATA)),
     "96000": (29, riff_file(format_chunk(rate=96000), DATA)),
+    "RF64 without ds64": (28, rf64_file(FORMAT, DATA)),
+    "RF64 with ds64 behind": (28, rf64_file(FORMAT, sizes_chunk(8), DATA)),
+    "RF64, its head alone": (28, rf64_file()),
+    "ds64 of 27 bytes": (28, rf64_file(sizes_of(27, 0), FORMAT, LARGE_DATA)),
+    "ds64 of 39 bytes with an entry": (28, rf64_file(sizes_of(39, 1), FORMAT, LARGE_DATA)),
+    "ds64 of 40 bytes with many entries": (28, rf64_file(sizes_of(40, UNTOLD), FORMAT, LARGE_DATA)),
+    "ds64 past the end": (28, rf64_file(sizes_of(28, 0, 999), FORMAT, LARGE_DATA)),
+    "a chunk whose size ds64 doesn't tell": (
+        28, rf64_file(sizes_chunk(8), FORMAT, DATA, UNTOLD_LIST)),
+    "ds64 with the largest size of data": (26, rf64_file(sizes_chunk(NO_FILE), FORMAT, LARGE_DATA)),
+    "a chunk of the largest size before data": (
+        25, rf64_file(sizes_chunk(8, ((b"LIST", NO_FILE),)), FORMAT, UNTOLD_LIST, DATA)),
 }
 
 ACCEPTED = {
     "a plain file": wave(),
+    "24 bits": deep(24),
+    "32 bits": deep(32),
+    "two channels": deep(16, 2),
+    "six channels of 24 bits": deep(24, 6),
+    "64 channels of 32 bits": deep(32, 64),
+    "EXTENSIBLE": riff_file(extensible_chunk(), DATA),
     "chunks before and behind": riff_file(
         riff_chunk(b"JUNK", bytes(28)), FORMAT, riff_chunk(b"iXML", b"<a/>"), DATA, riff_chunk(b"LIST", b"INFO")),
     "data before the format": riff_file(DATA, FORMAT),
     "an odd chunk and its pad byte": riff_file(FORMAT, riff_chunk(b"note", b"odd"), DATA),
     "an empty chunk": riff_file(FORMAT, riff_chunk(b"note", b""), DATA),
-    "bext": riff_file(riff_chunk(b"bext", bytes(338) + struct.pack("<QH", 172_800_000, 1) + bytes(254)), FORMAT, DATA),
-    "a short bext": riff_file(riff_chunk(b"bext", bytes(10)), FORMAT, DATA),
+    "data of nine bytes": riff_file(FORMAT, riff_chunk(b"data", DATA[8:] + b"\1")),
+    "a last pad byte that is missing": riff_file(FORMAT, DATA, bext_chunk(history=b"A"))[:-1],
+    "bext": riff_file(bext_chunk(172_800_000, b"Take one", b"A=PCM"), FORMAT, DATA),
+    "a short bext": riff_file(bext_chunk(size=345), FORMAT, DATA),
+    "bext without history": riff_file(bext_chunk(7, size=346), FORMAT, DATA),
+    "the longest history": riff_file(bext_chunk(7, history=b"A" * 65_536), FORMAT, DATA),
+    "a history that is cut": riff_file(bext_chunk(7, history=b"A" * 65_537), FORMAT, DATA),
+    "a short bext and a whole one": riff_file(bext_chunk(size=345), bext_chunk(7), FORMAT, DATA),
     "a second format": riff_file(FORMAT, format_chunk(channels=2), DATA),
     "second data": riff_file(FORMAT, DATA, OTHER_DATA),
     "a second format past the end": riff_file(FORMAT, DATA, size_changed(FORMAT, 99)),
-    "a chunk past the end": riff_file(FORMAT, DATA, size_changed(riff_chunk(b"LIST", b"INFO"), 0xFFFFFFFF)),
+    "a chunk past the end": riff_file(FORMAT, DATA, size_changed(riff_chunk(b"LIST", b"INFO"), UNTOLD)),
+    "more frames than the entry plays": wave(SAMPLES + (5, 6, 7)),
     "seven bytes behind": riff_file(FORMAT, DATA) + b"data\0\0\0",
     "a longer format": riff_file(format_chunk(more=bytes(2)), DATA),
     "another count of bytes a second": riff_file(FORMAT[:16] + bytes(4) + FORMAT[20:], DATA),
     "a size of zero in the head": b"RIFF" + bytes(4) + wave()[8:],
     "the largest size in the head": b"RIFF" + b"\xff" * 4 + wave()[8:],
-    "nine bytes of data": riff_file(FORMAT, riff_chunk(b"data", DATA[8:] + b"\x7f")),
-    "nine bytes of data without their pad byte": riff_file(FORMAT, riff_chunk(b"data", DATA[8:] + b"\x7f"))[:-1],
-    "more frames than the entry plays": wave(SAMPLES + (5, 6, 7)),
+    "ds64 in RIFF": riff_file(sizes_chunk(4), FORMAT, DATA),
+    "RF64": rf64_file(sizes_chunk(8), FORMAT, LARGE_DATA),
+    "RF64 with an entry": rf64_file(sizes_of(40, 1), FORMAT, LARGE_DATA),
+    "RF64 with data of its own size": rf64_file(sizes_chunk(99), FORMAT, DATA),
+    "RF64 with two sizes of one chunk": rf64_file(
+        sizes_chunk(8, ((b"LIST", 4), (b"LIST", 99))), UNTOLD_LIST + b"INFO", FORMAT, LARGE_DATA),
+    "RF64 with other samples told": rf64_file(sizes_chunk(8, samples=99), FORMAT, LARGE_DATA),
+}
+
+NOTICES = {
+    "a chunk that isn't carried": ("6", riff_file(FORMAT, DATA, riff_chunk(b"LIST", b""))),
+    "a place for sizes alone": ("", riff_file(riff_chunk(b"JUNK", bytes(28)), FORMAT, DATA)),
+    "ds64 of RF64": ("", rf64_file(sizes_chunk(8), FORMAT, LARGE_DATA)),
+    "ds64 of RIFF": ("6", riff_file(sizes_chunk(8), FORMAT, DATA)),
+    "a second bext": ("6", riff_file(bext_chunk(), bext_chunk(), FORMAT, DATA)),
+    "a short bext": ("5", riff_file(bext_chunk(size=345), FORMAT, DATA)),
+    "another time than the list's": ("4", riff_file(bext_chunk(1), FORMAT, DATA)),
+    "a history that is cut": ("7", riff_file(bext_chunk(history=b"A" * 65_537), FORMAT, DATA)),
+    "all but a short bext": (
+        "467", riff_file(bext_chunk(1, history=b"A" * 65_537), FORMAT, DATA, riff_chunk(b"iXML", b""))),
 }
 
 
@@ -91,6 +142,41 @@ def refused(number: int, data: bytes):
 
 def accepted(data: bytes):
     return lambda scene: expect_done(scene, FIRST_LIST, {"A.wav": data})
+
+
+def told(kinds: str, data: bytes):
+    """These notices stand at the index, before the line."""
+    notices = tuple(f"notice {kind} at index 1" for kind in kinds)
+
+    def body(scene: Scene) -> None:
+        same("the notices of the model", model.answer("check", FIRST_LIST, {"A.wav": data}).notices, notices)
+        expect_done(scene, FIRST_LIST, {"A.wav": data})
+    return body
+
+
+def base_of_file(scene: Scene) -> None:
+    """Without a time in the list the file's own counts, where it has one."""
+    entry = model.entry_line(1, 1, b"01.00.00.00/0002", b"00.00.00.00/0000", b"00.00.00.00/0001")
+    text = model.list_text([model.source_line(1, "A.wav", b"_")], [entry])
+    media = {"A.wav": riff_file(bext_chunk(172_800_000), FORMAT, DATA)}
+    wanted = model.answer("render", text, media, model.Options(depth=16))
+    same("the one sample", wanted.files["render.wav"][690:], struct.pack("<h", SAMPLES[2]))
+    expect_done(scene, text, media, model.Options(depth=16))
+    expect_refused(scene, text, {"A.wav": wave()}, "refused 46 at entry 1")
+    late = {"A.wav": riff_file(bext_chunk(model.DAY), FORMAT, DATA)}
+    expect_refused(scene, text, late, "refused 46 at entry 1")
+
+
+def one_file_of_two_folders(scene: Scene) -> None:
+    """One name at two paths is refused where both are used, by whatever hosts."""
+    text = two_sources("A.wav", "A.wav")
+    media = {"A.wav": wave()}
+    expect_done(scene, text.replace(b"localhost/A.wav", b"studio/%41.wav", 1), media)
+    other = text.replace(b"localhost/A.wav", b"localhost/x/A.wav", 1)
+    expect_refused(scene, other, media, "refused 30 at index 2")
+    unused = other.replace(b"(Entry) 0002 (Cut) I 0002", b"(Entry) 0002 (Cut) I 0001")
+    same("the notices", model.answer("check", unused, media).notices, ("notice 3 at index 2",))
+    expect_done(scene, unused, media)
 
 
 def two_sources(first: str, second: str, source_numbers=(1, 2)) -> bytes:
@@ -154,6 +240,10 @@ def run(suite: Suite) -> None:
         suite.case(f"file refused: {name}", refused(number, data))
     for name, data in ACCEPTED.items():
         suite.case(f"file accepted: {name}", accepted(data))
+    for name, (kinds, data) in NOTICES.items():
+        suite.case(f"notices: {name}", told(kinds, data))
+    suite.case("the time of a file", base_of_file)
+    suite.case("one name in two folders", one_file_of_two_folders)
     suite.case("the first index at fault decides", first_index_decides)
     suite.case("files come before entries", files_before_entries)
     suite.case("the file of an unused index", unused_file)

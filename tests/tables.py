@@ -84,8 +84,34 @@ def format_chunk(tag=1, channels=1, rate=48000, bits=16, block=None, more=b"") -
     return riff_chunk(b"fmt ", body)
 
 
-def data_chunk(samples) -> bytes:
-    return riff_chunk(b"data", struct.pack(f"<{len(samples)}h", *samples))
+def extensible_chunk(channels=1, bits=16, size=22, sub_format="0100000000001000800000aa00389b71", **form) -> bytes:
+    """The format by its sub-format, here PCM (RIFF WAVE, WAVEFORMATEXTENSIBLE)."""
+    more = struct.pack("<HHI", size, bits, 0) + bytes.fromhex(sub_format)
+    return format_chunk(tag=0xFFFE, channels=channels, bits=bits, more=more, **form)
+
+
+def data_chunk(samples, depth=16) -> bytes:
+    return riff_chunk(b"data", b"".join(sample.to_bytes(depth // 8, "little", signed=True) for sample in samples))
+
+
+def bext_chunk(time_reference=0, text=b"", history=b"", size=None) -> bytes:
+    """Broadcast extension, version 1 (EBU Tech 3285), cut to a size where one is told."""
+    body = text.ljust(338, b"\0") + struct.pack("<QH", time_reference, 1) + bytes(254) + history
+    return riff_chunk(b"bext", body[:size])
+
+
+def sizes_chunk(data_size, table=(), samples=0) -> bytes:
+    """The sizes of an RF64 file (EBU Tech 3306)."""
+    entries = b"".join(struct.pack("<4sQ", name, size) for name, size in table)
+    return riff_chunk(b"ds64", struct.pack("<QQQI", 0, data_size, samples, len(table)) + entries)
+
+
+def size_changed(chunk: bytes, size: int) -> bytes:
+    return chunk[:4] + struct.pack("<I", size) + chunk[8:]
+
+
+def rf64_file(*chunks: bytes) -> bytes:
+    return b"RF64" + b"\xff" * 4 + b"WAVE" + b"".join(chunks)
 
 
 def riff_file(*chunks: bytes, name: bytes = b"RIFF", form: bytes = b"WAVE") -> bytes:

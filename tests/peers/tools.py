@@ -12,6 +12,8 @@ PACKAGES = {
     "ffprobe": "ffmpeg",
     "sndfile-info": "sndfile-programs",
     "sndfile-convert": "sndfile-programs",
+    "sndfile-metadata-get": "sndfile-programs",
+    "sndfile-metadata-set": "sndfile-programs",
     "mediainfo": "mediainfo",
 }
 TIMEOUT = 60

@@ -1,5 +1,5 @@
 -- How clap's words on a parse lead to what the words ask for.
-use Rattle.std.proofs.Common.{◌≡◌, ◌∙◌, ◌⊎◌, inl, inr, Bool, true, false, ◌||◌, List, [], ◌∷◌, Option, None, Some, refl, ap, sym, subst, codes}
+use Rattle.std.proofs.Common.{◌≡◌, ◌∙◌, ◌⊎◌, ℕ, inl, inr, Bool, true, false, ◌||◌, List, [], ◌∷◌, Option, None, Some, refl, ap, sym, subst, codes}
 use Rattle.std.specs.Prelude.{option_and_then}
 use Rattle.std.specs.List.{list_any}
 use Rattle.std.specs.Str.{bytes_eq}
@@ -10,7 +10,7 @@ use Rattle.clap.specs.declared.error.ErrorKind.{ErrorKind}
 use Rattle.clap.specs.declared.error.ErrorKind.TheVariants as kind
 use Rattle.clap.proofs.OnLiterals.{clap_on_literals}
 use Rattle.clap.proofs.WalkLemmas.{first_value-rows}
-use Rattle.adlcons.specs.CommandLine.{Asked, Explain, adlcons_app, asked, asked_by, asked_over, asks_for_help, is_shown, named_by, request_of, unless_faulty, words_fault}
+use Rattle.adlcons.specs.CommandLine.{Asked, Check, Explain, adlcons_app, channels_in, chosen_of, depth_in, handle_of, number_in, asked, asked_by, asked_over, asked_to, asks_for_help, is_shown, named_by, request_of, unless_faulty, words_fault}
 
 is_simple-here : is_simple adlcons_app ≡ true
 unfolding clap_on_literals
@@ -35,7 +35,7 @@ unfolding named_by
 subcommand_of-adlcons app words same = ap (λ (a : App). option_and_then asked (subcommand_of a words)) same
 
 -- a value by its name, among the rows of a parse
-row_of_value : (found : Found) (id : Text) (value : Option Text) → value ≡ first_value found id → first_of id (rows_of found) ≡ value
+pub row_of_value : (found : Found) (id : Text) (value : Option Text) → value ≡ first_value found id → first_of id (rows_of found) ≡ value
 row_of_value found id value e = sym (first_value-rows found id) ∙ sym e
 
 pub asked-without_list : (name : Text) (found : Found) → None ≡ first_value found (codes "LIST") → asked_over name (rows_of found) ≡ None
@@ -46,28 +46,63 @@ pub asked-without_media : (name list : Text) (found : Found) → Some list ≡ f
 asked-without_media name list found one missing =
     rw (row_of_value found (codes "LIST") (Some list) one, row_of_value found (codes "MEDIA") None missing) refl
 
-pub asked-without_out : (name list media : Text) (found : Found) → Some list ≡ first_value found (codes "LIST")
+pub asked-check : (name list media : Text) (found : Found) → bytes_eq name (codes "check") ≡ true → Some list ≡ first_value found (codes "LIST")
+    → Some media ≡ first_value found (codes "MEDIA") → asked_over name (rows_of found) ≡ Some (Check list media)
+asked-check name list media found named one two =
+    rw (row_of_value found (codes "LIST") (Some list) one, row_of_value found (codes "MEDIA") (Some media) two, named) refl
+
+pub asked-without_out : (name list media : Text) (found : Found) → bytes_eq name (codes "check") ≡ false → Some list ≡ first_value found (codes "LIST")
     → Some media ≡ first_value found (codes "MEDIA") → None ≡ first_value found (codes "OUT") → asked_over name (rows_of found) ≡ None
-asked-without_out name list media found one two missing =
+asked-without_out name list media found other one two missing =
     rw (
       row_of_value found (codes "LIST") (Some list) one,
       row_of_value found (codes "MEDIA") (Some media) two,
+      other,
       row_of_value found (codes "OUT") None missing,
     ) refl
 
-pub asked-all : (name list media out : Text) (found : Found) → Some list ≡ first_value found (codes "LIST")
+pub asked-all : (name list media out : Text) (found : Found) → bytes_eq name (codes "check") ≡ false → Some list ≡ first_value found (codes "LIST")
     → Some media ≡ first_value found (codes "MEDIA") → Some out ≡ first_value found (codes "OUT")
-    → asked_over name (rows_of found) ≡ asked_by name list media out
-asked-all name list media out found one two three =
+    → asked_over name (rows_of found) ≡ asked_to name list media out (rows_of found)
+asked-all name list media out found other one two three =
     rw (
       row_of_value found (codes "LIST") (Some list) one,
       row_of_value found (codes "MEDIA") (Some media) two,
+      other,
       row_of_value found (codes "OUT") (Some out) three,
     ) refl
 
 pub asked-explain : (name : Text) (found : Found) (number : Option Text) → bytes_eq name (codes "explain") ≡ true
     → number ≡ first_value found (codes "NUMBER") → asked (name, rows_of found) ≡ Some (Explain number)
 asked-explain name found number named given = rw (named, row_of_value found (codes "NUMBER") number given) refl
+
+pub handle_read : (found : Found) (text : Text) → Some text ≡ first_value found (codes "handle") → handle_of (rows_of found) ≡ number_in 0 4147200000 text
+handle_read found text given = rw (row_of_value found (codes "handle") (Some text) given) refl
+
+pub chosen-without_depth : (found : Found) → None ≡ first_value found (codes "depth") → chosen_of (rows_of found) ≡ None
+chosen-without_depth found missing = rw (row_of_value found (codes "depth") None missing) refl
+
+pub chosen-bad_depth : (found : Found) (text : Text) → Some text ≡ first_value found (codes "depth") → None ≡ depth_in text → chosen_of (rows_of found) ≡ None
+chosen-bad_depth found text given bad = rw (row_of_value found (codes "depth") (Some text) given, ← bad) refl
+
+pub chosen-bad_channels : (found : Found) (text : Text) (depth : ℕ) (channels : Option Text) → Some text ≡ first_value found (codes "depth") → Some depth ≡ depth_in text
+    → channels ≡ first_value found (codes "channels") → None ≡ channels_in channels → chosen_of (rows_of found) ≡ None
+chosen-bad_channels found text depth channels given deep named bad =
+    rw (row_of_value found (codes "depth") (Some text) given, ← deep, row_of_value found (codes "channels") channels named, ← bad) refl
+
+pub chosen-all : (found : Found) (text : Text) (depth : ℕ) (channels from to : Option Text) (count : Option ℕ) → Some text ≡ first_value found (codes "depth")
+    → Some depth ≡ depth_in text → channels ≡ first_value found (codes "channels") → Some count ≡ channels_in channels
+    → from ≡ first_value found (codes "from") → to ≡ first_value found (codes "to")
+    → chosen_of (rows_of found) ≡ Some (record { from = from; to = to; channels = count; depth = depth })
+chosen-all found text depth channels from to count given deep named read first last =
+    rw (
+      row_of_value found (codes "depth") (Some text) given,
+      ← deep,
+      row_of_value found (codes "channels") channels named,
+      ← read,
+      row_of_value found (codes "from") from first,
+      row_of_value found (codes "to") to last,
+    ) refl
 
 -- ---- what clap says of an error
 

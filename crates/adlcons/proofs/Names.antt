@@ -9,10 +9,10 @@ use Rattle.std.proofs.lemmas.List.Elements.{All-nil, All-cons}
 use Rattle.std.proofs.lemmas.List.Folds.{list_all-append}
 use Rattle.std.proofs.lemmas.Str.{chars-IsAscii, encode_ascii}
 use Rattle.std.proofs.lemmas.Str.Ascii.{IsAscii-from_all}
-use Rattle.consolidate.specs.Consolidated.{media_name}
-use Rattle.consolidate.specs.Faults.{name_of_output}
-use Rattle.consolidate.specs.declared.faults.OutputFile.{OutputFile}
-use Rattle.consolidate.specs.declared.faults.OutputFile.TheVariants.{Rendering, Medium, List as ListFile}
+use Rattle.list_terms.specs.Renewed.{media_name}
+use Rattle.consolidate.specs.Fault.{name_of_output}
+use Rattle.consolidate.specs.declared.fault.OutputFile.{OutputFile}
+use Rattle.consolidate.specs.declared.fault.OutputFile.TheVariants.{Rendering, Medium, List as ListFile}
 use Rattle.adlcons.specs.Lines.{printed_character, printed_name}
 
 -- a printing ASCII character

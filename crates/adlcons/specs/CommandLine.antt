@@ -1,7 +1,11 @@
 -- What the program's words may be, as a value of clap's, and what they ask for.
-use Rattle.std.specs.Prelude.{Bool, true, false, List, [], ◌∷◌, Option, None, Some, option_and_then, if◌then◌else◌, codes}
-use Rattle.std.specs.List.{list_any}
+use Rattle.std.specs.Prelude.{ℕ, ◌&&◌, nat_le, nat_lt, Bool, true, false, List, [], ◌∷◌, length, Option, None, Some, Result, Ok, Err, option_and_then, option_map, if◌then◌else◌, codes}
+use Rattle.std.specs.Char.{digit_value}
+use Rattle.std.specs.List.{list_all, list_any}
 use Rattle.std.specs.Str.{bytes_eq}
+use Rattle.std.specs.Str.Parse.{digits_value, without_leading_plus}
+use Rattle.sampletime.specs.TimeCode.{samples_of}
+use Rattle.list_terms.specs.Accepted.{OptionValues}
 use Rattle.clap.specs.Words.{App, Kinds, Row, Rule, Shape, Text, fault_of, first_of, new_app, new_rule, subcommand_of, with_rule, with_subcommand}
 use Rattle.clap.specs.declared.error.ErrorKind.{ErrorKind}
 use Rattle.clap.specs.declared.error.ErrorKind.TheVariants.{DisplayHelp, DisplayVersion}
@@ -10,10 +14,32 @@ use Rattle.clap.specs.declared.error.ErrorKind.TheVariants.{DisplayHelp, Display
 abbrev pub place_rule : Text → Rule
 place_rule id = record (new_rule id) { required = true }
 
--- the list, the folder of its media, and the folder that is written to
-abbrev pub work_shape : Text → Shape
-work_shape name =
-    (with_rule (with_rule (with_rule (new_app name) (place_rule (codes "LIST"))) (place_rule (codes "MEDIA"))) (place_rule (codes "OUT"))).top
+-- an option of this name, which has a value and may be left out
+abbrev pub option_rule : Text → Rule
+option_rule id = record (new_rule id) { long = Some id; value_names = 1 }
+
+-- one that has this value where it is left out
+abbrev pub default_rule : Text → Text → Rule
+default_rule id default = record (option_rule id) { defaults = default ∷ [] }
+
+-- a command over the list and the folder of its media
+abbrev pub over_media : Text → App
+over_media name = with_rule (with_rule (new_app name) (place_rule (codes "LIST"))) (place_rule (codes "MEDIA"))
+
+abbrev pub check_shape : Shape
+check_shape = (over_media (codes "check")).top
+
+-- and over the folder that is written to
+abbrev pub over_folders : Text → App
+over_folders name = with_rule (over_media name) (place_rule (codes "OUT"))
+
+abbrev pub consolidate_shape : Shape
+consolidate_shape = (with_rule (over_folders (codes "consolidate")) (default_rule (codes "handle") (codes "48000"))).top
+
+abbrev pub render_shape : Shape
+render_shape =
+    (with_rule (with_rule (with_rule (with_rule (over_folders (codes "render")) (option_rule (codes "from"))) (option_rule (codes "to")))
+    (option_rule (codes "channels"))) (default_rule (codes "depth") (codes "24"))).top
 
 -- The program itself: it has a version and wants a command, and its words are those behind its name.
 abbrev pub top_app : App
@@ -32,31 +58,76 @@ top_app = record {
 abbrev pub explain_shape : Shape
 explain_shape = (with_rule (new_app (codes "explain")) (new_rule (codes "NUMBER"))).top
 
--- the three commands
+-- the four commands
 abbrev pub adlcons_app : App
 adlcons_app =
-    with_subcommand (with_subcommand (with_subcommand top_app (work_shape (codes "render"))) (work_shape (codes "consolidate")))
-    explain_shape
+    with_subcommand (with_subcommand (with_subcommand (with_subcommand top_app check_shape) consolidate_shape) render_shape) explain_shape
+
+-- what is chosen of a rendering: times by their texts, a number of channels, and the bits of a sample
+pub record Chosen : Type 0 where
+  pub from : Option Text
+  pub to : Option Text
+  pub channels : Option ℕ
+  pub depth : ℕ
 
 -- What the program is asked for: a command with its list, the folder of its media, and the folder that is written to; or
 -- what the number of a refusal means, or all of them.
 pub data Asked : Type 0 where
-  Render : (list media out : Text) → Asked
-  Consolidate : (list media out : Text) → Asked
+  Check : (list media : Text) → Asked
+  Render : (list media out : Text) → (chosen : Chosen) → Asked
+  Consolidate : (list media out : Text) → (handle : ℕ) → Asked
   Explain : (number : Option Text) → Asked
 
--- the command of this name over these places
-abbrev pub asked_by : Text → Text → Text → Text → Option Asked
-asked_by name list media out =
-    if bytes_eq name (codes "render") then Some (Render list media out)
-    else if bytes_eq name (codes "consolidate") then Some (Consolidate list media out)
+-- decimal digits, one at least
+abbrev pub is_numeral : Text → Bool
+is_numeral digits = nat_le 1 (length digits) && list_all (λ digit. nat_lt (digit_value digit) 10) digits
+
+-- the number from one bound to another that decimal digits spell, behind a plus or not
+abbrev pub number_in : (low high : ℕ) → Text → Option ℕ
+number_in low high text =
+    let digits = without_leading_plus text in
+    if is_numeral digits && nat_le low (digits_value 10 digits) && nat_le (digits_value 10 digits) high then Some (digits_value 10 digits) else None
+
+-- a handle is no longer than a day
+abbrev pub handle_of : List Row → Option ℕ
+handle_of rows = option_and_then (number_in 0 4147200000) (first_of (codes "handle") rows)
+
+abbrev pub depth_in : Text → Option ℕ
+depth_in text =
+    if bytes_eq text (codes "16") then Some 16
+    else if bytes_eq text (codes "24") then Some 24
+    else if bytes_eq text (codes "32") then Some 32
     else None
 
--- the command of this name over the places that the words are called by
+-- none are chosen, or 1 to 64
+abbrev pub channels_in : Option Text → Option (Option ℕ)
+channels_in None = Some None
+channels_in (Some text) = option_map (λ channels. Some channels) (number_in 1 64 text)
+
+abbrev pub chosen_by : List Row → ℕ → Option ℕ → Chosen
+chosen_by rows depth channels =
+    record { from = first_of (codes "from") rows; to = first_of (codes "to") rows; channels = channels; depth = depth }
+
+abbrev pub chosen_of : List Row → Option Chosen
+chosen_of rows = option_and_then (λ depth. option_map (chosen_by rows depth) (channels_in (first_of (codes "channels") rows)))
+    (option_and_then depth_in (first_of (codes "depth") rows))
+
+-- the command of this name that writes to a folder
+abbrev pub asked_to : Text → (list media out : Text) → List Row → Option Asked
+asked_to name list media out rows =
+    if bytes_eq name (codes "render") then option_map (λ chosen. Render list media out chosen) (chosen_of rows)
+    else if bytes_eq name (codes "consolidate") then option_map (λ handle. Consolidate list media out handle) (handle_of rows)
+    else None
+
+-- the command of this name over a list and its media
+abbrev pub asked_by : Text → (list media : Text) → List Row → Option Asked
+asked_by name list media rows =
+    if bytes_eq name (codes "check") then Some (Check list media)
+    else option_and_then (λ out. asked_to name list media out rows) (first_of (codes "OUT") rows)
+
 abbrev pub asked_over : Text → List Row → Option Asked
-asked_over name rows =
-    option_and_then (λ list. option_and_then (λ media. option_and_then (λ out. asked_by name list media out)
-    (first_of (codes "OUT") rows)) (first_of (codes "MEDIA") rows)) (first_of (codes "LIST") rows)
+asked_over name rows = option_and_then (λ list. option_and_then (λ media. asked_by name list media rows)
+    (first_of (codes "MEDIA") rows)) (first_of (codes "LIST") rows)
 
 -- the command of this name, whose words are read by what they are called
 abbrev pub asked : Text × List Row → Option Asked
@@ -89,3 +160,20 @@ is_shown _ = false
 -- the words ask for help or for the version
 abbrev pub asks_for_help : List Text → Bool
 asks_for_help words = list_any is_shown (words_fault words)
+
+-- ---- times
+
+-- the time that an option's text spells, at 25 frames a second
+abbrev pub time_in : Option Text → Option (Option ℕ)
+time_in None = Some None
+time_in (Some text) = option_map (λ time. Some time.0) (samples_of 25 text)
+
+-- what the options of a rendering say, or the name of the one whose time can't be read; `--from` is looked at first
+abbrev pub values_of : Chosen → Result OptionValues Text
+values_of chosen = elim (time_in chosen.from) [
+  | None ↦ Err (codes "--from")
+  | Some from ↦ elim (time_in chosen.to) [
+    | None ↦ Err (codes "--to")
+    | Some to ↦ Ok (record { from = from; to = to; channels = chosen.channels; depth = chosen.depth })
+  ]
+]

@@ -1,4 +1,6 @@
 pub mod Answers
+pub mod BadTime
+pub mod Channels
 pub mod CommandLine
 pub mod Lines
 pub mod Places

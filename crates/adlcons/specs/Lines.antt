@@ -1,9 +1,10 @@
 -- The lines that the program prints, without their ends.
-use Rattle.std.specs.Prelude.{ℕ, List, [], ◌++◌, if◌then◌else◌, nat_lt, decimal, codes, encode_utf8}
+use Rattle.std.specs.Prelude.{ℕ, List, [], ◌∷◌, ◌++◌, if◌then◌else◌, nat_le, nat_lt, decimal, codes, encode_utf8}
 use Rattle.std.specs.List.{flat_map}
 use Rattle.std.specs.Char.{is_control}
 use Rattle.std.specs.Str.{chars}
 use Rattle.percent_encoding.specs.Percent.{percent_encode_byte}
+use Rattle.list_terms.specs.declared.Notice.{Notice}
 use Rattle.work_terms.specs.Refusals.{Where, Nowhere, Line, LineEntry, LineIndex, IndexFile, Index, Entry, File, Job}
 
 -- a control character as the percent escapes of its UTF-8 bytes, all else as it stands
@@ -34,6 +35,18 @@ two_digits number = if nat_lt number 10 then codes "0" ++ decimal number else de
 -- `refused NN`, and its place
 abbrev pub refusal_text : ℕ → Where → List ℕ
 refusal_text number place = codes "refused " ++ (two_digits number ++ place_text place)
+
+-- `notice K at line L` of the list, `notice K at index I` of a file
+abbrev pub notice_text : Notice → List ℕ
+notice_text notice = codes "notice " ++ (decimal notice.kind ++ ((if nat_le notice.kind 2 then codes " at line " else codes " at index ") ++ decimal notice.at))
+
+-- each in a line
+abbrev pub notices_text : List Notice → List ℕ
+notices_text notices = flat_map (λ notice. notice_text notice ++ (10 ∷ [])) notices
+
+-- `accepted E entries I indexes`
+abbrev pub accepted_text : ℕ → ℕ → List ℕ
+accepted_text entries indexes = codes "accepted " ++ (decimal entries ++ (codes " entries " ++ (decimal indexes ++ codes " indexes")))
 
 -- `rendered F frames C channels`
 abbrev pub rendered_text : ℕ → ℕ → List ℕ

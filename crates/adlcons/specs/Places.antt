@@ -1,11 +1,16 @@
 -- Refusals and their places as callers see them.
-use Rattle.std.specs.Prelude.{ℕ, List}
+use Rattle.std.specs.Prelude.{ℕ, List, [], option_map, unwrap_or}
 use Rattle.work_terms.specs.Refusals as refused
-use Rattle.consolidate.specs.Faults.{name_of_output}
+use Rattle.list_terms.specs.Names.{place_of_url}
+use Rattle.consolidate.specs.Fault.{name_of_output}
 use Rattle.adlcons.specs.declared.reading.ReadFault.{ReadFault}
 use Rattle.adlcons.specs.declared.reading.ReadFault.TheVariants.{Unreadable, Endless, Memory}
 use Rattle.adlcons.specs.declared.refusal.Place.{Place}
-use Rattle.adlcons.specs.declared.refusal.Place.TheVariants.{Nowhere, Line, LineEntry, LineIndex, IndexFile, Index, Entry, File, Output, Job}
+use Rattle.adlcons.specs.declared.refusal.Place.TheVariants.{Nowhere, Line, LineEntry, LineIndex, IndexUrl, Index, Entry, File, Output, Job}
+
+-- the name of the file that a URL names
+abbrev pub name_of_url : List ℕ → List ℕ
+name_of_url url = unwrap_or (option_map (λ place. place.name) (place_of_url url)) []
 
 -- the place as it is told
 abbrev pub where_of : Place → refused.Where
@@ -13,7 +18,7 @@ where_of Nowhere = refused.Nowhere
 where_of (Line line) = refused.Line line
 where_of (LineEntry line entry) = refused.LineEntry line entry
 where_of (LineIndex line index) = refused.LineIndex line index
-where_of (IndexFile index name) = refused.IndexFile index name.now
+where_of (IndexUrl index url alloc) = refused.IndexFile index (name_of_url url.now)
 where_of (Index index) = refused.Index index
 where_of (Entry entry) = refused.Entry entry
 where_of (File name) = refused.File name.now

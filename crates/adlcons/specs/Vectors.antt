@@ -5,29 +5,63 @@ use Rattle.clap.proofs.OnLiterals.{clap_on_literals}
 use Rattle.std.specs.Fmt.{digits}
 use Rattle.work_terms.specs.Refusals.{Nowhere, Line, LineEntry, LineIndex, Index, Entry, Job}
 use Rattle.adlcons.specs.Lines.{refusal_text}
-use Rattle.adlcons.specs.CommandLine.{Render, Consolidate, Explain, asks_for_help, named_by, request_of, words_fault}
+use Rattle.adlcons.specs.CommandLine.{Check, Chosen, Render, Consolidate, Explain, asks_for_help, named_by, request_of, words_fault}
 
 -- ---- good words
 
-renders : request_of (codes "render" ∷ codes "L.adl" ∷ codes "M" ∷ codes "O" ∷ []) ≡ Some (Render (codes "L.adl") (codes "M") (codes "O"))
+-- the whole range, on all channels, at 24 bits
+abbrev default_choice : Chosen
+default_choice = record { from = None; to = None; channels = None; depth = 24 }
+
+checks : request_of (codes "check" ∷ codes "L.adl" ∷ codes "M" ∷ []) ≡ Some (Check (codes "L.adl") (codes "M"))
+unfolding words_fault named_by clap_on_literals
+checks = refl
+
+chooses : request_of (codes "render" ∷ codes "L" ∷ codes "M" ∷ codes "O" ∷ codes "--depth" ∷ codes "16" ∷ codes "--channels=2" ∷ codes "--from" ∷ codes "x" ∷ [])
+    ≡ Some (Render (codes "L") (codes "M") (codes "O") (record { from = Some (codes "x"); to = None; channels = Some 2; depth = 16 }))
+unfolding words_fault named_by clap_on_literals
+chooses = refl
+
+handles : request_of (codes "consolidate" ∷ codes "--handle" ∷ codes "0" ∷ codes "L" ∷ codes "M" ∷ codes "O" ∷ [])
+    ≡ Some (Consolidate (codes "L") (codes "M") (codes "O") 0)
+unfolding words_fault named_by clap_on_literals
+handles = refl
+
+-- ---- numbers out of range, which are mistakes
+
+no_channel : request_of (codes "render" ∷ codes "L" ∷ codes "M" ∷ codes "O" ∷ codes "--channels" ∷ codes "65" ∷ []) ≡ None
+unfolding words_fault named_by clap_on_literals
+no_channel = refl
+
+no_depth : request_of (codes "render" ∷ codes "L" ∷ codes "M" ∷ codes "O" ∷ codes "--depth" ∷ codes "20" ∷ []) ≡ None
+unfolding words_fault named_by clap_on_literals
+no_depth = refl
+
+long_handle : request_of (codes "consolidate" ∷ codes "L" ∷ codes "M" ∷ codes "O" ∷ codes "--handle" ∷ codes "4147200001" ∷ []) ≡ None
+unfolding words_fault named_by clap_on_literals
+long_handle = refl
+
+-- ---- commands and places
+
+renders : request_of (codes "render" ∷ codes "L.adl" ∷ codes "M" ∷ codes "O" ∷ []) ≡ Some (Render (codes "L.adl") (codes "M") (codes "O") default_choice)
 unfolding words_fault named_by clap_on_literals
 renders = refl
 
-consolidates : request_of (codes "consolidate" ∷ codes "L.adl" ∷ codes "M" ∷ codes "O" ∷ []) ≡ Some (Consolidate (codes "L.adl") (codes "M") (codes "O"))
+consolidates : request_of (codes "consolidate" ∷ codes "L.adl" ∷ codes "M" ∷ codes "O" ∷ []) ≡ Some (Consolidate (codes "L.adl") (codes "M") (codes "O") 48000)
 unfolding words_fault named_by clap_on_literals
 consolidates = refl
 
 -- `-` is a word like others, for standard input
-consolidates_input : request_of (codes "consolidate" ∷ codes "-" ∷ codes "M" ∷ codes "O" ∷ []) ≡ Some (Consolidate (codes "-") (codes "M") (codes "O"))
+consolidates_input : request_of (codes "consolidate" ∷ codes "-" ∷ codes "M" ∷ codes "O" ∷ []) ≡ Some (Consolidate (codes "-") (codes "M") (codes "O") 48000)
 unfolding words_fault named_by clap_on_literals
 consolidates_input = refl
 
 -- behind `--` a word may begin with `-`
-renders_dashed : request_of (codes "render" ∷ codes "--" ∷ codes "-L" ∷ codes "-M" ∷ codes "--help" ∷ []) ≡ Some (Render (codes "-L") (codes "-M") (codes "--help"))
+renders_dashed : request_of (codes "render" ∷ codes "--" ∷ codes "-L" ∷ codes "-M" ∷ codes "--help" ∷ []) ≡ Some (Render (codes "-L") (codes "-M") (codes "--help") default_choice)
 unfolding words_fault named_by clap_on_literals
 renders_dashed = refl
 
-renders_any_text : request_of (codes "render" ∷ codes "A B.adl" ∷ codes "" ∷ codes "a=b" ∷ []) ≡ Some (Render (codes "A B.adl") (codes "") (codes "a=b"))
+renders_any_text : request_of (codes "render" ∷ codes "A B.adl" ∷ codes "" ∷ codes "a=b" ∷ []) ≡ Some (Render (codes "A B.adl") (codes "") (codes "a=b") default_choice)
 unfolding words_fault named_by clap_on_literals
 renders_any_text = refl
 
@@ -53,7 +87,7 @@ too_many : words_fault (codes "render" ∷ codes "L.adl" ∷ codes "M" ∷ codes
 unfolding words_fault clap_on_literals
 too_many = refl
 
-unknown_command : words_fault (codes "check" ∷ codes "L.adl" ∷ codes "M" ∷ []) ≡ UnknownArgument ∷ InvalidSubcommand ∷ []
+unknown_command : words_fault (codes "relink" ∷ codes "L.adl" ∷ codes "M" ∷ []) ≡ UnknownArgument ∷ InvalidSubcommand ∷ []
 unfolding words_fault clap_on_literals
 unknown_command = refl
 
@@ -65,7 +99,7 @@ two_numbers : words_fault (codes "explain" ∷ codes "13" ∷ codes "46" ∷ [])
 unfolding words_fault clap_on_literals
 two_numbers = refl
 
-unknown_option : words_fault (codes "render" ∷ codes "L.adl" ∷ codes "M" ∷ codes "O" ∷ codes "--depth" ∷ codes "24" ∷ []) ≡ UnknownArgument ∷ []
+unknown_option : words_fault (codes "render" ∷ codes "L.adl" ∷ codes "M" ∷ codes "O" ∷ codes "--order" ∷ codes "time" ∷ []) ≡ UnknownArgument ∷ []
 unfolding words_fault clap_on_literals
 unknown_option = refl
 

@@ -1,32 +1,21 @@
 // What the program's words may be, as clap's command.
 ghost use Rattle.std.specs.Prelude.{◌≡◌, IfOk, false};
-ghost use Rattle.clap.specs.Words.{app_of, shape_of, with_rule};
+ghost use Rattle.clap.specs.Words.{app_of, rule_of, shape_of, with_rule};
 ghost use Rattle.clap.specs.declared.Command.TheViews.{out-Command as fields_of};
-ghost use Rattle.adlcons.specs.CommandLine.{adlcons_app, explain_shape, place_rule, top_app, work_shape};
+ghost use Rattle.adlcons.specs.CommandLine.{adlcons_app, check_shape, consolidate_shape, default_rule, explain_shape, option_rule, over_folders, over_media, place_rule, render_shape, top_app};
 
 use clap::{Arg, Command};
 use std::alloc::{AllocError, Global};
 
-/// The program's command line: `render` and `consolidate`, each over a list and two folders, and `explain`. It reads the
-/// words behind the program's name.
+/// The program's command line: `check`, `consolidate` and `render`, each over a list and its media, and `explain`. It reads
+/// the words behind the program's name.
 pub fn command<'a>(alloc: Global) -> Result<Command<'a>, AllocError>
     ensures { IfOk result (λ command. app_of command ≡ adlcons_app) }
 {
-    let render = work_command(
-        alloc,
-        "render",
-        "Render a list to one sound file, OUT/render.wav",
-        "Example: adlcons render session.adl sources rendered",
-    )?;
-    let consolidate = work_command(
-        alloc,
-        "consolidate",
-        "Write new media of just the frames that a list plays, and a list",
-        "Example: adlcons consolidate session.adl sources consolidated",
-    )?;
     top_command(alloc)?
-        .subcommand(render)?
-        .subcommand(consolidate)?
+        .subcommand(check_command(alloc)?)?
+        .subcommand(consolidate_command(alloc)?)?
+        .subcommand(render_command(alloc)?)?
         .subcommand(explain_command(alloc)?)
 }
 
@@ -42,7 +31,7 @@ fn top_command<'a>(alloc: Global) -> Result<Command<'a>, AllocError>
     ensures { IfOk result (λ command. app_of command ≡ top_app) }
 {
     Command::new(alloc, "adlcons")
-        .about("Renders and consolidates audio decision lists (AES31-3) over WAVE files")
+        .about("Checks, consolidates and renders audio decision lists (AES31-3) over WAVE files")
         .after_help(STATUSES)
         .version("0.1.0")
         .no_binary_name(true)
@@ -52,35 +41,95 @@ fn top_command<'a>(alloc: Global) -> Result<Command<'a>, AllocError>
         .bin_name("adlcons")
 }
 
-/// A command over a list, the folder of its media and the folder that is written to.
-fn work_command<'a>(
+/// The command that checks a list.
+fn check_command<'a>(alloc: Global) -> Result<Command<'a>, AllocError>
+    ensures shape { IfOk result (λ command. shape_of command ≡ check_shape) }
+    ensures local { IfOk result (λ command. (fields_of command).has_globals ≡ false) }
+{
+    over_media(
+        alloc,
+        "check",
+        "Check a list and the files that it uses, and write nothing",
+        "Example: adlcons check session.adl sources",
+    )
+}
+
+/// The command that consolidates a list.
+fn consolidate_command<'a>(alloc: Global) -> Result<Command<'a>, AllocError>
+    ensures shape { IfOk result (λ command. shape_of command ≡ consolidate_shape) }
+    ensures local { IfOk result (λ command. (fields_of command).has_globals ≡ false) }
+{
+    let command = over_folders(
+        alloc,
+        "consolidate",
+        "Write new media of just the frames that a list plays, and a list",
+        "Example: adlcons consolidate session.adl sources consolidated --handle 96000",
+    )?;
+    let help = "Frames kept on each side of what plays";
+    with_default(alloc, command, "handle", "N", "48000", help)
+}
+
+/// The command that renders a list.
+fn render_command<'a>(alloc: Global) -> Result<Command<'a>, AllocError>
+    ensures shape { IfOk result (λ command. shape_of command ≡ render_shape) }
+    ensures local { IfOk result (λ command. (fields_of command).has_globals ≡ false) }
+{
+    let command = over_folders(
+        alloc,
+        "render",
+        "Render a list to one sound file, OUT/render.wav",
+        "Example: adlcons render session.adl sources rendered --depth 16",
+    )?;
+    let from = "The first sample, hh.mm.ss.ff/rrrr [default: the first in]";
+    let command = with_option(alloc, command, "from", "T", from)?;
+    let to = "The time behind the last sample [default: the last out]";
+    let command = with_option(alloc, command, "to", "T", to)?;
+    let channels = "Channels, 1 to 64 [default: all that entries name]";
+    let command = with_option(alloc, command, "channels", "N", channels)?;
+    with_default(
+        alloc,
+        command,
+        "depth",
+        "D",
+        "24",
+        "Bits of a sample: 16, 24 or 32",
+    )
+}
+
+/// A command over a list and the folder of its media.
+fn over_media<'a>(
     alloc: Global,
     name: &'a str,
     about: &'a str,
     example: &'a str,
 ) -> Result<Command<'a>, AllocError>
-    ensures shape { IfOk result (λ command. shape_of command ≡ work_shape name.entry.now) }
+    ensures app { IfOk result (λ command. app_of command ≡ over_media name.entry.now) }
     ensures local { IfOk result (λ command. (fields_of command).has_globals ≡ false) }
 {
     let command = Command::new(alloc, name).about(about).after_help(example);
-    let command = with_place(
-        alloc,
-        command,
-        "LIST",
-        "The list, a file; - is standard input",
-    )?;
-    let command = with_place(
+    let list = "The list, a file; - is standard input";
+    let command = with_place(alloc, command, "LIST", list)?;
+    with_place(
         alloc,
         command,
         "MEDIA",
         "The folder of the list's WAVE files",
-    )?;
-    with_place(
-        alloc,
-        command,
-        "OUT",
-        "The folder to write to, which is there and empty",
     )
+}
+
+/// A command that writes to a folder besides.
+fn over_folders<'a>(
+    alloc: Global,
+    name: &'a str,
+    about: &'a str,
+    example: &'a str,
+) -> Result<Command<'a>, AllocError>
+    ensures app { IfOk result (λ command. app_of command ≡ over_folders name.entry.now) }
+    ensures local { IfOk result (λ command. (fields_of command).has_globals ≡ false) }
+{
+    let command = over_media(alloc, name, about, example)?;
+    let out = "The folder to write to, which is there and empty";
+    with_place(alloc, command, "OUT", out)
 }
 
 /// The command that tells what the numbers of refusals mean.
@@ -106,4 +155,41 @@ fn with_place<'a>(
     ensures local { IfOk result (λ added. (fields_of added).has_globals ≡ (fields_of command.entry).has_globals) }
 {
     command.arg(Arg::new(alloc, id).required(true).help(help))
+}
+
+/// An option of this name, whose value the help calls `value`.
+fn option<'a>(alloc: Global, id: &'a str, value: &'a str, help: &'a str) -> Arg<'a>
+    ensures rule { rule_of result ≡ option_rule id.entry.now }
+    ensures local { result.global ≡ false }
+{
+    Arg::new(alloc, id).long(id).value_name(value).help(help)
+}
+
+/// The command with one more option.
+fn with_option<'a>(
+    alloc: Global,
+    command: Command<'a>,
+    id: &'a str,
+    value: &'a str,
+    help: &'a str,
+) -> Result<Command<'a>, AllocError>
+    ensures app { IfOk result (λ added. app_of added ≡ with_rule (app_of command.entry) (option_rule id.entry.now)) }
+    ensures local { IfOk result (λ added. (fields_of added).has_globals ≡ (fields_of command.entry).has_globals) }
+{
+    command.arg(option(alloc, id, value, help))
+}
+
+/// The command with one more option, which has a value where it is left out.
+fn with_default<'a>(
+    alloc: Global,
+    command: Command<'a>,
+    id: &'a str,
+    value: &'a str,
+    default: &'a str,
+    help: &'a str,
+) -> Result<Command<'a>, AllocError>
+    ensures app { IfOk result (λ added. app_of added ≡ with_rule (app_of command.entry) (default_rule id.entry.now default.entry.now)) }
+    ensures local { IfOk result (λ added. (fields_of added).has_globals ≡ (fields_of command.entry).has_globals) }
+{
+    command.arg(option(alloc, id, value, help).default_value(default))
 }

@@ -1,20 +1,26 @@
 // What is told of a refusal beside its line: what its number means there, what was found, and what to do.
+use crate::column::{Stood, stood_in};
 use crate::meanings::meaning_at;
-use crate::refusal::Refusal;
+use crate::refusal::{PrintedName, Refusal};
 use adlread::AdlFault;
 use consolidate::{Fault, OutputFile};
+use list_terms::Location;
 use percent_encoding::percent_encode_byte;
 use std::fmt;
 use std::fmt::Display;
 use std::io::{Error, ErrorKind};
 
-/// How many bytes of a line at fault are shown.
+/// How many bytes of a line at fault are shown, and of what stands at the fault.
 const SHOWN_BYTES: usize = 160;
 
-/// What a command found where it refused: the line at fault, what the system said, and what is unfinished.
+const STOOD_BYTES: usize = 60;
+
+/// What a command found where it refused: the line at fault, a file that the place doesn't name, what the system said, and
+/// what is unfinished.
 #[derive(Clone, Copy)]
 pub struct Findings<'a> {
-    line: Option<&'a [u8]>,
+    line: Option<LineAtFault<'a>>,
+    file: Option<&'a str>,
     reason: Option<Error>,
     unfinished: Option<Unfinished>,
 }
@@ -23,7 +29,7 @@ pub struct Findings<'a> {
 #[derive(Clone, Copy)]
 enum Unfinished {
     File(OutputFile),
-    LastMedium,
+    Whole,
 }
 
 impl<'a> Findings<'a> {
@@ -31,6 +37,7 @@ impl<'a> Findings<'a> {
     pub fn by(reason: Option<Error>) -> Findings<'a> {
         Findings {
             line: None,
+            file: None,
             reason,
             unfinished: None,
         }
@@ -38,15 +45,21 @@ impl<'a> Findings<'a> {
 
     /// What is found of a fault: in the list, and in what the system said of the source or the output that failed.
     pub fn of(
-        fault: &Fault,
+        fault: &'a Fault,
         list: &'a [u8],
         source: Option<Error>,
         output: Option<Error>,
     ) -> Findings<'a> {
         Findings {
             line: line_at_fault(fault, list),
+            file: match fault {
+                Fault::Silence { name } => Some(name.as_str()),
+                _ => None,
+            },
             reason: match fault {
-                Fault::Media { .. } | Fault::Source { .. } | Fault::Copy { .. } => source,
+                Fault::Project(opening::Fault::Media { .. })
+                | Fault::Silence { .. }
+                | Fault::Source { .. } => source,
                 Fault::Output(_) => output,
                 _ => None,
             },
@@ -55,18 +68,34 @@ impl<'a> Findings<'a> {
     }
 }
 
+/// A line of the list, and what stands in it at the fault.
+#[derive(Clone, Copy)]
+struct LineAtFault<'a> {
+    line: &'a [u8],
+    stood: Stood<'a>,
+}
+
 /// The line at which the fault stands.
-fn line_at_fault<'a>(fault: &Fault, list: &'a [u8]) -> Option<&'a [u8]> {
-    match fault {
-        Fault::List(AdlFault::Unsupported { line }) => line_of(list, *line),
-        _ => None,
-    }
+fn line_at_fault<'a>(fault: &Fault, list: &'a [u8]) -> Option<LineAtFault<'a>> {
+    let Fault::Project(opening::Fault::List(AdlFault::Text { fault, location })) = fault else {
+        return None;
+    };
+    let number = match *location {
+        Location::Line { line } | Location::Entry { line, .. } | Location::Index { line, .. } => {
+            line
+        }
+    };
+    let line = line_of(list, number)?;
+    Some(LineAtFault {
+        line,
+        stood: stood_in(line, *fault),
+    })
 }
 
 /// What the fault leaves unfinished. A file that was there already isn't the program's.
 fn unfinished_after(fault: &Fault, output: Option<Error>) -> Option<Unfinished> {
     match fault {
-        Fault::Copy { .. } | Fault::MediumMemory => Some(Unfinished::LastMedium),
+        Fault::Source { .. } | Fault::BlockMemory | Fault::MediumMemory => Some(Unfinished::Whole),
         Fault::Output(file) => match output {
             Some(error) if error.kind() == ErrorKind::AlreadyExists => None,
             _ => Some(Unfinished::File(*file)),
@@ -107,35 +136,50 @@ impl fmt::Display for Explanation<'_> {
 impl fmt::Display for Findings<'_> {
     fn fmt<W: fmt::Write>(&self, f: &mut fmt::Formatter<W>) -> fmt::Result {
         if let Some(line) = self.line {
-            let line = ShownLine(line);
-            write!(f, "; the line is: {line}")?;
+            line.fmt(f)?;
+        }
+        if let Some(file) = self.file {
+            let name = PrintedName(file);
+            write!(f, "; the file is: {name}")?;
         }
         if let Some(reason) = self.reason {
             write!(f, "; the system says: {reason}")?;
         }
         match self.unfinished {
             Some(Unfinished::File(file)) => write!(f, "; unfinished in the output: {file}"),
-            Some(Unfinished::LastMedium) => f.write_str(
-                "; unfinished in the output: the last medium",
-            ),
+            Some(Unfinished::Whole) => f.write_str("; what lies in the output is unfinished"),
             None => Ok(()),
         }
     }
 }
 
-/// The first bytes of a line: printing ASCII as it stands, all else as percent escapes.
-#[derive(Clone, Copy)]
-struct ShownLine<'a>(&'a [u8]);
-
-impl fmt::Display for ShownLine<'_> {
+impl fmt::Display for LineAtFault<'_> {
     fn fmt<W: fmt::Write>(&self, f: &mut fmt::Formatter<W>) -> fmt::Result {
-        for byte in self.0.iter().take(SHOWN_BYTES) {
+        let column = self.stood.column;
+        if self.stood.text.is_empty() {
+            write!(f, "; the line ends at column {column}")?;
+        } else {
+            let text = Shown(self.stood.text, STOOD_BYTES);
+            write!(f, "; at column {column} stands: {text}")?;
+        }
+        let line = Shown(self.line, SHOWN_BYTES);
+        write!(f, "; the line is: {line}")
+    }
+}
+
+/// The first bytes of a text, so many: printing ASCII as it stands, all else as percent escapes.
+#[derive(Clone, Copy)]
+struct Shown<'a>(&'a [u8], usize);
+
+impl fmt::Display for Shown<'_> {
+    fn fmt<W: fmt::Write>(&self, f: &mut fmt::Formatter<W>) -> fmt::Result {
+        for byte in self.0.iter().take(self.1) {
             match *byte {
                 b' '..=b'~' => write!(f, "{}", char::from(*byte))?,
                 other => f.write_str(percent_encode_byte(other))?,
             }
         }
-        if self.0.len() > SHOWN_BYTES {
+        if self.0.len() > self.1 {
             f.write_str(" ..")?;
         }
         Ok(())

@@ -9,7 +9,7 @@ use crate::explanation::Findings;
 use crate::reading::{ReadFault, read_list};
 use crate::refusal::Refusal;
 use crate::request::{Places, Request, parse};
-use shelf::{FolderBench, FolderShelf, Overwrite};
+use shelf::{FolderBench, FolderShelf, MemoryBench, Overwrite};
 use std::alloc::AllocError;
 use std::fs::Files;
 use std::os::unix::fs::FileExt;
@@ -29,11 +29,11 @@ pub enum OpenFault {
 }
 
 impl OpenFault {
-    /// The refusal of a command over these places.
-    fn refusal<'a>(self, places: Places<'a>) -> Refusal<'a> {
+    /// The refusal of a command over this list that writes to this folder.
+    fn refusal<'a>(self, list: &'a str, out: &'a str) -> Refusal<'a> {
         match self {
-            OpenFault::List(fault) => fault.refusal(places.list),
-            OpenFault::Unlisted(_) | OpenFault::NotEmpty => Refusal::of_file(20, places.out),
+            OpenFault::List(fault) => fault.refusal(list),
+            OpenFault::Unlisted(_) | OpenFault::NotEmpty => Refusal::of_file(20, out),
             OpenFault::Memory => Refusal::MEMORY,
         }
     }
@@ -77,10 +77,77 @@ where
 {
     match parse(rt.alloc(), words) {
         Ok(Request::Explain(number)) => explain(number, out, err),
-        Ok(Request::Render(places) | Request::Consolidate(places)) => {
+        Ok(Request::Check(list, media)) => answer_check(rt, words, list, media, out, err),
+        Ok(Request::Render(places, _) | Request::Consolidate(places, _)) => {
             answer_places(rt, words, places, out, err)
         }
         Err(error) => answer_error(error, out, err),
+    }
+}
+
+/// Answers the words, which ask for a check of this list over this folder.
+fn answer_check<R, O: Console, E: Console>(
+    rt: &R,
+    words: &[&str],
+    list: &str,
+    media: &str,
+    out: &mut O,
+    err: &mut E,
+) -> u8
+where
+    R: Files + Input + AllocGlobal + Clone + Drop,
+    R::File: FileExt,
+    ensures { result ≤ 2 }
+{
+    match try_check(rt, words, list, media, out, err) {
+        Ok(status) => status,
+        Err(fault) => refuse(
+            fault.refusal(list, ""),
+            Findings::by(fault.reason()),
+            out,
+            err,
+        ),
+    }
+}
+
+/// Answers the words over this list and this folder.
+fn try_check<R, O: Console, E: Console>(
+    rt: &R,
+    words: &[&str],
+    list: &str,
+    media: &str,
+    out: &mut O,
+    err: &mut E,
+) -> Result<u8, OpenFault>
+where
+    R: Files + Input + AllocGlobal + Clone + Drop,
+    R::File: FileExt,
+    ensures { IfOk result (λ status. status ≤ 2) }
+{
+    let list = read_list(rt, list)?;
+    tell_missing(rt, media, err);
+    let alloc = rt.alloc();
+    let mut shelf = FolderShelf::new(alloc, rt, media)?;
+    let mut bench = MemoryBench::new(alloc);
+    Ok(answer(
+        alloc,
+        words,
+        list.as_slice(),
+        &mut shelf,
+        &mut bench,
+        out,
+        err,
+    ))
+}
+
+/// Tells where the folder of the media can't be listed. It is then as an empty one.
+fn tell_missing<R: Files + AllocGlobal + Clone + Drop, E: Console>(
+    rt: &R,
+    media: &str,
+    err: &mut E,
+) {
+    if let Err(error) = fs::read_dir(rt, media) {
+        let _ = err.print_line(format_args!("the folder {media} can't be read: {error}"));
     }
 }
 
@@ -100,7 +167,7 @@ where
     match try_places(rt, words, places, out, err) {
         Ok(status) => status,
         Err(fault) => refuse(
-            fault.refusal(places),
+            fault.refusal(places.list, places.out),
             Findings::by(fault.reason()),
             out,
             err,
@@ -124,6 +191,7 @@ where
 {
     let list = read_list(rt, places.list)?;
     require_empty_folder(rt, places.out)?;
+    tell_missing(rt, places.media, err);
     let alloc = rt.alloc();
     let mut shelf = FolderShelf::new(alloc, rt, places.media)?;
     let mut bench = FolderBench::new(alloc, rt, places.out, Overwrite::Never)?;

@@ -1,8 +1,12 @@
-//! `adlcons`: renders and consolidates audio decision lists over folders of sound files. With no words it renders a
+//! `adlcons`: checks, consolidates and renders audio decision lists over folders of sound files. With no words it renders a
 //! stored example over memory and prints what came of it.
 #![tactic(auto)]
 
+mod also;
 mod answer;
+mod choice;
+mod chosen;
+mod column;
 mod command;
 mod console;
 mod example;
@@ -12,6 +16,7 @@ mod meanings;
 mod printer;
 mod reading;
 mod refusal;
+mod report;
 mod request;
 mod stored;
 

@@ -35,7 +35,7 @@ pub static MEANINGS: [Meaning; 55] = [
         meaning: "a byte can't stand there",
         cause: "a control character, or a byte that isn't ASCII outside quotes",
         remedy: "write the line in plain ASCII; names with other characters go into quotes",
-        is_answered: false,
+        is_answered: true,
     },
     Meaning {
         number: 2,
@@ -43,7 +43,7 @@ pub static MEANINGS: [Meaning; 55] = [
         meaning: "the line can't be cut into words",
         cause: "a quote or a parenthesis is open at the end of the line, or closed without being open",
         remedy: "close it on the same line",
-        is_answered: false,
+        is_answered: true,
     },
     Meaning {
         number: 3,
@@ -51,7 +51,7 @@ pub static MEANINGS: [Meaning; 55] = [
         meaning: "the line doesn't belong there",
         cause: "text outside all sections, a section that isn't closed, or a list that ends before </ADL>",
         remedy: "write the list anew, or put the line into its section",
-        is_answered: false,
+        is_answered: true,
     },
     Meaning {
         number: 4,
@@ -59,7 +59,7 @@ pub static MEANINGS: [Meaning; 55] = [
         meaning: "a section is missing",
         cause: "SEQUENCE, SOURCE_INDEX and EVENT_LIST have to be there",
         remedy: "write the list anew with all three",
-        is_answered: false,
+        is_answered: true,
     },
     Meaning {
         number: 5,
@@ -67,7 +67,7 @@ pub static MEANINGS: [Meaning; 55] = [
         meaning: "the section was there before",
         cause: "each of the seven sections may stand once",
         remedy: "put both together into one",
-        is_answered: false,
+        is_answered: true,
     },
     Meaning {
         number: 6,
@@ -75,7 +75,7 @@ pub static MEANINGS: [Meaning; 55] = [
         meaning: "this isn't a time",
         cause: "a time is hh.mm.ss.ff/rrrr: hours to 23, frames below the rate, a remainder within one frame",
         remedy: "correct the time; the day's end is 24.00.00.00/0000",
-        is_answered: false,
+        is_answered: true,
     },
     Meaning {
         number: 7,
@@ -83,7 +83,7 @@ pub static MEANINGS: [Meaning; 55] = [
         meaning: "this isn't a number of an index or an entry",
         cause: "such a number is 1 to 32767, in at most six digits",
         remedy: "number indexes and entries from 1",
-        is_answered: false,
+        is_answered: true,
     },
     Meaning {
         number: 8,
@@ -91,7 +91,7 @@ pub static MEANINGS: [Meaning; 55] = [
         meaning: "these channels can't be",
         cause: "channels are n or a~b, from 1 to 64, of one width at source and destination",
         remedy: "correct the channels",
-        is_answered: false,
+        is_answered: true,
     },
     Meaning {
         number: 9,
@@ -99,7 +99,7 @@ pub static MEANINGS: [Meaning; 55] = [
         meaning: "this URL names no file",
         cause: "it isn't URL:file://HOST/PATH, or the last part of its path is no file name",
         remedy: "name the file by URL:file://localhost/NAME",
-        is_answered: false,
+        is_answered: true,
     },
     Meaning {
         number: 10,
@@ -107,7 +107,7 @@ pub static MEANINGS: [Meaning; 55] = [
         meaning: "the line ends too early",
         cause: "a field that is needed is missing",
         remedy: "write the whole line",
-        is_answered: false,
+        is_answered: true,
     },
     Meaning {
         number: 11,
@@ -115,22 +115,22 @@ pub static MEANINGS: [Meaning; 55] = [
         meaning: "SEQUENCE lacks a rate",
         cause: "(SEQ_SAMPLE_RATE) and (SEQ_FRAME_RATE) have to be there",
         remedy: "add the line that is missing",
-        is_answered: false,
+        is_answered: true,
     },
     Meaning {
         number: 12,
         spot: Spot::Line,
         meaning: "this rate can't be",
-        cause: "the sample rate is 48000; the frame rate is whole, and 25 for now",
+        cause: "the sample rate is 48000, and the frame rate 25",
         remedy: "export the project at 48000 samples a second and 25 frames",
-        is_answered: false,
+        is_answered: true,
     },
     Meaning {
         number: 13,
         spot: Spot::Line,
         meaning: "the line isn't of a form that is read",
-        cause: "gain, pan, automation, fade curves or another keyword, or not the plain form that is read today; or lines are missing",
-        remedy: "export the project without what the line says, or write the line in the plain form (README)",
+        cause: "gain, pan, automation, another curve than LIN, another event than a cut, or a keyword that isn't known there",
+        remedy: "export the project without what the line says",
         is_answered: true,
     },
     Meaning {
@@ -139,7 +139,7 @@ pub static MEANINGS: [Meaning; 55] = [
         meaning: "the number came before",
         cause: "each index and each entry has a number of its own",
         remedy: "number them anew",
-        is_answered: false,
+        is_answered: true,
     },
     Meaning {
         number: 15,
@@ -147,7 +147,7 @@ pub static MEANINGS: [Meaning; 55] = [
         meaning: "there are too many lines of headers",
         cause: "at most 65,535 lines of VERSION, PROJECT, SYSTEM, SEQUENCE and TRACKLIST are kept",
         remedy: "shorten these sections",
-        is_answered: false,
+        is_answered: true,
     },
     Meaning {
         number: 16,
@@ -155,7 +155,7 @@ pub static MEANINGS: [Meaning; 55] = [
         meaning: "the line stands before the first entry",
         cause: "it belongs to an entry, and there is none yet",
         remedy: "put it behind its (Entry)",
-        is_answered: false,
+        is_answered: true,
     },
     Meaning {
         number: 17,
@@ -163,7 +163,7 @@ pub static MEANINGS: [Meaning; 55] = [
         meaning: "the entry has this fade already",
         cause: "an entry has one (Infade) and one (Outfade)",
         remedy: "keep one of them",
-        is_answered: false,
+        is_answered: true,
     },
     Meaning {
         number: 18,
@@ -249,7 +249,7 @@ pub static MEANINGS: [Meaning; 55] = [
         number: 27,
         spot: Spot::IndexFile,
         meaning: "this format isn't read",
-        cause: "sources are PCM, today of one channel and 16 bits",
+        cause: "sources are PCM of 16, 24 or 32 bits with 1 to 64 channels",
         remedy: "convert the file to that format",
         is_answered: true,
     },
@@ -259,7 +259,7 @@ pub static MEANINGS: [Meaning; 55] = [
         meaning: "the chunk ds64 is wrong",
         cause: "an RF64 file tells its sizes there (EBU Tech 3306); it is missing, too short or cut off",
         remedy: "convert the file anew",
-        is_answered: false,
+        is_answered: true,
     },
     Meaning {
         number: 29,
@@ -275,7 +275,7 @@ pub static MEANINGS: [Meaning; 55] = [
         meaning: "two files have the same name",
         cause: "an earlier index has a file of this name in another folder",
         remedy: "give one of them another name, in the list too",
-        is_answered: false,
+        is_answered: true,
     },
     Meaning {
         number: 31,
@@ -307,7 +307,7 @@ pub static MEANINGS: [Meaning; 55] = [
         meaning: "the fades are longer than the entry",
         cause: "in-fade and out-fade together are longer than from in to out",
         remedy: "shorten the fades",
-        is_answered: false,
+        is_answered: true,
     },
     Meaning {
         number: 44,
@@ -315,7 +315,7 @@ pub static MEANINGS: [Meaning; 55] = [
         meaning: "the file has fewer channels",
         cause: "the entry plays a source channel that its file lacks",
         remedy: "correct the channels, or name another file",
-        is_answered: false,
+        is_answered: true,
     },
     Meaning {
         number: 45,
@@ -347,15 +347,15 @@ pub static MEANINGS: [Meaning; 55] = [
         meaning: "out of memory while entries are joined",
         cause: "there are more entries than fit the memory that is free",
         remedy: "free memory, or split the list",
-        is_answered: false,
+        is_answered: true,
     },
     Meaning {
         number: 52,
-        spot: Spot::File,
-        meaning: "the file can't be read while silence is sought",
+        spot: Spot::Nowhere,
+        meaning: "a source can't be read while silence is sought",
         cause: "the device failed, or the file was changed meanwhile",
         remedy: "check the file, and run again into an empty folder",
-        is_answered: false,
+        is_answered: true,
     },
     Meaning {
         number: 53,
@@ -363,7 +363,7 @@ pub static MEANINGS: [Meaning; 55] = [
         meaning: "there are too many media",
         cause: "the frames that are used lie in more than 32,767 stretches",
         remedy: "choose a larger handle, so that stretches join, or split the list",
-        is_answered: false,
+        is_answered: true,
     },
     Meaning {
         number: 54,
@@ -371,7 +371,7 @@ pub static MEANINGS: [Meaning; 55] = [
         meaning: "out of memory for the media",
         cause: "there are more stretches than fit the memory that is free",
         remedy: "free memory, or split the list",
-        is_answered: false,
+        is_answered: true,
     },
     Meaning {
         number: 55,
@@ -379,7 +379,7 @@ pub static MEANINGS: [Meaning; 55] = [
         meaning: "the new list has too many entries",
         cause: "it would have more than 32,767",
         remedy: "split the list",
-        is_answered: false,
+        is_answered: true,
     },
     Meaning {
         number: 56,
@@ -392,9 +392,9 @@ pub static MEANINGS: [Meaning; 55] = [
     Meaning {
         number: 57,
         spot: Spot::Nowhere,
-        meaning: "out of memory for the sums",
-        cause: "a rendering today holds 8 bytes for each sample of its range",
-        remedy: "free memory, or render a shorter list",
+        meaning: "out of memory for a rendering",
+        cause: "there are more entries than fit the memory that is free",
+        remedy: "free memory, or split the list",
         is_answered: true,
     },
     Meaning {

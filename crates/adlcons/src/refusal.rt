@@ -3,26 +3,42 @@ ghost use Rattle.std.specs.Prelude.{◌≡◌, Some};
 ghost use Rattle.std.specs.Fmt.{WritesOnOk};
 ghost use Rattle.std.specs.List.{flat_map};
 ghost use Rattle.percent_encoding.specs.Percent as percent;
-ghost use Rattle.consolidate.specs.Faults.{refusal_of};
+ghost use Rattle.consolidate.specs.Fault.{refusal_of};
+ghost use Rattle.opening.specs.Faults as project;
+ghost use Rattle.adlread.specs.Fault as text;
 ghost use Rattle.adlcons.specs.Lines.{place_text, printed_character, printed_name, refusal_text};
-ghost use Rattle.adlcons.specs.Places.{where_of};
+ghost use Rattle.adlcons.specs.Places.{name_of_url, where_of};
 ghost use Rattle.adlcons.specs.declared.refusal.Place.TheVariants as place;
 
 use crate::meanings::Spot;
+use adlmodel::place_of;
 use adlread::AdlFault;
 use consolidate::{Fault, OutputFile};
+use list_terms::Location;
 use percent_encoding::percent_encode_byte;
+use std::alloc::Global;
 use std::fmt;
 use std::fmt::Display;
 
 /// The place that a refusal names. Lines are counted from 1; entries, indexes and jobs go by their numbers.
-#[derive(Clone, Copy, Debug, PartialEq, Eq)]
+#[derive(Clone, Copy)]
 pub enum Place<'a> {
     Nowhere,
     Line(u64),
-    LineEntry { line: u64, entry: u32 },
-    LineIndex { line: u64, index: u32 },
-    IndexFile { index: u32, name: &'a str },
+    LineEntry {
+        line: u64,
+        entry: u32,
+    },
+    LineIndex {
+        line: u64,
+        index: u32,
+    },
+    /// The file that the URL of an index names.
+    IndexUrl {
+        index: u32,
+        url: &'a [u8],
+        alloc: Global,
+    },
     Index(u32),
     Entry(u32),
     File(&'a str),
@@ -32,7 +48,7 @@ pub enum Place<'a> {
 }
 
 /// A refusal: its number, two digits at least, and its place. It prints as one line, without the line's end.
-#[derive(Clone, Copy, Debug, PartialEq, Eq)]
+#[derive(Clone, Copy)]
 pub struct Refusal<'a> {
     pub number: u8,
     pub place: Place<'a>,
@@ -56,39 +72,77 @@ impl<'a> Refusal<'a> {
     }
 
     /// The refusal of a list by a command.
-    pub fn of(fault: &'a Fault) -> Refusal<'a>
+    pub fn of(alloc: Global, fault: &'a Fault) -> Refusal<'a>
         ensures number { result.number ≡ (refusal_of fault.now).number }
         ensures place { where_of result.place ≡ (refusal_of fault.now).place }
     {
         Refusal {
             number: fault.number(),
-            place: Place::of(fault),
+            place: Place::of(alloc, fault),
+        }
+    }
+
+    /// The refusal of a list by a fault of its text, of a file that it names, or of an entry.
+    pub fn of_project(alloc: Global, fault: &'a opening::Fault) -> Refusal<'a>
+        ensures number { result.number ≡ (project.refusal_of fault.now).number }
+        ensures place { where_of result.place ≡ (project.refusal_of fault.now).place }
+    {
+        Refusal {
+            number: fault.number(),
+            place: Place::of_project(alloc, fault),
         }
     }
 }
 
 impl<'a> Place<'a> {
     /// The place of a fault.
-    pub fn of(fault: &'a Fault) -> Place<'a>
+    pub fn of(alloc: Global, fault: &'a Fault) -> Place<'a>
         ensures { where_of result ≡ (refusal_of fault.now).place }
     {
         match fault {
-            Fault::List(AdlFault::Unsupported { line }) => Place::Line(*line),
-            Fault::Media { index, name, .. } => Place::IndexFile {
-                index: *index,
-                name: name.as_str(),
-            },
-            Fault::BindMemory { index } => Place::Index(*index),
-            Fault::Entry { entry, .. } => Place::Entry(*entry),
-            Fault::Source { name } | Fault::Copy { name } => Place::File(name.as_str()),
+            Fault::Project(fault) => Place::of_project(alloc, fault),
+            Fault::Source { name } => Place::File(name.as_str()),
             Fault::Output(file) => Place::Output(*file),
-            Fault::List(AdlFault::Memory)
-            | Fault::CutMemory
-            | Fault::ListMemory
+            Fault::Intervals
+            | Fault::PassMemory
+            | Fault::Silence { .. }
+            | Fault::Runs(_)
+            | Fault::Relink(_)
             | Fault::RenderMemory
             | Fault::EmptyRange
             | Fault::TooLong
+            | Fault::BlockMemory
             | Fault::MediumMemory => Place::Nowhere,
+        }
+    }
+
+    /// The place of a fault of the list, of a file that it names, or of an entry.
+    fn of_project(alloc: Global, fault: &'a opening::Fault) -> Place<'a>
+        ensures { where_of result ≡ (project.refusal_of fault.now).place }
+    {
+        match fault {
+            opening::Fault::List(fault) => Place::of_text(fault),
+            opening::Fault::SameName { index } => Place::Index(*index),
+            opening::Fault::Media { source, .. } => Place::IndexUrl {
+                index: source.number(),
+                url: source.url(),
+                alloc,
+            },
+            opening::Fault::Entry(fault) => Place::Entry(fault.entry),
+        }
+    }
+
+    /// The place of a fault of the text.
+    fn of_text(fault: &AdlFault) -> Place<'a>
+        ensures { where_of result ≡ (text.refusal fault.now).place }
+    {
+        match fault {
+            AdlFault::Text { location, .. } => match *location {
+                Location::Line { line } => Place::Line(line),
+                Location::Entry { line, entry } => Place::LineEntry { line, entry },
+                Location::Index { line, index } => Place::LineIndex { line, index },
+            },
+            AdlFault::Memory => Place::Nowhere,
         }
     }
 }
@@ -99,7 +153,7 @@ impl Place<'_> {
         match self {
             Place::Nowhere => Spot::Nowhere,
             Place::Line(_) | Place::LineEntry { .. } | Place::LineIndex { .. } => Spot::Line,
-            Place::IndexFile { .. } => Spot::IndexFile,
+            Place::IndexUrl { .. } => Spot::IndexFile,
             Place::Index(_) => Spot::Index,
             Place::Entry(_) => Spot::Entry,
             Place::File(_) | Place::Output(_) => Spot::File,
@@ -131,8 +185,8 @@ impl fmt::Display for Place<'_> {
             Place::Line(line) => write!(f, " at line {line}"),
             Place::LineEntry { line, entry } => write!(f, " at line {line} entry {entry}"),
             Place::LineIndex { line, index } => write!(f, " at line {line} index {index}"),
-            Place::IndexFile { index, name } => {
-                let name = PrintedName(name);
+            Place::IndexUrl { index, url, alloc } => {
+                let name = UrlName { url, alloc };
                 write!(f, " at index {index} file {name}")
             }
             Place::Index(index) => write!(f, " at index {index}"),
@@ -149,13 +203,32 @@ impl fmt::Display for Place<'_> {
 
 /// A name as it stands in a line: each control character as the percent escapes of its UTF-8 bytes.
 #[derive(Clone, Copy)]
-struct PrintedName<'a>(&'a str);
+pub struct PrintedName<'a>(pub &'a str);
 
 impl fmt::Display for PrintedName<'_> {
     ghost output = { λ name. Some (printed_name name.0.now) };
 
     fn fmt<W: fmt::Write>(&self, f: &mut fmt::Formatter<W>) -> fmt::Result {
         write_name(f, self.0)
+    }
+}
+
+/// The name of the file that a URL names, as it stands in a line. Where no memory is left to decode it, or it names none, it
+/// isn't printed.
+#[derive(Clone, Copy)]
+struct UrlName<'a> {
+    url: &'a [u8],
+    alloc: Global,
+}
+
+impl fmt::Display for UrlName<'_> {
+    ghost output = { λ name. Some (printed_name (name_of_url name.url.now)) };
+
+    fn fmt<W: fmt::Write>(&self, f: &mut fmt::Formatter<W>) -> fmt::Result {
+        match place_of(self.alloc, self.url) {
+            Ok(Some(place)) => write_name(f, place.name()),
+            Ok(None) | Err(_) => Err(fmt::Error),
+        }
     }
 }
 

@@ -1,7 +1,7 @@
 // The stored run: the example over memory.
 use crate::example;
 use anyhow::{Context, Result};
-use consolidate::{Options, render};
+use consolidate::{Depth, Options, render};
 use shelf::{MemoryBench, MemoryShelf};
 
 /// Renders the stored example, and prints the length of the file and the samples in it.
@@ -9,7 +9,13 @@ pub fn run_stored(rt: &(impl AllocGlobal + Print)) -> Result<()> {
     let alloc = rt.alloc();
     let mut shelf = MemoryShelf::new(alloc).with_file("A.wav", example::WAVE)?;
     let mut bench = MemoryBench::new(alloc);
-    render(alloc, example::LIST, &Options {}, &mut shelf, &mut bench)?;
+    let options = Options {
+        from: None,
+        to: None,
+        channels: None,
+        depth: Depth::Sixteen,
+    };
+    render(alloc, example::LIST, &options, &mut shelf, &mut bench)?;
     let file = bench.bytes("render.wav").context("there is no file")?;
     print!(rt; "{} bytes:", file.len())?;
     let samples = file.get(example::SAMPLES_AT..).unwrap_or(&[]);

@@ -1,20 +1,60 @@
 -- The refusal that each fault of a list tells.
-use Rattle.std.specs.Prelude.{◌≡◌, ℕ, false, Result, Ok, Err, ⊤}
-use Rattle.work_terms.specs.Refusals.{Refusal, Nowhere, Line}
+use Rattle.std.specs.Prelude.{◌≡◌, ℕ, false, Option, None, Some, Result, Ok, Err, ⊤}
+use Rattle.work_terms.specs.Refusals.{Refusal, Nowhere}
+use Rattle.list_terms.specs.declared.Location.{Location}
+use Rattle.list_terms.specs.declared.Location.TheVariants as location
+use Rattle.list_terms.specs.declared.TextFault.{TextFault}
+use Rattle.list_terms.specs.Text.{LocatedFault, text_refusal}
 use Rattle.adlread.specs.declared.fault.AdlFault.{AdlFault}
-use Rattle.adlread.specs.declared.fault.AdlFault.TheVariants.{Unsupported, Memory}
+use Rattle.adlread.specs.declared.fault.AdlFault.TheVariants.{Text, Memory}
+use Rattle.adlread.specs.declared.fault.LineFault.{LineFault}
+use Rattle.adlread.specs.declared.fault.LineFault.TheVariants as line
 
 abbrev pub refusal : AdlFault → Refusal
-refusal (Unsupported line) = record { number = 13; place = Line line; late = false }
+refusal (Text fault location) = text_refusal (record { fault = fault; location = location })
 refusal Memory = record { number = 18; place = Nowhere; late = false }
 
--- the line that is at fault; 0 where memory was wanting
+abbrev pub line_of_location : Location → ℕ
+line_of_location (location.Line line) = line
+line_of_location (location.Entry line entry) = line
+line_of_location (location.Index line index) = line
+
+abbrev pub entry_of_location : Location → Option ℕ
+entry_of_location (location.Line line) = None
+entry_of_location (location.Entry line entry) = Some entry
+entry_of_location (location.Index line index) = None
+
+abbrev pub index_of_location : Location → Option ℕ
+index_of_location (location.Line line) = None
+index_of_location (location.Entry line entry) = None
+index_of_location (location.Index line index) = Some index
+
+-- the line that is at fault; 0 where there was no memory
 abbrev pub line_of : AdlFault → ℕ
-line_of (Unsupported line) = line
+line_of (Text fault location) = line_of_location location
 line_of Memory = 0
 
--- the value that is read, or the line that is at fault; want of memory may come in place of either
-abbrev pub Reads : {X V : Type 0} → (X → V) → Result X AdlFault → Result V ℕ → Type 0
+abbrev pub entry_of : AdlFault → Option ℕ
+entry_of (Text fault location) = entry_of_location location
+entry_of Memory = None
+
+abbrev pub index_of : AdlFault → Option ℕ
+index_of (Text fault location) = index_of_location location
+index_of Memory = None
+
+-- what a list says so far, or its fault and where it stands; out of memory may come in place of either
+abbrev pub Reads : {X V : Type 0} → (X → V) → Result X AdlFault → Result V LocatedFault → Type 0
 Reads view (Ok x) reading = reading ≡ Ok (view x)
-Reads view (Err (Unsupported line)) reading = reading ≡ Err line
+Reads view (Err (Text fault location)) reading = reading ≡ Err (record { fault = fault; location = location })
 Reads view (Err Memory) reading = ⊤
+
+-- what a line says, or its fault; out of memory may come in place of either
+abbrev pub Says : {X V : Type 0} → (X → V) → Result X LineFault → Result V TextFault → Type 0
+Says view (Ok x) reading = reading ≡ Ok (view x)
+Says view (Err (line.Text fault)) reading = reading ≡ Err fault
+Says view (Err line.Memory) reading = ⊤
+
+-- the fault of a line, at this place
+abbrev pub located : Location → LineFault → AdlFault
+located location (line.Text fault) = Text fault location
+located location line.Memory = Memory

@@ -1,6 +1,10 @@
-pub mod Ends
+pub mod Context
+pub mod CutLines
+pub mod Entries
 pub mod Fault
 pub mod Flags
-pub mod PlainLine
-pub mod PlainList
-pub mod Written
+pub mod HeaderSoFar
+pub mod LineGrammar
+pub mod SoFar
+pub mod Spells
+pub mod Views

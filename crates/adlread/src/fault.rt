@@ -1,30 +1,36 @@
 // Why a list isn't read.
-ghost use Rattle.std.specs.Prelude.{◌≡◌};
-ghost use Rattle.adlread.specs.Fault.{line_of, refusal};
-ghost use Rattle.adlread.specs.declared.fault.AdlFault.TheVariants.{Memory};
+ghost use Rattle.std.specs.Prelude.{◌≡◌, Ok, Err, MatchResult};
+ghost use Rattle.list_terms.specs.Text as text;
+ghost use Rattle.adlread.specs.Fault.{entry_of, index_of, line_of, refusal};
+ghost use Rattle.adlread.specs.Fault as spec;
+ghost use Rattle.adlread.specs.declared.fault.AdlFault.TheVariants.{Text, Memory};
+ghost use Rattle.adlread.specs.declared.fault.LineFault.TheVariants as line;
 
+use list_terms::{Location, TextFault};
 use std::alloc::{AllocError, AllocFailed};
 use thiserror::Error;
 
 /// Why the text of a list isn't read as a project.
 #[derive(Clone, Copy, Debug, PartialEq, Eq, Error)]
 pub enum AdlFault {
-    /// 13: the first line, counted from 1, that isn't as the plain form has it. Where lines are missing it is the
-    /// last one there is, and 1 in the empty text.
-    #[error("line {line}: this isn't supported")]
-    Unsupported { line: u64 },
+    /// 1 to 17: what is wrong with the text, and where.
+    #[error("the text of the list is at fault")]
+    Text {
+        fault: TextFault,
+        location: Location,
+    },
     /// 18: there was no memory.
     #[error("out of memory")]
     Memory,
 }
 
 impl AdlFault {
-    /// The number of the refusal: 13 or 18.
+    /// The number of the refusal, 1 to 18.
     pub fn number(&self) -> u8
         ensures { result ≡ (refusal self.now).number }
     {
         match self {
-            AdlFault::Unsupported { .. } => 13,
+            AdlFault::Text { fault, .. } => fault_number(*fault),
             AdlFault::Memory => 18,
         }
     }
@@ -34,9 +40,121 @@ impl AdlFault {
         ensures { result ≡ line_of self.now }
     {
         match self {
-            AdlFault::Unsupported { line } => *line,
+            AdlFault::Text { location, .. } => line_of_location(*location),
             AdlFault::Memory => 0,
         }
+    }
+
+    /// The number of the entry that the line is about, where it is about one.
+    pub fn entry(&self) -> Option<u32>
+        ensures { result ≡ entry_of self.now }
+    {
+        match self {
+            AdlFault::Text {
+                location: Location::Entry { entry, .. },
+                ..
+            } => Some(*entry),
+            _ => None,
+        }
+    }
+
+    /// The number of the index that the line is about, where it is about one.
+    pub fn index(&self) -> Option<u32>
+        ensures { result ≡ index_of self.now }
+    {
+        match self {
+            AdlFault::Text {
+                location: Location::Index { index, .. },
+                ..
+            } => Some(*index),
+            _ => None,
+        }
+    }
+}
+
+fn line_of_location(location: Location) -> u64
+    ensures { result ≡ spec.line_of_location location }
+{
+    match location {
+        Location::Line { line } | Location::Entry { line, .. } | Location::Index { line, .. } =>
+            line,
+    }
+}
+
+fn fault_number(fault: TextFault) -> u8
+    ensures { result ≡ text.fault_number fault }
+{
+    match fault {
+        TextFault::BadByte => 1,
+        TextFault::BadLine => 2,
+        TextFault::SectionMismatch => 3,
+        TextFault::MissingSection => 4,
+        TextFault::RepeatedSection => 5,
+        TextFault::BadTime => 6,
+        TextFault::BadNumber => 7,
+        TextFault::BadChannels => 8,
+        TextFault::BadUrl => 9,
+        TextFault::MissingField => 10,
+        TextFault::MissingSequence => 11,
+        TextFault::WrongSequence => 12,
+        TextFault::Unsupported => 13,
+        TextFault::DuplicateNumber => 14,
+        TextFault::TooMany => 15,
+        TextFault::Unplaced => 16,
+        TextFault::RepeatedFade => 17,
+    }
+}
+
+/// What a line can't be read for, before it is said where it stands.
+#[derive(Clone, Copy, Debug)]
+pub enum LineFault {
+    Text(TextFault),
+    Memory,
+}
+
+impl LineFault {
+    /// The fault, at this place.
+    pub fn at(self, location: Location) -> AdlFault
+        ensures { result ≡ spec.located location self }
+    {
+        match self {
+            LineFault::Text(fault) => AdlFault::Text { fault, location },
+            LineFault::Memory => AdlFault::Memory,
+        }
+    }
+}
+
+/// What a line says, with the place of its fault.
+pub fn located<T>(said: Result<T, TextFault>, location: Location) -> Result<T, AdlFault>
+    ensures { MatchResult said (λ x. result ≡ Ok x) (λ fault. result ≡ Err (Text fault location)) }
+{
+    match said {
+        Ok(value) => Ok(value),
+        Err(fault) => Err(AdlFault::Text { fault, location }),
+    }
+}
+
+impl From<TextFault> for LineFault {
+    ghost from_gives = { λ fault line_fault. line_fault ≡ line.Text fault };
+
+    fn from(fault: TextFault) -> Self {
+        LineFault::Text(fault)
+    }
+}
+
+impl From<AllocError> for LineFault {
+    ghost from_gives = { λ _ fault. fault ≡ line.Memory };
+
+    fn from(_: AllocError) -> Self {
+        LineFault::Memory
+    }
+}
+
+impl<T: Drop> From<AllocFailed<T>> for LineFault {
+    ghost from_gives = { λ _ fault. fault ≡ line.Memory };
+
+    fn from(_: AllocFailed<T>) -> Self {
+        LineFault::Memory
     }
 }
 

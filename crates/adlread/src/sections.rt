@@ -1,66 +1,34 @@
-// The source index and the event list.
-ghost use Rattle.std.specs.Prelude.{◌≡◌, ◌<◌, ℕ, [], vec_len, IfOk, ok_or, slice_index_or, slice_set, true, false};
-ghost use Rattle.adlread.specs.Fault.{Reads};
+// The source index and the event list so far.
+ghost use Rattle.std.specs.Prelude.{◌≡◌, ◌<◌, [], IfOk, IsTrue, OnOk};
+ghost use Rattle.std.proofs.Props.{props};
+ghost use Rattle.list_terms.specs.WholeProject.{AreEvents, AreNumberedSources, is_number};
+ghost use Rattle.list_terms.specs.Steps.{ok_map};
+ghost use Rattle.list_terms.specs.Text.{all_events, closed_entries, entry_of, further_line, no_entry, source_with};
+ghost use Rattle.adltoken.specs.Views.{token_view};
+ghost use Rattle.adlread.specs.Fault.{Says};
 ghost use Rattle.adlread.specs.Flags.{AreFlags};
-ghost use Rattle.adlread.specs.PlainList.{source_index, event_list, with_source, with_entry};
 
-use crate::fault::AdlFault;
-use crate::line::{event_line, source_line};
-use crate::lines::Lines;
+use crate::entry_lines::{entry_with, event_fields, remark, source_fields};
+use crate::fault::LineFault;
+use crate::taken::Numbers;
 use adlmodel::{Event, Source};
+use adltoken::{TextFault, Token, Tokens};
+use list_terms::OpenEntry;
 use sampletime::Separators;
 use std::alloc::{AllocError, Global};
 
-/// The numbers below 32768 that are taken, as a flag for each.
-#[derive(Drop)]
-struct Numbers {
-    taken: Vec<bool>,
-    ghost whole: { vec_len taken ≡ 32768 },
-}
-
-impl Numbers {
-    fn new(alloc: Global) -> Result<Self, AllocError>
-        ensures { IfOk result (λ numbers. (n : ℕ) → slice_index_or numbers.taken.items n false ≡ false) }
-    {
-        let taken = cleared_flags(alloc, LIMIT)?;
-        Ok(Numbers { taken })
-    }
-
-    fn contains(&self, number: u32) -> bool
-        requires { number < 32768 }
-        ensures { result ≡ slice_index_or self.now.taken.items number false }
-    {
-        self.taken[number as usize]
-    }
-
-    fn insert(&mut self, number: u32)
-        requires { number < 32768 }
-        ensures { self.new.taken.items ≡ slice_set self.old.taken.items number true }
-    {
-        self.taken[number as usize] = true;
-    }
-}
-
-const LIMIT: usize = 32_768;
-
-/// So many flags, none of them set.
-fn cleared_flags(alloc: Global, count: usize) -> Result<Vec<bool>, AllocError>
-    ensures count { IfOk result (λ flags. vec_len flags ≡ count) }
-    ensures cleared { IfOk result (λ flags. (n : ℕ) → slice_index_or flags.items n false ≡ false) }
-{
-    vec![in alloc; false; count]
-}
-
 /// The sources so far, and their numbers.
 #[derive(Drop)]
-struct SourceIndex {
-    sources: Vec<Source>,
+pub struct SourceIndex {
+    pub sources: Vec<Source>,
     numbers: Numbers,
     ghost flags: { AreFlags (λ s. s.number) sources.items numbers.taken.items },
+    pub ghost whole: { AreNumberedSources sources.items } by { Prim.hlevel props },
 }
 
 impl SourceIndex {
-    fn new(alloc: Global) -> Result<Self, AllocError>
+    /// No source.
+    pub fn new(alloc: Global) -> Result<Self, AllocError>
         ensures { IfOk result (λ index. index.sources.items ≡ []) }
     {
         let numbers = Numbers::new(alloc)?;
@@ -70,103 +38,105 @@ impl SourceIndex {
         })
     }
 
-    /// Adds the source that a line says. The line is at fault where it says none, or one whose number is taken.
-    #[tactic(auto, unfolding(crate::specs::PlainList::with_source))]
-    fn add(&mut self, alloc: Global, line: &[u8], at: u64) -> Result<(), AdlFault>
-        ensures { Reads (λ _. self.new.sources.items) result (ok_or (with_source self.old.sources.items line.now) at) }
+    /// Adds the source that a line says behind its number, where no other has that number.
+    #[tactic(auto, unfolding(list_terms::specs::Text::source_with))]
+    pub fn add(
+        &mut self,
+        alloc: Global,
+        number: u32,
+        tokens: &mut Tokens<'_>,
+    ) -> Result<(), LineFault>
+        requires { IsTrue (is_number number) }
+        ensures { Says (λ _. self.new.sources.items) result (source_with 25 self.old.sources.items number tokens.old.rest.now) }
     {
-        let Some(source) = source_line(line) else {
-            return Err(AdlFault::Unsupported { line: at });
-        };
-        if self.numbers.contains(source.number) {
-            return Err(AdlFault::Unsupported { line: at });
+        if self.numbers.contains(number) {
+            return Err(LineFault::Text(TextFault::DuplicateNumber));
         }
-        let name = String::from_str(alloc, source.name)?;
-        let new = Source::new(source.number, name, source.start, source.length);
-        self.sources.push(new)?;
-        self.numbers.insert(source.number);
+        let source = source_fields(alloc, number, tokens)?;
+        self.sources.push(source)?;
+        self.numbers.insert(number);
         Ok(())
     }
 }
 
-/// The events so far, their numbers, and the separators of the first one's destination in.
+/// The events so far, the last entry, which further lines may be of, the separators of the first one's destination in,
+/// and the numbers of all.
 #[derive(Drop)]
-struct EventList {
-    events: Vec<Event>,
-    separators: Option<Separators>,
+pub struct EventList {
+    pub events: Vec<Event>,
+    pub entry: Option<OpenEntry>,
+    pub separators: Option<Separators>,
     numbers: Numbers,
-    ghost flags: { AreFlags (λ e. e.number) events.items numbers.taken.items },
+    ghost flags: { AreFlags (λ e. e.number) (all_events events.items entry) numbers.taken.items },
+    pub ghost whole: { AreEvents (all_events events.items entry) } by { Prim.hlevel props },
 }
 
 impl EventList {
-    fn new(alloc: Global) -> Result<Self, AllocError>
-        ensures events { IfOk result (λ list. list.events.items ≡ []) }
-        ensures separators { IfOk result (λ list. list.separators ≡ None) }
+    ghost use Rattle.adlread.specs.Entries.{entries_of};
+
+    /// No event.
+    pub fn new(alloc: Global) -> Result<Self, AllocError>
+        ensures { IfOk result (λ list. entries_of list ≡ no_entry) }
     {
         let numbers = Numbers::new(alloc)?;
         Ok(EventList {
             events: Vec::new(alloc),
+            entry: None,
             separators: None,
             numbers,
         })
     }
 
-    /// Adds the event that a line says. The line is at fault where it says none, or one whose number is taken.
-    #[tactic(auto, unfolding(crate::specs::PlainList::with_entry))]
-    fn add(&mut self, line: &[u8], at: u64) -> Result<(), AdlFault>
-        ensures { Reads (λ _. record { events = self.new.events.items; separators = self.new.separators }) result
-            (ok_or (with_entry (record { events = self.old.events.items; separators = self.old.separators }) line.now) at) }
+    /// Puts the last entry behind those before it, so that it has no further line.
+    pub fn close(&mut self) -> Result<(), AllocError>
+        ensures { OnOk result (entries_of self.new ≡ closed_entries (entries_of self.old)) }
     {
-        let Some((event, separators)) = event_line(line) else {
-            return Err(AdlFault::Unsupported { line: at });
-        };
-        let number = event.number;
-        if self.numbers.contains(number) {
-            return Err(AdlFault::Unsupported { line: at });
+        if let Some(entry) = self.entry {
+            self.events.push(entry.event)?;
+            self.entry = None;
         }
-        self.events.push(event)?;
+        Ok(())
+    }
+
+    /// Adds the event that a line says behind its number, where no other has that number.
+    #[tactic(auto, unfolding(list_terms::specs::Text::entry_of))]
+    pub fn add(&mut self, number: u32, tokens: &mut Tokens<'_>) -> Result<(), LineFault>
+        requires { IsTrue (is_number number) }
+        ensures { Says (λ _. entries_of self.new) result (entry_of 25 (entries_of self.old) number tokens.old.rest.now) }
+    {
+        if self.numbers.contains(number) {
+            return Err(LineFault::Text(TextFault::DuplicateNumber));
+        }
+        let (event, separators) = event_fields(number, tokens)?;
+        self.close()?;
+        self.entry = Some(OpenEntry {
+            event,
+            has_rise: false,
+            has_fall: false,
+        });
         self.numbers.insert(number);
         if self.separators.is_none() {
             self.separators = Some(separators);
         }
         Ok(())
     }
-}
 
-/// Reads the source index, with the lines that begin and end it.
-#[tactic(auto, unfolding(crate::specs::PlainList::section, crate::specs::PlainList::source_index))]
-pub fn source_index(alloc: Global, lines: &mut Lines<'_>) -> Result<Vec<Source>, AdlFault>
-    ensures { Reads (λ sources. (sources.items, lines.new)) result (source_index lines.old) }
-{
-    lines.expect(b"<SOURCE_INDEX>")?;
-    let mut index = SourceIndex::new(alloc)?;
-    'lines: loop {
-        let line = lines.next_line()?;
-        if line == b"</SOURCE_INDEX>".as_slice() {
-            break;
+    /// Adds what a line that is no entry of its own says of the entry before it.
+    #[tactic(auto, unfolding(list_terms::specs::Text::further_line))]
+    pub fn add_further(
+        &mut self,
+        token: &Token<'_>,
+        tokens: &mut Tokens<'_>,
+    ) -> Result<(), TextFault>
+        ensures { ok_map (λ _. entries_of self.new) result ≡ further_line 25 (entries_of self.old) (token_view token.now) tokens.old.rest.now }
+    {
+        match self.entry {
+            None => remark(token, tokens),
+            Some(entry) => {
+                let entry = entry_with(entry, token, tokens)?;
+                self.entry = Some(entry);
+                Ok(())
+            }
         }
-        index.add(alloc, line, lines.number())?;
     }
-    Ok(index.sources)
-}
-
-/// Reads the event list, with the lines that begin and end it: the events, and the separators of the first one's
-/// destination in.
-#[tactic(auto, unfolding(crate::specs::PlainList::section, crate::specs::PlainList::event_list))]
-pub fn event_list(
-    alloc: Global,
-    lines: &mut Lines<'_>,
-) -> Result<(Vec<Event>, Option<Separators>), AdlFault>
-    ensures { Reads (λ list. (record { events = list.0.items; separators = list.1 }, lines.new)) result (event_list lines.old) }
-{
-    lines.expect(b"<EVENT_LIST>")?;
-    let mut list = EventList::new(alloc)?;
-    'lines: loop {
-        let line = lines.next_line()?;
-        if line == b"</EVENT_LIST>".as_slice() {
-            break;
-        }
-        list.add(line, lines.number())?;
-    }
-    Ok((list.events, list.separators))
 }

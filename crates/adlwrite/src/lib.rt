@@ -15,11 +15,11 @@ ghost use Rattle.adlwrite.specs.Fault.{is_device};
 mod fault;
 mod parts;
 
+use adlmodel::Project;
 pub use fault::WriteFault;
 use parts::{push_body, push_head};
 use shelf::Bench;
 use std::alloc::{AllocError, Global};
-use whole_model::Project;
 
 /// What is written for a project is read as that project again.
 fn is_read_again(project: &Project)

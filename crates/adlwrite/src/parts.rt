@@ -4,10 +4,10 @@ ghost use Rattle.list_terms.specs.WrittenText as written;
 ghost use Rattle.adlwrite.specs.Parts as parts;
 ghost use Rattle.adlwrite.specs.Parts.{body_text, ending_text, entry_front, entry_text, entry_times, event_text, events_text, fade_text, head_text, header_text, lines_text, numbered, opening_text, ranged, source_text, sources_text, texted, timed};
 
+use adlmodel::{Bytes, Channels, Event, KeptLines, Project, Source};
 use itoa::Buffer;
 use sampletime::{SampleTime, text_of};
 use std::alloc::AllocError;
-use whole_model::{Bytes, Channels, Event, KeptLines, Project, Source};
 
 /// This text, then another.
 #[tactic(auto, unfolding(crate::specs::Parts::texted))]

@@ -10,7 +10,8 @@ use Rattle.sound_terms.specs.declared.block.Stretch.{Stretch}
 use Rattle.sound_terms.specs.Depth.{bits_of}
 use Rattle.sound_terms.specs.Mix.{Reading, full_scale}
 use Rattle.pcm.specs.Samples.{FitsDepth}
-use Rattle.blockmachine.specs.Playing.{IsFull, Plays}
+use Rattle.sound_terms.specs.Blocks.{IsFull}
+use Rattle.blockmachine.specs.Playing.{Plays}
 
 abbrev Within : ℤ → Type 0
 Within z = (neg_ℤ (pos (2 ^ 47)) ≤ℤ z) × (z ≤ℤ pos (2 ^ 47))

@@ -7,6 +7,7 @@ use Rattle.sound_terms.specs.declared.block.Stretch.{Stretch}
 use Rattle.sound_terms.specs.declared.piece.Shape.{Shape}
 use Rattle.sound_terms.specs.declared.piece.Shape.TheVariants.{Flat, Rise, Fall}
 use Rattle.sound_terms.specs.Sounds.{SoundFacts}
+use Rattle.sound_terms.specs.Media.{frame_length}
 use Rattle.sound_terms.specs.Waves.{sample_of}
 use Rattle.sound_terms.specs.Mix.{Reading, full_scale}
 use Rattle.sound_terms.specs.Groups.{fraction_of}
@@ -16,7 +17,7 @@ use Rattle.work_terms.specs.Disk.{Files}
 use Rattle.list_terms.specs.Heard.{reading_by}
 use Rattle.shelf.specs.declared.fault.ShelfFault.{ShelfFault}
 use Rattle.shelf.specs.declared.fault.ShelfFault.TheVariants as shelf
-use Rattle.wavread.specs.Facts.{AreFrames, frame_bytes}
+use Rattle.wavread.specs.Facts.{AreFrames}
 use Rattle.blockmachine.specs.Playing.{Plays}
 
 pub some_file : (stored : Option (List ℕ)) → IsSome stored → (file : List ℕ) × (stored ≡ Some file)
@@ -40,14 +41,14 @@ heard_sample files sounds facts n channel frame file there stored inside first l
 
 pub plays_sound : (files : Files) (sounds : List SoundFacts) (facts : SoundFacts) (part : Stretch) (file : List ℕ) (frames : List ℤ)
     → slice_get sounds part.file ≡ Some facts → files facts.name ≡ Some file
-    → AreFrames file (facts.place + part.frame * frame_bytes facts) facts.depth frames → length frames ≡ part.length * facts.channels
+    → AreFrames file (facts.place + part.frame * frame_length facts) facts.depth frames → length frames ≡ part.length * facts.channels
     → 1 ≤ part.first → part.first + part.width ≤ facts.channels + 1 → part.frame + part.length ≤ facts.frames
     → Plays (reading_by files sounds) part facts.channels facts.depth frames
 plays_sound files sounds facts part file frames there stored are whole first last inside = λ i j below on.
     let row : (i + 1) * facts.channels ≤ part.length * facts.channels = grind arith in
     let k = i * facts.channels + (part.first - 1 + j) in
     let within : k < length frames = omega arith in
-    let place : facts.place + part.frame * frame_bytes facts + k * (facts.depth / 8)
+    let place : facts.place + part.frame * frame_length facts + k * (facts.depth / 8)
     ≡ facts.place + ((part.frame + i) * facts.channels + (part.first + j - 1)) * (facts.depth / 8) =
     let channel : part.first - 1 + j ≡ part.first + j - 1 = omega arith in rw channel (omega arith) in
     ap (full_scale facts.depth) (are k within ∙ ap (λ m. sample_of facts.depth (drop m file)) place)

@@ -6,11 +6,10 @@ ghost use Rattle.sound_terms.specs.declared.block.Instruction as word;
 ghost use Rattle.sound_terms.specs.declared.block.Instruction.TheVariants as instruction;
 ghost use Rattle.sound_terms.specs.Depth.{bits_of};
 ghost use Rattle.pcm.specs.Samples.{FitsDepth};
-ghost use Rattle.sound_terms.specs.Blocks.{BlockState, IsBlockProgram, IsFormed, AddsOne, LiesInFiles, executed, executed_all};
+ghost use Rattle.sound_terms.specs.Blocks.{BlockState, IsBlockProgram, IsFormed, AddsOne, LiesInFiles, PlaysFull, executed, executed_all};
 ghost use Rattle.list_terms.specs.Heard.{reading_by};
 ghost use Rattle.shelf.specs.Frame.{OnlyReads};
 ghost use Rattle.blockmachine.specs.Fault.{FailsAt, IsSource};
-ghost use Rattle.blockmachine.specs.Playing.{PlaysFull};
 ghost use Rattle.blockmachine.specs.Sums.{AreSums, channel_room};
 
 use crate::MachineFault;

@@ -4,12 +4,12 @@ ghost use Rattle.std.specs.List.{All};
 ghost use Rattle.sound_terms.specs.Sounds.{SoundFacts};
 ghost use Rattle.sound_terms.specs.Media.{LiesInFile};
 ghost use Rattle.sound_terms.specs.Groups.{IsRamp};
-ghost use Rattle.sound_terms.specs.Blocks.{sums_with};
+ghost use Rattle.sound_terms.specs.Blocks.{IsFull, sums_with};
 ghost use Rattle.list_terms.specs.Heard.{reading_by};
 ghost use Rattle.shelf.specs.Frame.{OnlyReads};
 ghost use Rattle.blockmachine.specs.Fault.{FailsAt, IsSource};
 ghost use Rattle.pcm.specs.Samples.{FitsDepth};
-ghost use Rattle.blockmachine.specs.Playing.{IsFull, Plays};
+ghost use Rattle.blockmachine.specs.Playing.{Plays};
 ghost use Rattle.blockmachine.specs.Sums.{AreSums, IsInside};
 
 use crate::MachineFault;

@@ -1,18 +1,12 @@
--- What a command that stops leaves of its stores.
-use Rattle.std.proofs.Common.{◌≡◌, ◌≢◌, ℕ, ◌==◌, false, IsTrue, List, inl, arith, refl}
-use Rattle.std.specs.Prelude.{Ok, Err}
-use Rattle.std.specs.List.{list_any}
+-- What a call leaves of its stores.
+use Rattle.std.proofs.Common.{◌≢◌, inl, arith, refl}
+use Rattle.std.specs.Prelude.{Err}
 use Rattle.shelf.specs.declared.source.Shelf as source
 use Rattle.shelf.specs.declared.bench.Bench as output
 use Rattle.work_terms.specs.Disk.{Files, IsUntouched}
-use Rattle.consolidate.specs.Commands.{KeepsStores}
-use Rattle.consolidate.specs.Faults.{refusal_of}
-use Rattle.consolidate.specs.Frame.{ReadsSources}
-use Rattle.consolidate.specs.declared.faults.Fault.{Fault}
-
--- a number isn't one of a list that doesn't have it
-pub not_among : (numbers : List ℕ) (number other : ℕ) → IsTrue (list_any (λ n. number == n) numbers) → list_any (λ n. other == n) numbers ≡ false → number ≢ other
-not_among numbers number other among missing same = let among' = rw same at among in cc
+use Rattle.consolidate.specs.Commands.{KeepsStores, ReadsSources}
+use Rattle.consolidate.specs.Fault.{refusal_of}
+use Rattle.consolidate.specs.declared.fault.Fault.{Fault}
 
 module _ {S B : Type 0} (shelf : source.Ghosts S) (bench : output.Ghosts B) where
   -- a bench that no call has touched
@@ -32,19 +26,8 @@ module _ {S B : Type 0} (shelf : source.Ghosts S) (bench : output.Ghosts B) wher
     sources = only_reads.same;
     honest_shelf = only_reads.honest_same;
     honest_bench = refl;
-    cause_of_22 = only_reads.cause;
+    cause_at_source = only_reads.cause;
     cause_of_62 = record { later = omega arith; left = λ quiet. refl; rose = λ device. absurd (no_output device) };
     failed_source = only_reads.failed_there;
     failed_output = λ device. absurd (no_output device);
-  }
-
-  -- sources that were read well stay so where a later call stops without having read them
-  pub read_well : {X : Type 0} (Y : Type 0) (old new : S) (x : X) (fault : Fault) → ReadsSources shelf old new (Ok x) → (refusal_of fault).number ≢ 22
-      → ReadsSources {X = Y} shelf old new (Err fault)
-  read_well Y old new x fault only_reads no_source = record {
-    same = only_reads.same;
-    honest_same = only_reads.honest_same;
-    cause = record { later = only_reads.cause.later; left = λ quiet. only_reads.cause.left tt; rose = λ device. absurd (no_source device) };
-    keeps = only_reads.keeps;
-    failed_there = λ device. absurd (no_source device);
   }

@@ -1,39 +1,108 @@
--- What a call of each command answers, and what it leaves of the sources and of the outputs.
-use Rattle.std.specs.Prelude.{◌≡◌, ◌≢◌, ◌<◌, ◌+◌, ℕ, false, IsTrue, List, Result, Err, Some, IfOk, IfErr, IsOk, IsErrAnd, OnOk, length, codes}
-use Rattle.std.specs.List.{filter}
+-- What each call answers, and what it leaves of the sources and of the outputs.
+use Rattle.std.specs.Prelude.{◌≡◌, ◌≢◌, ◌==◌, ◌||◌, ℕ, false, IsTrue, Option, None, List, Result, Ok, Err, Some, IfOk, IfErr, IsOk, IsErrAnd, OnOk, ◌++◌, codes, string_bytes}
 use Rattle.shelf.specs.declared.source.Shelf as source
 use Rattle.shelf.specs.declared.bench.Bench as output
+use Rattle.shelf.specs.Frame.{OnlyReads, OnlyWrites}
 use Rattle.work_terms.specs.Disk.{Files, HasCause, IsDurable, IsUntouched}
 use Rattle.work_terms.specs.Refusals.{Answers, IsDue, Refusal}
-use Rattle.adlread.specs.PlainList.{text_value}
-use Rattle.consolidate.specs.Bound.{HoldsOfFile}
-use Rattle.consolidate.specs.Consolidated.{IsConsolidated, IsElsewhere, SoundsTheSame, consolidation_refusal, is_sounding, media_name}
-use Rattle.consolidate.specs.Faults.{refusal_of}
-use Rattle.consolidate.specs.Own.{IsOneOf, NamesUsedIndex, Numbers, OfText, consolidation_numbers, rendering_numbers}
-use Rattle.consolidate.specs.Rendering.{IsRendered, Reports, render_refusal}
-use Rattle.consolidate.specs.declared.faults.Fault.{Fault}
-use Rattle.consolidate.specs.declared.faults.Fault.TheVariants.{Output}
-use Rattle.consolidate.specs.declared.faults.OutputFile.TheVariants as file
-use Rattle.consolidate.specs.declared.rendering.Rendered.{Rendered}
-use Rattle.consolidate.specs.declared.consolidating.Written.{Written}
-
--- a crash leaves the list and so many media as they are read
-pub record AreDurable (media : ℕ) (stored : Files) (may_leave : Files → Type 0) : Type 0 where
-  pub list : IsDurable (codes "consolidated.adl") stored may_leave
-  pub each_medium : (k : ℕ) → k < media → IsDurable (media_name (1 + k)) stored may_leave
-
--- the media and the entries that are told are the entries of the list that sound
-abbrev pub Counts : List ℕ → Written → Type 0
-Counts text written = OfText text (λ project. (written.media ≡ length (filter is_sounding project.events)) × (written.entries ≡ length (filter is_sounding project.events)))
+use Rattle.list_terms.specs.declared.Notice.{Notice}
+use Rattle.list_terms.specs.Project.{ListProject}
+use Rattle.list_terms.specs.Binding.{Binding}
+use Rattle.list_terms.specs.Accepted.{OptionValues, first_fault, range_of}
+use Rattle.list_terms.specs.Heard.{IsAccepted, project_fault}
+use Rattle.list_terms.specs.Text.{text_value}
+use Rattle.adlread.specs.Spells.{Spells}
+use Rattle.opening.specs.Commands as opening
+use Rattle.opening.specs.Faults as opening_faults
+use Rattle.opening.specs.declared.checking.Accepted.{Accepted}
+use Rattle.rendering.specs.Rendering as rendering
+use Rattle.consolidation.specs.Consolidated as consolidation
+use Rattle.consolidation.specs.Consolidated.{AreDurable, IsElsewhere, IsWorkOf, Work, work_fault}
+use Rattle.consolidation.specs.Work.{SoundsTheSame}
+use Rattle.consolidate.specs.Fault.{refusal_of}
+use Rattle.consolidate.specs.Own.{IsOfConsolidation, IsOfProject, IsOfRendering}
+use Rattle.consolidate.specs.declared.fault.Fault.{Fault}
+use Rattle.consolidate.specs.declared.fault.Fault.TheVariants as fault
+use Rattle.consolidate.specs.declared.fault.OutputFile.TheVariants as file
+use Rattle.consolidate.specs.declared.rendered.Rendered.{Rendered}
+use Rattle.consolidate.specs.declared.consolidated.Written.{Written}
 
 -- a text with a fault is refused, whatever the files are
 abbrev pub RefusesBadText : {X : Type 0} → List ℕ → Result X Fault → Type 0
 RefusesBadText text result = (refusal : Refusal) → text_value text ≡ Err refusal → IfErr result (λ fault. IsDue (refusal_of fault) (Some refusal)) × (IsOk result → ⊥)
 
--- a refusal of a command is one of its own, and where it tells an index, an entry names it and the file is its file
-pub record IsOwn (numbers : Numbers) (text : List ℕ) (fault : Fault) : Type 0 where
-  pub number : IsOneOf numbers (refusal_of fault)
-  pub index : NamesUsedIndex text (refusal_of fault).place
+-- 22 and 52: the device of a source failed
+abbrev pub IsSource : Fault → Type 0
+IsSource fault = IsTrue ((refusal_of fault).number == 22 || (refusal_of fault).number == 52)
+
+-- this holds of the name of the source whose device failed
+abbrev pub HoldsOfSource : Fault → (List ℕ → Type 0) → Type 0
+HoldsOfSource (fault.Project of) P = opening.HoldsOfFile P (opening_faults.refusal_of of).place
+HoldsOfSource (fault.Silence name) P = P (string_bytes name)
+HoldsOfSource (fault.Source name) P = P (string_bytes name)
+HoldsOfSource _ P = ⊥
+
+-- a call that only reads sources: 22 and 52 tell that their device failed, at the file that is named
+abbrev pub ReadsSources : {S X : Type 0} → source.Ghosts S → S → S → Result X Fault → Type 0
+ReadsSources shelf old new result = OnlyReads shelf old new result IsSource HoldsOfSource
+
+-- 62: the device of the output failed
+abbrev pub IsOutput : Fault → Type 0
+IsOutput fault = (refusal_of fault).number ≡ 62
+
+-- this holds of the name of the output whose device failed
+abbrev pub HoldsOfOutput : Fault → (List ℕ → Type 0) → Type 0
+HoldsOfOutput fault P = opening.HoldsOfFile P (refusal_of fault).place
+
+-- a call that changes no output that stays: 62 tells that their device failed, at the file that is named
+abbrev pub WritesOutputs : {B X : Type 0} → output.Ghosts B → (List ℕ → Type 0) → B → B → Result X Fault → Type 0
+WritesOutputs bench stays old new result = OnlyWrites bench stays old new result IsOutput HoldsOfOutput
+
+-- the notices of a list, and then those of its files
+abbrev pub all_notices : ListProject → Binding → List Notice
+all_notices project binding = project.notices ++ binding.notices
+
+-- The list is accepted, and its rendering is there: that of the exact sums, rounded and clipped, and it reads back as them.
+pub record IsRendered (text : List ℕ) (values : OptionValues) (sources written : Files) (told : Rendered) : Type 0 where
+  pub project : ListProject
+  pub binding : Binding
+  pub spelled : Spells text project
+  pub accepted : IsAccepted text sources project binding
+  pub file : rendering.IsRendered project binding values sources (written (codes "render.wav"))
+  pub notices : told.notices.items ≡ all_notices project binding
+
+-- so many frames and channels are those of the list's range
+pub record Reports (text : List ℕ) (values : OptionValues) (told : Rendered) : Type 0 where
+  pub project : ListProject
+  pub spelled : Spells text project
+  pub range : rendering.HasRange (record { frames = told.frames; channels = told.channels }) (range_of project values)
+
+-- the first fault of rendering a list over these files
+abbrev pub range_refusal : OptionValues → Result ListProject Refusal → Option Refusal
+range_refusal values (Err refusal) = None
+range_refusal values (Ok project) = rendering.render_fault project values
+
+abbrev pub render_refusal : List ℕ → OptionValues → Files → Option Refusal
+render_refusal text values files = first_fault (project_fault text files) (range_refusal values (text_value text))
+
+-- The list is accepted, its media are written and the list over them, and no other file has changed.
+pub record IsConsolidated (text : List ℕ) (handle : ℕ) (sources old new : Files) (told : Written) : Type 0 where
+  pub project : ListProject
+  pub binding : Binding
+  pub spelled : Spells text project
+  pub accepted : IsAccepted text sources project binding
+  pub written : consolidation.IsConsolidated project binding handle sources old new (record { media = told.media; entries = told.entries; sizes = told.sizes })
+  pub notices : told.notices.items ≡ all_notices project binding
+
+-- a list that isn't accepted is refused by its first fault
+abbrev pub RefusesBadList : {X : Type 0} → List ℕ → Files → Result X Fault → Type 0
+RefusesBadList text files result =
+    (refusal : Refusal) → project_fault text files ≡ Some refusal → IfErr result (λ fault. IsDue (refusal_of fault) (Some refusal)) × (IsOk result → ⊥)
+
+-- a list that is accepted, by what is made of it
+abbrev pub RefusesByWork : {X : Type 0} → List ℕ → ℕ → Files → Result X Fault → Type 0
+RefusesByWork text handle files result = (project : ListProject) (binding : Binding) (work : Work)
+    → IsAccepted text files project binding → IsWorkOf project binding handle files work → Answers refusal_of result (work_fault binding work)
 
 module _ {S B : Type 0} (shelf : source.Ghosts S) (bench : output.Ghosts B) where
   -- the sources are as they were, the outputs too before the first write; a device's fault has its cause and its file
@@ -42,36 +111,46 @@ module _ {S B : Type 0} (shelf : source.Ghosts S) (bench : output.Ghosts B) wher
     pub sources : shelf.stored shelf_new ≡ shelf.stored shelf_old
     pub honest_shelf : shelf.honest shelf_new ≡ shelf.honest shelf_old
     pub honest_bench : bench.honest bench_new ≡ bench.honest bench_old
-    pub cause_of_22 : HasCause (shelf.failures shelf_old) (shelf.failures shelf_new)
-        (IfErr result (λ fault. (refusal_of fault).number ≢ 22)) (IsErrAnd result (λ fault. (refusal_of fault).number ≡ 22))
+    pub cause_at_source : HasCause (shelf.failures shelf_old) (shelf.failures shelf_new) (IfErr result (λ fault. ¬ IsSource fault)) (IsErrAnd result IsSource)
     pub cause_of_62 : HasCause (bench.failures bench_old) (bench.failures bench_new)
-        (IfErr result (λ fault. (refusal_of fault).number ≢ 62)) (IsErrAnd result (λ fault. (refusal_of fault).number ≡ 62))
-    pub failed_source : IfErr result (λ fault. (refusal_of fault).number ≡ 22 → HoldsOfFile (shelf.failed_at shelf_new) (refusal_of fault).place)
-    pub failed_output : IfErr result (λ fault. (refusal_of fault).number ≡ 62 → HoldsOfFile (bench.failed_at bench_new) (refusal_of fault).place)
+        (IfErr result (λ fault. ¬ IsOutput fault)) (IsErrAnd result IsOutput)
+    pub failed_source : IfErr result (λ fault. IsSource fault → HoldsOfSource fault (shelf.failed_at shelf_new))
+    pub failed_output : IfErr result (λ fault. IsOutput fault → HoldsOfOutput fault (bench.failed_at bench_new))
 
   -- the list was rendered over these stores, with this outcome
-  pub record IsRendering (list : List ℕ) (shelf_old shelf_new : S) (bench_old bench_new : B) (result : Result Rendered Fault) : Type 0 where
-    pub rendered : IsTrue (shelf.honest shelf_old) → IsTrue (bench.honest bench_old) → OnOk result (IsRendered list (shelf.stored shelf_old) (bench.stored bench_new))
+  pub record IsRendering (list : List ℕ) (values : OptionValues) (shelf_old shelf_new : S) (bench_old bench_new : B) (result : Result Rendered Fault) : Type 0 where
+    pub rendered : IsTrue (shelf.honest shelf_old) → IsTrue (bench.honest bench_old)
+        → IfOk result (IsRendered list values (shelf.stored shelf_old) (bench.stored bench_new))
     pub durable : IsTrue (bench.honest bench_old) → OnOk result (IsDurable (codes "render.wav") (bench.stored bench_new) (bench.may_leave bench_new))
-    pub report : IfOk result (λ rendered. Reports list rendered.frames rendered.channels)
-    pub refusals : IsTrue (shelf.honest shelf_old) → Answers refusal_of result (render_refusal list (shelf.stored shelf_old))
+    pub report : IfOk result (Reports list values)
+    pub refusals : IsTrue (shelf.honest shelf_old) → Answers refusal_of result (render_refusal list values (shelf.stored shelf_old))
     pub bad_text : RefusesBadText list result
-    pub own : IfErr result (IsOwn rendering_numbers list)
+    pub own : IfErr result (IsOfRendering list)
     pub named : IsTrue (bench.honest bench_old) → (n : List ℕ) → n ≢ codes "render.wav" → bench.stored bench_new n ≡ bench.stored bench_old n
     pub stores : KeepsStores shelf_old shelf_new bench_old bench_new result
 
   -- the list was consolidated over these stores, with this outcome
-  pub record IsConsolidation (list : List ℕ) (shelf_old shelf_new : S) (bench_old bench_new : B) (result : Result Written Fault) : Type 0 where
+  pub record IsConsolidation (list : List ℕ) (handle : ℕ) (shelf_old shelf_new : S) (bench_old bench_new : B) (result : Result Written Fault) : Type 0 where
     pub same_sound : IsTrue (shelf.honest shelf_old) → IsTrue (bench.honest bench_old) → OnOk result (SoundsTheSame list (shelf.stored shelf_old) (bench.stored bench_new))
     pub written : IsTrue (shelf.honest shelf_old) → IsTrue (bench.honest bench_old)
-        → IfOk result (λ written. IsConsolidated list (shelf.stored shelf_old) (bench.stored bench_old) (bench.stored bench_new) written.media written.entries)
-    pub durable : IsTrue (shelf.honest shelf_old) → IsTrue (bench.honest bench_old)
-        → IfOk result (λ written. AreDurable written.media (bench.stored bench_new) (bench.may_leave bench_new))
-    pub report : IfOk result (Counts list)
-    pub refusals : IsTrue (shelf.honest shelf_old) → Answers refusal_of result (consolidation_refusal list (shelf.stored shelf_old))
+        → IfOk result (IsConsolidated list handle (shelf.stored shelf_old) (bench.stored bench_old) (bench.stored bench_new))
+    pub durable : IsTrue (bench.honest bench_old) → IfOk result (λ told. AreDurable told.media (bench.stored bench_new) (bench.may_leave bench_new))
+    pub refusals : IsTrue (shelf.honest shelf_old) → RefusesByWork list handle (shelf.stored shelf_old) result
+    pub bad_list : IsTrue (shelf.honest shelf_old) → RefusesBadList list (shelf.stored shelf_old) result
     pub bad_text : RefusesBadText list result
-    pub own : IfErr result (IsOwn consolidation_numbers list)
+    pub own : IfErr result (IsOfConsolidation list)
     pub named : IsTrue (bench.honest bench_old) → (n : List ℕ) → IsElsewhere 32767 n → bench.stored bench_new n ≡ bench.stored bench_old n
-    pub list_last : IsTrue (bench.honest bench_old) → IfErr result (λ fault. fault ≢ Output file.List
+    pub list_last : IsTrue (bench.honest bench_old) → IfErr result (λ told. told ≢ fault.Output file.List
         → bench.stored bench_new (codes "consolidated.adl") ≡ bench.stored bench_old (codes "consolidated.adl"))
     pub stores : KeepsStores shelf_old shelf_new bench_old bench_new result
+
+-- the list was checked over these sources, with this outcome
+pub record IsChecking {S : Type 0} (shelf : source.Ghosts S) (list : List ℕ) (old new : S) (result : Result Accepted Fault) : Type 0 where
+  pub refusals : IsTrue (shelf.honest old) → Answers refusal_of result (project_fault list (shelf.stored old))
+  pub report : IsTrue (shelf.honest old) → IfOk result (opening.Reports list (shelf.stored old))
+  pub bad_text : RefusesBadText list result
+  pub own : IfErr result (IsOfProject list)
+  pub sources : shelf.stored new ≡ shelf.stored old
+  pub honest_shelf : shelf.honest new ≡ shelf.honest old
+  pub cause_at_source : HasCause (shelf.failures old) (shelf.failures new) (IfErr result (λ fault. ¬ IsSource fault)) (IsErrAnd result IsSource)
+  pub failed_source : IfErr result (λ fault. IsSource fault → HoldsOfSource fault (shelf.failed_at new))

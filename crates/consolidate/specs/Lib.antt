@@ -1,14 +1,3 @@
-pub mod Bound
 pub mod Commands
-pub mod Consolidated
-pub mod Copied
-pub mod Faults
-pub mod Frame
-pub mod Listed
+pub mod Fault
 pub mod Own
-pub mod Places
-pub mod Planned
-pub mod Rendering
-pub mod Stretches
-pub mod Sums
-pub mod Written

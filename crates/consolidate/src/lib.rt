@@ -1,29 +1,17 @@
-//! Consolidates the project of an audio decision list over a folder of sound files, or renders it.
+//! The calls of the product: checks an audio decision list over a folder of sound files, consolidates it, or renders it.
 #![tactic(auto)]
 
-mod adding;
-mod binder;
-mod binding;
-mod bound_indexes;
 mod checking;
-mod consolidating;
-mod copying;
-mod cutting;
-mod faults;
-mod header;
-mod listing;
-mod mixing;
-mod naming;
-mod opening;
-mod planning;
-mod prepared;
-mod preparing;
-mod ranging;
-mod rendering;
-mod source_file;
-mod used_numbers;
-mod writing;
+mod consolidated;
+mod fault;
+mod opened;
+mod rendered;
 
-pub use consolidating::{Written, consolidate};
-pub use faults::{EntryFault, Fault, OutputFile};
-pub use rendering::{Options, Rendered, render};
+pub use checking::check_project;
+pub use consolidated::{Written, consolidate};
+pub use consolidation::Sizes;
+pub use fault::{Fault, OutputFile};
+pub use list_terms::Notice;
+pub use opening::Accepted;
+pub use rendered::{Rendered, render};
+pub use rendering::{Depth, Options};

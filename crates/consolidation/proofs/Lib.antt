@@ -1,3 +1,12 @@
+mod Addressed
 mod CopiedReading
+mod Due
+mod HoldSteps
+mod HomeFrames
+mod LeftAtHome
+mod Linked
 mod MediaBound
+mod MediaThere
+mod Places
 mod SameSound
+mod SourceFailed

@@ -2,7 +2,7 @@
 use Rattle.std.proofs.Common.{ℕ, List, refl, ◌∙◌}
 use Rattle.work_terms.specs.Disk.{Files}
 use Rattle.list_terms.specs.Binding.{nothing_bound}
-use Rattle.list_terms.specs.Heard.{sounds_of}
+use Rattle.list_terms.specs.Heard.{reading_of, sounds_of}
 use Rattle.list_terms.specs.Renewed.{consolidated_project}
 use Rattle.list_terms.specs.WrittenText.{text_of_project}
 use Rattle.consolidation.specs.Work.{IsRenewed, SoundsTheSame, run_events}
@@ -23,10 +23,10 @@ sounds_the_same text sources written is =
       renewed = renewed;
       renewed_binding = with_media sources written sounds is.homes events nothing_bound 1 is.runs;
       accepted_again = record {
-        spelt = is.reads_back;
-        bound = media_bound sources written sounds is.homes events is.runs is.few is.media is.all_used;
-        checked = is.no_fault (with_media sources written sounds is.homes events nothing_bound 1 is.runs) refl refl;
+        spelt = is.linked.reads_back;
+        bound = media_bound sources written sounds is.homes events is.runs is.few is.media is.linked.all_used;
+        checked = is.linked.no_fault (with_media sources written sounds is.homes events nothing_bound 1 is.runs) refl refl;
       };
       same = λ channel time.
-          is.relinked _ (copied sources written sounds is.homes is.runs is.media) channel time ∙ is.same_mix channel time;
+          is.linked.relinked (reading_of sources is.binding) _ (copied sources written sounds is.homes is.runs is.media) channel time ∙ is.same_mix channel time;
     }

@@ -11,7 +11,7 @@ use Rattle.sound_terms.specs.Mix.{Reading, mix_at}
 use Rattle.sound_terms.specs.Media.{CopiesRuns, medium_info, sound_at}
 use Rattle.sound_terms.specs.Sounds.{SoundFacts}
 use Rattle.sound_terms.specs.SoundFiles.{sound_of}
-use Rattle.sound_terms.specs.Waves.{SoundInfo, data_place, sample_at}
+use Rattle.sound_terms.specs.Waves.{SoundInfo, data_place}
 use Rattle.sound_terms.specs.Homes.{base_by}
 use Rattle.work_terms.specs.Disk.{Files}
 use Rattle.list_terms.specs.Project.{ListProject}
@@ -21,16 +21,13 @@ use Rattle.list_terms.specs.Text.{text_value}
 use Rattle.list_terms.specs.WrittenText.{text_of_project}
 use Rattle.list_terms.specs.Heard.{IsAccepted, project_mix, reading_of, sounds_of}
 use Rattle.list_terms.specs.Renewed.{consolidated_project, media_name, numbered, run_base, run_event, run_indexes}
+use Rattle.mediacopy.specs.Copied.{HasSamplesOf}
 use Rattle.wavwrite.specs.Info.{facts_of}
+use Rattle.consolidation.specs.Numbered.{HoldAll}
 
 -- what the medium of a run tells of itself
 abbrev pub run_info : List SoundFacts → List Home → Run → SoundInfo
 run_info sounds homes run = medium_info (sound_at sounds run.file) (base_by homes run.file) run
-
--- the frames of a file from this place on have the samples of a run of a source
-abbrev pub HasSamplesOf : SoundFacts → List ℕ → Run → (file : List ℕ) (place : ℕ) → Type 0
-HasSamplesOf facts source run file place = (i channel : ℕ) → i < run.length → 1 ≤ channel → channel ≤ facts.channels
-    → sample_at file place facts.channels facts.depth i channel ≡ sample_at source facts.place facts.channels facts.depth (run.first + i) channel
 
 -- the medium of a run is there under its number, reads back, and has the samples of its source
 pub record HasMedium (sources written : Files) (sounds : List SoundFacts) (homes : List Home) (number : ℕ) (run : Run) : Type 0 where
@@ -54,8 +51,16 @@ run_events homes runs groups = numbered (run_event homes runs) 1 (placed_of grou
 
 -- the media of all runs are there
 abbrev pub HasMedia : (sources written : Files) (sounds : List SoundFacts) (homes : List Home) (runs : List Run) → Type 0
-HasMedia sources written sounds homes runs =
-    (k : ℕ) (run : Run) → slice_get runs k ≡ Some run → HasMedium sources written sounds homes (1 + k) run
+HasMedia sources written sounds homes runs = HoldAll (HasMedium sources written sounds homes) runs
+
+-- The list over the media of runs is read back and accepted over these media, and its entries sound as the groups.
+pub record IsLinked (project : ListProject) (sounds : List SoundFacts) (homes : List Home) (groups : List (List Piece)) (runs : List Run) : Type 0 where
+  pub reads_back : text_value (text_of_project (consolidated_project project homes groups runs)) ≡ Ok (consolidated_project project homes groups runs)
+  pub all_used : (k : ℕ) → k < length runs → is_used (run_events homes runs groups) (1 + k) ≡ true
+  pub no_fault : (renewed : Binding) → renewed.indexes ≡ run_indexes homes runs
+      → renewed.files ≡ numbered (opened_medium sounds homes) 1 runs → event_fault renewed (run_events homes runs groups) ≡ None
+  pub relinked : (given copied : Reading) → CopiesRuns given runs copied → (channel time : ℕ)
+      → mix_at copied (run_indexes homes runs) (run_events homes runs groups) channel time ≡ mix_of given groups channel time
 
 -- The written list is accepted over the written media, and each channel has the same sum at each sample.
 pub record SoundsTheSame (text : List ℕ) (sources written : Files) : Type 0 where
@@ -79,11 +84,6 @@ pub record IsRenewed (text : List ℕ) (sources written : Files) : Type 0 where
   pub runs : List Run
   pub few : length runs ≤ 32767
   pub list : written (codes "consolidated.adl") ≡ Some (text_of_project (consolidated_project project homes groups runs))
-  pub reads_back : text_value (text_of_project (consolidated_project project homes groups runs)) ≡ Ok (consolidated_project project homes groups runs)
+  pub linked : IsLinked project (sounds_of binding) homes groups runs
   pub media : HasMedia sources written (sounds_of binding) homes runs
-  pub all_used : (k : ℕ) → k < length runs → is_used (run_events homes runs groups) (1 + k) ≡ true
-  pub no_fault : (renewed : Binding) → renewed.indexes ≡ run_indexes homes runs
-      → renewed.files ≡ numbered (opened_medium (sounds_of binding) homes) 1 runs → event_fault renewed (run_events homes runs groups) ≡ None
-  pub relinked : (copied : Reading) → CopiesRuns (reading_of sources binding) runs copied
-      → (channel time : ℕ) → mix_at copied (run_indexes homes runs) (run_events homes runs groups) channel time ≡ mix_of (reading_of sources binding) groups channel time
   pub same_mix : (channel time : ℕ) → mix_of (reading_of sources binding) groups channel time ≡ project_mix sources project binding channel time

@@ -1,15 +1,13 @@
--- Which project is accepted over which files, what it sounds like, and the first fault of every other.
-use Rattle.std.specs.Prelude.{◌≡◌, ℕ, ◌+◌, ◌-◌, ◌&&◌, ◌||◌, nat_lt, nat_le, Bool, false, List, [], ◌∷◌, Option, None, Some, Result, Ok, Err, if◌then◌else◌, slice_get, option_map, min, max, ℤ, pos}
+-- The first entry of a bound project that is at fault, and what may be chosen of its rendering.
+use Rattle.std.specs.Prelude.{ℕ, ◌+◌, ◌-◌, ◌&&◌, ◌||◌, nat_lt, Bool, false, List, [], ◌∷◌, Option, None, Some, if◌then◌else◌, slice_get, option_map, min, max}
 use Rattle.sound_terms.specs.declared.Event.{Event}
 use Rattle.sound_terms.specs.declared.BoundIndex.{BoundIndex}
-use Rattle.sound_terms.specs.Mix.{Reading, full_scale, index_of, mix_at}
-use Rattle.sound_terms.specs.Waves.{sample_at}
+use Rattle.sound_terms.specs.Mix.{index_of}
 use Rattle.sound_terms.specs.Sounds.{SoundFacts}
 use Rattle.sound_terms.specs.Render.{Range}
-use Rattle.work_terms.specs.Disk.{Files}
-use Rattle.work_terms.specs.Refusals.{Refusal, Entry, Nowhere}
+use Rattle.work_terms.specs.Refusals.{Refusal, Entry}
 use Rattle.list_terms.specs.Project.{ListProject}
-use Rattle.list_terms.specs.Binding.{Binding, OpenedFile, binding_of}
+use Rattle.list_terms.specs.Binding.{Binding, OpenedFile}
 
 -- the frames that an event plays don't all lie in those that its index can address
 abbrev pub is_outside : BoundIndex → Event → Bool
@@ -51,41 +49,6 @@ event_fault binding [] = None
 event_fault binding (event ∷ events) =
     first_fault (option_map (entry_refusal event) (entry_fault binding event)) (event_fault binding events)
 
--- the samples of the bound files at full scale, zero outside their channels and frames
-abbrev pub reading_of : Files → Binding → Reading
-reading_of files binding file channel frame = of_file (slice_get binding.files file) where
-  of_bytes : SoundFacts → Option (List ℕ) → ℤ
-  of_bytes facts None = pos 0
-  of_bytes facts (Some bytes) =
-      if nat_lt frame facts.frames && (nat_le 1 channel && nat_le channel facts.channels)
-      then full_scale facts.depth (sample_at bytes facts.place facts.channels facts.depth frame channel)
-      else pos 0
-
-  of_file : Option OpenedFile → ℤ
-  of_file None = pos 0
-  of_file (Some file) = of_bytes file.facts (files file.facts.name)
-
--- what a bound project sounds like on a channel at a time
-abbrev pub project_mix : Files → ListProject → Binding → ℕ → ℕ → ℤ
-project_mix files project binding channel time =
-    mix_at (reading_of files binding) binding.indexes project.events channel time
-
--- the project of a list over these files has no fault; the list is given by what its text reads as
-pub record IsAccepted (text : Result ListProject Refusal) (files : Files) (project : ListProject) (binding : Binding) : Type 0 where
-  pub spelt : text ≡ Ok project
-  pub bound : binding_of project files ≡ Ok binding
-  pub checked : event_fault binding project.events ≡ None
-
--- the first fault of a bound project
-abbrev pub bound_fault : ListProject → Result Binding Refusal → Option Refusal
-bound_fault project (Err refusal) = Some refusal
-bound_fault project (Ok binding) = event_fault binding project.events
-
--- the first fault of a list over these files: of its text, then of a file in index order, then of an entry in order
-abbrev pub project_fault : Result ListProject Refusal → Files → Option Refusal
-project_fault (Err refusal) files = Some refusal
-project_fault (Ok project) files = bound_fault project (binding_of project files)
-
 -- what may be chosen of a rendering
 pub record OptionValues : Type 0 where
   pub from : Option ℕ
@@ -115,14 +78,3 @@ range_of project options = record {
   channels = chosen options.channels (max 1 (greatest_of (λ event. event.dest.last) project.events));
   depth = options.depth;
 }
-
--- the first fault of a rendering: that of the project, then 58 where its range is empty
-abbrev pub range_fault : OptionValues → Result ListProject Refusal → Option Refusal
-range_fault options (Err refusal) = None
-range_fault options (Ok project) =
-    if nat_le (range_of project options).to (range_of project options).from
-    then Some (record { number = 58; place = Nowhere; late = false })
-    else None
-
-abbrev pub rendering_fault : Result ListProject Refusal → Files → OptionValues → Option Refusal
-rendering_fault text files options = first_fault (project_fault text files) (range_fault options text)

@@ -40,9 +40,6 @@ home_from place [] file = None
 home_from place (index ∷ indexes) file =
     if index.file == file then Some (earlier_home (home_at place index) (home_from (place + 1) indexes file)) else home_from (place + 1) indexes file
 
-abbrev pub home_of : Binding → ℕ → Option Home
-home_of binding file = home_from 0 binding.indexes file
-
 -- of a file without an index, which no binding has
 abbrev pub no_home : Home
 no_home = record { base = 0; addressable = 0; place = 0 }

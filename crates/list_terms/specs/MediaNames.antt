@@ -1,16 +1,20 @@
--- Laws of the names of media: different numbers have different names, none is that of the list, and their URLs name them.
-use Rattle.std.proofs.Common.{◌≡◌, ◌≢◌, ℕ, ◌+◌, ◌/◌, ◌%◌, ◌-◌, ◌<◌, ◌≤◌, Bool, true, false, not, List, [], ◌∷◌, ◌++◌, length, drop, All, Some, refl, sym, ap, ◌∙◌, ⊎_elim, arith, bytes_eq}
+-- Laws of the names of media: different numbers have different names, none is that of the list, their URLs name them, and
+-- they are printed so.
+use Rattle.std.proofs.Common.{◌≡◌, ◌≢◌, ℕ, ◌+◌, ◌/◌, ◌%◌, ◌-◌, ◌^◌, ◌<◌, ◌≤◌, Bool, true, false, not, List, [], ◌∷◌, ◌++◌, length, drop, All, Some, refl, sym, ap, ◌∙◌, ⊎_elim, arith, bytes_eq}
 use Rattle.std.specs.Prelude.{codes, decimal, ◌||◌, ◌&&◌, ◌==◌, nat_le, nat_lt}
+use Rattle.std.specs.Fmt.{char_count, format_spec, padded_integral}
 use Rattle.std.specs.List.{suffix_len, after_last}
 use Rattle.std.proofs.lemmas.Bool.{cases_lt}
 use Rattle.std.proofs.lemmas.Bool.Decides.{nat_tests}
 use Rattle.std.proofs.lemmas.Fmt.{decimal_digit, decimal_step}
+use Rattle.std.proofs.lemmas.List.{append-nil, append_assoc}
 use Rattle.std.proofs.lemmas.List.Elements.{All-head, All-tail, All-weaker, All-get_or, All-nil, All-cons}
 use Rattle.std.proofs.lemmas.List.Folds.{list_any_none}
 use Rattle.std.proofs.lemmas.List.Sums.{suffix_len_is}
 use Rattle.std.proofs.lemmas.Slice.Eq.{bytes_eq-Decides}
 use Rattle.std.proofs.lemmas.Str.{IsUtf8-from_ascii, is_utf8-from_IsUtf8}
 use Rattle.std.proofs.lemmas.Str.Ascii.{IsAscii-from_all}
+use native.Mathlib.Numerals.{unary_clauses}
 use Rattle.percent_encoding.specs.Percent.{percent_decode}
 use Rattle.percent_encoding.proofs.PercentLemmas.{percent_decode-nil, percent_decode_not_percent}
 use Rattle.list_terms.specs.Names.{is_media_name, place_of_path, place_of_url}
@@ -163,3 +167,10 @@ place_of_path-of_number n h =
 pub media_place : (n : ℕ) → n < 100000
     → place_of_url (codes "URL:file://localhost/" ++ media_name n) ≡ Some (record { path = media_name n; name = media_name n })
 media_place n h = rw (media_name-five n h) (place_of_path-of_number n h)
+
+-- ---- how they are printed
+
+-- five digits, by zeros in front, between the letter and the ending
+pub name_printed : (n : ℕ) → codes "M" ++ (padded_integral (format_spec 32 0 4 5 (2 ^ 64 - 1)) false [] (decimal n) ++ codes ".wav") ≡ media_name n
+unfolding media_name padded_integral char_count
+name_printed n = simp (append-nil, unary_clauses, append_assoc) refl

@@ -1,11 +1,6 @@
 -- One step after another, each of which may fail.
 use Rattle.std.specs.Prelude.{Result, Ok, Err}
-
--- a step and, where it gave a value, the next one
-infixl 10 ◌>>=◌
-abbrev pub ◌>>=◌ : {A B E : Type 0} → Result A E → (A → Result B E) → Result B E
-Ok x >>= f = f x
-Err e >>= f = Err e
+pub use Rattle.sound_terms.specs.Steps.{◌>>=◌}
 
 -- the value seen by `f`, and the fault as it is
 abbrev pub ok_map : {A B E : Type 0} → (A → B) → Result A E → Result B E

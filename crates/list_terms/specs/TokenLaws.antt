@@ -1,5 +1,5 @@
 -- A token's text is cut as that token again, and a token that is cut has a text of its kind.
-use Rattle.std.specs.Prelude.{◌≡◌, ℕ, ◌+◌, ◌==◌, ◌&&◌, ◌||◌, not, nat_le, Bool, true, false, List, [], ◌∷◌, ◌++◌, take, drop, length, Option, None, Some, Result, Ok, Err, refl, bytes_eq}
+use Rattle.std.specs.Prelude.{◌≡◌, ℕ, ◌+◌, ◌==◌, not, Bool, true, false, List, [], ◌∷◌, ◌++◌, take, drop, length, Option, Some, Result, Ok, Err, refl}
 use Rattle.std.specs.List.{list_all, prefix_len, take_while}
 use Rattle.std.proofs.Common.{zero, suc, sym, ap, ◌∙◌, append_assoc, arith}
 use Rattle.std.proofs.lemmas.Bool.Decides.{nat_tests}
@@ -7,7 +7,7 @@ use Rattle.std.proofs.lemmas.List.{drop_at, take_at}
 use Rattle.list_terms.specs.declared.TokenKind.{TokenKind}
 use Rattle.list_terms.specs.declared.TokenKind.TheVariants.{Quoted, Keyword, Word}
 use Rattle.list_terms.specs.declared.TextFault.{TextFault}
-use Rattle.list_terms.specs.Tokens.{TokenText, Cut, is_blank, is_quoted_byte, is_word_byte, byte_fault, open_fault, closed, keyword, quoted, token_from, token_at, token_text, behind_blanks, word}
+use Rattle.list_terms.specs.Tokens.{TokenText, Cut, is_blank, is_quoted_byte, is_word_byte, byte_fault, open_fault, closed, keyword, token_from, token_at, token_text, behind_blanks}
 
 -- one or more bytes of words
 abbrev pub is_word : List ℕ → Bool

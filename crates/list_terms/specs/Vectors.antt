@@ -1,5 +1,5 @@
 -- Worked examples. Each is computed from the definitions, so a definition that gives another value is refused here.
-use Rattle.std.specs.Prelude.{◌≡◌, refl, ℕ, List, [], ◌∷◌, ◌++◌, map, replicate, Option, None, Some, Result, Ok, false, bytes_eq, if◌then◌else◌, option_map, codes}
+use Rattle.std.specs.Prelude.{◌≡◌, refl, ℕ, List, [], ◌∷◌, ◌++◌, map, replicate, Option, None, Some, Ok, false, bytes_eq, if◌then◌else◌, option_map, codes}
 use Rattle.std.specs.Str.{is_utf8, chars}
 use lib.Utf8.{encode}
 use Rattle.percent_encoding.specs.Percent.{percent_decode}
@@ -7,11 +7,12 @@ use Rattle.sound_terms.specs.declared.Event.{Event}
 use Rattle.sound_terms.specs.declared.BoundIndex.{BoundIndex}
 use Rattle.sound_terms.specs.Sounds.{SoundFacts}
 use Rattle.work_terms.specs.Disk.{Files}
-use Rattle.work_terms.specs.Refusals.{Refusal, IndexFile, Index, Entry, Nowhere}
+use Rattle.work_terms.specs.Refusals.{Refusal, IndexFile, Index, Entry}
 use Rattle.list_terms.specs.Names.{place_of_url}
 use Rattle.list_terms.specs.Project.{Source, ListProject}
 use Rattle.list_terms.specs.Binding.{base_of, addressable_from}
-use Rattle.list_terms.specs.Accepted.{span_fault, rendering_fault, OptionValues}
+use Rattle.list_terms.specs.Accepted.{span_fault, range_of, OptionValues}
+use Rattle.list_terms.specs.Heard.{read_fault}
 
 pub names : map (λ url. option_map (λ place. place.name) (place_of_url url))
     (codes "URL:file://localhost/A.wav" ∷ codes "file:///x/A%20b.wav" ∷ codes "url:FILE://host/x/y%2Fz/B.wav" ∷ codes "file://a/50%.wav"
@@ -83,21 +84,18 @@ wave = codes "RIFF" ++ (44 ∷ 0 ∷ 0 ∷ 0 ∷ []) ++ codes "WAVEfmt " ++ (16 
 abbrev folder : Files
 folder name = if bytes_eq name (codes "A.wav") then Some wave else None
 
-abbrev project : List Source → List Event → Result ListProject Refusal
-project sources events = Ok (record {
+abbrev project : List Source → List Event → ListProject
+project sources events = record {
   header = record { version = None; project = None; system = None; sequence = None; track_list = None };
   rate = 25;
   sources = sources;
   events = events;
   separators = codes ".../";
   notices = [];
-})
-
-abbrev options : OptionValues
-options = record { from = None; to = None; channels = None; depth = 16 }
+}
 
 abbrev fault : List Source → List Event → Option Refusal
-fault sources events = rendering_fault (project sources events) folder options
+fault sources events = read_fault folder (Ok (project sources events))
 
 abbrev here : ℕ → Source
 here number = source number (codes "URL:file://localhost/A.wav") (Some 0)
@@ -120,8 +118,15 @@ pub source_channel : fault (here 1 ∷ []) (event 1 0 2 0 4 0 0 ∷ []) ≡ Some
 unfolding is_utf8 chars encode percent_decode
 source_channel = refl
 
-pub nothing_to_render : fault (here 1 ∷ []) [] ≡ Some (record { number = 58; place = Nowhere; late = false })
-nothing_to_render = refl
+-- nothing is chosen
+abbrev options : OptionValues
+options = record { from = None; to = None; channels = None; depth = 16 }
+
+-- from the first in to the last out, on all channels; an empty range without an entry
+pub default_ranges : map (λ events. range_of (project (here 1 ∷ []) events) options)
+    ((event 1 0 1 7 9 0 0 ∷ event 1 0 1 3 8 0 0 ∷ []) ∷ [] ∷ [])
+    ≡ record { from = 3; to = 9; channels = 1; depth = 16 } ∷ record { from = 0; to = 0; channels = 1; depth = 16 } ∷ []
+default_ranges = refl
 
 -- a file that isn't there is refused where an entry uses it, before any entry
 pub missing_file : fault (here 1 ∷ source 2 (codes "file:///B.wav") None ∷ []) (event 3 0 1 0 4 0 0 ∷ event 2 0 1 0 4 0 0 ∷ [])

@@ -8,6 +8,7 @@ use Rattle.list_terms.specs.Project.{ListProject}
 use Rattle.list_terms.specs.Binding.{Binding}
 use Rattle.list_terms.specs.Heard.{IsAccepted}
 use Rattle.list_terms.specs.Text.{text_value}
+use Rattle.adlread.specs.Spells.{Spells}
 use Rattle.opening.specs.Faults.{refusal_of}
 use Rattle.opening.specs.declared.fault.Fault.{Fault}
 use Rattle.opening.specs.declared.checking.Accepted as declared
@@ -31,6 +32,7 @@ RefusesBadText text result = (refusal : Refusal) → text_value text ≡ Err ref
 pub record Reports (text : List ℕ) (files : Files) (told : declared.Accepted) : Type 0 where
   pub project : ListProject
   pub binding : Binding
+  pub spelled : Spells text project
   pub accepted : IsAccepted text files project binding
   pub notices : told.notices.items ≡ project.notices ++ binding.notices
   pub entries : told.entries ≡ length project.events

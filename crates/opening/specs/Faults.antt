@@ -2,7 +2,7 @@
 use Rattle.std.specs.Prelude.{false}
 use Rattle.work_terms.specs.Refusals.{Refusal, IndexFile, Index}
 use Rattle.riff.specs.Fault as media
-use Rattle.whole_read.specs.Fault as list
+use Rattle.adlread.specs.Fault as list
 use Rattle.projectcheck.specs.Fault as entry
 use Rattle.sourceindex.specs.Fault.{name_of_source}
 use Rattle.opening.specs.declared.fault.Fault.{Fault}

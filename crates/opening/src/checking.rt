@@ -8,11 +8,11 @@ ghost use Rattle.opening.specs.Own.{IsOfOpening};
 
 use crate::Fault;
 use crate::open::open_project;
+use adlread::AdlFault;
 use list_terms::Notice;
 use projectcheck::Checked;
 use shelf::Shelf;
 use std::alloc::{AllocError, Global};
-use whole_read::AdlFault;
 
 /// What is told of a list that is accepted: its notices, and how many entries and bound indexes it has.
 #[derive(Debug, Drop)]
@@ -23,7 +23,7 @@ pub struct Accepted {
 }
 
 /// The notices of a list, and then those of its files.
-fn notices_of(alloc: Global, checked: &Checked) -> Result<Vec<Notice>, AllocError>
+pub fn notices_of(alloc: Global, checked: &Checked) -> Result<Vec<Notice>, AllocError>
     ensures { IfOk result (λ notices. notices.items ≡ checked.now.project.notices ++ checked.now.bound.notices) }
 {
     let mut notices = Vec::from_slice(alloc, checked.project().notices())?;

@@ -2,11 +2,11 @@
 ghost use Rattle.std.specs.Prelude.{◌≡◌};
 ghost use Rattle.opening.specs.Faults.{refusal_of};
 
+use adlmodel::Source;
+use adlread::AdlFault;
 use projectcheck::EventFault;
 use thiserror::Error;
 use wavread::MediaFault;
-use whole_model::Source;
-use whole_read::AdlFault;
 
 /// Why a list isn't accepted over the files that are there, in the order in which its stages come.
 #[derive(Debug, Drop, Error)]

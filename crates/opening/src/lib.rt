@@ -5,6 +5,6 @@ mod checking;
 mod fault;
 mod open;
 
-pub use checking::{Accepted, check_project};
+pub use checking::{Accepted, check_project, notices_of};
 pub use fault::Fault;
 pub use open::open_project;

@@ -4,6 +4,7 @@ ghost use Rattle.work_terms.specs.Refusals.{Answers, is_excused, turn_of};
 ghost use Rattle.list_terms.specs.Bound.{binding_of};
 ghost use Rattle.list_terms.specs.Heard.{IsAccepted, project_fault};
 ghost use Rattle.list_terms.specs.Text.{text_value};
+ghost use Rattle.adlread.specs.Spells.{Spells};
 ghost use Rattle.sourceindex.specs.Fault as binding;
 ghost use Rattle.sourceindex.specs.Own.{IsOfProject};
 ghost use Rattle.opening.specs.Commands.{ReadsSources, RefusesBadText};
@@ -11,16 +12,17 @@ ghost use Rattle.opening.specs.Faults.{refusal_of};
 ghost use Rattle.opening.specs.Own.{IsOfBinding, IsOfOpening};
 
 use crate::Fault;
+use adlmodel::Project;
+use adlread::read;
 use projectcheck::{Checked, check};
 use shelf::Shelf;
 use sourceindex::{BindFault, Bound, bind};
 use std::alloc::Global;
-use whole_model::Project;
-use whole_read::read;
 
 /// Reads the list.
 fn read_list(alloc: Global, list: &[u8]) -> Result<Project, Fault>
     ensures spelt { IfOk result (λ project. text_value list.now ≡ Ok project) }
+    ensures spelled { IfOk result (Spells list.now) }
     ensures refused { IfErr result (λ fault. MatchBool (is_excused (refusal_of fault).number) ⊤ (text_value list.now ≡ Err (refusal_of fault))) }
     ensures first { IfErr result (λ fault. (refusal_of fault).number ≤ 18) }
     ensures early { IfErr result (λ fault. (refusal_of fault).late ≡ false) }
@@ -76,6 +78,7 @@ fn bind_project<S: Shelf>(
 pub fn open_project<S: Shelf>(alloc: Global, list: &[u8], shelf: &mut S) -> Result<Checked, Fault>
     ensures accepted { IsTrue (S.honest shelf.old) → IfOk result (λ checked. IsAccepted list.now (S.stored shelf.old) checked.project checked.bound) }
     ensures spelt { IfOk result (λ checked. text_value list.now ≡ Ok checked.project) }
+    ensures spelled { IfOk result (λ checked. Spells list.now checked.project) }
     ensures refusals { IsTrue (S.honest shelf.old) → Answers refusal_of result (project_fault list.now (S.stored shelf.old)) }
     ensures bad_text { RefusesBadText list.now result }
     ensures own { IfErr result (IsOfOpening list.now) }

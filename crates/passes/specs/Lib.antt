@@ -1,5 +1,6 @@
 pub mod Alone
 pub mod Ends
 pub mod Fault
+pub mod Laws
 pub mod Looks
 pub mod Silent

@@ -16,7 +16,7 @@ mod silence;
 pub use fades::split_fades;
 pub use fault::PassFault;
 pub use grouping::regroup;
-pub use in_turn::standard;
+pub use in_turn::{joined_anew, standard};
 pub use joining::join_cuts;
 pub use looking::silent_of;
 pub use samples::Samples;

@@ -1,13 +1,15 @@
 // A project without a fault.
-ghost use Rattle.std.specs.Prelude.{◌≡◌, IfOk, None};
+ghost use Rattle.std.specs.Prelude.{◌≡◌, IfOk, IsSome, None, Some, slice_get, string_bytes};
 ghost use Rattle.work_terms.specs.Refusals.{Answers};
+ghost use Rattle.sound_terms.specs.Sounds.{SoundFacts};
 ghost use Rattle.list_terms.specs.Accepted.{event_fault};
+ghost use Rattle.list_terms.specs.Heard.{sounds_of};
 ghost use Rattle.projectcheck.specs.Fault.{refusal_of};
 
 use crate::{EventFault, fault_of};
+use adlmodel::Project;
 use sound_terms::Event;
 use sourceindex::Bound;
-use whole_model::Project;
 
 /// A project and what it is bound to, with no entry at fault.
 #[derive(Drop)]
@@ -24,6 +26,14 @@ impl Checked {
         ensures accepted { event_fault self.now.bound self.now.project.events ≡ None }
     {
         &self.project
+    }
+
+    /// Hands out the name of a file, by its place among those opened.
+    pub fn into_name(self, file: u32) -> String
+        requires there { IsSome (slice_get (sounds_of self.bound) file) }
+        ensures { (facts : SoundFacts) → slice_get (sounds_of self.bound) file ≡ Some facts → string_bytes result ≡ facts.name }
+    {
+        self.bound.into_name(file)
     }
 
     /// What it is bound to.

@@ -1,6 +1,5 @@
 mod RunOf
 mod Numbering
-mod Names
 mod Maximal
 mod Stretching
 mod Placing

@@ -8,10 +8,10 @@ ghost use Rattle.relink.specs.Linked.{EndsInDay};
 
 use crate::homes::base_of;
 use crate::naming::media_name;
+use adlmodel::{Bytes, Source};
 use sampletime::SampleTime;
 use sound_terms::{Home, Run};
 use std::alloc::{AllocError, Global};
-use whole_model::{Bytes, Source};
 
 /// The folder of a medium, as a URL has it.
 const FOLDER: &[u8] = b"URL:file://localhost/";

@@ -17,10 +17,10 @@ ghost use Rattle.relink.specs.declared.fault.RelinkFault.TheVariants.{Memory, To
 use crate::RelinkFault;
 use crate::entries::entries_of;
 use crate::indexes::indexes_of;
+use adlmodel::Project;
 use interval::Intervals;
 use sound_terms::{Home, Run};
 use std::alloc::Global;
-use whole_model::Project;
 
 /// The entries that a list can have.
 const MOST_ENTRIES: usize = 32_767;

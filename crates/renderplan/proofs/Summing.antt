@@ -16,8 +16,7 @@ use Rattle.sound_terms.specs.Mix.{Reading, share_of}
 use Rattle.sound_terms.specs.Groups.{IsBounded, IsPiece, fraction_of, holding, is_under, part_of, sum_of}
 use Rattle.sound_terms.specs.Passes.{shape_behind}
 use Rattle.sound_terms.specs.Render.{Range}
-use Rattle.sound_terms.specs.Blocks.{AddsOne, BlockState, block_frames, block_samples, block_start, executed_all, frame_samples, held, is_on, lines_of, mixed_block, program_of, share_at, stretch_in}
-use Rattle.renderplan.specs.Planned.{PlaysFull}
+use Rattle.sound_terms.specs.Blocks.{AddsOne, BlockState, block_frames, block_samples, block_start, executed_all, frame_samples, held, is_on, lines_of, mixed_block, program_of, share_at, stretch_in, PlaysFull}
 use Rattle.renderplan.proofs.Formed.{all_of_parts, line_adds}
 use Rattle.renderplan.proofs.Shares.{IsWithin, held_few, holds, part_within, within_add}
 

@@ -1,12 +1,9 @@
 -- What a plan renders.
-use Rattle.std.specs.Prelude.{◌≡◌, ℕ, ◌+◌, ◌^◌, ◌<◌, ◌≤◌, ⊤, pos, neg_ℤ, ◌≤ℤ◌, List, All}
+use Rattle.std.specs.Prelude.{◌≡◌, ℕ, ◌<◌, ◌≤◌, List, All}
 use Rattle.sampletime.specs.TimeCode.{day}
 use Rattle.sound_terms.specs.declared.Depth.{Depth}
 use Rattle.sound_terms.specs.declared.piece.Piece.{Piece}
-use Rattle.sound_terms.specs.declared.block.Instruction.{Instruction}
-use Rattle.sound_terms.specs.declared.block.Instruction.TheVariants.{Start, Add, Emit}
 use Rattle.sound_terms.specs.Depth.{bits_of}
-use Rattle.sound_terms.specs.Mix.{Reading}
 use Rattle.sound_terms.specs.Groups.{IsBounded, IsPiece}
 use Rattle.sound_terms.specs.Render.{Range}
 
@@ -28,10 +25,3 @@ pub record IsPlan (planned : Planned) : Type 0 where
   pub some_channels : 1 ≤ planned.range.channels
   pub few_channels : planned.range.channels ≤ 64
   pub depth_told : planned.range.depth ≡ bits_of planned.depth
-
--- no sample that the instruction plays lies outside full scale
-abbrev pub PlaysFull : Reading → Instruction → Type 0
-PlaysFull reading (Start n) = ⊤
-PlaysFull reading (Add s shape) = (j i : ℕ) → j < s.width → i < s.length
-    → (neg_ℤ (pos (2 ^ 47)) ≤ℤ reading s.file (s.first + j) (s.frame + i)) × (reading s.file (s.first + j) (s.frame + i) ≤ℤ pos (2 ^ 47))
-PlaysFull reading (Emit depth) = ⊤

@@ -6,8 +6,8 @@ ghost use Rattle.sound_terms.specs.Media.{IsPieceOf};
 ghost use Rattle.sound_terms.specs.Mix.{Reading};
 ghost use Rattle.sound_terms.specs.Groups as spec;
 ghost use Rattle.sound_terms.specs.Groups.{IsBounded, IsPiece, sum_of};
-ghost use Rattle.sound_terms.specs.Blocks.{BlockState, IsBlockProgram, LiesInFiles, block_count, block_frames, executed_all, mixed_block, program_of};
-ghost use Rattle.renderplan.specs.Planned.{IsPlan, PlaysFull, range_of};
+ghost use Rattle.sound_terms.specs.Blocks.{BlockState, IsBlockProgram, LiesInFiles, PlaysFull, block_count, block_frames, executed_all, mixed_block, program_of};
+ghost use Rattle.renderplan.specs.Planned.{IsPlan, range_of};
 
 use crate::PlanFault;
 use crate::lines::{Window, push_lines};

@@ -9,9 +9,8 @@ use Rattle.sound_terms.specs.declared.SoundFault.{SoundFault}
 use Rattle.sound_terms.specs.declared.SoundFault.TheVariants.{NotWave, BadDs64}
 use Rattle.sound_terms.specs.Steps.{◌>>=◌}
 use Rattle.sound_terms.specs.Chunks.{number_at, stands_at}
-use Rattle.sound_terms.specs.Sounds.{is_riff, is_rf64}
+use Rattle.sound_terms.specs.Walks.{is_riff, is_rf64, Layout, rf64_layout, layout_of, chunks_in, checked_chunks, walked}
 use Rattle.sound_terms.specs.Ds64.{ds64_of, ds64_in, ds64_size}
-use Rattle.sound_terms.specs.Walks.{Layout, rf64_layout, layout_of, chunks_in, checked_chunks, walked}
 use Rattle.riff.specs.declared.head.Head.{Head}
 use Rattle.riff.specs.Found.{HasHead, IsAhead}
 use Rattle.riff.specs.Form.{IsLaid}

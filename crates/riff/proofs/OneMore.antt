@@ -11,8 +11,7 @@ use Rattle.sound_terms.specs.declared.Span.{Span}
 use Rattle.sound_terms.specs.declared.SoundFault.{SoundFault}
 use Rattle.sound_terms.specs.declared.SoundFault.TheVariants.{Truncated}
 use Rattle.sound_terms.specs.Chunks.{Chunk, counted_ids, first_of, has_others}
-use Rattle.sound_terms.specs.Walks.{chunk_fault, first_fault}
-use Rattle.sound_terms.specs.Sounds.{span_of}
+use Rattle.sound_terms.specs.Walks.{chunk_fault, first_fault, span_of}
 use Rattle.riff.specs.declared.found.Found.{Found}
 use Rattle.riff.specs.Found.{IsFoundIn, chunk_at}
 

@@ -5,8 +5,7 @@ use Rattle.sound_terms.specs.declared.Span.{Span}
 use Rattle.sound_terms.specs.declared.Chunks.{Chunks}
 use Rattle.sound_terms.specs.declared.SoundFault.{SoundFault}
 use Rattle.sound_terms.specs.Chunks.{Chunk, number_at, chunks_from, first_of, has_others}
-use Rattle.sound_terms.specs.Sounds.{span_of}
-use Rattle.sound_terms.specs.Walks.{Layout, riff_layout, rf64_layout, layout_of, chunks_in, first_fault, walked}
+use Rattle.sound_terms.specs.Walks.{span_of, Layout, riff_layout, rf64_layout, layout_of, chunks_in, first_fault, walked}
 use Rattle.riff.specs.declared.found.Found.{Found}
 use Rattle.riff.specs.declared.head.Head.{Head}
 

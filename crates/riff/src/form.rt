@@ -1,6 +1,6 @@
 // The head of a sound file: RIFF, or RF64 with the chunk `ds64` (EBU Tech 3306).
 ghost use Rattle.std.specs.Prelude.{◌≡◌, ◌≤◌, ◌+◌, ◌*◌, ◌↔◌, ℕ, List, Some, true, false, codes, length, IsTrue, IfOk, IsErrOf};
-ghost use Rattle.sound_terms.specs.Sounds.{is_riff, is_rf64};
+ghost use Rattle.sound_terms.specs.Walks.{is_riff, is_rf64};
 ghost use Rattle.shelf.specs.Frame.{OnlyReads};
 ghost use Rattle.riff.specs.Found.{HasHead, heads_of};
 ghost use Rattle.riff.specs.Form.{OpensAs};

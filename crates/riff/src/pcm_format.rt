@@ -1,8 +1,7 @@
 // The contents of the chunk `fmt `.
 ghost use Rattle.std.specs.Prelude.{◌≡◌, ◌≤◌, ◌+◌, length, IfOk};
 ghost use Rattle.sound_terms.specs.Chunks.{number_at, stands_at};
-ghost use Rattle.sound_terms.specs.Sounds.{depth_of, is_pcm};
-ghost use Rattle.sound_terms.specs.Formats.{format_of};
+ghost use Rattle.sound_terms.specs.Formats.{depth_of, is_pcm, format_of};
 ghost use Rattle.riff.specs.Fault.{as_media};
 
 use crate::MediaFault;

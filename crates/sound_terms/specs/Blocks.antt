@@ -1,5 +1,5 @@
 -- A block of a rendering: what its instructions do, and the instructions that render pieces.
-use Rattle.std.specs.Prelude.{◌≡◌, ℕ, zero, suc, ◌+◌, ◌-◌, ◌*◌, ◌/◌, ◌≤◌, ◌&&◌, nat_lt, nat_le, min, max, Bool, ⊤, ℤ, pos, ◌+ℤ◌, List, [], ◌∷◌, ◌++◌, All, if◌then◌else◌}
+use Rattle.std.specs.Prelude.{◌≡◌, ℕ, zero, suc, ◌+◌, ◌-◌, ◌*◌, ◌/◌, ◌^◌, ◌<◌, ◌≤◌, ◌&&◌, nat_lt, nat_le, min, max, Bool, ⊤, ℤ, pos, neg_ℤ, ◌+ℤ◌, ◌≤ℤ◌, List, [], ◌∷◌, ◌++◌, All, if◌then◌else◌}
 use Rattle.std.specs.Int.{saturate_to_bits}
 use Rattle.std.specs.List.{flat_map}
 use Rattle.sampletime.specs.TimeCode.{day}
@@ -148,3 +148,14 @@ abbrev pub LiesInFiles : List SoundFacts → Instruction → Type 0
 LiesInFiles sounds (Start n) = ⊤
 LiesInFiles sounds (Add stretch shape) = LiesInFile sounds stretch.file stretch.first stretch.width stretch.frame stretch.length
 LiesInFiles sounds (Emit depth) = ⊤
+
+-- no sample that the stretch plays lies outside full scale
+abbrev pub IsFull : Reading → Stretch → Type 0
+IsFull reading s = (j i : ℕ) → j < s.width → i < s.length
+    → (neg_ℤ (pos (2 ^ 47)) ≤ℤ reading s.file (s.first + j) (s.frame + i)) × (reading s.file (s.first + j) (s.frame + i) ≤ℤ pos (2 ^ 47))
+
+-- nor one that the instruction plays
+abbrev pub PlaysFull : Reading → Instruction → Type 0
+PlaysFull reading (Start n) = ⊤
+PlaysFull reading (Add stretch shape) = IsFull reading stretch
+PlaysFull reading (Emit depth) = ⊤

@@ -1,12 +1,22 @@
 -- The contents of the chunk `fmt ` (RIFF WAVE, also WAVE_FORMAT_EXTENSIBLE).
-use Rattle.std.specs.Prelude.{ℕ, ◌*◌, ◌/◌, ◌==◌, ◌&&◌, nat_le, List, Option, None, Some, Result, Ok, Err, if◌then◌else◌}
+use Rattle.std.specs.Prelude.{ℕ, ◌*◌, ◌/◌, ◌==◌, ◌&&◌, ◌||◌, nat_le, Bool, List, [], ◌∷◌, length, Option, None, Some, Result, Ok, Err, if◌then◌else◌}
 use Rattle.sound_terms.specs.declared.Depth.{Depth}
+use Rattle.sound_terms.specs.declared.Depth.TheVariants.{Sixteen, TwentyFour, ThirtyTwo}
 use Rattle.sound_terms.specs.declared.Format.{Format}
 use Rattle.sound_terms.specs.declared.SoundFault.{SoundFault}
 use Rattle.sound_terms.specs.declared.SoundFault.TheVariants.{BadFormat, WrongRate}
 use Rattle.sound_terms.specs.Depth.{bits_of}
-use Rattle.sound_terms.specs.Chunks.{number_at}
-use Rattle.sound_terms.specs.Sounds.{depth_of, is_pcm}
+use Rattle.sound_terms.specs.Chunks.{number_at, stands_at}
+
+-- the depth of so many bits
+abbrev pub depth_of : ℕ → Option Depth
+depth_of bits = if bits == 16 then Some Sixteen else (if bits == 24 then Some TwentyFour else (if bits == 32 then Some ThirtyTwo else None))
+
+-- PCM by its tag, or by the sub-format of WAVE_FORMAT_EXTENSIBLE
+abbrev pub is_pcm : List ℕ → Bool
+is_pcm format = nat_le 16 (length format) && (number_at 2 0 format == 1
+    || (nat_le 40 (length format) && (number_at 2 0 format == 65534 && (number_at 2 16 format == 22
+    && stands_at (1 ∷ 0 ∷ 0 ∷ 0 ∷ 0 ∷ 0 ∷ 16 ∷ 0 ∷ 128 ∷ 0 ∷ 0 ∷ 170 ∷ 0 ∷ 56 ∷ 155 ∷ 113 ∷ []) 24 format))))
 
 -- linear PCM of 1 to 64 channels at 48000 samples a second, whose frames have no bytes between them
 abbrev pub format_of : List ℕ → Result Format SoundFault

@@ -16,7 +16,6 @@ pub mod Media
 pub mod Mix
 pub mod Passes
 pub mod Render
-pub mod Renderings
 pub mod SoundFault
 pub mod SoundFiles
 pub mod Sounds

@@ -1,5 +1,5 @@
 -- What a listener hears: the share of each event under its fades, their exact sum, and the sum at a depth.
-use Rattle.std.specs.Prelude.{ℕ, ◌+◌, ◌-◌, ◌^◌, ◌==◌, ◌&&◌, nat_lt, nat_le, Bool, ℤ, pos, ◌+ℤ◌, ◌*ℤ◌, ◌≤ℤ◌, neg_ℤ, List, [], ◌∷◌, Option, None, Some, find, if◌then◌else◌}
+use Rattle.std.specs.Prelude.{ℕ, ◌+◌, ◌-◌, ◌^◌, ◌==◌, ◌&&◌, nat_lt, nat_le, Bool, ℤ, pos, ◌+ℤ◌, ◌*ℤ◌, List, [], ◌∷◌, Option, None, Some, find, if◌then◌else◌}
 use Rattle.std.specs.Int.{int_div_euclid, saturate_to_bits}
 use Rattle.sound_terms.specs.declared.Event.{Event}
 use Rattle.sound_terms.specs.declared.BoundIndex.{BoundIndex}
@@ -7,11 +7,6 @@ use Rattle.sound_terms.specs.declared.BoundIndex.{BoundIndex}
 -- the samples of the files at full scale (48 bits): by file, channel from 1, and frame; zero elsewhere
 abbrev pub Reading : Type 0
 Reading = ℕ → ℕ → ℕ → ℤ
-
--- no sample lies outside full scale
-abbrev pub IsFullScale : Reading → Type 0
-IsFullScale reading =
-    (file channel frame : ℕ) → (neg_ℤ (pos (2 ^ 47)) ≤ℤ reading file channel frame) × (reading file channel frame ≤ℤ pos (2 ^ 47))
 
 -- a sample of this depth at full scale
 abbrev pub full_scale : ℕ → ℤ → ℤ

@@ -1,8 +1,9 @@
--- The file that a mix is rendered to.
+-- The file that a mix is rendered to, and what it reads back as.
 use Rattle.std.specs.Prelude.{◌≡◌, ℕ, zero, suc, ◌+◌, ◌-◌, ◌<◌, ◌≤◌, ℤ, List, [], ◌++◌, Ok, Some}
 use Rattle.sound_terms.specs.Mix.{quantized}
 use Rattle.sound_terms.specs.Waves.{SoundInfo, sample_bytes, sample_at, file_of, zeros}
-use Rattle.sound_terms.specs.Sounds.{SoundFacts, sound_of}
+use Rattle.sound_terms.specs.Sounds.{SoundFacts}
+use Rattle.sound_terms.specs.SoundFiles.{sound_of}
 
 -- what is rendered: the samples from `from` up to, and without, `to`, on channels from 1, at a depth
 pub record Range : Type 0 where

@@ -1,14 +1,14 @@
 -- The chunks that count in a file of RIFF WAVE or RF64 (EBU Tech 3306), or the first fault of the file: in turn no
 -- such file, a bad `ds64`, each chunk from the left, no `fmt `, no `data`.
-use Rattle.std.specs.Prelude.{ℕ, ◌+◌, ◌&&◌, nat_lt, not, List, [], ◌∷◌, ◌++◌, length, drop, Option, None, Some, Result, Ok, Err, if◌then◌else◌, option_map, codes, find, ◌==◌, bytes_eq}
+use Rattle.std.specs.Prelude.{ℕ, ◌+◌, ◌&&◌, nat_lt, nat_le, Bool, not, List, [], ◌∷◌, ◌++◌, length, drop, Option, None, Some, Result, Ok, Err, if◌then◌else◌, option_map, unwrap_or, codes, find, ◌==◌, bytes_eq}
 use Rattle.std.specs.Option.{ok_or}
 use Rattle.sound_terms.specs.declared.Chunks.{Chunks}
 use Rattle.sound_terms.specs.declared.Ds64.{Ds64}
+use Rattle.sound_terms.specs.declared.Span.{Span}
 use Rattle.sound_terms.specs.declared.SoundFault.{SoundFault}
 use Rattle.sound_terms.specs.declared.SoundFault.TheVariants.{NotWave, NoFormat, NoData, Truncated, BadDs64}
 use Rattle.sound_terms.specs.Steps.{◌>>=◌}
-use Rattle.sound_terms.specs.Chunks.{Chunk, padded, chunks_from, table_of, first_of, is_uncounted, has_others}
-use Rattle.sound_terms.specs.Sounds.{span_of, is_riff, is_rf64}
+use Rattle.sound_terms.specs.Chunks.{Chunk, stands_at, padded, chunks_from, table_of, first_of, is_uncounted, has_others}
 use Rattle.sound_terms.specs.Ds64.{ds64_in, ds64_size}
 
 -- the fault of a chunk behind these: its size can't be told, or it counts and passes the end of the file
@@ -26,6 +26,10 @@ first_fault end before (chunk ∷ chunks) = fault_or (chunk_fault end before chu
   fault_or : Option SoundFault → Option SoundFault → Option SoundFault
   fault_or None later = later
   fault_or (Some fault) later = Some fault
+
+-- the contents of a chunk whose size is told
+abbrev pub span_of : Chunk → Span
+span_of chunk = record { at = chunk.at; length = unwrap_or chunk.size 0 }
 
 -- the chunks that count, of all chunks without a fault
 abbrev pub found_in : List Chunk → Result Chunks SoundFault
@@ -46,6 +50,13 @@ checked_chunks end chunks = checked (first_fault end [] chunks) where
   checked : Option SoundFault → Result Chunks SoundFault
   checked None = found_in chunks
   checked (Some fault) = Err fault
+
+-- a file of the form WAVE
+abbrev pub is_riff : List ℕ → Bool
+is_riff file = nat_le 12 (length file) && (stands_at (codes "RIFF") 0 file && stands_at (codes "WAVE") 8 file)
+
+abbrev pub is_rf64 : List ℕ → Bool
+is_rf64 file = nat_le 12 (length file) && (stands_at (codes "RF64") 0 file && stands_at (codes "WAVE") 8 file)
 
 -- the size of a chunk of RIFF
 abbrev pub as_it_stands : List ℕ → ℕ → Option ℕ

@@ -45,6 +45,14 @@ opened_at (p ∷ paths) (s ∷ sounds) zero file together there =
     (ap (λ (f : OpenedFile). Some f.path) same, ap (λ (f : OpenedFile). Some f.facts) same)
 opened_at (p ∷ paths) (s ∷ sounds) (suc place) file together there = opened_at paths sounds place file (omega (arith, together)) there
 
+-- the name of the file at a place, by the facts of the files
+pub named_at : (files : List OpenedFile) (place : ℕ) (name : List ℕ) (facts : SoundFacts)
+    → ((file : OpenedFile) → slice_get files place ≡ Some file → name ≡ file.facts.name)
+    → slice_get (map (λ (file : OpenedFile). file.facts) files) place ≡ Some facts → name ≡ facts.name
+named_at [] place name facts is there = cc
+named_at (f ∷ files) zero name facts is there = let same : f.facts ≡ facts = cc in is f refl ∙ ap (λ (s : SoundFacts). s.name) same
+named_at (f ∷ files) (suc place) name facts is there = named_at files place name facts is there
+
 -- one more file, whose name is new
 pub placed_push : (old new : BTreeMap (String Global) ℕ) (paths : List (List ℕ)) (sounds : List SoundFacts) (path : List ℕ) (facts : SoundFacts) (name : List ℕ)
     → ArePlaced paths sounds old → name ≡ facts.name → file_named facts.name (opened_of paths sounds) ≡ None

@@ -1,5 +1,5 @@
 // A binding in the making.
-ghost use Rattle.std.specs.Prelude.{◌≡◌, ◌<◌, ◌⊎◌, IfErr, IsTrue, None, OnOk, Some, length, slice_get, true};
+ghost use Rattle.std.specs.Prelude.{◌≡◌, ◌<◌, ◌⊎◌, IfErr, IsTrue, None, OnOk, Some, length, slice_get, string_bytes, true};
 ghost use Rattle.sound_terms.specs.Mix.{index_of};
 ghost use Rattle.shelf.specs.Frame.{OnlyReads};
 ghost use Rattle.list_terms.specs.Binding.{OpenedFile, file_named, is_used, nothing_bound, with_index, with_known_file};
@@ -15,13 +15,13 @@ use crate::fault::SourceFault;
 use crate::files::Files;
 use crate::told::{index_over, tell, tell_if};
 use crate::used_numbers::UsedNumbers;
+use adlmodel::{Bytes, Place, Source, place_of};
 use list_terms::Notice;
 use shelf::Shelf;
 use sound_terms::BoundIndex;
 use std::alloc::{AllocError, Global};
 use std::marker::Model;
 use wavread::{MediaFault, Sound, open};
-use whole_model::{Bytes, Place, Source, place_of};
 
 /// What is bound so far.
 #[derive(Drop)]
@@ -77,6 +77,14 @@ impl Binder {
         ensures { result.now ≡ self.now.notices }
     {
         self.notices.as_slice()
+    }
+
+    /// Hands out the name of the file at this place.
+    pub fn into_name(self, file: u32) -> String
+        requires { file < length self.files }
+        ensures { (opened : OpenedFile) → slice_get self.files file ≡ Some opened → string_bytes result ≡ opened.facts.name }
+    {
+        self.files.into_name(file)
     }
 
     /// Adds the index of this source, over the file at this place.

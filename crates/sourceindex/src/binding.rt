@@ -9,9 +9,9 @@ ghost use Rattle.sourceindex.specs.Own.{ComesFirst, HoldsOfFile, IsOfProject};
 use crate::binder::Binder;
 use crate::used_numbers::UsedNumbers;
 use crate::{BindFault, Bound};
+use adlmodel::Project;
 use shelf::Shelf;
 use std::alloc::Global;
-use whole_model::Project;
 
 /// Binds each index that an entry names, in the order of the source index: the file that its URL names is opened, once
 /// for all indexes that name it. No other file is opened.

@@ -1,7 +1,8 @@
 // What a project is bound to.
-ghost use Rattle.std.specs.Prelude.{◌≡◌, ◌≤◌, IfOk, IfSome};
+ghost use Rattle.std.specs.Prelude.{◌≡◌, ◌≤◌, IfOk, IfSome, IsSome, Some, slice_get, string_bytes};
 ghost use Rattle.sound_terms.specs.Homes.{AreHomes, addressable_by};
 ghost use Rattle.sound_terms.specs.Mix.{index_of};
+ghost use Rattle.sound_terms.specs.Sounds.{SoundFacts};
 ghost use Rattle.list_terms.specs.BoundHomes.{IsBinding, IsBoundTo, homes_of};
 ghost use Rattle.list_terms.specs.Heard.{sounds_of};
 
@@ -63,6 +64,14 @@ impl Bound {
         ensures at_home { IfSome result (λ index. index.addressable ≤ addressable_by (homes_of self.now) index.file) }
     {
         self.binder.index(number)
+    }
+
+    /// Hands out the name of a file, by its place among those opened.
+    pub fn into_name(self, file: u32) -> String
+        requires there { IsSome (slice_get (sounds_of self) file) }
+        ensures { (facts : SoundFacts) → slice_get (sounds_of self) file ≡ Some facts → string_bytes result ≡ facts.name }
+    {
+        self.binder.into_name(file)
     }
 
     /// 3 for an index that no entry names, 4 for one whose base isn't its file's, and at the first index of a file 5 where

@@ -1,12 +1,12 @@
 // The files that are opened, each found by its name.
-ghost use Rattle.std.specs.Prelude.{◌≡◌, ◌<◌, ◌∷◌, ◌++◌, [], IfOk, None, OnOk, Some, length, map, slice_get};
+ghost use Rattle.std.specs.Prelude.{◌≡◌, ◌<◌, ◌∷◌, ◌++◌, [], IfOk, None, OnOk, Some, length, map, slice_get, string_bytes};
 ghost use Rattle.list_terms.specs.Binding.{OpenedFile, file_named};
 
+use adlmodel::Bytes;
 use std::alloc::{AllocError, Global};
 use std::collections::BTreeMap;
 use std::marker::Model;
 use wavread::Sound;
-use whole_model::Bytes;
 
 /// Sound files in the order in which they were opened, each with the path that names it.
 #[derive(Drop)]
@@ -68,6 +68,15 @@ impl Files {
         ensures { result.now ≡ map (λ file. file.facts) self.now }
     {
         self.sounds.as_slice()
+    }
+
+    /// Hands out the name of the file at this place.
+    pub fn into_name(self, place: u32) -> String
+        requires { place < length self }
+        ensures { (file : OpenedFile) → slice_get self place ≡ Some file → string_bytes result ≡ file.facts.name }
+    {
+        let mut sounds = self.sounds;
+        sounds.swap_remove(place as usize).into_name()
     }
 
     /// Adds a file behind the others, and gives its place. An error leaves them as they were; it also stands for more

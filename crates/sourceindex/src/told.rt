@@ -4,12 +4,12 @@ ghost use Rattle.list_terms.specs.Binding as spec;
 ghost use Rattle.list_terms.specs.Binding.{addressable_from, notice_if};
 ghost use Rattle.sourceindex.specs.Taken.{is_other_base};
 
+use adlmodel::Source;
 use list_terms::Notice;
 use sampletime::SampleTime;
 use sound_terms::BoundIndex;
 use std::alloc::AllocError;
 use wavread::Sound;
-use whole_model::Source;
 
 /// The time reference of the file's `bext`, where it has one.
 fn time_reference(sound: &Sound) -> Option<u64>

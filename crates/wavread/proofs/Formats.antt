@@ -9,8 +9,8 @@ use Rattle.sound_terms.specs.declared.SoundFault.TheVariants as sound
 use Rattle.sound_terms.specs.Chunks.{number_at}
 use Rattle.sound_terms.specs.declared.Depth.{Depth}
 use Rattle.sound_terms.specs.declared.Span.{Span}
-use Rattle.sound_terms.specs.Sounds.{bytes_of_span, depth_of}
-use Rattle.sound_terms.specs.Formats.{format_of}
+use Rattle.sound_terms.specs.Sounds.{bytes_of_span}
+use Rattle.sound_terms.specs.Formats.{depth_of, format_of}
 use Rattle.work_terms.specs.Disk.{IsRange}
 use Rattle.riff.specs.declared.fault.MediaFault.{MediaFault}
 use Rattle.riff.specs.declared.fault.MediaFault.TheVariants.{Device}

@@ -6,6 +6,7 @@ use Rattle.sound_terms.specs.declared.Bext.{Bext}
 use Rattle.sound_terms.specs.Depth.{bits_of}
 use Rattle.sound_terms.specs.Sounds.{SoundFacts}
 use Rattle.sound_terms.specs.SoundFiles.{sound_of}
+use Rattle.sound_terms.specs.Media.{frame_length}
 use Rattle.riff.specs.declared.fault.MediaFault.{MediaFault}
 use Rattle.riff.specs.declared.fault.MediaFault.TheVariants.{NotFound}
 use Rattle.riff.specs.Fault.{as_media}
@@ -14,10 +15,6 @@ use Rattle.riff.specs.Fault.{as_media}
 abbrev pub sound_of_file : List ℕ → Option (List ℕ) → Result SoundFacts MediaFault
 sound_of_file name None = Err NotFound
 sound_of_file name (Some file) = as_media (sound_of name file)
-
--- the bytes of a frame
-abbrev pub frame_bytes : SoundFacts → ℕ
-frame_bytes facts = facts.channels * (facts.depth / 8)
 
 -- the facts of these parts
 abbrev pub facts_told : List ℕ → ℕ → Depth → ℕ → ℕ → Option Bext → List ℕ → Bool → Bool → Bool → SoundFacts
@@ -42,7 +39,7 @@ pub record IsSound (facts : SoundFacts) : Type 0 where
   pub few_bits : facts.depth ≤ 32
   pub history_fits : length facts.history ≤ 65536
   pub few_frames : facts.frames < 2 ^ 64
-  pub ends : facts.place + facts.frames * frame_bytes facts < 2 ^ 64
+  pub ends : facts.place + facts.frames * frame_length facts < 2 ^ 64
 
 -- these are the samples that stand one after the other from this place on
 abbrev pub AreFrames : List ℕ → ℕ → ℕ → List ℤ → Type 0

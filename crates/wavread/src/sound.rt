@@ -4,8 +4,9 @@ ghost use Rattle.std.specs.List.{All};
 ghost use Rattle.sound_terms.specs.Depth.{bits_of};
 ghost use Rattle.work_terms.specs.Disk.{IsRange};
 ghost use Rattle.shelf.specs.Frame.{OnlyReads};
+ghost use Rattle.sound_terms.specs.Media.{frame_length};
 ghost use Rattle.sound_terms.specs.Waves.{sample_at};
-ghost use Rattle.wavread.specs.Facts.{facts_told, frame_bytes, AreFrames};
+ghost use Rattle.wavread.specs.Facts.{facts_told, AreFrames};
 ghost use Rattle.pcm.specs.Samples.{FitsDepth};
 
 use crate::bext_chunk::Told;
@@ -82,6 +83,13 @@ impl Sound {
         self.name.as_str()
     }
 
+    /// Hands out the name of the file.
+    pub fn into_name(self) -> String
+        ensures { string_bytes result ≡ self.name }
+    {
+        self.name
+    }
+
     /// The channels, 1 to 64.
     pub fn channels(&self) -> u8
         ensures channels { result ≡ self.now.channels }
@@ -143,7 +151,7 @@ impl Sound {
 
     /// The bytes of a frame: 2 to 256.
     fn frame_length(&self) -> u64
-        ensures { result ≡ frame_bytes self.now }
+        ensures { result ≡ frame_length self.now }
     {
         u64::from(self.channels) * u64::from(self.depth.bits() / 8)
     }
@@ -156,9 +164,9 @@ impl Sound {
         from: u64,
         bytes: &mut [u8],
     ) -> Result<(), ShelfFault>
-        requires whole { (frames : ℕ) × (length bytes.old ≡ frames * frame_bytes self.now) × (from + frames ≤ self.now.frames) }
+        requires whole { (frames : ℕ) × (length bytes.old ≡ frames * frame_length self.now) × (from + frames ≤ self.now.frames) }
         ensures bytes { IsTrue (S.honest shelf.old)
-            → OnOk result (IsRange (S.stored shelf.old self.now.name) (self.now.place + from * frame_bytes self.now) bytes.new) }
+            → OnOk result (IsRange (S.stored shelf.old self.now.name) (self.now.place + from * frame_length self.now) bytes.new) }
         ensures not_missing { IsErrOf result ShelfFault.NotFound → ⊥ }
         ensures only_reads { OnlyReads S.Shelf shelf.old shelf.new result (λ fault. fault ≡ ShelfFault.Device) (λ _ failed. failed self.now.name) }
     {
@@ -217,7 +225,7 @@ impl Sound {
         requires room { length frames.old * (self.now.depth / 8) ≤ length buffer.old }
         requires inside { from + count ≤ self.now.frames }
         ensures frames { IsTrue (S.honest shelf.old) → (file : List ℕ) → S.stored shelf.old self.now.name ≡ Some file
-            → OnOk result (AreFrames file (self.now.place + from * frame_bytes self.now) self.now.depth frames.new) }
+            → OnOk result (AreFrames file (self.now.place + from * frame_length self.now) self.now.depth frames.new) }
         ensures there { IsTrue (S.honest shelf.old) → OnOk result (IsSome (S.stored shelf.old self.now.name)) }
         ensures fit { OnOk result (All (FitsDepth self.now.depth) frames.new) }
         ensures not_missing { IsErrOf result ShelfFault.NotFound → ⊥ }

@@ -7,8 +7,7 @@ use Rattle.sound_terms.specs.declared.Depth.{Depth}
 use Rattle.sound_terms.specs.declared.Depth.TheVariants.{Sixteen, TwentyFour, ThirtyTwo}
 use Rattle.sound_terms.specs.Depth.{bits_of}
 use Rattle.sound_terms.specs.Chunks.{number_at}
-use Rattle.sound_terms.specs.Sounds.{depth_of}
-use Rattle.sound_terms.specs.Formats.{format_of}
+use Rattle.sound_terms.specs.Formats.{depth_of, format_of}
 use Rattle.sound_terms.specs.Laws.{length-u16_bytes, length-u32_bytes, u16-reads_back, u32-reads_back}
 
 -- the six numbers of `fmt `: the tag, the channels, the rate, the bytes of a second, the bytes of a frame, the depth

@@ -2,8 +2,7 @@
 use Rattle.std.proofs.Common.{◌≡◌, ℕ, ◌-◌, [], length, refl, subst}
 use Rattle.std.specs.Prelude.{ℤ}
 use Rattle.sound_terms.specs.Waves.{SoundInfo, data_size}
-use Rattle.sound_terms.specs.Render.{frames_of, Range, render_info, rendering_of}
-use Rattle.sound_terms.specs.Renderings.{ReadsBack}
+use Rattle.sound_terms.specs.Render.{frames_of, Range, ReadsBack, render_info, rendering_of}
 use Rattle.sound_terms.specs.Laws.{length-zeros}
 use Rattle.wavwrite.specs.Info.{facts_of}
 use Rattle.wavwrite.proofs.FileInfo.{IsInfo}

@@ -4,8 +4,7 @@ use Rattle.std.proofs.lemmas.List.{append_assoc, drop_at}
 use Rattle.sound_terms.specs.Waves.{u32_bytes, zeros, chunk_head}
 use Rattle.sound_terms.specs.Chunks.{chunks_from, stands_at}
 use Rattle.sound_terms.specs.declared.Chunks.{Chunks}
-use Rattle.sound_terms.specs.Sounds.{is_riff}
-use Rattle.sound_terms.specs.Walks.{as_it_stands, chunks_in, first_fault, riff_layout, walked}
+use Rattle.sound_terms.specs.Walks.{is_riff, as_it_stands, chunks_in, first_fault, riff_layout, walked}
 use Rattle.sound_terms.specs.Laws.{length-zeros, length-chunk_head}
 use Rattle.wavwrite.proofs.FourChunks.{four_chunks, riff_file, AreWhole, four_heads, four_read, length-riff_file}
 

@@ -4,8 +4,7 @@ ghost use Rattle.sound_terms.specs.Depth.{bits_of};
 ghost use Rattle.sound_terms.specs.Waves as waves;
 ghost use Rattle.sound_terms.specs.Waves.{data_size, data_place, file_length, file_of, header_of};
 ghost use Rattle.sound_terms.specs.SoundFiles.{sound_of};
-ghost use Rattle.sound_terms.specs.Render.{Range, render_info, rendering_of};
-ghost use Rattle.sound_terms.specs.Renderings.{ReadsBack};
+ghost use Rattle.sound_terms.specs.Render.{Range, ReadsBack, render_info, rendering_of};
 ghost use Rattle.wavwrite.specs.Info.{Fits, facts_of};
 
 use crate::chunks::{push_bext, push_form, push_format};

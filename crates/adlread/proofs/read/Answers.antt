@@ -1,53 +1,83 @@
-use Rattle.std.proofs.Common.{◌≡◌, ℕ, List, Result, Ok, Err, subst}
-use Rattle.work_terms.specs.Refusals.{Gives}
+use Rattle.std.proofs.Common.{◌≡◌, ℕ, true, false, List, Result, Ok, Err, refl, ap, sym, subst, ◌∙◌}
+use Rattle.std.specs.Prelude.{IfErr, IfOk}
+use Rattle.work_terms.specs.Refusals.{Gives, Refusal, is_excused, is_memory}
+use Rattle.list_terms.specs.declared.TextFault.{TextFault}
+use Rattle.list_terms.specs.declared.TextFault.TheVariants as fault
 use Rattle.list_terms.specs.Project.{ListProject}
+use Rattle.list_terms.specs.Steps.{err_map}
+use Rattle.list_terms.specs.Lines.{lines_of}
+use Rattle.list_terms.specs.Text.{LocatedFault, fault_number, nothing_read, read_from, text_refusal, text_value}
 use Rattle.adlread.specs.declared.fault.AdlFault.{AdlFault}
-use Rattle.adlread.specs.declared.fault.AdlFault.TheVariants.{Unsupported, Memory}
+use Rattle.adlread.specs.declared.fault.AdlFault.TheVariants.{Text, Memory}
 use Rattle.adlread.specs.Fault.{Reads, refusal}
-use Rattle.adlread.specs.PlainList.{Rest, lines_of, project_of, text_value}
-use Rattle.adlread.proofs.RoundTrip.{text_value-text_of_project}
-use Rattle.std.proofs.Common.{length, ◌≤◌}
-use Rattle.std.specs.Prelude.{IfOk, All}
-use Rattle.adlread.specs.PlainList.{IsPlainEvent}
-use Rattle.adlread.proofs.Counted.{AreFewAndPlain, read_events}
+use Rattle.adlread.specs.Spells.{Spells}
+use Rattle.adlread.proofs.Blocks.{value_of}
+use Rattle.adlread.proofs.SpelledLists.{spelled_of}
 use Rattle.adlread.proofs.read.Goals as goal
 
-exact_at_start :
-    (text : List ℕ) (result : Result ListProject AdlFault) → Reads (λ p. p) result (project_of (record { number = 0; lines = lines_of text }))
-    → Gives (λ p. p) refusal (λ r. r.number) result (text_value text)
-unfolding text_value
-exact_at_start text (Ok project) h = rw h
-exact_at_start text (Err (Unsupported line)) h = rw h
-exact_at_start text (Err Memory) h = tt
+-- no fault of a text is excused
+not_excused : (f : TextFault) → is_excused (fault_number f) ≡ false
+not_excused fault.BadByte = refl
+not_excused fault.BadLine = refl
+not_excused fault.SectionMismatch = refl
+not_excused fault.MissingSection = refl
+not_excused fault.RepeatedSection = refl
+not_excused fault.BadTime = refl
+not_excused fault.BadNumber = refl
+not_excused fault.BadChannels = refl
+not_excused fault.BadUrl = refl
+not_excused fault.MissingField = refl
+not_excused fault.MissingSequence = refl
+not_excused fault.WrongSequence = refl
+not_excused fault.Unsupported = refl
+not_excused fault.DuplicateNumber = refl
+not_excused fault.TooMany = refl
+not_excused fault.Unplaced = refl
+not_excused fault.RepeatedFade = refl
+
+gives_from_reads :
+    (result : Result ListProject AdlFault) (reading : Result ListProject LocatedFault) → Reads (λ p. p) result reading
+    → Gives (λ p. p) refusal (λ r. r.number) result (err_map text_refusal reading)
+gives_from_reads (Ok project) reading h = ap (err_map text_refusal) h
+gives_from_reads (Err (Text fault location)) reading h =
+    rw not_excused (ap (err_map text_refusal) h)
+gives_from_reads (Err Memory) reading h = tt
 
 exact_from_reads :
-    (text : List ℕ) (start : Rest) (result : Result ListProject AdlFault) → start ≡ record { number = 0; lines = lines_of text }
-    → Reads (λ p. p) result (project_of start) → Gives (λ p. p) refusal (λ r. r.number) result (text_value text)
-exact_from_reads text start result e h = exact_at_start text result (subst (λ rest. Reads (λ p. p) result (project_of rest)) e h)
+    (text : List ℕ) (result : Result ListProject AdlFault) → Reads (λ p. p) result (read_from 25 nothing_read 0 (lines_of text))
+    → Gives (λ p. p) refusal (λ r. r.number) result (text_value text)
+unfolding text_value
+exact_from_reads text result h = gives_from_reads result (read_from 25 nothing_read 0 (lines_of text)) h
+
+spelled_from_exact :
+    (text : List ℕ) (result : Result ListProject AdlFault) → Gives (λ p. p) refusal (λ r. r.number) result (text_value text)
+    → IfOk result (λ project. Spells text project)
+spelled_from_exact text (Ok project) h = spelled_of text project h
+spelled_from_exact text (Err fault) h = tt
+
+faulty_from_reads :
+    (text : List ℕ) (result : Result ListProject AdlFault) → Reads (λ p. p) result (read_from 25 nothing_read 0 (lines_of text))
+    → IfErr result (λ fault. is_memory (refusal fault).number ≡ false → (project : ListProject) → Spells text project → ⊥)
+unfolding text_value
+faulty_from_reads text (Ok project) h = tt
+faulty_from_reads text (Err (Text fault location)) h = λ _ project spells.
+    let value = value_of text project spells in
+    let fault : ◌≡◌ {A = Result ListProject Refusal} (Err (text_refusal (record { fault = fault; location = location }))) (Ok project) =
+    sym (ap (err_map text_refusal) h) ∙ value in
+    cc
+faulty_from_reads text (Err Memory) h = λ no project spells. let wrong : true ≡ false = no in cc
 
 pub returns-clause-exact : goal.returns-clause-exact
-returns-clause-exact c =
-    exact_from_reads c.args.text.now c.new-lines.result c.read_project.result c.new-lines.ensures c.read_project.ensures
+returns-clause-exact c = exact_from_reads c.args.text.now c.read_lines.result c.read_lines.ensures
 
-pub returns-clause-written : goal.returns-clause-written
-returns-clause-written c p plain = text_value-text_of_project p plain
+pub returns-clause-spelled : goal.returns-clause-spelled
+returns-clause-spelled c =
+    spelled_from_exact c.args.text.now c.read_lines.result (exact_from_reads c.args.text.now c.read_lines.result c.read_lines.ensures)
 
-events_from_exact :
-    (text : List ℕ) (result : Result ListProject AdlFault) → Gives (λ p. p) refusal (λ r. r.number) result (text_value text)
-    → IfOk result (λ p. AreFewAndPlain p.events)
-events_from_exact text (Ok project) h = read_events text project h
-events_from_exact text (Err fault) h = tt
+pub returns-clause-only : goal.returns-clause-only
+returns-clause-only c project spells =
+    subst (Gives (λ p. p) refusal (λ r. r.number) c.read_lines.result) (value_of c.args.text.now project spells)
+    (exact_from_reads c.args.text.now c.read_lines.result c.read_lines.ensures)
 
-only_plain : (result : Result ListProject AdlFault) → IfOk result (λ p. AreFewAndPlain p.events) → IfOk result (λ p. All IsPlainEvent p.events)
-only_plain (Ok project) events = events.plain
-only_plain (Err fault) events = tt
-
-only_few : (result : Result ListProject AdlFault) → IfOk result (λ p. AreFewAndPlain p.events) → IfOk result (λ p. length p.events ≤ 32767)
-only_few (Ok project) events = events.few
-only_few (Err fault) events = tt
-
-pub returns-clause-plain : goal.returns-clause-plain
-returns-clause-plain c = only_plain c.read_project.result (events_from_exact c.args.text.now c.read_project.result (returns-clause-exact c))
-
-pub returns-clause-few : goal.returns-clause-few
-returns-clause-few c = only_few c.read_project.result (events_from_exact c.args.text.now c.read_project.result (returns-clause-exact c))
+pub returns-clause-faulty : goal.returns-clause-faulty
+returns-clause-faulty c = faulty_from_reads c.args.text.now c.read_lines.result c.read_lines.ensures

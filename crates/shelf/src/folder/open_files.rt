@@ -113,6 +113,7 @@ where
     {
         let outcome = self.handle_there(name)?.sync();
         self.handles.pop(name);
+        self.hold_folder();
         outcome?;
         if self.has_new_names {
             // A crash can take away a file that was synced, while its folder wasn't.
@@ -120,6 +121,13 @@ where
             self.has_new_names = false;
         }
         Ok(())
+    }
+
+    /// Opens the folder where it was closed, so that the next output has a handle in reserve again.
+    fn hold_folder(&mut self) {
+        if self.open_folder.is_none() {
+            self.open_folder = fs::open(&self.files, &self.folder).ok();
+        }
     }
 
     /// Waits until the names of the folder's files are on the disk.

@@ -4,10 +4,9 @@ use Rattle.std.proofs.lemmas.List.Elements.{All-more}
 use Rattle.sound_terms.specs.declared.block.Instruction.{Instruction}
 use Rattle.sound_terms.specs.declared.block.Instruction.TheVariants.{Start}
 use Rattle.sound_terms.specs.Mix.{Reading}
-use Rattle.sound_terms.specs.Blocks.{BlockState, executed, executed_all}
+use Rattle.sound_terms.specs.Blocks.{BlockState, executed, executed_all, PlaysFull}
 use Rattle.work_terms.specs.Disk.{Files}
 use Rattle.list_terms.specs.Heard.{reading_by}
-use Rattle.blockmachine.specs.Playing.{PlaysFull}
 use Rattle.blockmachine.specs.Sums.{AreSums}
 use Rattle.blockmachine.proofs.Ran.{executed_all-append}
 use Rattle.blockmachine.proofs.machine.add_all.Goals as goal

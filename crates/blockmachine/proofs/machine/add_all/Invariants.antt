@@ -1,8 +1,7 @@
 use Rattle.std.proofs.Common.{◌≡◌, ℕ, All, IsTrue, length, take}
-use Rattle.sound_terms.specs.Blocks.{BlockState, executed_all}
+use Rattle.sound_terms.specs.Blocks.{BlockState, executed_all, PlaysFull}
 use Rattle.list_terms.specs.Heard.{reading_by}
 use Rattle.shelf.specs.Frame.{IsQuiet}
-use Rattle.blockmachine.specs.Playing.{PlaysFull}
 use Rattle.blockmachine.specs.Sums.{AreSums}
 use Rattle.blockmachine.proofs.machine.add_all.Given as goal
 

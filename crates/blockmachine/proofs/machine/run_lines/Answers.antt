@@ -1,4 +1,4 @@
-use Rattle.std.proofs.Common.{refl, ◌≡◌, ◌+◌, ◌-◌, ◌*◌, ◌/◌, ℕ, All, [], ◌∷◌, length, sym, ap, ◌∙◌}
+use Rattle.std.proofs.Common.{refl, ◌≡◌, ◌+◌, ◌-◌, ◌*◌, ◌/◌, ℕ, [], ◌∷◌, length, sym, ap, ◌∙◌}
 use Rattle.std.specs.Prelude.{ℤ, pos, slice_index_or}
 use Rattle.std.proofs.Math.Nat.{mul-div_left}
 use Rattle.sound_terms.specs.declared.block.Instruction.TheVariants.{Emit}
@@ -6,7 +6,6 @@ use Rattle.sound_terms.specs.Depth.{bits_of}
 use Rattle.sound_terms.specs.Mix.{Reading}
 use Rattle.sound_terms.specs.Blocks.{BlockState, block_samples, executed_all}
 use Rattle.list_terms.specs.Heard.{reading_by}
-use Rattle.pcm.specs.Samples.{FitsDepth}
 use Rattle.blockmachine.specs.Sums.{channel_room}
 use Rattle.blockmachine.proofs.Fits.{fits_block}
 use Rattle.blockmachine.proofs.Ran.{executed_all-append, frames_kept}

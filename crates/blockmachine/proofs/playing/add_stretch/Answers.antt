@@ -3,10 +3,9 @@ use Rattle.std.specs.Prelude.{ℤ}
 use Rattle.sound_terms.specs.declared.block.Stretch.{Stretch}
 use Rattle.sound_terms.specs.Mix.{Reading}
 use Rattle.sound_terms.specs.Passes.{shape_behind}
-use Rattle.sound_terms.specs.Blocks.{sums_with}
+use Rattle.sound_terms.specs.Blocks.{sums_with, IsFull}
 use Rattle.work_terms.specs.Disk.{Files}
 use Rattle.list_terms.specs.Heard.{reading_by}
-use Rattle.blockmachine.specs.Playing.{IsFull}
 use Rattle.blockmachine.specs.Sums.{AreSums}
 use Rattle.blockmachine.proofs.Full.{full_more}
 use Rattle.blockmachine.proofs.Played.{part_more}

@@ -1,9 +1,8 @@
 use Rattle.std.proofs.Common.{◌≡◌, ℕ, ◌-◌, ◌≤◌, IsTrue, length}
 use Rattle.std.specs.Prelude.{ℤ}
-use Rattle.sound_terms.specs.Blocks.{sums_with}
+use Rattle.sound_terms.specs.Blocks.{sums_with, IsFull}
 use Rattle.list_terms.specs.Heard.{reading_by}
 use Rattle.shelf.specs.Frame.{IsQuiet}
-use Rattle.blockmachine.specs.Playing.{IsFull}
 use Rattle.blockmachine.specs.Sums.{AreSums}
 use Rattle.blockmachine.proofs.playing.add_stretch.Given as goal
 

@@ -1,5 +1,5 @@
 use Rattle.std.proofs.Common.{rules}
-use Rattle.relink.proofs.Names.{name_printed}
+use Rattle.list_terms.specs.MediaNames.{name_printed}
 use Rattle.relink.proofs.naming.media_name.Goals as goal
 
 pub returns : goal.returns

@@ -1,0 +1,108 @@
+"""Consolidation beside `cp` and `sox`."""
+
+import sys
+from pathlib import Path
+
+from measuring import Bench, Cut, Job, block_of, copy_of, expect_data, line, list_text, make_sound, table
+
+CUTS = 1000
+CUT_FRAMES = 50_000
+SECOND = 48_000
+SECONDS = 1800
+MANY = 32_767
+
+
+def medium(number: int) -> str:
+    return f"M{number:05d}.wav"
+
+
+def look_at_media(data: dict):
+    """The media are these, by name: a block and how often it stands there."""
+    def look(out: Path) -> None:
+        if sorted(path.name for path in out.iterdir()) != [*sorted(data), "consolidated.adl"]:
+            sys.exit("bench: other media are written")
+        for name, (block, times) in data.items():
+            expect_data(out / name, block, times)
+    return look
+
+
+def sox_cutting(source: Path, target: Path) -> list:
+    """sox writes each cut to a file of its own, in one run."""
+    return ["sox", source, target, "trim", "0", f"{CUT_FRAMES}s", ":", "newfile", ":", "restart"]
+
+
+def thousand_cuts(bench: Bench) -> list:
+    """One source of 100 MB in 1,000 media, each of which leaves out a frame."""
+    block = block_of(CUT_FRAMES, 1, 16)
+    source = bench.media() / "A.wav"
+    make_sound(source, block, CUTS)
+    text = bench.put(list_text(
+        Cut(CUT_FRAMES * place, CUT_FRAMES * place, CUT_FRAMES - 1) for place in range(CUTS)))
+    look = look_at_media({medium(number): (block[:-2], 1) for number in range(1, CUTS + 1)})
+    words = bench.words("consolidate", text, "--handle", "0")
+    costs = bench.costs_of({
+        "cp": copy_of(source, bench.out() / "copy.wav"),
+        "sox": Job(sox_cutting(source, bench.out() / "S.wav")),
+        "synced": Job(words, look),
+        "unsynced": Job([*bench.unsynced, *words], look),
+    })
+    price = costs["synced"].seconds / costs["unsynced"].seconds
+    peers = costs["cp"], costs["sox"]
+    return [
+        line("`consolidate`: 100 MB in 1,000 media", costs["synced"], peers),
+        line(f"the same without syncs: with them it takes {price:.1f} times as long", costs["unsynced"], peers),
+        line("`cp` of the source", costs["cp"], (None, None)),
+        line("`sox` writing the cuts", costs["sox"], (None, None)),
+    ]
+
+
+def half_hour(bench: Bench) -> list:
+    """One medium of 30 minutes, stereo, 24 bits: some 500 MB."""
+    block = block_of(SECOND, 2, 24)
+    source = bench.media() / "A.wav"
+    make_sound(source, block, SECONDS, 2, 24)
+    text = bench.put(list_text([Cut(0, 0, SECOND * SECONDS)], channels="1~2"))
+    costs = bench.costs_of({
+        "cp": copy_of(source, bench.out() / "copy.wav"),
+        "consolidate": Job(bench.words("consolidate", text), look_at_media({medium(1): (block, SECONDS)})),
+    })
+    return [
+        line("`consolidate`: 30 minutes, stereo, 24 bits", costs["consolidate"], (costs["cp"], None)),
+        line("`cp` of the source", costs["cp"], (None, None)),
+    ]
+
+
+def many_entries(bench: Bench) -> list:
+    """As many entries as there may be: that join to one, lie apart, lie on one moment, or make as many media."""
+    frames = 4 * MANY
+    block = block_of(frames, 1, 16)
+    make_sound(bench.media() / "A.wav", block, 1)
+    kinds = {
+        "that join to one": ([Cut(4 * place, 4 * place, 4) for place in range(MANY)], "48000"),
+        "that never join": ([Cut(4 * place, 5 * place, 4) for place in range(MANY)], "48000"),
+        "on one moment": ([Cut(4 * place, 0, 4) for place in range(MANY)], "48000"),
+        "in as many media, without syncs": ([Cut(4 * place, 5 * place, 3) for place in range(MANY)], "0"),
+    }
+    lines = []
+    for kind, (cuts, handle) in kinds.items():
+        text = bench.put(list_text(cuts))
+        words = bench.words("consolidate", text, "--handle", handle)
+        count = MANY if handle == "0" else 1
+        words = [*bench.unsynced, *words] if handle == "0" else words
+        cost = bench.costs_of({"one": Job(words, look_at_count(count))})["one"]
+        lines.append(line(f"`consolidate`: 32,767 entries {kind}", cost, (None, None)))
+    return lines
+
+
+def look_at_count(media: int):
+    def look(out: Path) -> None:
+        if len(list(out.iterdir())) != media + 1:
+            sys.exit("bench: another number of media is written")
+    return look
+
+
+def lines(bench: Bench) -> list:
+    return [
+        *table("Job", "Seconds", "Peak memory, KB", "Time to `cp`", "Time to `sox`"),
+        *half_hour(bench), *thousand_cuts(bench), *many_entries(bench),
+    ]

@@ -1,0 +1,105 @@
+"""Rendering beside `cp`, `sox` and `ffmpeg`: 30 minutes, stereo, 24 bits."""
+
+from pathlib import Path
+from typing import NamedTuple, Optional
+
+from measuring import (
+    HEAD, Bench, Cut, Job, block_of, copy_of, expect_data, expect_size, line, list_text, make_sound, table,
+)
+
+SECOND = 48_000
+SECONDS = 1800
+FRAMES = SECOND * SECONDS
+FRAME_SIZE = 6
+LAYERS = 16
+PARTS = 11
+PART = FRAMES // PARTS
+
+
+class Mix(NamedTuple):
+    """Cuts of the source, and the words by which sox and ffmpeg mix the same; sox may have none. In them `I` is the
+    source and `O` the file to write."""
+    cuts: list
+    sox: Optional[list]
+    ffmpeg: list
+    is_plain: bool = False
+
+
+def layers(count: int) -> list:
+    """The whole source so many times at once, each a second later in it."""
+    return [Cut(SECOND * place, 0, FRAMES - SECOND * LAYERS) for place in range(count)]
+
+
+def crossfaded() -> list:
+    """Parts that follow one another and overlap by a second, in which they fade into one another."""
+    return [
+        Cut(PART * place, PART * place, PART + (SECOND if place < PARTS - 1 else 0),
+            SECOND if place else 0, SECOND if place < PARTS - 1 else 0)
+        for place in range(PARTS)
+    ]
+
+
+def ffmpeg_crossfades() -> list:
+    """The same parts by `acrossfade`, one into the next."""
+    split = "".join(f"[s{place}]" for place in range(PARTS))
+    chains = [f"[0:a]asplit={PARTS}{split}"]
+    for place in range(PARTS):
+        last = min(FRAMES, PART * (place + 1) + SECOND)
+        chains.append(f"[s{place}]atrim=start_sample={PART * place}:end_sample={last},asetpts=PTS-STARTPTS[p{place}]")
+    joined = "p0"
+    for place in range(1, PARTS):
+        chains.append(f"[{joined}][p{place}]acrossfade=ns={SECOND}:c1=tri:c2=tri[j{place}]")
+        joined = f"j{place}"
+    return ["-i", "I", "-filter_complex", ";".join(chains), "-map", f"[{joined}]"]
+
+
+def ffmpeg_layers(count: int) -> list:
+    return [word for _ in range(count) for word in ("-i", "I")] + [
+        "-filter_complex", f"amix=inputs={count}:normalize=0"]
+
+
+MIXES = {
+    "one file straight through": Mix([Cut(0, 0, FRAMES)], ["I", "O"], ["-i", "I"], True),
+    "ten crossfades": Mix(crossfaded(), None, ffmpeg_crossfades()),
+    "two layers": Mix(layers(2), ["-m", "I", "I", "O"], ffmpeg_layers(2)),
+    "one fade over all": Mix(
+        [Cut(0, 0, FRAMES, FRAMES)], ["I", "O", "fade", "t", str(SECONDS)],
+        ["-i", "I", "-af", f"afade=t=in:ns={FRAMES}:curve=tri"]),
+    "sixteen layers": Mix(layers(LAYERS), ["-m", *["I"] * LAYERS, "O"], ffmpeg_layers(LAYERS)),
+}
+
+
+def put_in(words: list, source: Path, target: Path) -> list:
+    return [{"I": source, "O": target}.get(word, word) for word in words]
+
+
+def jobs_of(bench: Bench, mix: Mix, source: Path, block: bytes) -> dict:
+    def look(out: Path) -> None:
+        frames = max(cut.begin + cut.length for cut in mix.cuts)
+        expect_size(out / "render.wav", HEAD + FRAME_SIZE * frames)
+        if mix.is_plain:
+            expect_data(out / "render.wav", block, SECONDS)
+
+    text = bench.put(list_text(mix.cuts, channels="1~2"))
+    target = bench.out() / "peer.wav"
+    jobs = {
+        "cp": copy_of(source, target),
+        "render": Job(bench.words("render", text), look),
+        "ffmpeg": Job(["ffmpeg", "-v", "error", *put_in(mix.ffmpeg, source, target), "-c:a", "pcm_s24le", target]),
+    }
+    if mix.sox:
+        jobs["sox"] = Job(["sox", "-D", "-V1", *put_in(mix.sox, source, target)])
+    return jobs
+
+
+def lines(bench: Bench) -> list:
+    block = block_of(SECOND, 2, 24)
+    source = bench.media() / "A.wav"
+    make_sound(source, block, SECONDS, 2, 24)
+    rows = table(
+        "`render`, 30 minutes, stereo, 24 bits", "Seconds", "Peak memory, KB", "Time to `cp`", "Time to `sox`",
+        "Time to `ffmpeg`")
+    for name, mix in MIXES.items():
+        costs = bench.costs_of(jobs_of(bench, mix, source, block))
+        rows.append(line(name, costs["render"], (costs["cp"], costs.get("sox"), costs["ffmpeg"])))
+    return rows

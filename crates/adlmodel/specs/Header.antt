@@ -1,0 +1,26 @@
+-- What a project and its header stand for.
+use Rattle.std.specs.Prelude.{ℕ, List}
+use Rattle.sound_terms.specs.declared.Event.{Event}
+use Rattle.list_terms.specs.declared.Notice.{Notice}
+use Rattle.list_terms.specs.Project as list
+use Rattle.adlmodel.specs.declared.header.Header.{Header}
+
+abbrev pub header_view : Header → list.Header
+header_view header = record {
+  version = header.version;
+  project = header.project;
+  system = header.system;
+  sequence = header.sequence;
+  track_list = header.track_list;
+}
+
+-- the project of these parts, at 25 frames a second
+abbrev pub project_of : Header → List list.Source → List Event → List ℕ → List Notice → list.ListProject
+project_of header sources events separators notices = record {
+  header = header_view header;
+  rate = 25;
+  sources = sources;
+  events = events;
+  separators = separators;
+  notices = notices;
+}

@@ -1,0 +1,159 @@
+// The whole project.
+ghost use Rattle.std.specs.Prelude.{slice_get, ◌≡◌, ◌≤◌, [], IfOk, IsTrue, length};
+ghost use Rattle.std.specs.List.{list_all};
+ghost use Rattle.sampletime.specs.TimeCode.{default_separators};
+ghost use Rattle.list_terms.specs.Renewed.{with_lists};
+ghost use Rattle.list_terms.specs.WholeProject.{AreDistinct, AreEvents, AreSources, IsHeader, IsProject, entry_numbers, index_numbers, is_event, is_source};
+ghost use Rattle.adlmodel.specs.Header.{header_view, project_of};
+
+use crate::header::Header;
+use crate::source::Source;
+use list_terms::Notice;
+use sampletime::Separators;
+use sound_terms::Event;
+use std::alloc::AllocError;
+use std::marker::Model;
+
+/// What an audio decision list spells: its header, its sources and events in the order of their lines, the separators of
+/// its times, and notices of what was passed over.
+#[derive(Debug, Drop)]
+pub struct Project {
+    header: Header,
+    sources: Vec<Source>,
+    events: Vec<Event>,
+    separators: Separators,
+    notices: Vec<Notice>,
+}
+
+impl Model for Project {
+    ghost use Rattle.list_terms.specs.Project.{ListProject};
+    ghost use Rattle.list_terms.specs.WholeProject.{IsProject};
+    ghost use Rattle.adlmodel.specs.Header.{project_of};
+
+    ghost Value = { ListProject };
+
+    ghost view = { λ p. project_of p.header p.sources.items p.events.items p.separators p.notices.items };
+
+    ghost invariant = { λ p. IsProject (project_of p.header p.sources.items p.events.items p.separators p.notices.items) };
+}
+
+impl Project {
+    /// The project of these parts, at 48000 samples and 25 frames a second. One without an event has the standard
+    /// separators.
+    pub fn new(
+        header: Header,
+        sources: Vec<Source>,
+        events: Vec<Event>,
+        separators: Separators,
+        notices: Vec<Notice>,
+    ) -> Self
+        requires header { IsHeader (header_view header) }
+        requires sources { AreSources sources.items }
+        requires events { AreEvents events.items }
+        requires standard { events.items ≡ [] → separators ≡ default_separators }
+        ensures { result ≡ project_of header sources.items events.items separators notices.items }
+    {
+        let _ = separators.bytes();
+        Project {
+            header,
+            sources,
+            events,
+            separators,
+            notices,
+        }
+    }
+
+    /// The project of these sources and events under the header of this one, without a notice. Its separators are those
+    /// of this one, or the standard ones where it has no event.
+    pub fn with(&self, sources: Vec<Source>, events: Vec<Event>) -> Result<Project, AllocError>
+        requires sources { AreSources sources.items }
+        requires events { AreEvents events.items }
+        ensures renewed { IfOk result (λ project. project ≡ with_lists self.now sources.items events.items) }
+    {
+        let header = self.header.try_copy()?;
+        let separators = if events.is_empty() {
+            Separators::DEFAULT
+        } else {
+            self.separators
+        };
+        let notices = Vec::new(*self.notices.allocator());
+        Ok(Project::new(header, sources, events, separators, notices))
+    }
+
+    /// A copy.
+    pub fn try_copy(&self) -> Result<Project, AllocError>
+        ensures copy { IfOk result (λ copy. copy ≡ self.now) }
+    {
+        let header = self.header.try_copy()?;
+        let sources = copied(&self.sources)?;
+        let events = Vec::from_slice(*self.events.allocator(), self.events.as_slice())?;
+        let notices = Vec::from_slice(*self.notices.allocator(), self.notices.as_slice())?;
+        Ok(Project::new(header, sources, events, self.separators, notices))
+    }
+
+    /// The kept lines of its header.
+    pub fn header(&self) -> &Header
+        ensures header { header_view result.now ≡ self.now.header }
+        ensures whole { IsProject self.now }
+    {
+        &self.header
+    }
+
+    /// The lines of the source index.
+    pub fn sources(&self) -> &[Source]
+        ensures sources { result.now ≡ self.now.sources }
+        ensures whole { IsTrue (list_all is_source result.now) }
+        ensures distinct { AreDistinct (index_numbers result.now) }
+        ensures few { length result.now ≤ 32767 }
+    {
+        self.sources.as_slice()
+    }
+
+    /// The entries of the event list.
+    pub fn events(&self) -> &[Event]
+        ensures events { result.now ≡ self.now.events }
+        ensures whole { IsTrue (list_all is_event result.now) }
+        ensures distinct { AreDistinct (entry_numbers result.now) }
+        ensures few { length result.now ≤ 32767 }
+    {
+        self.events.as_slice()
+    }
+
+    /// The separators that its times are written with.
+    pub fn separators(&self) -> Separators
+        ensures { result ≡ self.now.separators }
+    {
+        self.separators
+    }
+
+    /// What was passed over when its list was read: 1 for a section, 2 for a line of the source index, by their lines.
+    pub fn notices(&self) -> &[Notice]
+        ensures { result.now ≡ self.now.notices }
+    {
+        self.notices.as_slice()
+    }
+
+    /// Hands out the source at this place, counted from 0.
+    pub fn into_source(self, place: usize) -> Option<Source>
+        ensures { result ≡ slice_get self.sources place }
+    {
+        let mut sources = self.sources;
+        if place < sources.len() {
+            Some(sources.swap_remove(place))
+        } else {
+            None
+        }
+    }
+}
+
+/// Copies of the sources.
+fn copied(sources: &Vec<Source>) -> Result<Vec<Source>, AllocError>
+    ensures { IfOk result (λ copies. copies.items ≡ sources.now.items) }
+{
+    let mut copies = Vec::new(*sources.allocator());
+    for source in sources.as_slice() {
+        let copy = source.try_copy()?;
+        copies.push(copy)?;
+    }
+    Ok(copies)
+}

@@ -1,0 +1,256 @@
+-- The header that was read so far, with one section or one line more.
+use Rattle.std.proofs.Common.{◌≡◌, ℕ, ◌+◌, ◌≤◌, Bool, true, false, List, [], ◌∷◌, ◌++◌, length, Option, None, Some, Result, Ok, Err, refl, ap, sym, ◌∙◌, length-append, arith}
+use Rattle.std.specs.Prelude.{codes, is_some, nat_le, not, ◌&&◌}
+use Rattle.std.specs.List.{list_all}
+use Rattle.std.proofs.lemmas.Bool.Decides.{nat_tests}
+use Rattle.list_terms.specs.declared.Rates.{Rates}
+use Rattle.list_terms.specs.declared.Section.TheVariants as section
+use Rattle.list_terms.specs.declared.TextFault.{TextFault}
+use Rattle.list_terms.specs.declared.TextFault.TheVariants.{SectionMismatch}
+use Rattle.list_terms.specs.EntryLines.{system_line}
+use Rattle.list_terms.specs.Text.{HeaderRead, is_end, is_tag, keep, no_header, rates_with, sequence_rates, system_rates, with_text}
+use Rattle.list_terms.specs.Tokens.{trimmed}
+use Rattle.list_terms.specs.WholeProject.{is_kept, is_line_byte, is_system_line, lines_of_section, no_rates, told_rates}
+use Rattle.adlread.specs.SoFar.{IsHeaderSoFar}
+
+pub and_left : (a b : Bool) → (a && b) ≡ true → a ≡ true
+and_left true b h = refl
+and_left false b h = h
+
+pub and_right : (a b : Bool) → (a && b) ≡ true → b ≡ true
+and_right true b h = h
+and_right false b h = absurd (cc)
+
+pub and_both : (a b : Bool) → a ≡ true → b ≡ true → (a && b) ≡ true
+and_both a b h k = rw (h, k) refl
+
+pub all_push :
+    {X :
+    Type 0} (test : X → Bool) (xs : List X) (x : X) → list_all test xs ≡ true → test x ≡ true → list_all test (xs ++ x ∷ []) ≡ true
+all_push test [] x h k = rw k refl
+all_push test (y ∷ xs) x h k =
+    rw (and_left (test y) (list_all test xs) h) (all_push test xs x (and_right (test y) (list_all test xs) h) k)
+
+-- ---- one line more
+
+all_with :
+    (test :
+    List ℕ → Bool) (text : List ℕ) (lines : Option (List (List ℕ))) → list_all test (lines_of_section lines) ≡ true
+    → test text ≡ true → list_all test (lines_of_section (with_text text lines)) ≡ true
+all_with test text None h k = refl
+all_with test text (Some front) h k = all_push test front text h k
+
+length_with :
+    (text :
+    List ℕ) (lines : Option (List (List ℕ))) → length (lines_of_section (with_text text lines)) ≤ length (lines_of_section lines) + 1
+length_with text None = omega arith
+length_with text (Some front) = omega (arith, length-append front (text ∷ []))
+
+told_rates-push :
+    (rates told next : Rates) (front : List (List ℕ)) (text : List ℕ) → told_rates rates front ≡ Ok told
+    → sequence_rates told text ≡ Ok next → told_rates rates (front ++ text ∷ []) ≡ Ok next
+told_rates-push rates told next [] text h k = let e : rates ≡ told = cc in rw (e, k) refl
+told_rates-push rates told next (line ∷ front) text h k =
+    by_first (sequence_rates rates line) refl (λ mid e. told_rates-push mid told next front text e k) where
+      by_first :
+          (first : Result Rates TextFault) → sequence_rates rates line ≡ first
+          → ((mid : Rates) → told_rates mid front ≡ Ok told → told_rates mid (front ++ text ∷ []) ≡ Ok next)
+          → told_rates rates (line ∷ front ++ text ∷ []) ≡ Ok next
+      by_first (Ok mid) e ih = rw e (ih mid (rw e at h))
+      by_first (Err fault) e ih = let f : Err fault ≡ Ok told = rw e at h in absurd (cc)
+
+told_with :
+    (told next : Rates) (lines : Option (List (List ℕ))) (text : List ℕ) → is_some lines ≡ true
+    → told_rates no_rates (lines_of_section lines) ≡ Ok told → sequence_rates told text ≡ Ok next
+    → told_rates no_rates (lines_of_section (with_text text lines)) ≡ Ok next
+told_with told next None text there h k = absurd (cc)
+told_with told next (Some front) text there h k = told_rates-push no_rates told next front text h k
+
+pub is_kept_line :
+    (name text : List ℕ) → list_all is_line_byte text ≡ true → is_end name (trimmed text) ≡ false
+    → is_kept name text ≡ true
+is_kept_line name text h k = and_both (list_all is_line_byte text) (not (is_end name (trimmed text))) h (rw k refl)
+
+-- what a line of SYSTEM says
+record SaysNothing (rates told : Rates) (text : List ℕ) : Type 0 where
+  same : rates ≡ told
+  line : is_system_line text ≡ true
+
+system_rates-says :
+    (rates told : Rates) (text : List ℕ) → system_rates 25 rates text ≡ Ok told → SaysNothing rates told text
+system_rates-says rates told text h = by_parts (is_tag text) refl (system_line 25 text) refl where
+  by_parts :
+      (tag :
+      Bool) → is_tag text ≡ tag → (said : Result (Unit {0}) TextFault) → system_line 25 text ≡ said → SaysNothing rates told text
+  by_parts true t said s = let f : system_rates 25 rates text ≡ Err SectionMismatch = rw t refl in absurd (cc)
+  by_parts false t (Err fault) s = let f : system_rates 25 rates text ≡ Err fault = rw (t, s) refl in absurd (cc)
+  by_parts false t (Ok said) s =
+      let f : system_rates 25 rates text ≡ Ok rates = rw (t, s) refl in
+      record { same = cc; line = rw (t, s) refl }
+
+module _ (header : HeaderRead) (is : IsHeaderSoFar header) (text : List ℕ) (told : Rates) (room : nat_le 65535 header.kept ≡ false) where
+  room_for_one : header.kept + 1 ≤ 65535
+  room_for_one = grind (arith, nat_tests)
+
+  pub with_version :
+      is_kept (codes "VERSION") text ≡ true → rates_with 25 section.Version header.rates text ≡ Ok told
+      → IsHeaderSoFar (record { lines = keep section.Version text header.lines; kept = header.kept + 1; rates = told })
+  with_version kept says = record {
+    version = all_with (is_kept (codes "VERSION")) text header.lines.version is.version kept;
+    project = is.project;
+    system = is.system;
+    sequence = is.sequence;
+    track_list = is.track_list;
+    settings = is.settings;
+    rates = is.rates ∙ says;
+    counted = omega (arith, length_with text header.lines.version, is.counted);
+    few = room_for_one;
+  }
+
+  pub with_project :
+      is_kept (codes "PROJECT") text ≡ true → rates_with 25 section.Project header.rates text ≡ Ok told
+      → IsHeaderSoFar (record { lines = keep section.Project text header.lines; kept = header.kept + 1; rates = told })
+  with_project kept says = record {
+    version = is.version;
+    project = all_with (is_kept (codes "PROJECT")) text header.lines.project is.project kept;
+    system = is.system;
+    sequence = is.sequence;
+    track_list = is.track_list;
+    settings = is.settings;
+    rates = is.rates ∙ says;
+    counted = omega (arith, length_with text header.lines.project, is.counted);
+    few = room_for_one;
+  }
+
+  pub with_system :
+      is_kept (codes "SYSTEM") text ≡ true → rates_with 25 section.System header.rates text ≡ Ok told
+      → IsHeaderSoFar (record { lines = keep section.System text header.lines; kept = header.kept + 1; rates = told })
+  with_system kept says =
+      let nothing = system_rates-says header.rates told text says in
+      record {
+        version = is.version;
+        project = is.project;
+        system = all_with (is_kept (codes "SYSTEM")) text header.lines.system is.system kept;
+        sequence = is.sequence;
+        track_list = is.track_list;
+        settings = all_with is_system_line text header.lines.system is.settings nothing.line;
+        rates = is.rates ∙ ap (λ (r : Rates). let x : Result Rates TextFault = Ok r in x) nothing.same;
+        counted = omega (arith, length_with text header.lines.system, is.counted);
+        few = room_for_one;
+      }
+
+  pub with_sequence :
+      is_some header.lines.sequence ≡ true → is_kept (codes "SEQUENCE") text ≡ true → rates_with 25 section.Sequence header.rates text ≡ Ok told
+      → IsHeaderSoFar (record { lines = keep section.Sequence text header.lines; kept = header.kept + 1; rates = told })
+  with_sequence there kept says = record {
+    version = is.version;
+    project = is.project;
+    system = is.system;
+    sequence = all_with (is_kept (codes "SEQUENCE")) text header.lines.sequence is.sequence kept;
+    track_list = is.track_list;
+    settings = is.settings;
+    rates = told_with header.rates told header.lines.sequence text there is.rates says;
+    counted = omega (arith, length_with text header.lines.sequence, is.counted);
+    few = room_for_one;
+  }
+
+  pub with_track_list :
+      is_kept (codes "TRACKLIST") text ≡ true → rates_with 25 section.TrackList header.rates text ≡ Ok told
+      → IsHeaderSoFar (record { lines = keep section.TrackList text header.lines; kept = header.kept + 1; rates = told })
+  with_track_list kept says = record {
+    version = is.version;
+    project = is.project;
+    system = is.system;
+    sequence = is.sequence;
+    track_list = all_with (is_kept (codes "TRACKLIST")) text header.lines.track_list is.track_list kept;
+    settings = is.settings;
+    rates = is.rates ∙ says;
+    counted = omega (arith, length_with text header.lines.track_list, is.counted);
+    few = room_for_one;
+  }
+
+-- ---- one section more
+
+nothing_told : (lines : Option (List (List ℕ))) → is_some lines ≡ false → lines_of_section lines ≡ []
+nothing_told None h = refl
+nothing_told (Some lines) h = absurd (cc)
+
+module _ (header : HeaderRead) (is : IsHeaderSoFar header) where
+  pub opens_version : IsHeaderSoFar (record header { lines = record header.lines { version = Some [] } })
+  opens_version = record {
+    version = refl;
+    project = is.project;
+    system = is.system;
+    sequence = is.sequence;
+    track_list = is.track_list;
+    settings = is.settings;
+    rates = is.rates;
+    counted = omega (arith, is.counted);
+    few = is.few;
+  }
+
+  pub opens_project : IsHeaderSoFar (record header { lines = record header.lines { project = Some [] } })
+  opens_project = record {
+    version = is.version;
+    project = refl;
+    system = is.system;
+    sequence = is.sequence;
+    track_list = is.track_list;
+    settings = is.settings;
+    rates = is.rates;
+    counted = omega (arith, is.counted);
+    few = is.few;
+  }
+
+  pub opens_system : IsHeaderSoFar (record header { lines = record header.lines { system = Some [] } })
+  opens_system = record {
+    version = is.version;
+    project = is.project;
+    system = refl;
+    sequence = is.sequence;
+    track_list = is.track_list;
+    settings = refl;
+    rates = is.rates;
+    counted = omega (arith, is.counted);
+    few = is.few;
+  }
+
+  pub opens_sequence :
+      is_some header.lines.sequence ≡ false → IsHeaderSoFar (record header { lines = record header.lines { sequence = Some [] } })
+  opens_sequence new = record {
+    version = is.version;
+    project = is.project;
+    system = is.system;
+    sequence = refl;
+    track_list = is.track_list;
+    settings = is.settings;
+    rates = ap (told_rates no_rates) (sym (nothing_told header.lines.sequence new)) ∙ is.rates;
+    counted = omega (arith, is.counted);
+    few = is.few;
+  }
+
+  pub opens_track_list : IsHeaderSoFar (record header { lines = record header.lines { track_list = Some [] } })
+  opens_track_list = record {
+    version = is.version;
+    project = is.project;
+    system = is.system;
+    sequence = is.sequence;
+    track_list = refl;
+    settings = is.settings;
+    rates = is.rates;
+    counted = omega (arith, is.counted);
+    few = is.few;
+  }
+
+pub IsHeaderSoFar-none : IsHeaderSoFar no_header
+IsHeaderSoFar-none = record {
+  version = refl;
+  project = refl;
+  system = refl;
+  sequence = refl;
+  track_list = refl;
+  settings = refl;
+  rates = refl;
+  counted = omega arith;
+  few = omega arith;
+}

@@ -1,0 +1,202 @@
+-- The lines of a section that is kept: each of them, in their order.
+use Rattle.std.proofs.Common.{◌≡◌, ℕ, ◌+◌, ◌≤◌, Bool, true, false, List, [], ◌∷◌, ◌++◌, length, Some, Result, Ok, Err, refl, ap, sym, ◌∙◌, append_assoc, arith}
+use Rattle.std.specs.Prelude.{nat_le, not, is_ok}
+use Rattle.std.specs.List.{list_all}
+use Rattle.std.proofs.lemmas.Bool.Decides.{nat_tests}
+use Rattle.std.proofs.lemmas.List.{append-nil}
+use Rattle.list_terms.specs.declared.Rates.{Rates}
+use Rattle.list_terms.specs.declared.Section.{Section}
+use Rattle.list_terms.specs.declared.Section.TheVariants as section
+use Rattle.list_terms.specs.declared.TextFault.{TextFault}
+use Rattle.list_terms.specs.declared.TextFault.TheVariants.{TooMany}
+use Rattle.list_terms.specs.Project.{Header}
+use Rattle.list_terms.specs.Steps.{◌>>=◌}
+use Rattle.list_terms.specs.EntryLines.{system_line}
+use Rattle.list_terms.specs.Text.{Context, HeaderRead, at_line, in_header, in_section, is_tag, keep, kept_line, rates_with, sequence_rates, system_rates}
+use Rattle.list_terms.specs.WholeProject.{is_system_line, told_rates}
+use Rattle.adlread.specs.CutLines.{NumberedLine, texts}
+use Rattle.adlread.proofs.FieldLaws.{chain, err_map_ok, ok_map_ok, ok_same, unless_ok}
+use Rattle.adlread.proofs.HeaderSoFar.{and_left, and_right}
+use Rattle.adlread.proofs.Walk.{walk, walk_step}
+
+abbrev pub with_header : Context → HeaderRead → Context
+with_header c header = record c { header = header }
+
+-- the rates that lines of this section tell behind others
+abbrev pub told_in : Section → Rates → List (List ℕ) → Result Rates TextFault
+told_in s rates [] = Ok rates
+told_in s rates (text ∷ lines) = rates_with 25 s rates text >>= (λ next. told_in s next lines)
+
+-- the header with these lines more
+abbrev pub keep_all : Section → List (List ℕ) → Header → Header
+keep_all s [] h = h
+keep_all s (text ∷ lines) h = keep_all s lines (keep s text h)
+
+-- ---- the sections
+
+module _ (h : Header) where
+  pub keep_all-version : (front lines : List (List ℕ))
+      → keep_all section.Version lines (record h { version = Some front })
+      ≡ record h { version = Some (front ++ lines) }
+  keep_all-version front [] = ap (λ ls. record h { version = Some ls }) (sym (append-nil front))
+  keep_all-version front (t ∷ lines) =
+      keep_all-version (front ++ t ∷ []) lines
+      ∙ ap (λ ls. record h { version = Some ls }) (append_assoc front (t ∷ []) lines)
+
+  pub keep_all-project : (front lines : List (List ℕ))
+      → keep_all section.Project lines (record h { project = Some front })
+      ≡ record h { project = Some (front ++ lines) }
+  keep_all-project front [] = ap (λ ls. record h { project = Some ls }) (sym (append-nil front))
+  keep_all-project front (t ∷ lines) =
+      keep_all-project (front ++ t ∷ []) lines
+      ∙ ap (λ ls. record h { project = Some ls }) (append_assoc front (t ∷ []) lines)
+
+  pub keep_all-system : (front lines : List (List ℕ))
+      → keep_all section.System lines (record h { system = Some front }) ≡ record h { system = Some (front ++ lines) }
+  keep_all-system front [] = ap (λ ls. record h { system = Some ls }) (sym (append-nil front))
+  keep_all-system front (t ∷ lines) =
+      keep_all-system (front ++ t ∷ []) lines
+      ∙ ap (λ ls. record h { system = Some ls }) (append_assoc front (t ∷ []) lines)
+
+  pub keep_all-sequence : (front lines : List (List ℕ))
+      → keep_all section.Sequence lines (record h { sequence = Some front })
+      ≡ record h { sequence = Some (front ++ lines) }
+  keep_all-sequence front [] = ap (λ ls. record h { sequence = Some ls }) (sym (append-nil front))
+  keep_all-sequence front (t ∷ lines) =
+      keep_all-sequence (front ++ t ∷ []) lines
+      ∙ ap (λ ls. record h { sequence = Some ls }) (append_assoc front (t ∷ []) lines)
+
+  pub keep_all-track_list : (front lines : List (List ℕ))
+      → keep_all section.TrackList lines (record h { track_list = Some front })
+      ≡ record h { track_list = Some (front ++ lines) }
+  keep_all-track_list front [] = ap (λ ls. record h { track_list = Some ls }) (sym (append-nil front))
+  keep_all-track_list front (t ∷ lines) =
+      keep_all-track_list (front ++ t ∷ []) lines
+      ∙ ap (λ ls. record h { track_list = Some ls }) (append_assoc front (t ∷ []) lines)
+
+-- ---- what they tell
+
+pub told_in-version : (rates : Rates) (lines : List (List ℕ)) → told_in section.Version rates lines ≡ Ok rates
+told_in-version rates [] = refl
+told_in-version rates (t ∷ lines) = told_in-version rates lines
+
+pub told_in-project : (rates : Rates) (lines : List (List ℕ)) → told_in section.Project rates lines ≡ Ok rates
+told_in-project rates [] = refl
+told_in-project rates (t ∷ lines) = told_in-project rates lines
+
+pub told_in-track_list : (rates : Rates) (lines : List (List ℕ)) → told_in section.TrackList rates lines ≡ Ok rates
+told_in-track_list rates [] = refl
+told_in-track_list rates (t ∷ lines) = told_in-track_list rates lines
+
+system_line_told : (rates : Rates) (text : List ℕ) → is_system_line text ≡ true → system_rates 25 rates text ≡ Ok rates
+system_line_told rates text h =
+    by_parts (is_tag text) refl (system_line 25 text) refl (and_left (not (is_tag text)) _ h)
+    (and_right (not (is_tag text)) _ h) where
+      by_parts :
+          (tag : Bool) → is_tag text ≡ tag → (said : Result (Unit {0}) TextFault) → system_line 25 text ≡ said
+          → not (is_tag text) ≡ true → is_ok (system_line 25 text) ≡ true → system_rates 25 rates text ≡ Ok rates
+      by_parts true t said s untagged ok = let f : false ≡ true = rw t at untagged in absurd (cc)
+      by_parts false t (Err fault) s untagged ok = let f : false ≡ true = rw s at ok in absurd (cc)
+      by_parts false t (Ok said) s untagged ok = rw (t, s) refl
+
+pub told_in-system :
+    (rates : Rates) (lines : List (List ℕ)) → list_all is_system_line lines ≡ true
+    → told_in section.System rates lines ≡ Ok rates
+told_in-system rates [] h = refl
+told_in-system rates (text ∷ lines) h =
+    rw (system_line_told rates text (and_left (is_system_line text) (list_all is_system_line lines) h))
+    (told_in-system rates lines (and_right (is_system_line text) (list_all is_system_line lines) h))
+
+pub told_in-sequence :
+    (rates : Rates) (lines : List (List ℕ)) → told_in section.Sequence rates lines ≡ told_rates rates lines
+told_in-sequence rates [] = refl
+told_in-sequence rates (text ∷ lines) =
+    by_first (sequence_rates rates text) refl (λ next. told_in-sequence next lines) where
+      by_first :
+          (first : Result Rates TextFault) → sequence_rates rates text ≡ first
+          → ((next : Rates) → told_in section.Sequence next lines ≡ told_rates next lines)
+          → told_in section.Sequence rates (text ∷ lines) ≡ told_rates rates (text ∷ lines)
+      by_first (Ok next) e ih = rw e (ih next)
+      by_first (Err fault) e ih = rw e refl
+
+-- ---- the lines, as they are read
+
+-- the lines of this section are those of a header
+abbrev pub IsKept : Section → Type 0
+IsKept s = (c : Context) (n : ℕ) (text : List ℕ) → in_section 25 c n text s ≡ in_header 25 c n text s
+
+header_line_read :
+    (s : Section) (c : Context) (n : ℕ) (text : List ℕ) (told : Rates) → nat_le 65535 c.header.kept ≡ false
+    → rates_with 25 s c.header.rates text ≡ Ok told
+    → in_header 25 c n text s
+    ≡ Ok (with_header c (record { lines = keep s text c.header.lines; kept = c.header.kept + 1; rates = told }))
+unfolding in_header kept_line
+header_line_read s c n text told few e = rw (few, e) refl
+
+pub read_header :
+    (s : Section) → IsKept s → (lines : List NumberedLine) (c : Context) (told : Rates) (count : ℕ)
+    → count ≡ c.header.kept + length (texts lines)
+    → count ≤ 65535 → told_in s c.header.rates (texts lines) ≡ Ok told
+    → walk s c lines
+    ≡ Ok (with_header c (record { lines = keep_all s (texts lines) c.header.lines; kept = count; rates = told }))
+read_header s same [] c told count counted few e =
+    let none : count ≡ c.header.kept = omega arith in
+    rw (none, ← ok_same _ _ e) refl
+read_header s same (line ∷ lines) c told count counted few e =
+    let first = chain (rates_with 25 s c.header.rates line.text) (λ next. told_in s next (texts lines)) told e in
+    let under : nat_le 65535 c.header.kept ≡ false = grind (arith, nat_tests) in
+    let next = with_header c
+    (record { lines = keep s line.text c.header.lines; kept = c.header.kept + 1; rates = first.value }) in
+    walk_step s c next line lines
+    (same c line.number line.text ∙ header_line_read s c line.number line.text first.value under first.is)
+    ∙ read_header s same lines next told count (omega arith) few first.others
+
+-- ---- the lines that were read
+
+pub record IsHeaderLine (s : Section) (c next : Context) (text : List ℕ) : Type 0 where
+  pub kept : ℕ
+  pub rates : Rates
+  pub is : next ≡ with_header c (record { lines = keep s text c.header.lines; kept = kept; rates = rates })
+
+kept_line_is :
+    (header next : HeaderRead) (s : Section) (text : List ℕ) (said : Result Rates TextFault)
+    → kept_line header s text said ≡ Ok next
+    → (kept : ℕ) × ((rates : Rates) × (next ≡ record { lines = keep s text header.lines; kept = kept; rates = rates }))
+unfolding kept_line
+kept_line_is header next s text said e =
+    let few = unless_ok (nat_le 65535 header.kept) TooMany _ next e in
+    let f = ok_map_ok
+    (λ (rates : Rates). let h : HeaderRead =
+    record { lines = keep s text header.lines; kept = header.kept + 1; rates = rates } in h) said next few.1 in
+    (header.kept + 1, (f.value, sym f.same))
+
+pub header_line_is :
+    (s : Section) (c next : Context) (n : ℕ) (text : List ℕ) → in_header 25 c n text s ≡ Ok next
+    → IsHeaderLine s c next text
+unfolding in_header
+header_line_is s c next n text e =
+    let f = ok_map_ok (with_header c) (kept_line c.header s text (rates_with 25 s c.header.rates text)) next
+    (err_map_ok (at_line n) _ next e) in
+    let k = kept_line_is c.header f.value s text (rates_with 25 s c.header.rates text) f.is in
+    record { kept = k.0; rates = k.1.0; is = sym f.same ∙ ap (with_header c) k.1.1 }
+
+pub record AreHeaderLines (s : Section) (c next : Context) (lines : List (List ℕ)) : Type 0 where
+  pub kept : ℕ
+  pub rates : Rates
+  pub is : next ≡ with_header c (record { lines = keep_all s lines c.header.lines; kept = kept; rates = rates })
+
+with_first :
+    (s : Section) (c middle next : Context) (text : List ℕ) (lines : List (List ℕ)) → IsHeaderLine s c middle text
+    → AreHeaderLines s middle next lines → AreHeaderLines s c next (text ∷ lines)
+with_first s c middle next text lines f r =
+    record { kept = r.kept; rates = r.rates; is = r.is ∙ ap (λ m. with_header m (record { lines = keep_all s lines m.header.lines; kept = r.kept; rates = r.rates })) f.is }
+
+pub header_is_read :
+    (s : Section) → IsKept s → (lines : List NumberedLine) (c next : Context) → walk s c lines ≡ Ok next
+    → AreHeaderLines s c next (texts lines)
+header_is_read s same [] c next e = record { kept = c.header.kept; rates = c.header.rates; is = sym (ok_same _ _ e) }
+header_is_read s same (line ∷ lines) c next e =
+    let f = chain (in_section 25 c line.number line.text s) (λ m. walk s m lines) next e in
+    with_first s c f.value next line.text (texts lines)
+    (header_line_is s c f.value line.number line.text (sym (same c line.number line.text) ∙ f.is))
+    (header_is_read s same lines f.value next f.others)

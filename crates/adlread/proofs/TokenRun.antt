@@ -1,0 +1,80 @@
+-- The tokens up to the end of a line, one taken off.
+use Rattle.std.proofs.Common.{◌≡◌, Bool, ℕ, zero, suc, ◌<◌, ◌≤◌, true, false, List, [], ◌∷◌, length, None, Some, Ok, Err, refl, sym, ap, ◌∙◌, arith}
+use Rattle.list_terms.specs.declared.TextFault.{TextFault}
+use Rattle.list_terms.specs.declared.TextFault.TheVariants.{Unsupported}
+use Rattle.list_terms.specs.Tokens.{TokenText, token_at, all_tokens}
+
+-- what is left of a line, in so many steps, is as the whole line
+pub record IsLeft (allowed : TokenText → Bool) (line rest : List ℕ) : Type 0 where
+  pub steps : ℕ
+  pub enough : length rest ≤ steps
+  pub same : all_tokens allowed steps rest ≡ all_tokens allowed (length line) line
+
+pub IsLeft-whole : (allowed : TokenText → Bool) (line : List ℕ) → IsLeft allowed line line
+IsLeft-whole allowed line = record { steps = length line; enough = omega arith; same = refl }
+
+pub all_tokens-step :
+    (allowed : TokenText → Bool) (n : ℕ) (line rest : List ℕ) (token : TokenText) → token_at line ≡ Ok (Some (token, rest))
+    → allowed token ≡ true → all_tokens allowed (suc n) line ≡ all_tokens allowed n rest
+unfolding all_tokens
+all_tokens-step allowed n line rest token e h = rw (e, h, all_tokens)
+
+pub all_tokens-refused :
+    (allowed : TokenText → Bool) (n : ℕ) (line rest : List ℕ) (token : TokenText) → token_at line ≡ Ok (Some (token, rest))
+    → allowed token ≡ false → all_tokens allowed (suc n) line ≡ Err Unsupported
+unfolding all_tokens
+all_tokens-refused allowed n line rest token e h = rw (e, h, all_tokens)
+
+pub all_tokens-fault :
+    (allowed : TokenText → Bool) (n : ℕ) (line : List ℕ) (fault : TextFault) → token_at line ≡ Err fault
+    → all_tokens allowed (suc n) line ≡ Err fault
+unfolding all_tokens
+all_tokens-fault allowed n line fault e = rw (e, all_tokens)
+
+pub all_tokens-none :
+    (allowed : TokenText → Bool) (n : ℕ) (line : List ℕ) → token_at line ≡ Ok None → all_tokens allowed n line ≡ Ok tt
+unfolding all_tokens
+all_tokens-none allowed zero line e = refl
+all_tokens-none allowed (suc n) line e = rw (e, all_tokens)
+
+pub no_bytes : (line : List ℕ) → length line ≤ 0 → line ≡ []
+no_bytes [] h = refl
+no_bytes (b ∷ line) h = absurd (omega arith)
+
+pub token_at-nil : token_at [] ≡ Ok None
+unfolding token_at
+token_at-nil = refl
+
+-- one token more
+pub IsLeft-next :
+    (allowed : TokenText → Bool) (line left rest : List ℕ) (token : TokenText) → IsLeft allowed line left
+    → token_at left ≡ Ok (Some (token, rest)) → allowed token ≡ true → length rest < length left → IsLeft allowed line rest
+IsLeft-next allowed line left rest token h e is shorter = by_steps h.steps h.enough h.same where
+  by_steps : (n : ℕ) → length left ≤ n → all_tokens allowed n left ≡ all_tokens allowed (length line) line → IsLeft allowed line rest
+  by_steps zero enough same = absurd (omega arith)
+  by_steps (suc n) enough same =
+      record { steps = n; enough = omega arith; same = sym (all_tokens-step allowed n left rest token e is) ∙ same }
+
+pub IsLeft-refused :
+    (allowed : TokenText → Bool) (line left rest : List ℕ) (token : TokenText) → IsLeft allowed line left
+    → token_at left ≡ Ok (Some (token, rest)) → allowed token ≡ false → length rest < length left
+    → all_tokens allowed (length line) line ≡ Err Unsupported
+IsLeft-refused allowed line left rest token h e is shorter = by_steps h.steps h.enough h.same where
+  by_steps : (n : ℕ) → length left ≤ n → all_tokens allowed n left ≡ all_tokens allowed (length line) line
+      → all_tokens allowed (length line) line ≡ Err Unsupported
+  by_steps zero enough same = absurd (omega arith)
+  by_steps (suc n) enough same = sym same ∙ all_tokens-refused allowed n left rest token e is
+
+pub IsLeft-fault :
+    (allowed : TokenText → Bool) (line left : List ℕ) (fault : TextFault) → IsLeft allowed line left
+    → token_at left ≡ Err fault → all_tokens allowed (length line) line ≡ Err fault
+IsLeft-fault allowed line left fault h e = by_steps h.steps h.enough h.same where
+  by_steps : (n : ℕ) → length left ≤ n → all_tokens allowed n left ≡ all_tokens allowed (length line) line
+      → all_tokens allowed (length line) line ≡ Err fault
+  by_steps zero enough same = let none : token_at left ≡ Ok None = ap token_at (no_bytes left enough) ∙ token_at-nil in absurd (cc)
+  by_steps (suc n) enough same = sym same ∙ all_tokens-fault allowed n left fault e
+
+pub IsLeft-end :
+    (allowed : TokenText → Bool) (line left : List ℕ) → IsLeft allowed line left → token_at left ≡ Ok None
+    → all_tokens allowed (length line) line ≡ Ok tt
+IsLeft-end allowed line left h e = sym h.same ∙ all_tokens-none allowed h.steps left e

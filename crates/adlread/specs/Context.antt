@@ -1,0 +1,17 @@
+-- What a list that was read so far stands for.
+use Rattle.list_terms.specs.Text.{Context}
+use Rattle.adlread.specs.Entries.{entries_of}
+use Rattle.adlread.specs.HeaderSoFar.{header_so_far}
+use Rattle.adlread.specs.declared.draft.Draft.{Draft}
+
+abbrev pub context_of : Draft → Context
+context_of draft = record {
+  stage = draft.stage;
+  name = draft.name.now;
+  header = header_so_far draft.header;
+  has_index = draft.has_index;
+  sources = draft.index.sources.items;
+  has_events = draft.has_events;
+  entries = entries_of draft.events;
+  notices = draft.notices.items;
+}

@@ -1,0 +1,66 @@
+-- How a text is cut into lines, and a line into tokens.
+use Rattle.std.specs.Prelude.{◌≡◌, ℕ, ◌+◌, ◌==◌, Bool, true, false, List, [], ◌∷◌, ◌++◌, length, map, IsTrue}
+use Rattle.std.specs.List.{list_all}
+use Rattle.list_terms.specs.declared.TokenKind.{TokenKind}
+use Rattle.list_terms.specs.declared.TokenKind.TheVariants.{Quoted, Keyword, Word}
+use Rattle.list_terms.specs.Tokens.{TokenText, is_blank, is_word_byte, token_text, trimmed}
+use Rattle.list_terms.specs.TokenLaws.{is_content, stops}
+use Rattle.list_terms.specs.Text.{is_tag}
+use Rattle.list_terms.specs.Lines.{without_cr, without_mark}
+use Rattle.list_terms.specs.WholeProject.{is_line_byte}
+
+-- a word goes on as far as it can: no further byte of words may follow it
+abbrev pub ends_token : TokenKind → List ℕ → Bool
+ends_token Quoted rest = true
+ends_token Keyword rest = true
+ends_token Word rest = stops is_word_byte rest
+
+-- the line is these tokens, parted by blanks or by nothing
+pub data CutsTo : List ℕ → List TokenText → Type 0 where
+  OnlyBlanks : (blanks : List ℕ) → IsTrue (list_all is_blank blanks) → CutsTo blanks []
+  NextToken : (blanks : List ℕ) (token : TokenText) (rest : List ℕ) (tokens : List TokenText)
+      → IsTrue (list_all is_blank blanks) → IsTrue (is_content token.kind token.content)
+      → IsTrue (ends_token token.kind rest) → CutsTo rest tokens
+      → CutsTo (blanks ++ (token_text token ++ rest)) (token ∷ tokens)
+
+-- a line of these tokens that doesn't begin with `<`, as one does that opens or ends a section
+pub record HasTokens (line : List ℕ) (tokens : List TokenText) : Type 0 where
+  pub untagged : is_tag line ≡ false
+  pub cut : CutsTo line tokens
+
+-- each of these lines has its tokens
+pub data HaveTokens : List (List ℕ) → List (List TokenText) → Type 0 where
+  NoLines : HaveTokens [] []
+  NextLine : {line : List ℕ} {tokens : List TokenText} {lines : List (List ℕ)} {others : List (List TokenText)}
+      → HasTokens line tokens → HaveTokens lines others → HaveTokens (line ∷ lines) (tokens ∷ others)
+
+-- the text is these parts, each with LF behind it; the last one may lack it, and has a byte then
+pub data HasParts : List ℕ → List (List ℕ) → Type 0 where
+  NoPart : HasParts [] []
+  LastPart : (byte : ℕ) (part : List ℕ) → IsTrue (list_all is_line_byte (byte ∷ part))
+      → HasParts (byte ∷ part) ((byte ∷ part) ∷ [])
+  EndedPart : (part rest : List ℕ) {parts : List (List ℕ)}
+      → IsTrue (list_all is_line_byte part) → HasParts rest parts → HasParts (part ++ (10 ∷ rest)) (part ∷ parts)
+
+-- the lines of a text; a byte order mark in front of it is no part of them, and neither is one CR at the end of each
+pub record HasLines (text : List ℕ) (lines : List (List ℕ)) : Type 0 where
+  pub parts : List (List ℕ)
+  pub cut : HasParts (without_mark text) parts
+  pub lines_are : lines ≡ map without_cr parts
+
+-- a line, and its number in the text
+pub record NumberedLine : Type 0 where
+  pub number : ℕ
+  pub text : List ℕ
+
+-- these lines, numbered from here on
+abbrev pub numbered : ℕ → List (List ℕ) → List NumberedLine
+numbered number [] = []
+numbered number (text ∷ lines) = record { number = number; text = text } ∷ numbered (number + 1) lines
+
+abbrev pub texts : List NumberedLine → List (List ℕ)
+texts lines = map (λ line. line.text) lines
+
+-- blanks alone
+abbrev pub is_empty : List ℕ → Bool
+is_empty text = length (trimmed text) == 0

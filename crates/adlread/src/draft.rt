@@ -1,0 +1,378 @@
+// What was read of a list so far.
+ghost use Rattle.std.specs.Prelude.{◌≡◌, ◌&&◌, IfOk, IsTrue, Ok, is_some};
+ghost use Rattle.list_terms.specs.Text as text;
+ghost use Rattle.list_terms.specs.Text.{nothing_read};
+ghost use Rattle.adlread.specs.Fault.{Reads};
+ghost use Rattle.adlread.specs.Context.{context_of};
+ghost use Rattle.adlread.specs.SoFar.{IsSoFar};
+
+use crate::fault::{AdlFault, located};
+use crate::fields::{end_line, is_keyword, number_field};
+use crate::header::{HeaderSoFar, is_tag};
+use crate::sections::{EventList, SourceIndex};
+use crate::tags::{is_end, is_list_begin, opened_name, section_of};
+use adlmodel::{KeptLines, Project};
+use adltoken::{TextFault, Tokens, trimmed};
+use list_terms::{Location, Notice, OpenEntry, Section, Stage};
+use sampletime::Separators;
+use std::alloc::{AllocError, Global};
+
+/// What was read of a list so far: the stage, the name of the section that is open, and what the project has by now.
+#[derive(Drop)]
+pub struct Draft<'a> {
+    stage: Stage,
+    name: &'a [u8],
+    header: HeaderSoFar,
+    has_index: bool,
+    index: SourceIndex,
+    has_events: bool,
+    events: EventList,
+    notices: Vec<Notice>,
+}
+
+impl<'a> Draft<'a> {
+    /// Nothing was read.
+    pub fn new(alloc: Global) -> Result<Self, AllocError>
+        ensures { IfOk result (λ draft. context_of draft ≡ nothing_read) }
+    {
+        let index = SourceIndex::new(alloc)?;
+        let events = EventList::new(alloc)?;
+        Ok(Draft {
+            stage: Stage::Before,
+            name: &[],
+            header: HeaderSoFar::new(),
+            has_index: false,
+            index,
+            has_events: false,
+            events,
+            notices: Vec::new(alloc),
+        })
+    }
+
+    /// Whether the list was read up to `</ADL>`.
+    pub fn is_behind(&self) -> bool
+        ensures { result ≡ text.is_behind self.now.stage }
+    {
+        match self.stage {
+            Stage::Behind => true,
+            Stage::Before | Stage::Outside | Stage::Inside(_) => false,
+        }
+    }
+
+    /// Reads one line more, of this number.
+    #[tactic(auto, unfolding(list_terms::specs::Text::with_line))]
+    pub fn add(&mut self, alloc: Global, line: &'a [u8], number: u64) -> Result<(), AdlFault>
+        ensures { Reads (λ _. context_of self.new) result (text.with_line 25 (context_of self.old) number line.now) }
+    {
+        match self.stage {
+            Stage::Before => self.before_list(trimmed(line), number),
+            Stage::Outside => self.outside(alloc, trimmed(line), number),
+            Stage::Inside(section) => {
+                if is_end(self.name, trimmed(line)) {
+                    self.stage = Stage::Outside;
+                    Ok(())
+                } else {
+                    self.inside(alloc, section, line, number)
+                }
+            }
+            Stage::Behind => Ok(()),
+        }
+    }
+
+    /// Reads a line before the list: a blank one, or `<ADL>`.
+    #[tactic(auto, unfolding(list_terms::specs::Text::before_list))]
+    fn before_list(&mut self, line: &[u8], number: u64) -> Result<(), AdlFault>
+        ensures { Reads (λ _. context_of self.new) result (text.before_list (context_of self.old) number line.now) }
+    {
+        if line.is_empty() {
+            return Ok(());
+        }
+        if is_list_begin(line) {
+            self.stage = Stage::Outside;
+            return Ok(());
+        }
+        Err(at_line(TextFault::SectionMismatch, number))
+    }
+
+    /// Reads a line between sections: a blank one, `</ADL>`, or one that opens a section.
+    #[tactic(auto, unfolding(list_terms::specs::Text::outside))]
+    fn outside(&mut self, alloc: Global, line: &'a [u8], number: u64) -> Result<(), AdlFault>
+        ensures { Reads (λ _. context_of self.new) result (text.outside (context_of self.old) number line.now) }
+    {
+        if line.is_empty() {
+            return Ok(());
+        }
+        if is_end(b"ADL", line) {
+            self.stage = Stage::Behind;
+            return Ok(());
+        }
+        match opened_name(line) {
+            Some(name) => self.open(alloc, name, number),
+            None => Err(at_line(TextFault::SectionMismatch, number)),
+        }
+    }
+
+    /// Opens the section of this name.
+    #[tactic(auto, unfolding(list_terms::specs::Text::opened))]
+    fn open(&mut self, alloc: Global, name: &'a [u8], number: u64) -> Result<(), AdlFault>
+        ensures { Reads (λ _. context_of self.new) result (text.opened (context_of self.old) number name.now) }
+    {
+        let section = section_of(name);
+        if self.is_opened(section) {
+            return Err(at_line(TextFault::RepeatedSection, number));
+        }
+        self.begin(alloc, section, number)?;
+        self.stage = Stage::Inside(section);
+        self.name = name;
+        Ok(())
+    }
+
+    /// Whether a section was opened before.
+    fn is_opened(&self, section: Section) -> bool
+        ensures { result ≡ text.is_opened (context_of self.now) section }
+    {
+        let lines = &self.header.lines;
+        match section {
+            Section::Version => lines.version.is_some(),
+            Section::Project => lines.project.is_some(),
+            Section::System => lines.system.is_some(),
+            Section::Sequence => lines.sequence.is_some(),
+            Section::TrackList => lines.track_list.is_some(),
+            Section::SourceIndex => self.has_index,
+            Section::EventList => self.has_events,
+            Section::Skipped | Section::Unsupported => false,
+        }
+    }
+
+    /// Notes that a section begins; one that is passed over gives notice 1.
+    fn begin(&mut self, alloc: Global, section: Section, number: u64) -> Result<(), AdlFault>
+        ensures { Reads (λ _. context_of self.new) result (Ok (text.with_section (context_of self.old) number section)) }
+    {
+        match section {
+            Section::Version => self.header.lines.version = Some(KeptLines::new(alloc)),
+            Section::Project => self.header.lines.project = Some(KeptLines::new(alloc)),
+            Section::System => self.header.lines.system = Some(KeptLines::new(alloc)),
+            Section::Sequence => self.header.lines.sequence = Some(KeptLines::new(alloc)),
+            Section::TrackList => self.header.lines.track_list = Some(KeptLines::new(alloc)),
+            Section::SourceIndex => self.has_index = true,
+            Section::EventList => self.has_events = true,
+            Section::Skipped | Section::Unsupported => self.note(1, number)?,
+        }
+        Ok(())
+    }
+
+    /// Adds a notice of this kind at a line.
+    fn note(&mut self, kind: u8, line: u64) -> Result<(), AdlFault>
+        ensures { Reads (λ _. context_of self.new) result (Ok (text.with_notice (context_of self.old) kind line)) }
+    {
+        self.notices.push(Notice { kind, at: line })?;
+        Ok(())
+    }
+
+    /// Reads a line inside a section.
+    #[tactic(auto, unfolding(list_terms::specs::Text::in_section))]
+    fn inside(
+        &mut self,
+        alloc: Global,
+        section: Section,
+        line: &[u8],
+        number: u64,
+    ) -> Result<(), AdlFault>
+        ensures { Reads (λ _. context_of self.new) result (text.in_section 25 (context_of self.old) number line.now section) }
+    {
+        match section {
+            Section::Version
+            | Section::Project
+            | Section::System
+            | Section::Sequence
+            | Section::TrackList => self.in_header(alloc, section, line, number),
+            Section::SourceIndex => self.in_source_index(alloc, line, number),
+            Section::EventList => self.in_event_list(line, number),
+            Section::Skipped => Ok(()),
+            Section::Unsupported => in_unsupported(line, number),
+        }
+    }
+
+    /// Reads a line of the header, which is kept as it stands.
+    #[tactic(auto, unfolding(list_terms::specs::Text::in_header))]
+    fn in_header(
+        &mut self,
+        alloc: Global,
+        section: Section,
+        line: &[u8],
+        number: u64,
+    ) -> Result<(), AdlFault>
+        ensures { Reads (λ _. context_of self.new) result (text.in_header 25 (context_of self.old) number line.now section) }
+    {
+        match self.header.keep(alloc, section, line) {
+            Ok(()) => Ok(()),
+            Err(fault) => Err(fault.at(Location::Line { line: number })),
+        }
+    }
+
+    /// Reads a line of the source index.
+    #[tactic(auto, unfolding(list_terms::specs::Text::in_source_index))]
+    fn in_source_index(&mut self, alloc: Global, line: &[u8], number: u64) -> Result<(), AdlFault>
+        ensures { Reads (λ _. context_of self.new) result (text.in_source_index 25 (context_of self.old) number line.now) }
+    {
+        if is_tag(line) {
+            return Err(at_line(TextFault::SectionMismatch, number));
+        }
+        let mut tokens = Tokens::new(line);
+        let Some(token) = located(tokens.next_token(), Location::Line { line: number })? else {
+            return Ok(());
+        };
+        if is_keyword(b"Index", &token) {
+            self.index_line(alloc, &mut tokens, number)
+        } else {
+            self.dropped_line(&mut tokens, number)
+        }
+    }
+
+    /// Reads an `(Index)` line, behind this keyword.
+    #[tactic(auto, unfolding(list_terms::specs::Text::index_line))]
+    fn index_line(
+        &mut self,
+        alloc: Global,
+        tokens: &mut Tokens<'_>,
+        line: u64,
+    ) -> Result<(), AdlFault>
+        ensures { Reads (λ _. context_of self.new) result (text.index_line 25 (context_of self.old) line tokens.old.rest.now) }
+    {
+        let number = located(number_field(tokens), Location::Line { line })?;
+        match self.index.add(alloc, number, tokens) {
+            Ok(()) => Ok(()),
+            Err(fault) => Err(fault.at(Location::Index {
+                line,
+                index: number,
+            })),
+        }
+    }
+
+    /// Drops another line of the source index, with notice 2.
+    #[tactic(auto, unfolding(list_terms::specs::Text::dropped_line))]
+    fn dropped_line(&mut self, tokens: &mut Tokens<'_>, line: u64) -> Result<(), AdlFault>
+        ensures { Reads (λ _. context_of self.new) result (text.dropped_line (context_of self.old) line tokens.old.rest.now) }
+    {
+        located(end_line(tokens), Location::Line { line })?;
+        self.note(2, line)
+    }
+
+    /// Reads a line of the event list.
+    #[tactic(auto, unfolding(list_terms::specs::Text::in_event_list))]
+    fn in_event_list(&mut self, line: &[u8], number: u64) -> Result<(), AdlFault>
+        ensures { Reads (λ _. context_of self.new) result (text.in_event_list 25 (context_of self.old) number line.now) }
+    {
+        if is_tag(line) {
+            return Err(at_line(TextFault::SectionMismatch, number));
+        }
+        let location = location_in(number, self.events.entry);
+        let mut tokens = Tokens::new(line);
+        let Some(token) = located(tokens.next_token(), location)? else {
+            return Ok(());
+        };
+        if is_keyword(b"Entry", &token) {
+            self.entry_line(&mut tokens, number)
+        } else {
+            located(self.events.add_further(&token, &mut tokens), location)
+        }
+    }
+
+    /// Reads an `(Entry)` line, behind this keyword.
+    #[tactic(auto, unfolding(list_terms::specs::Text::entry_line))]
+    fn entry_line(&mut self, tokens: &mut Tokens<'_>, line: u64) -> Result<(), AdlFault>
+        ensures { Reads (λ _. context_of self.new) result (text.entry_line 25 (context_of self.old) line tokens.old.rest.now) }
+    {
+        let number = located(number_field(tokens), Location::Line { line })?;
+        match self.events.add(number, tokens) {
+            Ok(()) => Ok(()),
+            Err(fault) => Err(fault.at(Location::Entry {
+                line,
+                entry: number,
+            })),
+        }
+    }
+
+    /// The project, behind `</ADL>`: three sections have to be there, and both rates.
+    #[tactic(auto, unfolding(list_terms::specs::Text::finished))]
+    pub fn finish(self, line: u64) -> Result<Project, AdlFault>
+        requires { IsSoFar (context_of self) }
+        ensures { Reads (λ project. project) result (text.finished 25 (context_of self.entry) line) }
+    {
+        if !self.has_sections() {
+            return Err(at_line(TextFault::MissingSection, line));
+        }
+        let rates = self.header.rates;
+        if !(rates.sample_rate && rates.frame_rate) {
+            return Err(at_line(TextFault::MissingSequence, line));
+        }
+        self.project()
+    }
+
+    /// Whether SEQUENCE, SOURCE_INDEX and EVENT_LIST were there.
+    fn has_sections(&self) -> bool
+        ensures { result ≡ (is_some self.now.header.lines.sequence && self.now.has_index && self.now.has_events) }
+    {
+        self.header.lines.sequence.is_some() && self.has_index && self.has_events
+    }
+
+    /// The project of all that was read, where both rates were told.
+    fn project(self) -> Result<Project, AdlFault>
+        requires whole { IsSoFar (context_of self) }
+        requires rates { IsTrue (self.header.rates.sample_rate && self.header.rates.frame_rate) }
+        ensures { Reads (λ project. project) result (Ok (text.project_of 25 (context_of self.entry))) }
+    {
+        let Draft {
+            header,
+            index,
+            events,
+            notices,
+            ..
+        } = self;
+        let mut list = events;
+        list.close()?;
+        let separators = list.separators.unwrap_or(Separators::DEFAULT);
+        Ok(Project::new(
+            header.lines,
+            index.sources,
+            list.events,
+            separators,
+            notices,
+        ))
+    }
+}
+
+/// Reads a line of a section that may hold blank lines alone.
+#[tactic(auto, unfolding(list_terms::specs::Text::in_unsupported))]
+fn in_unsupported(line: &[u8], number: u64) -> Result<(), AdlFault>
+    ensures { (c : text.Context) → Reads (λ _. c) result (text.in_unsupported c number line.now) }
+{
+    if trimmed(line).is_empty() {
+        Ok(())
+    } else {
+        Err(at_line(TextFault::Unsupported, number))
+    }
+}
+
+/// Where a line of the event list stands that isn't an `(Entry)` line.
+fn location_in(line: u64, entry: Option<OpenEntry>) -> Location
+    ensures { result ≡ text.location_in line entry }
+{
+    match entry {
+        Some(entry) => Location::Entry {
+            line,
+            entry: entry.event.number,
+        },
+        None => Location::Line { line },
+    }
+}
+
+/// A fault at a line.
+fn at_line(fault: TextFault, line: u64) -> AdlFault
+    ensures { result ≡ AdlFault.Text fault (Location.Line line) }
+{
+    AdlFault::Text {
+        fault,
+        location: Location::Line { line },
+    }
+}

@@ -1,0 +1,350 @@
+// What the lines of the source index, of the event list and of the two sections of settings say.
+ghost use Rattle.std.specs.Prelude.{◌≡◌, ◌≤◌, ◌-◌, IfOk, IsTrue, codes, is_some, length};
+ghost use Rattle.list_terms.specs.Steps.{ok_map};
+ghost use Rattle.list_terms.specs.Fields.{checked_field, is_missing, is_zero};
+ghost use Rattle.list_terms.specs.EntryLines as spec;
+ghost use Rattle.list_terms.specs.Names.{place_of_url};
+ghost use Rattle.list_terms.specs.WholeProject.{are_channels, is_event, is_number, is_source};
+ghost use Rattle.sampletime.specs.TimeCode.{day};
+ghost use Rattle.adltoken.specs.Views.{token_view};
+ghost use Rattle.adlread.specs.Fault.{Says};
+ghost use Rattle.adlread.specs.Views.{times_of};
+
+use crate::fault::LineFault;
+use crate::fields::{
+    channels_field, end_line, end_with_zeros, field, is_keyword, is_missing, is_whole_number,
+    is_zero, keyword_field, number_field, optional_time_field, time_field,
+};
+use adlmodel::{Bytes, Channels, Event, Fade, Source, place_of};
+use adltoken::{TextFault, Token, Tokens, is_same_name, skip_blanks};
+use list_terms::{OpenEntry, Rates};
+use sampletime::{SampleTime, Separators, parse_time};
+use std::alloc::Global;
+
+/// Reads `(F)`, URL, identifier, in and length, behind the number of an index.
+#[tactic(auto, unfolding(list_terms::specs::EntryLines::source_fields))]
+pub fn source_fields(
+    alloc: Global,
+    number: u32,
+    tokens: &mut Tokens<'_>,
+) -> Result<Source, LineFault>
+    ensures fields { Says (λ source. source) result (spec.source_fields 25 number tokens.old.rest.now) }
+    ensures number { IfOk result (λ source. source.number ≡ number) }
+    ensures whole { IsTrue (is_number number) → IfOk result (λ source. IsTrue (is_source source)) }
+{
+    keyword_field(b"F", tokens)?;
+    let url = url_field(alloc, tokens)?;
+    let uid = field(tokens)?;
+    let start = optional_time_field(tokens)?;
+    let length = optional_time_field(tokens)?;
+    end_line(tokens)?;
+    let url = Bytes::from_slice(alloc, url)?;
+    let uid = Bytes::from_slice(alloc, uid.text)?;
+    Ok(Source::new(number, url, uid, start, length))
+}
+
+/// Reads a URL that names a file.
+#[tactic(auto, unfolding(list_terms::specs::EntryLines::url_field))]
+fn url_field<'a>(alloc: Global, tokens: &mut Tokens<'a>) -> Result<&'a [u8], LineFault>
+    ensures value { Says (λ url. (url.now, tokens.new.rest.now)) result (spec.url_field tokens.old.rest.now) }
+    ensures place { IfOk result (λ url. IsTrue (is_some (place_of_url url.now))) }
+{
+    let token = field(tokens)?;
+    let place = place_of(alloc, token.content)?;
+    if place.is_some() {
+        Ok(token.content)
+    } else {
+        Err(LineFault::Text(TextFault::BadUrl))
+    }
+}
+
+/// Reads `(Cut) I`, index, channels and times, behind the number of an entry: the event, and the separators of its
+/// destination in.
+#[tactic(auto, unfolding(list_terms::specs::EntryLines::event_fields))]
+pub fn event_fields(number: u32, tokens: &mut Tokens<'_>) -> Result<(Event, Separators), TextFault>
+    ensures fields { result ≡ spec.event_fields 25 number tokens.old.rest.now }
+    ensures number { IfOk result (λ entry. entry.0.number ≡ number) }
+    ensures whole { IsTrue (is_number number) → IfOk result (λ entry. IsTrue (is_event entry.0)) }
+{
+    keyword_field(b"Cut", tokens)?;
+    cut_field(tokens)?;
+    let index = number_field(tokens)?;
+    let (source, dest) = channel_fields(tokens)?;
+    let (times, separators) = time_fields(tokens)?;
+    let event = Event {
+        number,
+        index,
+        source,
+        dest,
+        source_in: times.source_in,
+        dest_in: times.dest_in,
+        dest_out: times.dest_out,
+        rise: NO_FADE,
+        fall: NO_FADE,
+    };
+    Ok((event, separators))
+}
+
+const NO_FADE: Fade = Fade {
+    length: SampleTime::ZERO,
+};
+
+/// Reads `I`, the only kind of cut that is supported.
+fn cut_field(tokens: &mut Tokens<'_>) -> Result<(), TextFault>
+    ensures { ok_map (λ _. tokens.new.rest.now) result ≡ checked_field spec.is_cut tokens.old.rest.now }
+{
+    let token = field(tokens)?;
+    if token.content == b"I".as_slice() {
+        Ok(())
+    } else {
+        Err(TextFault::Unsupported)
+    }
+}
+
+/// Reads the channels of the source, and as many of the destination.
+#[tactic(auto, unfolding(list_terms::specs::EntryLines::channel_fields))]
+fn channel_fields(tokens: &mut Tokens<'_>) -> Result<(Channels, Channels), TextFault>
+    ensures value { ok_map (λ channels. (channels.0, channels.1, tokens.new.rest.now)) result ≡ spec.channel_fields tokens.old.rest.now }
+    ensures source { IfOk result (λ channels. IsTrue (are_channels channels.0)) }
+    ensures dest { IfOk result (λ channels. IsTrue (are_channels channels.1)) }
+    ensures widths { IfOk result (λ channels. channels.0.last - channels.0.first ≡ channels.1.last - channels.1.first) }
+{
+    let source = channels_field(tokens)?;
+    let dest = channels_field(tokens)?;
+    if source.last - source.first == dest.last - dest.first {
+        Ok((source, dest))
+    } else {
+        Err(TextFault::BadChannels)
+    }
+}
+
+/// The three times of an event.
+#[derive(Clone, Copy)]
+pub struct Times {
+    pub source_in: SampleTime,
+    pub dest_in: SampleTime,
+    pub dest_out: SampleTime,
+}
+
+/// Reads the times at the end of a line: the times, and the separators of the destination in.
+#[tactic(auto, unfolding(list_terms::specs::EntryLines::time_fields))]
+fn time_fields(tokens: &mut Tokens<'_>) -> Result<(Times, Separators), TextFault>
+    ensures value { ok_map (λ times. (times_of times.0, times.1)) result ≡ spec.time_fields 25 tokens.old.rest.now }
+    ensures in_day { IfOk result (λ times. (times.0.source_in ≤ day) × (times.0.dest_in ≤ day) × (times.0.dest_out ≤ day)) }
+{
+    let (source_in, _) = time_field(tokens)?;
+    let (dest_in, separators) = time_field(tokens)?;
+    let (dest_out, _) = time_field(tokens)?;
+    end_line(tokens)?;
+    let times = Times {
+        source_in,
+        dest_in,
+        dest_out,
+    };
+    Ok((times, separators))
+}
+
+/// Reads the length of a fade, and its curve where it is longer than zero: linear alone.
+#[tactic(auto, unfolding(list_terms::specs::EntryLines::fade_fields))]
+fn fade_fields(tokens: &mut Tokens<'_>) -> Result<SampleTime, TextFault>
+    ensures value { result ≡ spec.fade_fields 25 tokens.old.rest.now }
+    ensures in_day { IfOk result (λ length. length ≤ day) }
+{
+    let length = optional_time_field(tokens)?.unwrap_or(SampleTime::ZERO);
+    if length.get() != 0 {
+        linear_field(tokens)?;
+    }
+    end_line(tokens)?;
+    Ok(length)
+}
+
+/// Reads `LIN`, the only curve that is supported.
+fn linear_field(tokens: &mut Tokens<'_>) -> Result<(), TextFault>
+    ensures { ok_map (λ _. tokens.new.rest.now) result ≡ checked_field spec.is_linear tokens.old.rest.now }
+{
+    let token = field(tokens)?;
+    if is_same_name(token.content, b"LIN") {
+        Ok(())
+    } else {
+        Err(TextFault::Unsupported)
+    }
+}
+
+/// The entry with what a line behind its own says: a fade, a remark, or a gain of zero.
+#[tactic(auto, unfolding(list_terms::specs::EntryLines::entry_with))]
+pub fn entry_with(
+    entry: OpenEntry,
+    token: &Token<'_>,
+    tokens: &mut Tokens<'_>,
+) -> Result<OpenEntry, TextFault>
+    ensures value { result ≡ spec.entry_with 25 entry (token_view token.now) tokens.old.rest.now }
+    ensures number { IfOk result (λ new. new.event.number ≡ entry.event.number) }
+    ensures whole { IsTrue (is_event entry.event) → IfOk result (λ new. IsTrue (is_event new.event)) }
+{
+    if is_keyword(b"Infade", token) {
+        with_rise(entry, tokens)
+    } else if is_keyword(b"Outfade", token) {
+        with_fall(entry, tokens)
+    } else if is_keyword(b"Rem", token) {
+        end_line(tokens)?;
+        Ok(entry)
+    } else if is_keyword(b"Gain", token) {
+        end_with_zeros(tokens)?;
+        Ok(entry)
+    } else {
+        Err(TextFault::Unsupported)
+    }
+}
+
+/// The entry with its fade-in.
+fn with_rise(entry: OpenEntry, tokens: &mut Tokens<'_>) -> Result<OpenEntry, TextFault>
+    ensures value { result ≡ spec.told_rise 25 entry tokens.old.rest.now }
+    ensures number { IfOk result (λ new. new.event.number ≡ entry.event.number) }
+    ensures whole { IsTrue (is_event entry.event) → IfOk result (λ new. IsTrue (is_event new.event)) }
+{
+    if entry.has_rise {
+        return Err(TextFault::RepeatedFade);
+    }
+    let length = fade_fields(tokens)?;
+    let mut entry = entry;
+    entry.event.rise = Fade { length };
+    entry.has_rise = true;
+    Ok(entry)
+}
+
+/// The entry with its fade-out.
+fn with_fall(entry: OpenEntry, tokens: &mut Tokens<'_>) -> Result<OpenEntry, TextFault>
+    ensures value { result ≡ spec.told_fall 25 entry tokens.old.rest.now }
+    ensures number { IfOk result (λ new. new.event.number ≡ entry.event.number) }
+    ensures whole { IsTrue (is_event entry.event) → IfOk result (λ new. IsTrue (is_event new.event)) }
+{
+    if entry.has_fall {
+        return Err(TextFault::RepeatedFade);
+    }
+    let length = fade_fields(tokens)?;
+    let mut entry = entry;
+    entry.event.fall = Fade { length };
+    entry.has_fall = true;
+    Ok(entry)
+}
+
+/// Reads a line before the first entry, which has to be a remark.
+#[tactic(auto, unfolding(list_terms::specs::EntryLines::remark))]
+pub fn remark(token: &Token<'_>, tokens: &mut Tokens<'_>) -> Result<(), TextFault>
+    ensures { ok_map (λ _. tt) result ≡ spec.remark (token_view token.now) tokens.old.rest.now }
+{
+    if is_keyword(b"Rem", token) {
+        end_line(tokens)
+    } else {
+        Err(TextFault::Unplaced)
+    }
+}
+
+/// Which rates SEQUENCE told, with what one more line says. Lines that tell none aren't interpreted.
+#[tactic(auto, unfolding(list_terms::specs::EntryLines::sequence_line))]
+pub fn sequence_line(rates: Rates, line: &[u8]) -> Result<Rates, TextFault>
+    ensures { result ≡ spec.sequence_line rates line.now }
+{
+    let mut tokens = Tokens::new(line);
+    let Some(token) = tokens.next_token()? else {
+        return Ok(rates);
+    };
+    let mut rates = rates;
+    if is_keyword(b"SEQ_SAMPLE_RATE", &token) {
+        sample_rate_field(&mut tokens)?;
+        rates.sample_rate = true;
+    } else if is_keyword(b"SEQ_FRAME_RATE", &token) {
+        frame_rate_field(&mut tokens)?;
+        rates.frame_rate = true;
+    } else {
+        end_line(&mut tokens)?;
+    }
+    Ok(rates)
+}
+
+/// Reads `S48000` or `48000`.
+#[tactic(auto, unfolding(list_terms::specs::EntryLines::rate_field))]
+fn sample_rate_field(tokens: &mut Tokens<'_>) -> Result<(), TextFault>
+    ensures { ok_map (λ _. tt) result ≡ spec.rate_field spec.is_48000 tokens.old.rest.now }
+{
+    let token = field(tokens)?;
+    if is_same_name(token.content, b"S48000") || token.content == b"48000".as_slice() {
+        end_line(tokens)
+    } else {
+        Err(TextFault::WrongSequence)
+    }
+}
+
+/// Reads `25`, or `25.` and zeros or nothing.
+#[tactic(auto, unfolding(list_terms::specs::EntryLines::rate_field))]
+fn frame_rate_field(tokens: &mut Tokens<'_>) -> Result<(), TextFault>
+    ensures { ok_map (λ _. tt) result ≡ spec.rate_field spec.is_25 tokens.old.rest.now }
+{
+    let token = field(tokens)?;
+    if is_whole_number(b"25", token.content) {
+        end_line(tokens)
+    } else {
+        Err(TextFault::WrongSequence)
+    }
+}
+
+/// Reads a line of SYSTEM: no offset of the sources and no gain may be told. Other lines aren't interpreted.
+#[tactic(auto, unfolding(list_terms::specs::EntryLines::system_line))]
+pub fn system_line(line: &[u8]) -> Result<(), TextFault>
+    ensures { ok_map (λ _. tt) result ≡ spec.system_line 25 line.now }
+{
+    let mut tokens = Tokens::new(line);
+    let Some(token) = tokens.next_token()? else {
+        return Ok(());
+    };
+    if is_keyword(b"SYS_SRC_OFFSET", &token) {
+        offset_setting(&mut tokens)
+    } else if is_keyword(b"SYS_GAIN", &token) {
+        gain_setting(&mut tokens)
+    } else {
+        end_line(&mut tokens)
+    }
+}
+
+/// Reads nothing, `_`, or a time of zero.
+#[tactic(auto, unfolding(list_terms::specs::EntryLines::setting))]
+fn offset_setting(tokens: &mut Tokens<'_>) -> Result<(), TextFault>
+    ensures { ok_map (λ _. tt) result ≡ spec.setting (spec.is_no_offset 25) tokens.old.rest.now }
+{
+    let Some(token) = tokens.next_token()? else {
+        return Ok(());
+    };
+    if is_no_offset(token.content) {
+        end_line(tokens)
+    } else {
+        Err(TextFault::Unsupported)
+    }
+}
+
+/// Reads nothing, or a zero.
+#[tactic(auto, unfolding(list_terms::specs::EntryLines::setting))]
+fn gain_setting(tokens: &mut Tokens<'_>) -> Result<(), TextFault>
+    ensures { ok_map (λ _. tt) result ≡ spec.setting is_zero tokens.old.rest.now }
+{
+    let Some(token) = tokens.next_token()? else {
+        return Ok(());
+    };
+    if is_zero(token.content) {
+        end_line(tokens)
+    } else {
+        Err(TextFault::Unsupported)
+    }
+}
+
+/// Whether a text is `_` or a time of zero.
+fn is_no_offset(text: &[u8]) -> bool
+    ensures { result ≡ spec.is_no_offset 25 text.now }
+{
+    if is_missing(text) {
+        return true;
+    }
+    match parse_time(text) {
+        Some((time, _)) => time.get() == 0,
+        None => false,
+    }
+}

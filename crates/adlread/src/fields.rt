@@ -1,0 +1,184 @@
+// The fields of a line.
+ghost use Rattle.std.specs.Prelude.{◌≡◌, ◌≤◌, [], IfOk, IsTrue, length, unwrap_or};
+ghost use Rattle.std.specs.List.{list_all};
+ghost use Rattle.list_terms.specs.Steps.{ok_map};
+ghost use Rattle.list_terms.specs.Names.{behind_byte};
+ghost use Rattle.list_terms.specs.Tokens.{all_tokens, token_text};
+ghost use Rattle.list_terms.specs.Fields as spec;
+ghost use Rattle.list_terms.specs.WholeProject.{are_channels, is_number, is_time_of_day};
+ghost use Rattle.sampletime.specs.TimeCode.{day};
+ghost use Rattle.adltoken.specs.Views.{token_view};
+
+use crate::numbers::{channels_of, number_up_to};
+use adlmodel::Channels;
+use adltoken::{TextFault, Token, TokenKind, Tokens, behind_byte, is_same_name, length_before};
+use sampletime::{SampleTime, Separators, parse_time};
+
+/// Whether a token is the keyword of this name.
+pub fn is_keyword(name: &[u8], token: &Token<'_>) -> bool
+    ensures { result ≡ spec.is_keyword name.now (token_view token.now) }
+{
+    match token.kind {
+        TokenKind::Keyword => is_same_name(token.content, name),
+        TokenKind::Quoted | TokenKind::Word => false,
+    }
+}
+
+/// The next token, which has to be there.
+#[tactic(auto, unfolding(list_terms::specs::Fields::field))]
+pub fn field<'a>(tokens: &mut Tokens<'a>) -> Result<Token<'a>, TextFault>
+    ensures exact { ok_map (λ token. (token_view token, tokens.new.rest.now)) result ≡ spec.field tokens.old.rest.now }
+    ensures whole { IfOk result (λ token. token.text.now ≡ token_text (token_view token)) }
+{
+    match tokens.next_token()? {
+        Some(token) => Ok(token),
+        None => Err(TextFault::MissingField),
+    }
+}
+
+/// The next token, which has to be the keyword of this name.
+pub fn keyword_field(name: &[u8], tokens: &mut Tokens<'_>) -> Result<(), TextFault>
+    ensures { ok_map (λ _. tokens.new.rest.now) result ≡ spec.checked_field (spec.is_keyword name.now) tokens.old.rest.now }
+{
+    let token = field(tokens)?;
+    if is_keyword(name, &token) {
+        Ok(())
+    } else {
+        Err(TextFault::Unsupported)
+    }
+}
+
+/// A number from 1 to 32767.
+#[tactic(auto, unfolding(list_terms::specs::Fields::number_field))]
+pub fn number_field(tokens: &mut Tokens<'_>) -> Result<u32, TextFault>
+    ensures exact { ok_map (λ number. (number, tokens.new.rest.now)) result ≡ spec.number_field tokens.old.rest.now }
+    ensures range { IfOk result (λ number. IsTrue (is_number number)) }
+{
+    let token = field(tokens)?;
+    number_up_to(32_767, token.content).ok_or(TextFault::BadNumber)
+}
+
+/// A run of channels.
+#[tactic(auto, unfolding(list_terms::specs::Fields::channels_field))]
+pub fn channels_field(tokens: &mut Tokens<'_>) -> Result<Channels, TextFault>
+    ensures exact { ok_map (λ channels. (channels, tokens.new.rest.now)) result ≡ spec.channels_field tokens.old.rest.now }
+    ensures range { IfOk result (λ channels. IsTrue (are_channels channels)) }
+{
+    let token = field(tokens)?;
+    channels_of(token.content).ok_or(TextFault::BadChannels)
+}
+
+/// A time and its separators.
+#[tactic(auto, unfolding(list_terms::specs::Fields::time_field))]
+pub fn time_field(tokens: &mut Tokens<'_>) -> Result<(SampleTime, Separators), TextFault>
+    ensures exact { ok_map (λ time. (time.0, time.1, tokens.new.rest.now)) result ≡ spec.time_field 25 tokens.old.rest.now }
+    ensures in_day { IfOk result (λ time. time.0 ≤ day) }
+{
+    let token = field(tokens)?;
+    parse_time(token.content).ok_or(TextFault::BadTime)
+}
+
+/// A time, or `_` where none is told.
+#[tactic(auto, unfolding(list_terms::specs::Fields::optional_time_field))]
+pub fn optional_time_field(tokens: &mut Tokens<'_>) -> Result<Option<SampleTime>, TextFault>
+    ensures exact { ok_map (λ time. (time, tokens.new.rest.now)) result ≡ spec.optional_time_field 25 tokens.old.rest.now }
+    ensures in_day { IfOk result (λ time. IsTrue (is_time_of_day time)) }
+{
+    let token = field(tokens)?;
+    optional_time(token.content)
+}
+
+/// A time, or nothing where the text is `_`.
+#[tactic(auto, unfolding(list_terms::specs::Fields::optional_time))]
+fn optional_time(text: &[u8]) -> Result<Option<SampleTime>, TextFault>
+    ensures exact { result ≡ spec.optional_time 25 text.now }
+    ensures in_day { IfOk result (λ time. IsTrue (is_time_of_day time)) }
+{
+    if is_missing(text) {
+        return Ok(None);
+    }
+    match parse_time(text) {
+        Some((time, _)) => Ok(Some(time)),
+        None => Err(TextFault::BadTime),
+    }
+}
+
+/// Cuts what is left of a line into tokens.
+#[tactic(auto, unfolding(list_terms::specs::Fields::end_line, list_terms::specs::Tokens::all_tokens))]
+pub fn end_line(tokens: &mut Tokens<'_>) -> Result<(), TextFault>
+    ensures exact { ok_map (λ _. tt) result ≡ spec.end_line tokens.old.rest.now }
+{
+    while let Some(_) = tokens.next_token()? {}
+    Ok(())
+}
+
+/// Cuts what is left of a line into tokens, each of which has to be a zero.
+#[tactic(auto, unfolding(list_terms::specs::Tokens::all_tokens))]
+pub fn end_with_zeros(tokens: &mut Tokens<'_>) -> Result<(), TextFault>
+    ensures exact { ok_map (λ _. tt) result ≡ all_tokens (λ t. spec.is_zero t.content) (length tokens.old.rest.now) tokens.old.rest.now }
+{
+    while let Some(token) = tokens.next_token()? {
+        if !is_zero(token.content) {
+            return Err(TextFault::Unsupported);
+        }
+    }
+    Ok(())
+}
+
+/// Whether a text is `_`, which stands for nothing.
+pub fn is_missing(text: &[u8]) -> bool
+    ensures { result ≡ spec.is_missing text.now }
+{
+    text == b"_".as_slice()
+}
+
+/// Whether a text is `_`, or zeros with or without a sign and a full stop.
+#[tactic(auto, unfolding(list_terms::specs::Fields::is_zero))]
+pub fn is_zero(text: &[u8]) -> bool
+    ensures { result ≡ spec.is_zero text.now }
+{
+    is_missing(text) || is_plain_zero(without_sign(text))
+}
+
+/// The text behind a sign.
+fn without_sign(text: &[u8]) -> &[u8]
+    ensures { result.now ≡ spec.without_sign text.now }
+{
+    match text {
+        [b'+' | b'-', rest @ ..] => rest,
+        _ => text,
+    }
+}
+
+/// Whether a text is one or more zeros, and further ones behind a full stop.
+fn is_plain_zero(text: &[u8]) -> bool
+    ensures { result ≡ spec.is_plain_zero text.now }
+{
+    let (whole, _) = text.split_at(length_before(b'.', text));
+    !whole.is_empty() && are_zeros(whole) && zeros_behind_stop(text)
+}
+
+/// Whether a text is this number, and `.` with zeros or nothing behind it.
+#[tactic(auto, unfolding(list_terms::specs::Fields::is_whole_number))]
+pub fn is_whole_number(number: &[u8], text: &[u8]) -> bool
+    ensures { result ≡ spec.is_whole_number number.now text.now }
+{
+    let (whole, _) = text.split_at(length_before(b'.', text));
+    whole == number && zeros_behind_stop(text)
+}
+
+/// Whether zeros or nothing stand behind the first full stop.
+fn zeros_behind_stop(text: &[u8]) -> bool
+    ensures { result ≡ list_all spec.is_zero_digit (unwrap_or (behind_byte 46 text.now) []) }
+{
+    match behind_byte(b'.', text) {
+        Some(rest) => are_zeros(rest),
+        None => true,
+    }
+}
+
+fn are_zeros(text: &[u8]) -> bool
+    ensures { result ≡ list_all spec.is_zero_digit text.now }
+{
+    text.iter().all(|byte| *byte == b'0')
+}

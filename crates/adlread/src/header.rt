@@ -1,0 +1,126 @@
+// The header so far.
+ghost use Rattle.std.specs.Prelude.{◌≡◌, OnOk};
+ghost use Rattle.list_terms.specs.Text.{is_tag, keep, kept_line, no_header, rates_with, with_text};
+ghost use Rattle.list_terms.specs.Text as text;
+ghost use Rattle.adlmodel.specs.Header.{header_view};
+ghost use Rattle.adlread.specs.Fault.{Says};
+ghost use Rattle.adlread.specs.HeaderSoFar.{header_so_far};
+
+use crate::entry_lines::{sequence_line, system_line};
+use crate::fault::LineFault;
+use adlmodel::{Header, KeptLines};
+use adltoken::{TextFault, skip_blanks};
+use list_terms::{Rates, Section};
+use std::alloc::{AllocError, Global};
+
+/// The kept lines of the header, how many they are, and the rates that it told.
+#[derive(Drop)]
+pub struct HeaderSoFar {
+    pub lines: Header,
+    pub kept: u32,
+    pub rates: Rates,
+}
+
+/// How many lines of the header are kept at most.
+const MOST_LINES: u32 = 65_535;
+
+impl HeaderSoFar {
+    /// No section.
+    pub fn new() -> Self
+        ensures { header_so_far result ≡ no_header }
+    {
+        HeaderSoFar {
+            lines: Header {
+                version: None,
+                project: None,
+                system: None,
+                sequence: None,
+                track_list: None,
+            },
+            kept: 0,
+            rates: Rates {
+                sample_rate: false,
+                frame_rate: false,
+            },
+        }
+    }
+
+    /// Keeps a line of this section, where it says nothing that isn't supported.
+    #[tactic(auto, unfolding(list_terms::specs::Text::kept_line))]
+    pub fn keep(&mut self, alloc: Global, section: Section, line: &[u8]) -> Result<(), LineFault>
+        ensures { Says (λ _. header_so_far self.new) result
+            (kept_line (header_so_far self.old) section line.now (rates_with 25 section self.old.rates line.now)) }
+    {
+        if self.kept >= MOST_LINES {
+            return Err(LineFault::Text(TextFault::TooMany));
+        }
+        let rates = rates_with(section, self.rates, line)?;
+        keep_line(alloc, section, line, &mut self.lines)?;
+        self.kept += 1;
+        self.rates = rates;
+        Ok(())
+    }
+}
+
+/// The rates that the header told, with a line of this section.
+fn rates_with(section: Section, rates: Rates, line: &[u8]) -> Result<Rates, TextFault>
+    ensures { result ≡ text.rates_with 25 section rates line.now }
+{
+    match section {
+        Section::System => {
+            if is_tag(line) {
+                return Err(TextFault::SectionMismatch);
+            }
+            system_line(line)?;
+            Ok(rates)
+        }
+        Section::Sequence => {
+            if is_tag(line) {
+                return Err(TextFault::SectionMismatch);
+            }
+            sequence_line(rates, line)
+        }
+        _ => Ok(rates),
+    }
+}
+
+/// Whether a line begins with `<`, behind spaces and tabs.
+pub fn is_tag(line: &[u8]) -> bool
+    ensures { result ≡ text.is_tag line.now }
+{
+    match skip_blanks(line) {
+        [byte, ..] => *byte == b'<',
+        [] => false,
+    }
+}
+
+/// Adds a line to the kept ones of its section.
+fn keep_line(
+    alloc: Global,
+    section: Section,
+    line: &[u8],
+    header: &mut Header,
+) -> Result<(), AllocError>
+    ensures { OnOk result (header_view header.new ≡ keep section line.now (header_view header.old)) }
+{
+    match section {
+        Section::Version => push_line(alloc, line, &mut header.version),
+        Section::Project => push_line(alloc, line, &mut header.project),
+        Section::System => push_line(alloc, line, &mut header.system),
+        Section::Sequence => push_line(alloc, line, &mut header.sequence),
+        Section::TrackList => push_line(alloc, line, &mut header.track_list),
+        Section::SourceIndex | Section::EventList | Section::Skipped | Section::Unsupported => Ok(
+            (),
+        ),
+    }
+}
+
+/// Adds a line to a section that is there.
+fn push_line(alloc: Global, line: &[u8], lines: &mut Option<KeptLines>) -> Result<(), AllocError>
+    ensures { OnOk result (lines.new ≡ with_text line.now lines.old) }
+{
+    match lines {
+        Some(lines) => lines.push(alloc, line),
+        None => Ok(()),
+    }
+}

@@ -1,8 +1,0 @@
-use Rattle.consolidate.specs.Listed.{index_line}
-use Rattle.consolidate.proofs.CutLines.{one_line}
-use Rattle.consolidate.proofs.listing.push_indexes.Goals as goal
-
-pub loop-place-preserved : goal.loop-place-preserved
-loop-place-preserved c =
-    one_line (index_line c.args.separators) c.loop-place.place c.args.cuts.now c.index-cuts-place.result _ _ _ c.loop-place-test.true c.index-cuts-place.is
-    c.loop-place.invariant c.in_ok-push_index.ensures

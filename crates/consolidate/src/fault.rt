@@ -1,0 +1,155 @@
+// Why a call is refused.
+ghost use Rattle.std.specs.Prelude.{◌≡◌, List, Some, ℕ};
+ghost use Rattle.consolidation.specs.Fault as consolidation;
+ghost use Rattle.consolidation.specs.declared.fault.ConsolidationFault.TheVariants as consolidation_fault;
+ghost use Rattle.list_terms.specs.Heard.{sounds_of};
+ghost use Rattle.rendering.specs.Fault as rendering;
+ghost use Rattle.consolidate.specs.Own.{IsOfConsolidation, IsOfRendering};
+ghost use Rattle.consolidate.specs.declared.fault.Fault.TheVariants as told;
+ghost use Rattle.consolidate.specs.declared.fault.OutputFile.TheVariants as file;
+ghost use Rattle.consolidate.specs.Fault.{IsOpenedIn, IsPlayedIn, NamesOpened, NamesPlayed, name_of_output, refusal_of};
+
+use consolidation::ConsolidationFault;
+use mediaset::RunFault;
+use passes::PassFault;
+use projectcheck::Checked;
+use relink::RelinkFault;
+use rendering::RenderFault;
+use std::fmt;
+use thiserror::Error;
+
+/// A file that is written.
+#[derive(Clone, Copy, Debug, PartialEq, Eq)]
+pub enum OutputFile {
+    /// `render.wav`
+    Rendering,
+    /// The medium of this number, from 1: `M00001.wav` and so on.
+    Medium(u32),
+    /// `consolidated.adl`
+    List,
+}
+
+impl fmt::Display for OutputFile {
+    ghost output = { λ file. Some (name_of_output file) };
+
+    fn fmt<W: fmt::Write>(&self, f: &mut fmt::Formatter<W>) -> fmt::Result {
+        match self {
+            OutputFile::Rendering => f.write_str("render.wav"),
+            OutputFile::Medium(number) => write!(f, "M{number:05}.wav"),
+            OutputFile::List => f.write_str("consolidated.adl"),
+        }
+    }
+}
+
+/// Why a call is refused, in the order in which its stages come. After `BlockMemory`, `MediumMemory`, `Source` and `Output` what
+/// is written is unfinished; the others come before anything is written.
+#[derive(Debug, Drop, Error)]
+pub enum Fault {
+    /// The list, a file that it names, or an entry: 1 to 18, 21 to 31, 41 to 46.
+    #[error("{0}")]
+    Project(opening::Fault),
+    /// 47: no memory was left for the pieces of the entries.
+    #[error("out of memory")]
+    Intervals,
+    /// 51: no memory was left for a pass over the pieces.
+    #[error("out of memory")]
+    PassMemory,
+    /// 52: the device of a source failed while it was asked for silence.
+    #[error("file {name} can't be read")]
+    Silence { name: String },
+    /// 53: there are more runs of kept frames than a list has indexes. 54: no memory was left for them.
+    #[error("{0}")]
+    Runs(RunFault),
+    /// 55: the new list would have too many entries. 56: no memory was left for it.
+    #[error("{0}")]
+    Relink(RelinkFault),
+    /// 57: no memory was left for a rendering.
+    #[error("out of memory")]
+    RenderMemory,
+    /// 58: no sample lies in what is to be rendered.
+    #[error("there is nothing to render")]
+    EmptyRange,
+    /// 61: a written file would be longer than the size field of RIFF WAVE can tell.
+    #[error("a written file would be too long")]
+    TooLong,
+    /// 57: no memory was left for a block of a rendering.
+    #[error("out of memory")]
+    BlockMemory,
+    /// 63: no memory was left for a medium.
+    #[error("out of memory")]
+    MediumMemory,
+    /// 22: the device of a source failed while its frames were rendered or copied.
+    #[error("file {name} can't be read")]
+    Source { name: String },
+    /// 62: the device of the output failed.
+    #[error("{0} can't be written")]
+    Output(OutputFile),
+}
+
+impl Fault {
+    /// The number of the refusal.
+    pub fn number(&self) -> u8
+        ensures { result ≡ (refusal_of self.now).number }
+    {
+        match self {
+            Fault::Project(fault) => fault.number(),
+            Fault::Intervals => 47,
+            Fault::PassMemory => 51,
+            Fault::Silence { .. } => 52,
+            Fault::Runs(fault) => fault.number(),
+            Fault::Relink(fault) => fault.number(),
+            Fault::RenderMemory | Fault::BlockMemory => 57,
+            Fault::EmptyRange => 58,
+            Fault::TooLong => 61,
+            Fault::MediumMemory => 63,
+            Fault::Source { .. } => 22,
+            Fault::Output(_) => 62,
+        }
+    }
+
+    /// A fault of rendering a project.
+    pub(crate) fn of_rendering(checked: Checked, fault: RenderFault) -> Fault
+        requires { IsPlayedIn (sounds_of checked.bound) fault }
+        ensures refusal { refusal_of result ≡ rendering.refusal_of (sounds_of checked.bound) fault }
+        ensures own { (text : List ℕ) → IsOfRendering text result }
+        ensures names { NamesPlayed (sounds_of checked.bound) fault result }
+    {
+        match fault {
+            RenderFault::Intervals => Fault::Intervals,
+            RenderFault::EmptyRange => Fault::EmptyRange,
+            RenderFault::Memory => Fault::RenderMemory,
+            RenderFault::TooLong => Fault::TooLong,
+            RenderFault::BlockMemory => Fault::BlockMemory,
+            RenderFault::Source { file } => Fault::Source {
+                name: checked.into_name(file),
+            },
+            RenderFault::Output => Fault::Output(OutputFile::Rendering),
+        }
+    }
+
+    /// A fault of consolidating a project.
+    pub(crate) fn of_consolidation(checked: Checked, fault: ConsolidationFault) -> Fault
+        requires { IsOpenedIn (sounds_of checked.bound) fault }
+        ensures refusal { refusal_of result ≡ consolidation.refusal_of (sounds_of checked.bound) fault }
+        ensures own { (text : List ℕ) → IsOfConsolidation text result }
+        ensures names { NamesOpened (sounds_of checked.bound) fault result }
+        ensures list { fault ≡ consolidation_fault.List → result ≡ told.Output file.List }
+    {
+        match fault {
+            ConsolidationFault::Intervals => Fault::Intervals,
+            ConsolidationFault::Pass(PassFault::Memory) => Fault::PassMemory,
+            ConsolidationFault::Pass(PassFault::Device { file }) => Fault::Silence {
+                name: checked.into_name(file),
+            },
+            ConsolidationFault::Runs(fault) => Fault::Runs(fault),
+            ConsolidationFault::Relink(fault) => Fault::Relink(fault),
+            ConsolidationFault::TooLong => Fault::TooLong,
+            ConsolidationFault::MediumMemory => Fault::MediumMemory,
+            ConsolidationFault::Source { file } => Fault::Source {
+                name: checked.into_name(file),
+            },
+            ConsolidationFault::Medium { number } => Fault::Output(OutputFile::Medium(number)),
+            ConsolidationFault::List => Fault::Output(OutputFile::List),
+        }
+    }
+}

@@ -1,0 +1,35 @@
+-- What holds of all elements, and elements by their numbers.
+use Rattle.std.proofs.Common.{◌≡◌, ◌∙◌, ℕ, zero, suc, ◌+◌, List, [], ◌∷◌, All, Some, ap, arith, get_or, refl, subst, sym, unwrap_or}
+use Rattle.std.specs.List.{slice_get}
+use Rattle.std.proofs.lemmas.List.Elements.{All-get_or}
+use Rattle.std.proofs.lemmas.Option.{get_or_from_slice_get, slice_get_within}
+use Rattle.sound_terms.specs.declared.piece.Home.{Home}
+use Rattle.sound_terms.specs.Homes.{base_by}
+use Rattle.sound_terms.specs.Media.{no_sound, sound_at}
+use Rattle.sound_terms.specs.Sounds.{SoundFacts}
+use Rattle.list_terms.specs.Renewed.{numbered}
+
+-- what holds of all holds of the one at a place
+pub holds_at : {X : Type 0} (P : X → Type 0) (xs : List X) (i : ℕ) (x : X) → All P xs → slice_get xs i ≡ Some x → P x
+holds_at P xs i x all there =
+    subst P (get_or_from_slice_get xs i x x there) (All-get_or P xs i x (slice_get_within xs i x there) all)
+
+-- the element at a place, under its number
+pub numbered_at : {X Y : Type 0} (f : ℕ → X → Y) (number k : ℕ) (xs : List X) (x : X) → slice_get xs k ≡ Some x
+    → slice_get (numbered f number xs) k ≡ Some (f (number + k) x)
+numbered_at f number k [] x there = absurd (cc)
+numbered_at f number zero (first ∷ xs) x there =
+    let same : first ≡ x = cc in let counted : number ≡ number + 0 = omega arith in
+    rw same (ap (λ n. Some (f n x)) counted)
+numbered_at f number (suc k) (first ∷ xs) x there =
+    let counted : suc number + k ≡ number + suc k = omega arith in
+    numbered_at f (suc number) k xs x there ∙ ap (λ n. Some (f n x)) counted
+
+-- the file and its home as they are read at their places
+pub sound_read : (sounds : List SoundFacts) (file : ℕ) (facts d : SoundFacts) → slice_get sounds file ≡ Some facts
+    → get_or sounds file d ≡ sound_at sounds file
+sound_read sounds file facts d there = get_or_from_slice_get sounds file facts d there ∙ sym (ap (λ o. unwrap_or o no_sound) there)
+
+pub base_read : (homes : List Home) (file : ℕ) (home d : Home) → slice_get homes file ≡ Some home
+    → (get_or homes file d).base ≡ base_by homes file
+base_read homes file home d there = ap (λ (h : Home). h.base) (get_or_from_slice_get homes file home d there) ∙ sym (rw there refl)

@@ -1,0 +1,79 @@
+-- What a consolidation makes of a project without a fault, what it leaves, and which refusal is due.
+use Rattle.std.specs.Prelude.{◌≡◌, ◌≢◌, ℕ, ◌+◌, ◌<◌, nat_lt, Bool, false, List, length, Option, None, Some, slice_get, codes, if◌then◌else◌}
+use Rattle.std.specs.List.{list_any}
+use Rattle.sound_terms.specs.declared.piece.Piece.{Piece}
+use Rattle.sound_terms.specs.declared.piece.Run.{Run}
+use Rattle.sound_terms.specs.Entries.{groups_of_entries}
+use Rattle.sound_terms.specs.Homes.{base_by, kept_of, place_by}
+use Rattle.sound_terms.specs.Kept.{AreRuns}
+use Rattle.sound_terms.specs.Media.{medium_of}
+use Rattle.sound_terms.specs.Passes.{standard_groups}
+use Rattle.sound_terms.specs.Sounds.{SoundFacts}
+use Rattle.sound_terms.specs.Waves.{is_large}
+use Rattle.work_terms.specs.Disk.{Files, IsDurable}
+use Rattle.work_terms.specs.Refusals.{Refusal, Nowhere}
+use Rattle.list_terms.specs.Project.{ListProject}
+use Rattle.list_terms.specs.Binding.{Binding}
+use Rattle.list_terms.specs.BoundHomes.{homes_of}
+use Rattle.list_terms.specs.Accepted.{first_fault}
+use Rattle.list_terms.specs.Heard.{reading_of, sounds_of}
+use Rattle.list_terms.specs.Renewed.{consolidated_project, media_name}
+use Rattle.list_terms.specs.WrittenText.{text_of_project}
+use Rattle.consolidation.specs.Filled.{IsNoMedium}
+use Rattle.consolidation.specs.Numbered.{HoldAll}
+use Rattle.consolidation.specs.Sizes.{sizes_of}
+use Rattle.consolidation.specs.Work.{run_info}
+use Rattle.consolidation.specs.declared.written.Written.{Written}
+
+-- the groups that are left of the entries, and the runs of the frames that are kept
+pub record Work : Type 0 where
+  pub groups : List (List Piece)
+  pub runs : List Run
+
+-- what the standard passes leave of a bound project, and the runs round it, with handles of so many frames
+pub record IsWorkOf (project : ListProject) (binding : Binding) (handle : ℕ) (sources : Files) (work : Work) : Type 0 where
+  pub groups : work.groups ≡ standard_groups (reading_of sources binding) (groups_of_entries binding.indexes project.events)
+  pub runs : AreRuns (kept_of work.groups (homes_of binding) handle) (place_by (homes_of binding)) work.runs
+
+-- 53: more runs than a list has indexes; 55: more groups than it has entries; 61: the medium of a run is too long for RIFF
+abbrev pub refused_if : Bool → ℕ → Option Refusal
+refused_if faulty number = if faulty then Some (record { number = number; place = Nowhere; late = false }) else None
+
+abbrev pub work_fault : Binding → Work → Option Refusal
+work_fault binding work =
+    first_fault (refused_if (nat_lt 32767 (length work.runs)) 53)
+    (first_fault (refused_if (nat_lt 32767 (length work.groups)) 55)
+    (refused_if (list_any (λ run. is_large (run_info (sounds_of binding) (homes_of binding) run)) work.runs) 61))
+
+-- the medium of a run stands under this number: a file of just the run's frames of its source
+pub record HoldsMedium (binding : Binding) (sources written : Files) (number : ℕ) (run : Run) : Type 0 where
+  pub facts : SoundFacts
+  pub opened : slice_get (sounds_of binding) run.file ≡ Some facts
+  pub source : List ℕ
+  pub there : sources facts.name ≡ Some source
+  pub medium : written (media_name number) ≡ Some (medium_of facts source (base_by (homes_of binding) run.file) run)
+
+-- none of the files that a consolidation to so many media writes
+pub record IsElsewhere (media : ℕ) (name : List ℕ) : Type 0 where
+  pub no_list : name ≢ codes "consolidated.adl"
+  pub no_medium : IsNoMedium media name
+
+-- the text of the list over the media of this work
+abbrev pub list_of : ListProject → Binding → Work → List ℕ
+list_of project binding work = text_of_project (consolidated_project project (homes_of binding) work.groups work.runs)
+
+-- The media of the runs are written and the list over them, and no other file has changed.
+pub record IsConsolidated (project : ListProject) (binding : Binding) (handle : ℕ) (sources old new : Files) (told : Written) : Type 0 where
+  pub work : Work
+  pub is_work : IsWorkOf project binding handle sources work
+  pub list : new (codes "consolidated.adl") ≡ Some (list_of project binding work)
+  pub media : HoldAll (HoldsMedium binding sources new) work.runs
+  pub others : (name : List ℕ) → IsElsewhere (length work.runs) name → new name ≡ old name
+  pub media_count : told.media ≡ length work.runs
+  pub entry_count : told.entries ≡ length work.groups
+  pub sizes : told.sizes ≡ sizes_of (sounds_of binding) (homes_of binding) work.runs (length (list_of project binding work))
+
+-- a crash leaves the list and so many media as they are read
+pub record AreDurable (media : ℕ) (stored : Files) (may_leave : Files → Type 0) : Type 0 where
+  pub list : IsDurable (codes "consolidated.adl") stored may_leave
+  pub each_medium : (k : ℕ) → k < media → IsDurable (media_name (1 + k)) stored may_leave

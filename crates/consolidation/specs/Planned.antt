@@ -1,0 +1,63 @@
+-- What is known before the first write: which groups are left, the runs round them, and the list over their media.
+use Rattle.std.specs.Prelude.{◌≡◌, ℕ, ◌+◌, ◌≤◌, Bool, IsTrue, List, length, All, Some, slice_get}
+use Rattle.sampletime.specs.TimeCode.{day}
+use Rattle.sound_terms.specs.declared.piece.Home.{Home}
+use Rattle.sound_terms.specs.declared.piece.Piece.{Piece}
+use Rattle.sound_terms.specs.declared.piece.Run.{Run}
+use Rattle.sound_terms.specs.Entries.{groups_of_entries}
+use Rattle.sound_terms.specs.Groups.{AreGroups, are_whole, mix_of, pieces_of}
+use Rattle.sound_terms.specs.Homes.{kept_of, place_by}
+use Rattle.sound_terms.specs.Kept.{AreRuns}
+use Rattle.sound_terms.specs.Media.{IsRunOf}
+use Rattle.sound_terms.specs.Passes.{standard_groups}
+use Rattle.sound_terms.specs.Sounds.{SoundFacts}
+use Rattle.work_terms.specs.Disk.{Files}
+use Rattle.list_terms.specs.Binding.{Binding}
+use Rattle.list_terms.specs.BoundHomes.{homes_of}
+use Rattle.list_terms.specs.Heard.{project_mix, reading_of, sounds_of}
+use Rattle.list_terms.specs.Project.{ListProject}
+use Rattle.list_terms.specs.Renewed.{consolidated_project, run_base}
+use Rattle.list_terms.specs.WrittenText.{text_of_project}
+use Rattle.projectcheck.specs.AtHome.{IsAtHome}
+use Rattle.wavwrite.specs.Info.{Fits}
+use Rattle.consolidation.specs.Work.{IsLinked, run_info}
+use Rattle.consolidation.specs.declared.plan.Plan.{Plan}
+
+-- whole groups of pieces that play frames and channels of opened files, as far as these can be addressed
+pub record AreLeft (binding : Binding) (groups : List (List Piece)) : Type 0 where
+  pub formed : AreGroups groups
+  pub whole : IsTrue (are_whole groups)
+  pub at_home : All (IsAtHome (sounds_of binding) (homes_of binding)) (pieces_of groups)
+
+-- these groups are what the standard passes leave of a project, and they sound as it does
+pub record SoundsAsGiven (project : ListProject) (binding : Binding) (sources : Files) (groups : List (List Piece)) : Type 0 where
+  pub gives : groups ≡ standard_groups (reading_of sources binding) (groups_of_entries binding.indexes project.events)
+  pub same_mix : (channel time : ℕ) → mix_of (reading_of sources binding) groups channel time ≡ project_mix sources project binding channel time
+
+-- a run of an opened file with a home, that ends before the day does
+pub record IsAddressed (sounds : List SoundFacts) (homes : List Home) (run : Run) : Type 0 where
+  pub of_file : IsRunOf sounds run
+  pub home : Home
+  pub homed : slice_get homes run.file ≡ Some home
+  pub in_day : run_base homes run + run.length ≤ day
+
+-- whose medium the size fields of RIFF can tell
+pub record IsMediumRun (sounds : List SoundFacts) (homes : List Home) (run : Run) : Type 0 where
+  pub addressed : IsAddressed sounds homes run
+  pub fits : Fits (run_info sounds homes run)
+
+-- the runs of kept frames round these groups, each of which can become a medium, and the text of the list over these media
+pub record IsPlanned (project : ListProject) (binding : Binding) (handle : ℕ) (groups : List (List Piece)) (plan : Plan) : Type 0 where
+  pub homes : plan.homes.items ≡ homes_of binding
+  pub few : length plan.runs.items ≤ 32767
+  pub kept : AreRuns (kept_of groups (homes_of binding) handle) (place_by (homes_of binding)) plan.runs.items
+  pub media : All (IsMediumRun (sounds_of binding) (homes_of binding)) plan.runs.items
+  pub text : plan.text.items ≡ text_of_project (consolidated_project project (homes_of binding) groups plan.runs.items)
+  pub entries : plan.entries ≡ length groups
+  pub linked : IsLinked project (sounds_of binding) (homes_of binding) groups plan.runs.items
+
+-- planned round the groups that are left of the project
+pub record IsPlanOf (project : ListProject) (binding : Binding) (handle : ℕ) (honest : Bool) (sources : Files) (plan : Plan) : Type 0 where
+  pub groups : List (List Piece)
+  pub planned : IsPlanned project binding handle groups plan
+  pub left : IsTrue honest → SoundsAsGiven project binding sources groups

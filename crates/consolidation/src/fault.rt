@@ -1,0 +1,106 @@
+// Why a project isn't consolidated.
+ghost use Rattle.std.specs.Prelude.{◌≡◌};
+ghost use Rattle.consolidation.specs.Fault.{number_of};
+
+use interval::IntervalFault;
+use mediaset::RunFault;
+use passes::PassFault;
+use relink::RelinkFault;
+use thiserror::Error;
+
+/// Why a project isn't consolidated. After `Source`, `Medium`, `List` and `MediumMemory` what is written is unfinished; the
+/// others come before anything is written.
+#[derive(Clone, Copy, Debug, PartialEq, Eq, Error)]
+pub enum ConsolidationFault {
+    /// 47: no memory was left for the pieces of the entries.
+    #[error("out of memory")]
+    Intervals,
+    /// 51 and 52: a pass over the pieces failed.
+    #[error("{0}")]
+    Pass(PassFault),
+    /// 53 and 54: there are too many runs, or no memory was left for them.
+    #[error("{0}")]
+    Runs(RunFault),
+    /// 55 and 56: the list would have too many entries, or no memory was left for it.
+    #[error("{0}")]
+    Relink(RelinkFault),
+    /// 61: a medium would be longer than the size field of RIFF can tell.
+    #[error("a medium would be too long")]
+    TooLong,
+    /// 63: no memory was left for a medium.
+    #[error("out of memory")]
+    MediumMemory,
+    /// 22: the file of this place among those opened can't be read while frames are copied from it.
+    #[error("file {file} can't be read")]
+    Source { file: u32 },
+    /// 62: the medium of this number can't be written.
+    #[error("medium {number} can't be written")]
+    Medium { number: u32 },
+    /// 62: the list can't be written.
+    #[error("the list can't be written")]
+    List,
+}
+
+impl ConsolidationFault {
+    /// The number of the refusal.
+    pub fn number(&self) -> u8
+        ensures { result ≡ number_of self.now }
+    {
+        match self {
+            ConsolidationFault::Intervals => 47,
+            ConsolidationFault::Pass(fault) => fault.number(),
+            ConsolidationFault::Runs(fault) => fault.number(),
+            ConsolidationFault::Relink(fault) => fault.number(),
+            ConsolidationFault::TooLong => 61,
+            ConsolidationFault::MediumMemory => 63,
+            ConsolidationFault::Source { .. } => 22,
+            ConsolidationFault::Medium { .. } | ConsolidationFault::List => 62,
+        }
+    }
+}
+
+impl From<IntervalFault> for ConsolidationFault {
+    ghost use Rattle.std.specs.Prelude.{◌≡◌};
+    ghost use Rattle.consolidation.specs.declared.fault.ConsolidationFault.TheVariants.{Intervals};
+
+    ghost from_gives = { λ _ fault. fault ≡ Intervals };
+
+    fn from(fault: IntervalFault) -> Self {
+        match fault {
+            IntervalFault::Memory => ConsolidationFault::Intervals,
+        }
+    }
+}
+
+impl From<PassFault> for ConsolidationFault {
+    ghost use Rattle.std.specs.Prelude.{◌≡◌};
+    ghost use Rattle.consolidation.specs.declared.fault.ConsolidationFault.TheVariants.{Pass};
+
+    ghost from_gives = { λ pass fault. fault ≡ Pass pass };
+
+    fn from(fault: PassFault) -> Self {
+        ConsolidationFault::Pass(fault)
+    }
+}
+
+impl From<RunFault> for ConsolidationFault {
+    ghost use Rattle.std.specs.Prelude.{◌≡◌};
+    ghost use Rattle.consolidation.specs.declared.fault.ConsolidationFault.TheVariants.{Runs};
+
+    ghost from_gives = { λ runs fault. fault ≡ Runs runs };
+
+    fn from(fault: RunFault) -> Self {
+        ConsolidationFault::Runs(fault)
+    }
+}
+
+impl From<RelinkFault> for ConsolidationFault {
+    ghost use Rattle.std.specs.Prelude.{◌≡◌};
+    ghost use Rattle.consolidation.specs.declared.fault.ConsolidationFault.TheVariants.{Relink};
+
+    ghost from_gives = { λ relink fault. fault ≡ Relink relink };
+
+    fn from(fault: RelinkFault) -> Self {
+        ConsolidationFault::Relink(fault)
+    }
+}

@@ -1,0 +1,5 @@
+mod Chosen
+mod Frames
+mod Played
+mod Ranges
+mod Wrote

@@ -1,0 +1,18 @@
+use Rattle.std.proofs.Common.{◌≡◌, ◌≢◌, ◌++◌, codes, IsTrue, List, Some, ℕ}
+use Rattle.sound_terms.specs.Groups.{sum_of}
+use Rattle.list_terms.specs.Heard.{reading_by}
+use Rattle.shelf.specs.Frame.{IsBuilding, IsQuiet}
+use Rattle.rendering.specs.Written.{first_frames}
+use Rattle.rendering.proofs.Frames.{frames_before}
+use Rattle.rendering.proofs.writing.append_blocks.Given as goal
+
+-- the blocks before k stand behind what the file held, and nothing else has changed
+abbrev pub invariant-loop-k : goal.invariant-loop-k
+invariant-loop-k g l =
+    (l.room ≡ l.initial.room)
+    × IsQuiet g.S.Shelf l.initial.shelf l.shelf
+    × IsBuilding g.B.Bench (λ n. n ≢ codes "render.wav") l.initial.bench l.bench
+    × (IsTrue (g.S.Shelf.honest l.initial.shelf) → IsTrue (g.B.Bench.honest l.initial.bench) → (file : List ℕ)
+    → g.B.Bench.stored l.initial.bench (codes "render.wav") ≡ Some file
+    → g.B.Bench.stored l.bench (codes "render.wav") ≡ Some (file ++ first_frames l.plan.range
+    (sum_of (reading_by (g.S.Shelf.stored l.initial.shelf) l.sounds) l.plan.pieces) (frames_before l.plan.range l.k)))

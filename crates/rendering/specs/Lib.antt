@@ -1,0 +1,4 @@
+pub mod Fault
+pub mod Prepared
+pub mod Rendering
+pub mod Written

@@ -1,7 +1,0 @@
-use Rattle.std.proofs.Common.{ap, arith}
-use Rattle.std.specs.Prelude.{length}
-use Rattle.whole_model.proofs.Counted.{length-sources}
-use Rattle.whole_model.proofs.project.Project.sources.Goals as goal
-
-pub returns-clause-few : goal.returns-clause-few
-returns-clause-few c = omega (arith, length-sources _ c.self.invariant.sources.numbered, ap length c.as_slice.ensures.value)

@@ -1,7 +1,0 @@
-use Rattle.std.proofs.Common.{arith}
-use Rattle.std.proofs.lemmas.Grind.{common_steps}
-use Rattle.whole_read.proofs.Numbered.{AreEvents-nil}
-use Rattle.whole_read.proofs.sections.EventList.new.Goals as goal
-
-pub invariant_of-result : goal.invariant_of-result
-invariant_of-result c = record { flags = grind (arith, common_steps); whole = rw c.new-2.ensures.items AreEvents-nil }

@@ -1,7 +1,0 @@
--- What the header so far stands for.
-use Rattle.list_terms.specs.Text.{HeaderRead}
-use Rattle.whole_model.specs.Header.{header_view}
-use Rattle.whole_read.specs.declared.header.HeaderSoFar.{HeaderSoFar}
-
-abbrev pub header_so_far : HeaderSoFar → HeaderRead
-header_so_far header = record { lines = header_view header.lines; kept = header.kept; rates = header.rates }

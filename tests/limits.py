@@ -1,0 +1,109 @@
+"""Very long lists and files, and many of them: they are answered, in little time."""
+
+import resource
+from functools import partial
+
+import model
+from harness import LIST, MEDIA, Mismatch, Scene, Suite, same_outcome, words_of
+from tables import FIRST_LIST, data_chunk, format_chunk, riff_chunk, riff_file, wave
+
+MIDNIGHT = b"00.00.00.00/0000"
+MOST = 32_767
+MOST_KEPT = 65_535
+FILES = 2000
+HANDLES = 20
+CHUNKS = 100_000
+EMPTY_SIZE = 3 * 2 ** 30
+
+
+def processor_seconds() -> float:
+    """What all programs that were run so far took."""
+    used = resource.getrusage(resource.RUSAGE_CHILDREN)
+    return used.ru_utime + used.ru_stime
+
+
+def expect_check(scene: Scene, line: str, seconds: float, **how) -> None:
+    """`check` prints this line, and takes no longer than that of the processor."""
+    before = processor_seconds()
+    got = scene.run(*words_of("check"), **how)
+    taken = processor_seconds() - before
+    same_outcome(got, 1 if line.startswith("refused") else 0, line)
+    if taken > seconds:
+        raise Mismatch(f"{line!r} took {taken:.2f} seconds of the processor, more than {seconds}")
+
+
+def entry(number: int, index: int) -> bytes:
+    return model.entry_line(number, index, MIDNIGHT, model.time_text(5 * number), model.time_text(5 * number + 4))
+
+
+def longest_list(scene: Scene) -> None:
+    """As many entries, indexes and kept lines as there may be."""
+    sources = [model.source_line(number, "A.wav", MIDNIGHT) for number in range(1, MOST + 1)]
+    text = model.list_text(sources, [entry(number, number) for number in range(1, MOST + 1)], b"\n")
+    kept = b"<VERSION>\n" + b"(Ver) a kept line\n" * (MOST_KEPT - 2) + b"</VERSION>\n"
+    scene.put(text.replace(b"<ADL>\n", b"<ADL>\n" + kept), {"A.wav": wave()})
+    expect_check(scene, f"accepted {MOST} entries {MOST} indexes", 2)
+
+
+def many_files(scene: Scene) -> None:
+    """Each is opened once, with few handles."""
+    names = [f"S{number:04d}.wav" for number in range(1, FILES + 1)]
+    sources = [model.source_line(number, name, MIDNIGHT) for number, name in enumerate(names, 1)]
+    entries = [entry(number, 1 + 7 * number % FILES) for number in range(1, MOST + 1)]
+    scene.put(model.list_text(sources, entries), {name: wave() for name in names})
+    limit = partial(resource.setrlimit, resource.RLIMIT_NOFILE, (HANDLES, HANDLES))
+    expect_check(scene, f"accepted {MOST} entries {FILES} indexes", 3, preexec_fn=limit)
+
+
+def garbage(scene: Scene) -> None:
+    """50 MB of what is no list, of one line, and of sections that aren't kept."""
+    for text, line in (
+        (b"\0" * 50_000_000, "refused 03 at line 1"),
+        (b"<ADL>\n<SEQUENCE>\n" + b"x " * 25_000_000, "refused 03 at line 3"),
+        (b"<ADL>\n<SEQUENCE>\n" + b"(Rem)\n" * 8_000_000, f"refused 15 at line {MOST_KEPT + 3}"),
+    ):
+        scene.put(text)
+        expect_check(scene, line, 3)
+
+
+def many_chunks(scene: Scene) -> None:
+    """A file of 100,000 small chunks before its sound."""
+    others = [riff_chunk(b"JUNK", b"odd")] * CHUNKS
+    scene.put(FIRST_LIST, {"A.wav": riff_file(format_chunk(), *others, data_chunk((1, 2, 3, 4)))})
+    expect_check(scene, "accepted 1 entries 1 indexes", 1)
+
+
+def empty_chunks(scene: Scene) -> None:
+    """A file of 3 GB of empty chunks, which takes no place on the disk."""
+    scene.put(FIRST_LIST)
+    with (scene.folder / MEDIA / "A.wav").open("wb") as file:
+        file.write(b"RIFF\0\0\0\0WAVE")
+        file.truncate(EMPTY_SIZE)
+    expect_check(scene, "refused 24 at index 1 file A.wav", 20)
+
+
+def long_day(scene: Scene) -> None:
+    """A sample at each end of the day: nothing that is done grows with what lies between."""
+    entries = [
+        model.entry_line(1, 1, MIDNIGHT, MIDNIGHT, model.time_text(1)),
+        model.entry_line(2, 1, MIDNIGHT, model.time_text(model.DAY - 1), model.time_text(model.DAY)),
+    ]
+    scene.put(model.list_text([model.source_line(1, "A.wav", MIDNIGHT)], entries), {"A.wav": wave()})
+    expect_check(scene, "accepted 2 entries 1 indexes", 1)
+    before = processor_seconds()
+    got = scene.run(*words_of("consolidate", model.Options(handle=model.DAY)))
+    same_outcome(got, 0, "written 1 media 2 entries")
+    same_outcome(scene.run("render", LIST, MEDIA, MEDIA), 1, f"refused 20 at file {MEDIA}")
+    scene.empty_out()
+    same_outcome(scene.run(*words_of("render")), 1, "refused 61")
+    if processor_seconds() - before > 2:
+        raise Mismatch("a long day takes long")
+
+
+def run(suite: Suite) -> None:
+    suite.case("the longest list", longest_list)
+    suite.case("2,000 files with few handles", many_files)
+    suite.case("50 MB of garbage", garbage)
+    suite.case("100,000 small chunks", many_chunks)
+    suite.case("3 GB of empty chunks", empty_chunks)
+    suite.case("a sample at each end of the day", long_day)
