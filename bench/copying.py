@@ -73,25 +73,46 @@ def half_hour(bench: Bench) -> list:
 
 
 def many_entries(bench: Bench) -> list:
-    """As many entries as there may be: that join to one, lie apart, lie on one moment, or make as many media."""
+    """As many entries as there may be: that join to one, lie apart, lie on one moment, or make as many media; and the
+    memory of each entry beyond a list of one."""
     frames = 4 * MANY
     block = block_of(frames, 1, 16)
     make_sound(bench.media() / "A.wav", block, 1)
     kinds = {
-        "that join to one": ([Cut(4 * place, 4 * place, 4) for place in range(MANY)], "48000"),
-        "that never join": ([Cut(4 * place, 5 * place, 4) for place in range(MANY)], "48000"),
-        "on one moment": ([Cut(4 * place, 0, 4) for place in range(MANY)], "48000"),
-        "in as many media, without syncs": ([Cut(4 * place, 5 * place, 3) for place in range(MANY)], "0"),
+        "that join to one": [Cut(4 * place, 4 * place, 4) for place in range(MANY)],
+        "that never join": [Cut(4 * place, 5 * place, 4) for place in range(MANY)],
+        "on one moment": [Cut(4 * place, 0, 4) for place in range(MANY)],
+        "with fades": [Cut(4 * place, 5 * place, 4, 1, 1) for place in range(MANY)],
     }
-    lines = []
-    for kind, (cuts, handle) in kinds.items():
-        text = bench.put(list_text(cuts))
-        words = bench.words("consolidate", text, "--handle", handle)
-        count = MANY if handle == "0" else 1
-        words = [*bench.unsynced, *words] if handle == "0" else words
-        cost = bench.costs_of({"one": Job(words, look_at_count(count))})["one"]
-        lines.append(line(f"`consolidate`: 32,767 entries {kind}", cost, (None, None)))
-    return lines
+    least = cost_over(bench, [Cut(0, 0, 4)]).kilobytes
+    lines = [entries_line(kind, cost_over(bench, cuts), least) for kind, cuts in kinds.items()]
+    return lines + many_media(bench, least)
+
+
+def cost_over(bench: Bench, cuts: list):
+    """The cost of a consolidation of these cuts to one medium."""
+    words = bench.words("consolidate", bench.put(list_text(cuts)), "--handle", "48000")
+    return bench.costs_of({"one": Job(words, look_at_count(1))})["one"]
+
+
+def entries_line(kind: str, cost, least: int) -> str:
+    each = (cost.kilobytes - least) * 1024 // MANY
+    return line(f"`consolidate`: 32,767 entries {kind}, {each} bytes each", cost, (None, None))
+
+
+def many_media(bench: Bench, least: int) -> list:
+    """Each entry in a medium of its own. With syncs it runs once, since that takes long."""
+    text = bench.put(list_text(Cut(4 * place, 5 * place, 3) for place in range(MANY)))
+    words = bench.words("consolidate", text, "--handle", "0")
+    log = bench.folder / "syncs"
+    look = look_at_count(MANY)
+    unsynced = bench.costs_of({"one": Job([*bench.unsynced, *words], look)})["one"]
+    bench.cost_of(Job(["env", f"SYNC_LOG={log}", *bench.unsynced, *words], look))
+    syncs = sum(told.startswith("sync ") for told in log.read_text().splitlines())
+    return [
+        entries_line("in as many media, without syncs", unsynced, least),
+        entries_line(f"in as many media, {syncs:,} syncs", bench.cost_of(Job(words, look)), least),
+    ]
 
 
 def look_at_count(media: int):

@@ -1,6 +1,7 @@
 """Runs jobs and counts what they cost; lists and sound files for them."""
 
 import os
+import random
 import shutil
 import struct
 import subprocess
@@ -11,6 +12,8 @@ from typing import Callable, Iterable, NamedTuple, Optional
 
 TOP = Path(__file__).resolve().parent.parent
 RUNS = 2
+SPOTS = 1000
+FULL_DEPTH = 48
 RATE = 48_000
 HEAD = 690
 
@@ -175,6 +178,48 @@ def expect_data(path: Path, block: bytes, times: int) -> None:
 def expect_size(path: Path, size: int) -> None:
     if path.stat().st_size != size:
         sys.exit(f"bench: {path.name} has {path.stat().st_size} bytes, not {size}")
+
+
+def expect_about(path: Path, size: int) -> None:
+    """What another program writes is as long, but for its header and an end that is cut off."""
+    if not size <= 1.05 * path.stat().st_size:
+        sys.exit(f"bench: {path.name} has only {path.stat().st_size} bytes, not {size}")
+
+
+def share(sample: int, cut: Cut, place: int) -> int:
+    """What is left of a sample at this place of a cut, under its fades, rounded down."""
+    left = cut.length - place
+    if place < cut.rise:
+        return sample * place // cut.rise
+    return sample * left // cut.fall if left <= cut.fall else sample
+
+
+def finished(total: int, bits: int) -> int:
+    """Rounded with halves up, and clipped."""
+    unit, limit = 2 ** (FULL_DEPTH - bits), 2 ** (bits - 1)
+    return max(-limit, min(limit - 1, (total + unit // 2) // unit))
+
+
+def expect_mix(path: Path, cuts: list, block: bytes, channels: int, bits: int) -> None:
+    """At random places a rendered file has the exact sums of its cuts over a sound that is this block over and over."""
+    size = bits // 8
+
+    def sample(frame: int, channel: int) -> int:
+        at = (frame * channels + channel) * size % len(block)
+        return int.from_bytes(block[at:at + size], "little", signed=True) * 2 ** (FULL_DEPTH - bits)
+
+    dice = random.Random(1)
+    with path.open("rb") as file:
+        for _ in range(SPOTS):
+            frame = dice.randrange((path.stat().st_size - HEAD) // (channels * size))
+            playing = [(cut, frame - cut.begin) for cut in cuts if 0 <= frame - cut.begin < cut.length]
+            totals = [
+                sum(share(sample(cut.first + place, channel), cut, place) for cut, place in playing)
+                for channel in range(channels)]
+            file.seek(HEAD + frame * channels * size)
+            if file.read(channels * size) != b"".join(
+                    finished(total, bits).to_bytes(size, "little", signed=True) for total in totals):
+                sys.exit(f"bench: {path.name} has another sum at frame {frame}")
 
 
 # Tables

@@ -4,7 +4,8 @@ from pathlib import Path
 from typing import NamedTuple, Optional
 
 from measuring import (
-    HEAD, Bench, Cut, Job, block_of, copy_of, expect_data, expect_size, line, list_text, make_sound, table,
+    HEAD, Bench, Cut, Job, block_of, copy_of, expect_about, expect_data, expect_mix, expect_size, line, list_text,
+    make_sound, table,
 )
 
 SECOND = 48_000
@@ -74,21 +75,27 @@ def put_in(words: list, source: Path, target: Path) -> list:
 
 
 def jobs_of(bench: Bench, mix: Mix, source: Path, block: bytes) -> dict:
+    size = HEAD + FRAME_SIZE * max(cut.begin + cut.length for cut in mix.cuts)
+
     def look(out: Path) -> None:
-        frames = max(cut.begin + cut.length for cut in mix.cuts)
-        expect_size(out / "render.wav", HEAD + FRAME_SIZE * frames)
+        expect_size(out / "render.wav", size)
+        expect_mix(out / "render.wav", mix.cuts, block, 2, 24)
         if mix.is_plain:
             expect_data(out / "render.wav", block, SECONDS)
+
+    def look_at_peer(out: Path) -> None:
+        expect_about(out / "peer.wav", size)
 
     text = bench.put(list_text(mix.cuts, channels="1~2"))
     target = bench.out() / "peer.wav"
     jobs = {
         "cp": copy_of(source, target),
         "render": Job(bench.words("render", text), look),
-        "ffmpeg": Job(["ffmpeg", "-v", "error", *put_in(mix.ffmpeg, source, target), "-c:a", "pcm_s24le", target]),
+        "ffmpeg": Job(
+            ["ffmpeg", "-v", "error", *put_in(mix.ffmpeg, source, target), "-c:a", "pcm_s24le", target], look_at_peer),
     }
     if mix.sox:
-        jobs["sox"] = Job(["sox", "-D", "-V1", *put_in(mix.sox, source, target)])
+        jobs["sox"] = Job(["sox", "-D", "-V1", *put_in(mix.sox, source, target)], look_at_peer)
     return jobs
 
 

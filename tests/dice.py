@@ -12,8 +12,10 @@ NAMES = ("A.wav", "Take2.wav", "b W.av", "Z\u00e49", "100%.wav")
 BASES = (0, 0, 0, 1, 1919, 1920, 36_000 * 48_000, model.DAY - 12, model.DAY - 1, model.DAY)
 PLACES = (0, 172_800_000, 90_000 * 1920, model.DAY - 150)
 HANDLES = (0, 0, 1, 2, 5, 48_000, model.DAY)
-HEADERS = ("VERSION", "PROJECT", "SYSTEM", "TRACKLIST")
+HEADERS = (b"VERSION", b"PROJECT", b"SYSTEM", b"TRACKLIST")
 KEPT_LINES = (b"(Ver_ID) X", b"", b"  any \xff\x00bytes ) \" ", b"(Rem) one", b"<b>")
+SOURCE_LINES = (b"", b"(Comment) one", b'index "of the day"', b"\t")
+EARLY_LINES = (b"", b"(Rem) one", b"(rem)")
 CUT_LINES = (
     b"(Rem) one", b"", b'words "quoted \xe4 text" (KEY)', b"(SYS_GAIN) _", b"(SYS_GAIN) -0.00 x", b"(SYS_SRC_OFFSET) _",
 )
@@ -29,11 +31,24 @@ class Index(NamedTuple):
     channels: int
 
 
+class Cut(NamedTuple):
+    """An entry of a random list: its channels, first frame, time and length."""
+    index: Index
+    channels: tuple
+    first: int
+    begin: int
+    length: int
+
+
 class Dice(random.Random):
     """Chance, by a seed."""
 
     def sometimes(self, part: float) -> bool:
         return self.random() < part
+
+    def seldom(self, value, usual, part: float = 0.02):
+        """This value, or the usual one."""
+        return value if self.sometimes(part) else usual
 
     def numbers(self, count: int) -> list:
         """Distinct numbers of indexes or of entries."""
@@ -65,18 +80,19 @@ class Dice(random.Random):
         """No chunk, or one: whole, with a history, or short."""
         if self.sometimes(0.4):
             return []
-        history = self.choice((b"", b"A", b"A=PCM,F=48000\r\n"))
+        history = self.seldom(b"A" * 65_537, self.choice((b"", b"A", b"A=PCM,F=48000\r\n")))
         text, size = self.choice((b"", b"Take one")), self.choice((None, None, 346, 345))
         return [bext_chunk(self.choice(BASES), text, history, size)]
 
     def file(self) -> bytes:
         """A sound file of any kind, with other chunks round its own."""
-        channels, depth = self.choice((1, 1, 1, 2, 2, 3, 6)), self.choice((16, 24, 32))
+        channels, depth = self.seldom(64, self.choice((1, 1, 1, 2, 2, 3, 6))), self.choice((16, 24, 32))
         frames = self.choice((0, 1, 3, 12, 40, 40, 40, 90))
         data = data_chunk(self.samples(frames, channels, depth), depth)
         if self.sometimes(0.1):
             data = riff_chunk(b"data", data[8:8 + frames * channels * depth // 8] + b"\1")
-        form = self.choice((format_chunk, extensible_chunk))(channels=channels, bits=depth)
+        rate = self.seldom(44_100, 48_000, 0.005)
+        form = self.choice((format_chunk, extensible_chunk))(channels=channels, bits=depth, rate=rate)
         chunks = [form, data, *self.bext()]
         self.shuffle(chunks)
         for _ in range(self.choice((0, 0, 0, 1, 2))):
@@ -96,39 +112,67 @@ class Dice(random.Random):
 
     # Lists
 
-    def section(self, name: str, lines: tuple) -> list:
-        kept = [self.choice(lines) for _ in range(self.randint(0, 3))]
-        return [b"<%s>" % name.encode(), *kept, b"</%s>" % self.choice((name, name.lower())).encode()]
+    def any_case(self, name: bytes) -> bytes:
+        return self.choice((name, name, name.lower(), name.upper()))
 
-    def heads(self) -> list:
-        """Sections of any kind, in any order, with those that aren't kept."""
+    def keyword(self, name: bytes) -> bytes:
+        return b"(%s)" % self.any_case(name)
+
+    def field(self, content: bytes) -> bytes:
+        """A field is read by its content, however its token is written."""
+        return self.choice((*[content] * 8, b'"%s"' % content, b"(%s)" % content))
+
+    def number(self, value: int) -> bytes:
+        return self.field(self.choice((b"%04d", b"%d", b"%06d")) % value)
+
+    def section(self, name: bytes, lines: list) -> list:
+        return [b"<%s>" % self.any_case(name), *lines, b"</%s>" % self.any_case(name)]
+
+    def some_of(self, lines: tuple) -> list:
+        return [self.choice(lines) for _ in range(self.randint(0, 3))]
+
+    def rates(self) -> list:
+        """Both lines of SEQUENCE, among others."""
+        lines = [
+            self.choice((b"(SEQ_SAMPLE_RATE) S48000", b"(seq_sample_rate) 48000 more")), b"(Rem)",
+            self.choice((b"(SEQ_FRAME_RATE) 25", b"(SEQ_FRAME_RATE)25.00", b'(SEQ_FRAME_RATE) "25."'))]
+        self.shuffle(lines)
+        return lines
+
+    def sections(self, source_lines: list, entry_lines: list) -> list:
+        """All sections in any order, with those that aren't kept."""
         sections = [
-            self.section(name, CUT_LINES if name == "SYSTEM" else KEPT_LINES)
+            self.section(name, self.some_of(CUT_LINES if name == b"SYSTEM" else KEPT_LINES))
             for name in HEADERS if self.sometimes(0.2)
         ]
-        sections.append([
-            b"<SEQUENCE>", self.choice((b"(SEQ_SAMPLE_RATE) S48000", b"(seq_sample_rate) 48000 more")),
-            b"(Rem)", self.choice((b"(SEQ_FRAME_RATE) 25", b"(SEQ_FRAME_RATE)25.00", b'(SEQ_FRAME_RATE) "25."')),
-            b"</SEQUENCE>"])
         if self.sometimes(0.1):
-            sections.append([b"<MARKERS>", b"any \xff bytes", b"</markers>"])
-        self.shuffle(sections)
-        return [line for section in sections for line in section]
+            sections.append(self.section(b"MARKERS", [b"any \xff bytes"]))
+        sections.append(self.section(b"SEQUENCE", self.rates()))
+        rest = [
+            self.section(b"SOURCE_INDEX", source_lines + self.seldom(self.some_of(SOURCE_LINES), [], 0.1)),
+            self.section(b"EVENT_LIST", self.seldom(self.some_of(EARLY_LINES), [], 0.1) + entry_lines)]
+        if self.sometimes(0.3):
+            sections, rest = sections + rest, []
+            self.shuffle(sections)
+        else:
+            self.shuffle(sections)
+        blank = self.seldom([b" \t"], [], 0.1)
+        return [line for section in sections + rest for line in section + blank]
 
     def text(self, source_lines: list, entry_lines: list) -> bytes:
         """A list of these lines, spelt in one of many ways."""
-        end = self.choice((b"\n", b"\r\n"))
-        lines = [
-            b"<ADL>", *self.heads(), b"<SOURCE_INDEX>", *source_lines, b"</SOURCE_INDEX>",
-            b"<EVENT_LIST>", *entry_lines, b"</EVENT_LIST>", b"</ADL>"]
+        ends = self.choice(((b"\n",), (b"\r\n",), (b"\n", b"\r\n")))
+        root = self.any_case(b"ADL")
+        lines = [b"<%s>" % root, *self.sections(source_lines, entry_lines), b"</%s>" % self.any_case(b"ADL")]
         mark = self.choice((b"", b"", b"\xef\xbb\xbf"))
-        return mark + b"".join(line + end for line in lines) + self.choice((b"", b"behind the list"))
+        text = mark + b"".join(line + self.choice(ends) for line in lines)
+        return text + b"behind the list" if self.sometimes(0.5) else self.seldom(text.rstrip(b"\r\n"), text)
 
     def url(self, name: str) -> bytes:
         path = name.encode()
         if self.sometimes(0.5):
             path = b"".join(b"%%%02X" % byte if byte > 126 or byte in b" %" else bytes([byte]) for byte in path)
-        host = self.choice((b"localhost", b"localhost", b"", b"studio.local"))
+        host = self.choice((b"localhost", b"localhost", b"", b"studio.local")) + self.seldom(b"/day 1", b"", 0.005)
         return self.choice((b"URL:", b"", b"url:")) + self.choice((b"file", b"FILE")) + b"://" + host + b"/" + path
 
     def spaced(self, *words: bytes) -> bytes:
@@ -140,8 +184,8 @@ class Dice(random.Random):
         told = b"_" if index.told is None else model.time_text(index.told, self.separators())
         length = self.choice((b"_", model.time_text(self.randint(0, model.DAY))))
         return self.spaced(
-            b"(Index)", b"%04d" % index.number, b"(F)", b'"%s"' % self.url(index.name),
-            self.choice((b"_", b"uid", b'"a uid"', b"(x)")), told, length)
+            self.keyword(b"Index"), self.number(index.number), self.keyword(b"F"), b'"%s"' % self.url(index.name),
+            self.choice((b"_", b"uid", b'"a uid"', b"(x)")), self.field(told), length)
 
     def fades(self, length: int) -> tuple:
         """The lengths of both fades of an entry, and their lines."""
@@ -157,42 +201,61 @@ class Dice(random.Random):
         for keyword, fade in ((b"Infade", rise), (b"Outfade", fall)):
             if fade or self.sometimes(0.1):
                 time = model.time_text(fade, self.separators()) if fade else self.choice((b"_", b"00.00.00.00/0000"))
-                lines.append(self.spaced(b"(%s)" % keyword, time, self.choice((b"LIN", b"lin")), b"_"))
+                curve = self.field(self.any_case(b"LIN"))
+                lines.append(self.spaced(self.keyword(keyword), self.field(time), curve, b"_"))
         if self.sometimes(0.1):
             lines.append(self.choice((b"(Gain) 0.00", b"(Rem) a remark", b"(Gain) _ -0", b"")))
         self.shuffle(lines)
         return lines
 
     def channels(self, index: Index) -> tuple:
-        """Source and destination channels of one width."""
+        """The first and last source channel, and the first destination channel."""
         first = self.randint(1, index.channels)
         last = self.randint(first, index.channels) + self.sometimes(0.01)
-        dest = self.choice((1, 1, 2, self.randint(1, 8)))
-        return tuple(
-            b"%d" % low if low == high and self.sometimes(0.9) else b"%d~%d" % (low, high)
-            for low, high in ((first, last), (dest, dest + last - first)))
+        return first, last, min(self.seldom(64, self.choice((1, 1, 2, self.randint(1, 8)))), 64 - (last - first))
 
-    def entry_lines(self, number: int, indexes: list, place: int) -> list:
-        """An entry and its further lines, most times within its file, a little behind this place of the day."""
+    def channel_fields(self, cut: Cut) -> list:
+        first, last, dest = cut.channels
+        return [
+            self.field(b"%d" % low if low == high and self.sometimes(0.9) else b"%d~%d" % (low, high))
+            for low, high in ((first, last), (dest, dest + last - first))]
+
+    def cut(self, indexes: list, place: int) -> Cut:
+        """Most times within its file, a little behind this place of the day."""
         index = self.choice(indexes) if indexes else Index(1, "None.wav", 0, 0, 0, 1)
         frames = max(0, min(index.frames, model.DAY - index.base))
         first = self.randint(0, frames)
         length = 0 if self.sometimes(0.1) else self.randint(0, frames - first) + self.sometimes(0.01)
-        dest_in = place + self.choice((self.randint(1, 60), 20 + first % 40))
-        length = -1 if self.sometimes(0.005) else length
-        source_in = min(model.DAY, index.base + first)
-        named = index.number if not self.sometimes(0.005) else self.randint(1, 32_767)
-        values = source_in, dest_in, min(model.DAY, dest_in + length)
-        times = [model.time_text(value, self.separators()) for value in values]
-        line = self.spaced(b"(Entry)", b"%04d" % number, b"(Cut)", b"I", b"%d" % named, *self.channels(index), *times)
-        return [line, *self.further_lines(length)]
+        begin = place + self.choice((self.randint(1, 60), 20 + first % 40))
+        return Cut(index, self.channels(index), first, begin, self.seldom(-1, length, 0.005))
+
+    def halves(self, cut: Cut) -> list:
+        """The cut, or two of which the second goes on from the first."""
+        if cut.length < 2 or self.sometimes(0.8):
+            return [cut]
+        part = self.randint(1, cut.length - 1)
+        rest = cut._replace(first=cut.first + part, begin=cut.begin + part, length=cut.length - part)
+        return [cut._replace(length=part), rest]
+
+    def entry_lines(self, number: int, cut: Cut) -> list:
+        """An entry and its further lines."""
+        named = self.seldom(self.randint(1, 32_767), cut.index.number, 0.005)
+        values = cut.index.base + cut.first, cut.begin, cut.begin + cut.length
+        times = [self.field(model.time_text(min(model.DAY, value), self.separators())) for value in values]
+        line = self.spaced(
+            self.keyword(b"Entry"), self.number(number), self.keyword(b"Cut"), self.field(b"I"), self.number(named),
+            *self.channel_fields(cut), *times)
+        return [line, *self.further_lines(cut.length)]
 
     def index(self, number: int, media: dict) -> Index:
         """An index over one of these files; a few name a file that isn't there."""
         if self.sometimes(0.005):
             return Index(number, "None.wav", 0, 0, 0, 1)
         name = self.choice(sorted(media))
-        sound = model.read_sound(media[name])
+        try:
+            sound = model.read_sound(media[name])
+        except model.BadFile:
+            return Index(number, name, 0, 0, 0, 1)
         told = None if self.sometimes(0.4) else self.choice((sound.time_reference, *BASES))
         base = told if told is not None else sound.time_reference or 0
         return Index(number, name, told, base, sound.frames(), sound.channels)
@@ -203,10 +266,10 @@ class Dice(random.Random):
         count = self.randint(0 if self.sometimes(0.05) else 1, 5)
         indexes = [self.index(number, media) for number in self.numbers(count)]
         place = self.choice(PLACES)
+        count = self.seldom(0, self.choice((2, 4, 6, 8, 8)), 0.05)
+        cuts = [half for _ in range(count) for half in self.halves(self.cut(indexes, place))]
         entry_lines = [
-            line for number in self.numbers(self.choice((0, 2, 4, 6, 8, 8)))
-            for line in self.entry_lines(number, indexes, place)
-        ]
+            line for number, cut in zip(self.numbers(len(cuts)), cuts) for line in self.entry_lines(number, cut)]
         return self.text([self.index_line(index) for index in indexes], entry_lines), media, place
 
     def options(self, place: int) -> model.Options:
@@ -215,5 +278,7 @@ class Dice(random.Random):
         if self.sometimes(0.4):
             first, last = max(0, place + self.randint(-20, 60)), min(model.DAY, place + self.randint(20, 150))
             begin, end = (model.time_text(value, self.separators()).decode() for value in (first, last))
+            if place == 0:
+                begin, end = self.choice(((begin, end), (begin, None), (None, end)))
         channels = self.choice((None, None, None, 1, 2, 7, 64))
         return model.Options(self.choice(HANDLES), begin, end, channels, self.choice((16, 24, 24, 32)))

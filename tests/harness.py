@@ -10,6 +10,7 @@ from pathlib import Path
 from typing import Callable, NamedTuple, Optional
 
 import model
+import second_reader
 
 TIMEOUT = 60
 LIST = "L.adl"
@@ -128,11 +129,28 @@ def words_of(command: str, options: model.Options = model.STANDARD) -> list:
 
 
 def expect_answer(scene: Scene, command: str, wanted: model.Answer, options: model.Options = model.STANDARD) -> None:
-    """Runs a command over the scene's list, which leaves list and media as they are."""
+    """Runs a command over the scene's list, which leaves list and media as they are. Both readers read what it reads
+    and writes as the same lists."""
     before = (scene.folder / LIST).read_bytes(), scene.files(MEDIA)
     same_answer(scene.run(*words_of(command, options)), wanted)
-    same_files(scene.files(), wanted.files)
+    files = scene.files()
+    same_files(files, wanted.files)
     same("the list and the media", ((scene.folder / LIST).read_bytes(), scene.files(MEDIA)), before)
+    for text in ([before[0]] if command == "check" else []) + [files[name] for name in files if name.endswith(".adl")]:
+        same("the list as a second reader reads it", second_reader.read(text), model_reads(text))
+
+
+def model_reads(text: bytes):
+    """What the model reads of a list, in the second reader's words."""
+    try:
+        project = model.read_list(text)
+    except model.Refused as refusal:
+        return str(refusal)
+    return second_reader.List(
+        {name.encode(): lines for name, lines in project.header.items()},
+        [tuple(source) for source in project.sources],
+        [(entry.number, entry.index, tuple(entry.source), tuple(entry.dest), *entry[4:]) for entry in project.entries],
+        project.separators, [tuple(notice) for notice in project.notices])
 
 
 def expect_line(
@@ -141,6 +159,12 @@ def expect_line(
     """The command prints this line for the list, and the model says so too; so do notices, status and files."""
     wanted = model.answer(command, text, media, options)
     same("the line of the model", wanted.line, line)
+    expect_alone(scene, command, text, media, wanted, options)
+
+
+def expect_alone(
+        scene: Scene, command: str, text: bytes, media: dict, wanted: model.Answer, options: model.Options) -> None:
+    """The command answers so over these files, which are put down first, and its output is taken away."""
     scene.put(text, media)
     expect_answer(scene, command, wanted, options)
     scene.empty_out()
@@ -157,7 +181,7 @@ def expect_done(scene: Scene, text: bytes, media: dict, options: model.Options =
     for command in model.COMMANDS:
         wanted = model.answer(command, text, media, options)
         same("the status of the model", wanted.status, 0)
-        expect_line(scene, command, text, media, wanted.line, options)
+        expect_alone(scene, command, text, media, wanted, options)
 
 
 PRELOAD = Path(__file__).resolve().parent / "preload.c"
@@ -207,6 +231,12 @@ class Suite:
 
     def skip(self, name: str, reason: str) -> None:
         self.skipped.append(f"skipped {name}: {reason}")
+
+    def add(self, passed: int, failed: int, skipped: list) -> None:
+        """The cases of a group that was run elsewhere."""
+        self.passed += passed
+        self.failed += failed
+        self.skipped += skipped
 
     def close(self) -> int:
         """Prints the closing lines, and answers the status. In CI a skipped case is a failed one."""

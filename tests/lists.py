@@ -1,7 +1,8 @@
 """Lists of the whole profile: what is read, the first fault of each other text, and what is told beside."""
 
 import model
-from harness import Mismatch, Scene, Suite, expect_done, expect_line, expect_refused, same, words_of
+import second_reader
+from harness import Mismatch, Scene, Suite, expect_done, expect_line, expect_refused, model_reads, same, words_of
 from tables import FIRST_LIST, changed, wave, with_line_after, without
 
 MEDIA = {"A.wav": wave()}
@@ -320,6 +321,22 @@ def many_sections(scene: Scene) -> None:
     expect_line(scene, "check", text, MEDIA, "refused 03 at line 100001")
 
 
+def second_reader_differs(scene: Scene) -> None:
+    """The comparison of both readers sees each field that is read otherwise."""
+    text = with_line_after(10, b"(Infade) 00.00.00.00/0002 LIN\n(Rem)").replace(b"<ADL>\n", b"<ADL>\n<X>\n</X>\n")
+    same("both readers", second_reader.read(text), model_reads(text))
+    for one, other in (
+        (b"0001 (F)", b"0002 (F)"), (b"A.wav", b"B.wav"), (b'" _', b'" x'), (MIDNIGHT + b" _", b"_ _"),
+        (b"0000 _", b"0000 " + MIDNIGHT), (b"(Entry) 0001", b"(Entry) 2"), (b"I 0001", b"I 2"), (b" 1 1 ", b" 2 1 "),
+        (b" 1 1 ", b" 1 2 "), (b"1 " + MIDNIGHT, b"1 00.00.00.01/0000"), (b"01.00.00.00/0000", b"00.59.00.00/0000"),
+        (b"/0004", b"/0005"), (b"/0002", b"/0003"), (b"Infade", b"Outfade"),
+        (b" 01.00.00.00/0000", b" 01:00.00.00/0000"), (b"S48000", b"48000"), (b"<X>\n</X>\n", b""), (b"</ADL>", b""),
+        (b"S48000", b"S44100"),
+    ):
+        if second_reader.read(text.replace(one, other, 1)) == model_reads(text):
+            raise Mismatch(f"{other!r} is read as {one!r}")
+
+
 def run(suite: Suite) -> None:
     for name, (line, answer) in INDEX_LINES.items():
         suite.case(f"index line: {name}", refused_at(changed(7, line), answer))
@@ -333,6 +350,7 @@ def run(suite: Suite) -> None:
         suite.case(f"list accepted: {name}", accepted(text))
     for name, url in URLS.items():
         suite.case(f"url accepted: {name}", accepted(FIRST_LIST.replace(b"URL:file://localhost/A.wav", url)))
+    suite.case("a second reader", second_reader_differs)
     suite.case("a list that is cut short", cut_short)
     suite.case("a list of each length", each_prefix)
     suite.case("what has to be there", needed_lines)

@@ -1,6 +1,7 @@
 /* Loaded before the program. It syncs nothing; SYNC_LOG names a file where syncs and prints are written down, and SYNC_FAILS
    is the sync that fails, from 1. INPUT says how standard input is read: 'slow' a byte at a time, with an interruption before
-   each, 'broken' so and failing at the tenth byte, 'endless' as spaces that never end. */
+   each, 'broken' so and failing at the tenth byte, 'endless' as spaces that never end. SLOW is how many microseconds each
+   write at a place of a file takes. */
 #define _GNU_SOURCE
 #include <dlfcn.h>
 #include <errno.h>
@@ -71,3 +72,13 @@ ssize_t read(int fd, void *bytes, size_t count) {
     if (++calls % 2) return failed(EINTR);
     return !strcmp(input, "broken") && calls == 20 ? failed(EIO) : real_read(fd, bytes, 1);
 }
+
+ssize_t pwrite(int fd, const void *bytes, size_t count, off_t place) {
+    static ssize_t (*next)(int, const void *, size_t, off_t);
+    const char *slow = getenv("SLOW");
+    if (!next) next = (ssize_t (*)(int, const void *, size_t, off_t))dlsym(RTLD_NEXT, "pwrite");
+    if (slow) usleep((useconds_t)atoi(slow));
+    return next(fd, bytes, count, place);
+}
+
+ssize_t pwrite64(int fd, const void *bytes, size_t count, off64_t place) { return pwrite(fd, bytes, count, place); }

@@ -7,6 +7,16 @@ from tables import FIRST_LIST, wave
 
 PROJECTS = 300
 
+# What random projects have to meet, each at least once in a run of all.
+PROFILE = {
+    *(f"a source of {depth} bits" for depth in (16, 24, 32)),
+    *(f"a rendering of {depth} bits" for depth in (16, 24, 32)),
+    *(f"notice {kind}" for kind in range(1, 8)), *(f"refused {number}" for number in (21, 30, 41, 42, 43, 44, 46, 58)),
+    "a source as RF64", "a source of 64 channels", "a source of several channels", "channel 64", "a crossfade",
+    "a fade-in", "a fade-out", "both fades", "no handle", "a handle within a file", "a handle past its file",
+    "a part of a list", "a chosen number of channels", "several media", "a silent part", "joined cuts",
+}
+
 
 def written_media(scene: Scene) -> tuple:
     """The written list, and the media beside it."""
@@ -45,16 +55,50 @@ def consolidated_again(scene: Scene, text: bytes, media: dict, options: model.Op
     same_files(scene.files(), {"consolidated.adl": text, **media})
 
 
-def project(seed: int):
+def parts_met(text: bytes, media: dict, options: model.Options, answers: list) -> set:
+    """What a random project has of the profile."""
+    met = {" ".join(line.split()[:2]) for answer in answers for line in (*answer.notices, answer.line)}
+    if answers[-1].status:
+        return met
+    read, bound = model.accepted(text, media)
+    written = model.read_list(answers[-1].files["consolidated.adl"])
+    sounds, entries = bound.sounds.values(), read.entries
+    fades = {(entry.rise > 0, entry.fall > 0) for entry in entries}
+    met |= {f"a source of {sound.depth} bits" for sound in sounds} | {f"a rendering of {options.depth} bits"}
+    return met | {name for name, is_met in {
+        "a source as RF64": any(media[name].startswith(b"RF64") for name in bound.sounds),
+        "a source of 64 channels": any(sound.channels == 64 for sound in sounds),
+        "a source of several channels": any(1 < sound.channels < 64 for sound in sounds),
+        "channel 64": any(entry.dest.last == 64 for entry in entries),
+        "a crossfade": any(one.fall and other.rise and one.dest_in < other.dest_in < one.dest_out < other.dest_out
+                           for one in entries for other in entries),
+        "a fade-in": (True, False) in fades, "a fade-out": (False, True) in fades, "both fades": (True, True) in fades,
+        "no handle": options.handle == 0, "a handle within a file": 0 < options.handle < 40,
+        "a handle past its file": options.handle > 90,
+        "a part of a list": options.begin is not None, "a chosen number of channels": options.channels is not None,
+        "several media": len(written.sources) > 1,
+        "a silent part": length_of(written) < length_of(read),
+        "joined cuts": len(written.entries) < sum(entry.length() > 0 for entry in entries)
+                       and length_of(written) == length_of(read),
+    }.items() if is_met}
+
+
+def length_of(project) -> int:
+    return sum(entry.length() for entry in project.entries)
+
+
+def project(seed: int, met: set):
     def body(scene: Scene) -> None:
         dice = Dice(seed)
         text, media, place = dice.project()
         options = dice.options(place)
+        answers = [model.answer(command, text, media, options) for command in ("check", "render", "consolidate")]
+        met.update(parts_met(text, media, options, answers))
         scene.put(text, media)
-        for command in ("check", "render"):
-            expect_answer(scene, command, model.answer(command, text, media, options), options)
+        for command, wanted in zip(("check", "render"), answers):
+            expect_answer(scene, command, wanted, options)
             scene.empty_out()
-        wanted = model.answer("consolidate", text, media, options)
+        wanted = answers[-1]
         if wanted.status == 0:
             whole = whole_range(text, media, options)
             sound = rendered_by(scene, whole)
@@ -65,6 +109,10 @@ def project(seed: int):
             consolidated_again(scene, new_text, new_media, options)
             same_files(rendered_by(scene, whole), sound)
     return body
+
+
+def whole_profile(met: set):
+    return lambda scene: same("what no random project meets", sorted(PROFILE - met), [])
 
 
 def other_sums(scene: Scene) -> None:
@@ -105,6 +153,8 @@ def layers(scene: Scene) -> None:
 
 def run(suite: Suite) -> None:
     suite.case("other sums are seen", other_sums)
+    met = set()
     for seed in range(PROJECTS):
-        suite.case(f"random project {seed}", project(seed))
+        suite.case(f"random project {seed}", project(seed, met))
+    suite.case("random projects meet the whole profile", whole_profile(met))
     suite.case("20,000 layers", layers)

@@ -1,12 +1,7 @@
 """The words of the command line: the stored run, faults of the words, help."""
 
-import re
-from pathlib import Path
-
 from harness import LIST, MEDIA, OUT, Mismatch, Outcome, Scene, Suite, same, same_files
 from tables import FIRST_LIST, rendered_bytes, wave
-
-DOCS = Path(__file__).resolve().parent.parent / "docs"
 
 STORED_RUN = b"698 bytes: 1000 -1000 32767 -32768\n"
 
@@ -138,15 +133,6 @@ def texts(scene: Scene) -> None:
         same(f"the mistake of {words}", scene.run(*words).error.decode(), text)
 
 
-def documented(scene: Scene) -> None:
-    """The man page and the completion know each command that help names, and no other."""
-    commands = re.findall(r"^  ([a-z]+)  ", scene.run("--help").output.decode(), re.M)
-    page = re.findall(r"^\.B adlcons ([a-z]+)$", (DOCS / "adlcons.1").read_text(), re.M)
-    same("the commands of the man page", page, commands)
-    words = re.search(r'-W "([a-z ]+)--help', (DOCS / "adlcons.bash").read_text())[1].split()
-    same("the commands of the completion", words, commands)
-
-
 def help_beside_words(scene: Scene) -> None:
     """Where help is asked for, nothing else is done."""
     prepared(scene)
@@ -197,7 +183,6 @@ def run(suite: Suite) -> None:
     suite.case("forms of options", option_forms)
     suite.case("times that can't be read", bad_times)
     suite.case("the texts of help and mistakes", texts)
-    suite.case("man page and completion", documented)
     suite.case("no words: the stored run", stored_run)
     for name, words in MISTAKES.items():
         suite.case(f"words: {name}", mistake(words))

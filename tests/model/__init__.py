@@ -8,10 +8,11 @@ from .mixing import sums_of
 from .refusal import Refused
 from .sounds import BadFile, Sound, chunks_of, packed, read_sound, written_sound
 from .spelling import entry_line, fade_line, list_text, source_line
+from .text import read_list
 from .times import DAY, time_text, time_value
 
 __all__ = [
     "COMMANDS", "DAY", "STANDARD", "WRITING", "Answer", "BadFile", "Options", "Refused", "Sound", "accepted", "answer",
-    "chunks_of", "consolidate", "entry_line", "fade_line", "list_text", "packed", "range_of", "read_sound", "render",
-    "source_line", "sums_of", "time_text", "time_value", "written_sound",
+    "chunks_of", "consolidate", "entry_line", "fade_line", "list_text", "packed", "range_of", "read_list",
+    "read_sound", "render", "source_line", "sums_of", "time_text", "time_value", "written_sound",
 ]

@@ -1,6 +1,7 @@
 """Reads lists: the project that a text spells, or the first fault of the text."""
 
 import re
+from functools import lru_cache
 from typing import Iterator, Optional
 
 from .project import KEPT, STANDARD_SEPARATORS, Channels, Entry, Project, Source, place_of
@@ -251,8 +252,9 @@ def spelt(token: Token) -> bytes:
     return {Kind.QUOTED: b'"%s"', Kind.KEYWORD: b"(%s)", Kind.WORD: b"%s"}[token.kind] % token.content
 
 
+@lru_cache(maxsize=4)
 def read_list(text: bytes) -> Project:
-    """The project that a text spells; raises its first fault."""
+    """The project that a text spells; raises its first fault. It is the same one each time, and nobody changes it."""
     reader = Reader()
     lines = lines_of(text)
     end = read_lines(reader, enumerate(lines, 1))

@@ -57,9 +57,11 @@ below (b ∷ bs) h =
     All-cons (λ x. x < 128) b bs (omega arith) (below bs (both-right (is_plain b) (list_all is_plain bs) h))
 
 name-plain : (bs : List ℕ) → list_all is_plain bs ≡ true → printed_name bs ≡ bs
-name-plain bs h = ap (flat_map printed_character) (chars-IsAscii bs (IsAscii-from_all bs (below bs h))) ∙ characters-plain bs h
+name-plain bs h =
+    ap (flat_map printed_character) (chars-IsAscii bs (IsAscii-from_all bs (below bs h))) ∙ characters-plain bs h
 
-append-plain : (xs ys : List ℕ) → list_all is_plain xs ≡ true → list_all is_plain ys ≡ true → list_all is_plain (xs ++ ys) ≡ true
+append-plain : (xs ys : List ℕ) → list_all is_plain xs ≡ true → list_all is_plain ys ≡ true
+    → list_all is_plain (xs ++ ys) ≡ true
 append-plain xs ys one two = list_all-append is_plain xs ys ∙ both _ _ one two
 
 zeros-plain : (n : ℕ) → list_all is_plain (replicate n 48) ≡ true
@@ -69,10 +71,12 @@ zeros-plain (suc n) = zeros-plain n
 glyph-plain : (d : ℕ) → d < 10 → is_plain (digit_glyph false d) ≡ true
 glyph-plain d small = grind (arith, nat_tests)
 
-onto-plain : (k n : ℕ) (text : List ℕ) → list_all is_plain text ≡ true → list_all is_plain (digits_onto k 10 false n text) ≡ true
+onto-plain : (k n : ℕ) (text : List ℕ) → list_all is_plain text ≡ true
+    → list_all is_plain (digits_onto k 10 false n text) ≡ true
 onto-plain zero n text so_far = so_far
 onto-plain (suc k) n text so_far =
-    let more = both (is_plain (digit_glyph false (n % 10))) (list_all is_plain text) (glyph-plain (n % 10) (omega arith)) so_far in
+    let more = both (is_plain (digit_glyph false (n % 10))) (list_all is_plain text)
+    (glyph-plain (n % 10) (omega arith)) so_far in
     elim (n / 10 == 0) as (λ b. list_all is_plain (cond b (digit_glyph false (n % 10) ∷ text)
     (digits_onto k 10 false (n / 10) (digit_glyph false (n % 10) ∷ text))) ≡ true)
     [ true ↦ more | false ↦ onto-plain k (n / 10) (digit_glyph false (n % 10) ∷ text) more ]

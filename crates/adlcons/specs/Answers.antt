@@ -48,10 +48,12 @@ pub record IsAnswered {X O : Type 0} (call : Result X Fault → Type 0) (report_
   pub outcome : Result X Fault
   pub called : call outcome
   pub status_is : status ≡ status_of outcome
-  pub printed : NoneFailed (failures old) (failures new) → Appends (contents old) (contents new) (lines_of report_lines outcome)
+  pub printed : NoneFailed (failures old) (failures new)
+      → Appends (contents old) (contents new) (lines_of report_lines outcome)
 
 -- the list was checked over these sources, which were only read then, and not at all where it was accepted
-pub record IsChecked {S : Type 0} (shelf : source.Ghosts S) (list : List ℕ) (old new : S) (result : Result Accepted Fault) : Type 0 where
+pub record IsChecked {S : Type 0} (shelf : source.Ghosts S) (list : List ℕ) (old new : S)
+    (result : Result Accepted Fault) : Type 0 where
   pub between : S
   pub checking : IsChecking shelf list old between result
   pub read : WasRead shelf between new

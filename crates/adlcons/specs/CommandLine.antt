@@ -38,8 +38,9 @@ consolidate_shape = (with_rule (over_folders (codes "consolidate")) (default_rul
 
 abbrev pub render_shape : Shape
 render_shape =
-    (with_rule (with_rule (with_rule (with_rule (over_folders (codes "render")) (option_rule (codes "from"))) (option_rule (codes "to")))
-    (option_rule (codes "channels"))) (default_rule (codes "depth") (codes "24"))).top
+    let places = over_folders (codes "render") in
+    let timed = with_rule (with_rule places (option_rule (codes "from"))) (option_rule (codes "to")) in
+    (with_rule (with_rule timed (option_rule (codes "channels"))) (default_rule (codes "depth") (codes "24"))).top
 
 -- The program itself: it has a version and wants a command, and its words are those behind its name.
 abbrev pub top_app : App
@@ -61,7 +62,9 @@ explain_shape = (with_rule (new_app (codes "explain")) (new_rule (codes "NUMBER"
 -- the four commands
 abbrev pub adlcons_app : App
 adlcons_app =
-    with_subcommand (with_subcommand (with_subcommand (with_subcommand top_app check_shape) consolidate_shape) render_shape) explain_shape
+    let checking = with_subcommand top_app check_shape in
+    let writing = with_subcommand (with_subcommand checking consolidate_shape) render_shape in
+    with_subcommand writing explain_shape
 
 -- what is chosen of a rendering: times by their texts, a number of channels, and the bits of a sample
 pub record Chosen : Type 0 where
@@ -70,8 +73,8 @@ pub record Chosen : Type 0 where
   pub channels : Option ℕ
   pub depth : ℕ
 
--- What the program is asked for: a command with its list, the folder of its media, and the folder that is written to; or
--- what the number of a refusal means, or all of them.
+-- What the program is asked for: a command with its list, the folder of its media, and the folder that is written to;
+-- or what the number of a refusal means, or all of them.
 pub data Asked : Type 0 where
   Check : (list media : Text) → Asked
   Render : (list media out : Text) → (chosen : Chosen) → Asked
@@ -86,7 +89,8 @@ is_numeral digits = nat_le 1 (length digits) && list_all (λ digit. nat_lt (digi
 abbrev pub number_in : (low high : ℕ) → Text → Option ℕ
 number_in low high text =
     let digits = without_leading_plus text in
-    if is_numeral digits && nat_le low (digits_value 10 digits) && nat_le (digits_value 10 digits) high then Some (digits_value 10 digits) else None
+    let value = digits_value 10 digits in
+    if is_numeral digits && nat_le low value && nat_le value high then Some value else None
 
 -- a handle is no longer than a day
 abbrev pub handle_of : List Row → Option ℕ
@@ -109,14 +113,16 @@ chosen_by rows depth channels =
     record { from = first_of (codes "from") rows; to = first_of (codes "to") rows; channels = channels; depth = depth }
 
 abbrev pub chosen_of : List Row → Option Chosen
-chosen_of rows = option_and_then (λ depth. option_map (chosen_by rows depth) (channels_in (first_of (codes "channels") rows)))
+chosen_of rows =
+    option_and_then (λ depth. option_map (chosen_by rows depth) (channels_in (first_of (codes "channels") rows)))
     (option_and_then depth_in (first_of (codes "depth") rows))
 
 -- the command of this name that writes to a folder
 abbrev pub asked_to : Text → (list media out : Text) → List Row → Option Asked
 asked_to name list media out rows =
     if bytes_eq name (codes "render") then option_map (λ chosen. Render list media out chosen) (chosen_of rows)
-    else if bytes_eq name (codes "consolidate") then option_map (λ handle. Consolidate list media out handle) (handle_of rows)
+    else if bytes_eq name (codes "consolidate")
+    then option_map (λ handle. Consolidate list media out handle) (handle_of rows)
     else None
 
 -- the command of this name over a list and its media

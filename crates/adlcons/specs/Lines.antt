@@ -38,7 +38,9 @@ refusal_text number place = codes "refused " ++ (two_digits number ++ place_text
 
 -- `notice K at line L` of the list, `notice K at index I` of a file
 abbrev pub notice_text : Notice → List ℕ
-notice_text notice = codes "notice " ++ (decimal notice.kind ++ ((if nat_le notice.kind 2 then codes " at line " else codes " at index ") ++ decimal notice.at))
+notice_text notice =
+    let place = if nat_le notice.kind 2 then codes " at line " else codes " at index " in
+    codes "notice " ++ (decimal notice.kind ++ (place ++ decimal notice.at))
 
 -- each in a line
 abbrev pub notices_text : List Notice → List ℕ
@@ -46,12 +48,15 @@ notices_text notices = flat_map (λ notice. notice_text notice ++ (10 ∷ [])) n
 
 -- `accepted E entries I indexes`
 abbrev pub accepted_text : ℕ → ℕ → List ℕ
-accepted_text entries indexes = codes "accepted " ++ (decimal entries ++ (codes " entries " ++ (decimal indexes ++ codes " indexes")))
+accepted_text entries indexes =
+    codes "accepted " ++ (decimal entries ++ (codes " entries " ++ (decimal indexes ++ codes " indexes")))
 
 -- `rendered F frames C channels`
 abbrev pub rendered_text : ℕ → ℕ → List ℕ
-rendered_text frames channels = codes "rendered " ++ (decimal frames ++ (codes " frames " ++ (decimal channels ++ codes " channels")))
+rendered_text frames channels =
+    codes "rendered " ++ (decimal frames ++ (codes " frames " ++ (decimal channels ++ codes " channels")))
 
 -- `written R media E entries`
 abbrev pub written_text : ℕ → ℕ → List ℕ
-written_text media entries = codes "written " ++ (decimal media ++ (codes " media " ++ (decimal entries ++ codes " entries")))
+written_text media entries =
+    codes "written " ++ (decimal media ++ (codes " media " ++ (decimal entries ++ codes " entries")))

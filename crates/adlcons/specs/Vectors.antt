@@ -17,8 +17,10 @@ checks : request_of (codes "check" ∷ codes "L.adl" ∷ codes "M" ∷ []) ≡ S
 unfolding words_fault named_by clap_on_literals
 checks = refl
 
-chooses : request_of (codes "render" ∷ codes "L" ∷ codes "M" ∷ codes "O" ∷ codes "--depth" ∷ codes "16" ∷ codes "--channels=2" ∷ codes "--from" ∷ codes "x" ∷ [])
-    ≡ Some (Render (codes "L") (codes "M") (codes "O") (record { from = Some (codes "x"); to = None; channels = Some 2; depth = 16 }))
+chooses : request_of (codes "render" ∷ codes "L" ∷ codes "M" ∷ codes "O"
+    ∷ codes "--depth" ∷ codes "16" ∷ codes "--channels=2" ∷ codes "--from" ∷ codes "x" ∷ [])
+    ≡ Some (Render (codes "L") (codes "M") (codes "O")
+    (record { from = Some (codes "x"); to = None; channels = Some 2; depth = 16 }))
 unfolding words_fault named_by clap_on_literals
 chooses = refl
 
@@ -29,7 +31,8 @@ handles = refl
 
 -- ---- numbers out of range, which are mistakes
 
-no_channel : request_of (codes "render" ∷ codes "L" ∷ codes "M" ∷ codes "O" ∷ codes "--channels" ∷ codes "65" ∷ []) ≡ None
+no_channel : request_of (codes "render" ∷ codes "L" ∷ codes "M" ∷ codes "O" ∷ codes "--channels" ∷ codes "65" ∷ [])
+    ≡ None
 unfolding words_fault named_by clap_on_literals
 no_channel = refl
 
@@ -37,31 +40,37 @@ no_depth : request_of (codes "render" ∷ codes "L" ∷ codes "M" ∷ codes "O" 
 unfolding words_fault named_by clap_on_literals
 no_depth = refl
 
-long_handle : request_of (codes "consolidate" ∷ codes "L" ∷ codes "M" ∷ codes "O" ∷ codes "--handle" ∷ codes "4147200001" ∷ []) ≡ None
+long_handle : request_of (codes "consolidate" ∷ codes "L" ∷ codes "M" ∷ codes "O"
+    ∷ codes "--handle" ∷ codes "4147200001" ∷ []) ≡ None
 unfolding words_fault named_by clap_on_literals
 long_handle = refl
 
 -- ---- commands and places
 
-renders : request_of (codes "render" ∷ codes "L.adl" ∷ codes "M" ∷ codes "O" ∷ []) ≡ Some (Render (codes "L.adl") (codes "M") (codes "O") default_choice)
+renders : request_of (codes "render" ∷ codes "L.adl" ∷ codes "M" ∷ codes "O" ∷ [])
+    ≡ Some (Render (codes "L.adl") (codes "M") (codes "O") default_choice)
 unfolding words_fault named_by clap_on_literals
 renders = refl
 
-consolidates : request_of (codes "consolidate" ∷ codes "L.adl" ∷ codes "M" ∷ codes "O" ∷ []) ≡ Some (Consolidate (codes "L.adl") (codes "M") (codes "O") 48000)
+consolidates : request_of (codes "consolidate" ∷ codes "L.adl" ∷ codes "M" ∷ codes "O" ∷ [])
+    ≡ Some (Consolidate (codes "L.adl") (codes "M") (codes "O") 48000)
 unfolding words_fault named_by clap_on_literals
 consolidates = refl
 
 -- `-` is a word like others, for standard input
-consolidates_input : request_of (codes "consolidate" ∷ codes "-" ∷ codes "M" ∷ codes "O" ∷ []) ≡ Some (Consolidate (codes "-") (codes "M") (codes "O") 48000)
+consolidates_input : request_of (codes "consolidate" ∷ codes "-" ∷ codes "M" ∷ codes "O" ∷ [])
+    ≡ Some (Consolidate (codes "-") (codes "M") (codes "O") 48000)
 unfolding words_fault named_by clap_on_literals
 consolidates_input = refl
 
 -- behind `--` a word may begin with `-`
-renders_dashed : request_of (codes "render" ∷ codes "--" ∷ codes "-L" ∷ codes "-M" ∷ codes "--help" ∷ []) ≡ Some (Render (codes "-L") (codes "-M") (codes "--help") default_choice)
+renders_dashed : request_of (codes "render" ∷ codes "--" ∷ codes "-L" ∷ codes "-M" ∷ codes "--help" ∷ [])
+    ≡ Some (Render (codes "-L") (codes "-M") (codes "--help") default_choice)
 unfolding words_fault named_by clap_on_literals
 renders_dashed = refl
 
-renders_any_text : request_of (codes "render" ∷ codes "A B.adl" ∷ codes "" ∷ codes "a=b" ∷ []) ≡ Some (Render (codes "A B.adl") (codes "") (codes "a=b") default_choice)
+renders_any_text : request_of (codes "render" ∷ codes "A B.adl" ∷ codes "" ∷ codes "a=b" ∷ [])
+    ≡ Some (Render (codes "A B.adl") (codes "") (codes "a=b") default_choice)
 unfolding words_fault named_by clap_on_literals
 renders_any_text = refl
 
@@ -87,11 +96,13 @@ too_many : words_fault (codes "render" ∷ codes "L.adl" ∷ codes "M" ∷ codes
 unfolding words_fault clap_on_literals
 too_many = refl
 
-unknown_command : words_fault (codes "relink" ∷ codes "L.adl" ∷ codes "M" ∷ []) ≡ UnknownArgument ∷ InvalidSubcommand ∷ []
+unknown_command : words_fault (codes "relink" ∷ codes "L.adl" ∷ codes "M" ∷ [])
+    ≡ UnknownArgument ∷ InvalidSubcommand ∷ []
 unfolding words_fault clap_on_literals
 unknown_command = refl
 
-capital_command : words_fault (codes "Render" ∷ codes "L.adl" ∷ codes "M" ∷ codes "O" ∷ []) ≡ UnknownArgument ∷ InvalidSubcommand ∷ []
+capital_command : words_fault (codes "Render" ∷ codes "L.adl" ∷ codes "M" ∷ codes "O" ∷ [])
+    ≡ UnknownArgument ∷ InvalidSubcommand ∷ []
 unfolding words_fault clap_on_literals
 capital_command = refl
 
@@ -99,11 +110,13 @@ two_numbers : words_fault (codes "explain" ∷ codes "13" ∷ codes "46" ∷ [])
 unfolding words_fault clap_on_literals
 two_numbers = refl
 
-unknown_option : words_fault (codes "render" ∷ codes "L.adl" ∷ codes "M" ∷ codes "O" ∷ codes "--order" ∷ codes "time" ∷ []) ≡ UnknownArgument ∷ []
+unknown_option : words_fault (codes "render" ∷ codes "L.adl" ∷ codes "M" ∷ codes "O"
+    ∷ codes "--order" ∷ codes "time" ∷ []) ≡ UnknownArgument ∷ []
 unfolding words_fault clap_on_literals
 unknown_option = refl
 
-unknown_short_option : words_fault (codes "-x" ∷ codes "render" ∷ codes "L.adl" ∷ codes "M" ∷ codes "O" ∷ []) ≡ UnknownArgument ∷ []
+unknown_short_option : words_fault (codes "-x" ∷ codes "render" ∷ codes "L.adl" ∷ codes "M" ∷ codes "O" ∷ [])
+    ≡ UnknownArgument ∷ []
 unfolding words_fault clap_on_literals
 unknown_short_option = refl
 

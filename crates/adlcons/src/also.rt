@@ -27,8 +27,8 @@ impl fmt::Display for Also<'_> {
     }
 }
 
-/// Prints the further faults of a list that is refused by this first one, and how many more there are. Nothing is printed
-/// where they can't be found.
+/// Prints the further faults of a list that is refused by this first one, and how many more there are. Nothing is
+/// printed where they can't be found.
 pub fn tell_further<S: Shelf, E: Console>(
     alloc: Global,
     list: &[u8],

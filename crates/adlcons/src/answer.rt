@@ -19,6 +19,7 @@ use crate::chosen::{BadTime, options_of};
 use crate::console::Console;
 use crate::explanation::{Explanation, Findings};
 use crate::meanings::{NoSuchNumber, meanings_of};
+use crate::meter::Meter;
 use crate::refusal::Refusal;
 use crate::report::{Notices, Saved};
 use crate::request::{Request, parse};
@@ -38,10 +39,11 @@ const REFUSED: u8 = 1;
 const MISTAKE: u8 = 2;
 
 /// Runs the command that the words ask for over the list, the shelf and the bench, prints the notices and one line, and
-/// answers the status: 0 done, 1 refused, 2 where the words ask for no command, name a time that can't be read, or there is
-/// no memory to read them. Then the text of the fault is printed on `err`. A refusal is explained there too, in a line of
-/// its own; behind that of a check stand the list's further faults. Help, the version and what numbers mean are printed on `out`, with 0.
-pub fn answer<S: Shelf + Reasons, B: Bench + Reasons, O: Console, E: Console>(
+/// answers the status: 0 done, 1 refused, 2 where the words ask for no command, name a time that can't be read, or
+/// there is no memory to read them. Then the text of the fault is printed on `err`. A refusal is explained there too,
+/// in a line of its own; behind that of a check stand the list's further faults. Help, the version and what numbers
+/// mean are printed on `out`, with 0.
+pub fn answer<S: Shelf + Reasons, B: Bench + Reasons, O: Console, E: Console, M: Meter>(
     alloc: Global,
     words: &[&str],
     list: &[u8],
@@ -49,43 +51,53 @@ pub fn answer<S: Shelf + Reasons, B: Bench + Reasons, O: Console, E: Console>(
     bench: &mut B,
     out: &mut O,
     err: &mut E,
+    meter: &mut M,
 ) -> u8
     // The words ask for a command: it was called over the list, and its answer is printed.
     ensures checked { (place media : Text) → request_of (texts words.now) ≡ Some (asked.Check place media) → result ≢ 2
-        → IsAnswered (IsChecked S.Shelf list.now shelf.old shelf.new) accepted_lines O.contents O.failures out.old out.new result }
+        → IsAnswered (IsChecked S.Shelf list.now shelf.old shelf.new)
+        accepted_lines O.contents O.failures out.old out.new result }
     ensures rendered { (place media target : Text) (chosen : asked.Chosen) (values : OptionValues)
-        → request_of (texts words.now) ≡ Some (asked.Render place media target chosen) → values_of chosen ≡ Ok values → result ≢ 2
-        → IsAnswered (IsRendering S.Shelf B.Bench list.now values shelf.old shelf.new bench.old bench.new) rendered_lines O.contents O.failures out.old out.new result }
-    ensures consolidated { (place media target : Text) (handle : ℕ) → request_of (texts words.now) ≡ Some (asked.Consolidate place media target handle) → result ≢ 2
-        → IsAnswered (IsConsolidation S.Shelf B.Bench list.now handle shelf.old shelf.new bench.old bench.new) written_lines O.contents O.failures out.old out.new result }
+        → request_of (texts words.now) ≡ Some (asked.Render place media target chosen) → values_of chosen ≡ Ok values
+        → result ≢ 2
+        → IsAnswered (IsRendering S.Shelf B.Bench list.now values shelf.old shelf.new bench.old bench.new)
+        rendered_lines O.contents O.failures out.old out.new result }
+    ensures consolidated { (place media target : Text) (handle : ℕ)
+        → request_of (texts words.now) ≡ Some (asked.Consolidate place media target handle) → result ≢ 2
+        → IsAnswered (IsConsolidation S.Shelf B.Bench list.now handle shelf.old shelf.new bench.old bench.new)
+        written_lines O.contents O.failures out.old out.new result }
     ensures explained { (number : Option Text) → request_of (texts words.now) ≡ Some (asked.Explain number)
         → (result ≢ 1) × (shelf.new ≡ shelf.old) × (bench.new ≡ bench.old) }
     // They name a time that can't be read.
     ensures bad_time { (place media target : Text) (chosen : asked.Chosen) (option : Text)
-        → request_of (texts words.now) ≡ Some (asked.Render place media target chosen) → values_of chosen ≡ Err option → result ≡ 2 }
+        → request_of (texts words.now) ≡ Some (asked.Render place media target chosen) → values_of chosen ≡ Err option
+        → result ≡ 2 }
     // They ask for none, or there was no memory to read them.
     ensures refused_words { request_of (texts words.now) ≡ None → asks_for_help (texts words.now) ≡ false → result ≡ 2 }
-    ensures help { asks_for_help (texts words.now) ≡ true → (result ≢ 1) × (shelf.new ≡ shelf.old) × (bench.new ≡ bench.old) }
+    ensures help { asks_for_help (texts words.now) ≡ true
+        → (result ≢ 1) × (shelf.new ≡ shelf.old) × (bench.new ≡ bench.old) }
     ensures no_command { request_of (texts words.now) ≡ None → (shelf.new ≡ shelf.old) × (bench.new ≡ bench.old) }
     ensures statuses { result ≤ 2 }
     ensures two { result ≡ 2 → (shelf.new ≡ shelf.old) × (bench.new ≡ bench.old) × (out.new ≡ out.old) }
-    ensures check_writes_nothing { (place media : Text) → request_of (texts words.now) ≡ Some (asked.Check place media) → bench.new ≡ bench.old }
+    ensures check_writes_nothing { (place media : Text) → request_of (texts words.now) ≡ Some (asked.Check place media)
+        → bench.new ≡ bench.old }
 {
     match parse(alloc, words) {
         Ok(Request::Check(_, _)) => answer_check(alloc, list, shelf, out, err),
         Ok(Request::Render(_, chosen)) => match options_of(chosen) {
-            Ok(options) => answer_render(alloc, list, &options, shelf, bench, out, err),
+            Ok(options) => answer_render(alloc, list, &options, shelf, bench, out, err, meter),
             Err(bad) => refuse_time(bad, err),
         },
         Ok(Request::Consolidate(_, handle)) => {
-            answer_consolidate(alloc, list, handle, shelf, bench, out, err)
+            answer_consolidate(alloc, list, handle, shelf, bench, out, err, meter)
         }
         Ok(Request::Explain(number)) => explain(number, out, err),
         Err(error) => answer_error(error, out, err),
     }
 }
 
-/// Checks the list, and prints what came of it. Behind a refusal its further faults are looked for, and printed on `err`.
+/// Checks the list, and prints what came of it. Behind a refusal its further faults are looked for, and printed on
+/// `err`.
 fn answer_check<S: Shelf + Reasons, O: Console, E: Console>(
     alloc: Global,
     list: &[u8],
@@ -93,7 +105,8 @@ fn answer_check<S: Shelf + Reasons, O: Console, E: Console>(
     out: &mut O,
     err: &mut E,
 ) -> u8
-    ensures answered { IsAnswered (IsChecked S.Shelf list.now shelf.old shelf.new) accepted_lines O.contents O.failures out.old out.new result }
+    ensures answered { IsAnswered (IsChecked S.Shelf list.now shelf.old shelf.new)
+        accepted_lines O.contents O.failures out.old out.new result }
     ensures statuses { result ≤ 1 }
 {
     match check_project(alloc, list, shelf) {
@@ -117,7 +130,7 @@ fn answer_check<S: Shelf + Reasons, O: Console, E: Console>(
 }
 
 /// Renders the list, and prints what came of it.
-fn answer_render<S: Shelf + Reasons, B: Bench + Reasons, O: Console, E: Console>(
+fn answer_render<S: Shelf + Reasons, B: Bench + Reasons, O: Console, E: Console, M: Meter>(
     alloc: Global,
     list: &[u8],
     options: &Options,
@@ -125,12 +138,17 @@ fn answer_render<S: Shelf + Reasons, B: Bench + Reasons, O: Console, E: Console>
     bench: &mut B,
     out: &mut O,
     err: &mut E,
+    meter: &mut M,
 ) -> u8
     requires { HaveChannels options.now }
-    ensures answered { IsAnswered (IsRendering S.Shelf B.Bench list.now (rendering.values_of options.now) shelf.old shelf.new bench.old bench.new) rendered_lines O.contents O.failures out.old out.new result }
+    ensures answered { IsAnswered
+        (IsRendering S.Shelf B.Bench list.now (rendering.values_of options.now) shelf.old shelf.new bench.old bench.new)
+        rendered_lines O.contents O.failures out.old out.new result }
     ensures statuses { result ≤ 1 }
 {
-    match render(alloc, list, options, shelf, bench) {
+    let outcome = render(alloc, list, options, shelf, bench, meter);
+    meter.clear();
+    match outcome {
         Ok(rendered) => {
             let notices = Notices(rendered.notices.as_slice());
             let frames = rendered.frames;
@@ -149,7 +167,7 @@ fn answer_render<S: Shelf + Reasons, B: Bench + Reasons, O: Console, E: Console>
 }
 
 /// Consolidates the list, and prints what came of it; on `err`, how much was saved.
-fn answer_consolidate<S: Shelf + Reasons, B: Bench + Reasons, O: Console, E: Console>(
+fn answer_consolidate<S: Shelf + Reasons, B: Bench + Reasons, O: Console, E: Console, M: Meter>(
     alloc: Global,
     list: &[u8],
     handle: u64,
@@ -157,11 +175,16 @@ fn answer_consolidate<S: Shelf + Reasons, B: Bench + Reasons, O: Console, E: Con
     bench: &mut B,
     out: &mut O,
     err: &mut E,
+    meter: &mut M,
 ) -> u8
-    ensures answered { IsAnswered (IsConsolidation S.Shelf B.Bench list.now handle shelf.old shelf.new bench.old bench.new) written_lines O.contents O.failures out.old out.new result }
+    ensures answered { IsAnswered
+        (IsConsolidation S.Shelf B.Bench list.now handle shelf.old shelf.new bench.old bench.new)
+        written_lines O.contents O.failures out.old out.new result }
     ensures statuses { result ≤ 1 }
 {
-    match consolidate(alloc, list, handle, shelf, bench) {
+    let outcome = consolidate(alloc, list, handle, shelf, bench, meter);
+    meter.clear();
+    match outcome {
         Ok(written) => {
             let notices = Notices(written.notices.as_slice());
             let media = written.media;
@@ -207,8 +230,8 @@ pub fn explain<O: Console, E: Console>(number: Option<&str>, out: &mut O, err: &
     }
 }
 
-/// Prints why the words ask for no command, and answers the status: 2 for a mistake and for want of memory, which stand on
-/// `err`, and 0 for help and the version, on `out`.
+/// Prints why the words ask for no command, and answers the status: 2 for a mistake and where memory ran out, which
+/// stand on `err`, and 0 for help and the version, on `out`.
 pub fn answer_error<O: Console, E: Console>(error: Error, out: &mut O, err: &mut E) -> u8
     ensures mistake { is_shown (kind_of error) ≡ false → result ≡ 2 }
     ensures shown { result ≢ 1 }
@@ -232,7 +255,8 @@ pub fn refuse<O: Console, E: Console>(
     err: &mut E,
 ) -> u8
     ensures status { result ≡ 1 }
-    ensures printed { NoneFailed (O.failures out.old) (O.failures out.new) → Appends (O.contents out.old) (O.contents out.new)
+    ensures printed { NoneFailed (O.failures out.old) (O.failures out.new)
+        → Appends (O.contents out.old) (O.contents out.new)
         (refusal_text refusal.entry.number (where_of refusal.entry.place) ++ 10 ∷ []) }
 {
     tell(out, refusal);

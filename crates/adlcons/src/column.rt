@@ -1,4 +1,6 @@
 // Where in its line a fault of the text stands.
+ghost use Rattle.std.specs.Prelude.{◌≤◌, ◌+◌, length};
+
 use adltoken::{Token, Tokens, skip_blanks};
 use list_terms::TextFault;
 use sampletime::parse_time;
@@ -22,9 +24,11 @@ pub struct Stood<'a> {
     pub text: &'a [u8],
 }
 
-/// What stands in a line where this fault is told: the token that it is about, what can't be cut into tokens, or nothing, at
-/// the line's end.
-pub fn stood_in<'a>(line: &'a [u8], fault: TextFault) -> Stood<'a> {
+/// What stands in a line where this fault is told: the token that it is about, what can't be cut into tokens, or
+/// nothing, at the line's end.
+pub fn stood_in<'a>(line: &'a [u8], fault: TextFault) -> Stood<'a>
+    ensures { (1 ≤ result.column) × (result.column ≤ length line.now + 1) }
+{
     let mut tokens = Tokens::new(line);
     let mut kind = LineKind::Other;
     for place in 1..=line.len() {

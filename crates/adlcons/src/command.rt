@@ -7,8 +7,8 @@ ghost use Rattle.adlcons.specs.CommandLine.{adlcons_app, check_shape, consolidat
 use clap::{Arg, Command};
 use std::alloc::{AllocError, Global};
 
-/// The program's command line: `check`, `consolidate` and `render`, each over a list and its media, and `explain`. It reads
-/// the words behind the program's name.
+/// The program's command line: `check`, `consolidate` and `render`, each over a list and its media, and `explain`. It
+/// reads the words behind the program's name.
 pub fn command<'a>(alloc: Global) -> Result<Command<'a>, AllocError>
     ensures { IfOk result (λ command. app_of command ≡ adlcons_app) }
 {
@@ -188,7 +188,8 @@ fn with_default<'a>(
     default: &'a str,
     help: &'a str,
 ) -> Result<Command<'a>, AllocError>
-    ensures app { IfOk result (λ added. app_of added ≡ with_rule (app_of command.entry) (default_rule id.entry.now default.entry.now)) }
+    ensures app { IfOk result
+        (λ added. app_of added ≡ with_rule (app_of command.entry) (default_rule id.entry.now default.entry.now)) }
     ensures local { IfOk result (λ added. (fields_of added).has_globals ≡ (fields_of command.entry).has_globals) }
 {
     command.arg(option(alloc, id, value, help).default_value(default))

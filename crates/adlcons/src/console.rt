@@ -27,6 +27,7 @@ pub trait Console {
 
     /// Prints the text and the end of its line, together.
     fn print_line<D: Display + Drop>(&mut self, text: D) -> Result<(), PrintFault>
-        ensures printed { OnOk result (IfSome (with_newline (D.output text)) (Appends (contents self.old) (contents self.new))) }
+        ensures printed { OnOk result
+            (IfSome (with_newline (D.output text)) (Appends (contents self.old) (contents self.new))) }
         ensures cause { HasCause (failures self.old) (failures self.new) (IsOk result) (IsErr result) };
 }

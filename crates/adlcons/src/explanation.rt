@@ -15,8 +15,8 @@ const SHOWN_BYTES: usize = 160;
 
 const STOOD_BYTES: usize = 60;
 
-/// What a command found where it refused: the line at fault, a file that the place doesn't name, what the system said, and
-/// what is unfinished.
+/// What a command found where it refused: the line at fault, a file that the place doesn't name, what the system said,
+/// and what is unfinished.
 #[derive(Clone, Copy)]
 pub struct Findings<'a> {
     line: Option<LineAtFault<'a>>,

@@ -1,15 +1,16 @@
 // The program over the file system.
-ghost use Rattle.std.specs.Prelude.{◌≡◌, ◌≢◌, ◌≤◌, None, true, false, IfOk};
+ghost use Rattle.std.specs.Prelude.{◌≡◌, ◌≢◌, ◌≤◌, None, true, false, IfErr, IfOk};
 ghost use Rattle.clap.specs.Walk.{texts};
 ghost use Rattle.adlcons.specs.CommandLine.{asks_for_help, request_of};
 
 use crate::answer::{answer, answer_error, explain, refuse};
 use crate::console::Console;
 use crate::explanation::Findings;
+use crate::meter::Meter;
 use crate::reading::{ReadFault, read_list};
 use crate::refusal::Refusal;
 use crate::request::{Places, Request, parse};
-use shelf::{FolderBench, FolderShelf, MemoryBench, Overwrite};
+use shelf::{Bench, FolderBench, FolderShelf, MemoryBench, Overwrite, Reasons};
 use std::alloc::AllocError;
 use std::fs::Files;
 use std::os::unix::fs::FileExt;
@@ -62,11 +63,12 @@ impl From<AllocError> for OpenFault {
 
 /// Answers the words over the list, the media and the output that they name, with a status. Where they ask for no
 /// command, or there is no memory to read them, no file is looked at.
-pub fn answer_words<R, O: Console, E: Console>(
+pub fn answer_words<R, O: Console, E: Console, M: Meter>(
     rt: &R,
     words: &[&str],
     out: &mut O,
     err: &mut E,
+    meter: &mut M,
 ) -> u8
 where
     R: Files + Input + AllocGlobal + Clone + Drop,
@@ -77,32 +79,33 @@ where
 {
     match parse(rt.alloc(), words) {
         Ok(Request::Explain(number)) => explain(number, out, err),
-        Ok(Request::Check(list, media)) => answer_check(rt, words, list, media, out, err),
+        Ok(Request::Check(list, media)) => {
+            let outcome = try_check(rt, words, list, media, out, err, meter);
+            status_of(outcome, list, "", out, err)
+        }
         Ok(Request::Render(places, _) | Request::Consolidate(places, _)) => {
-            answer_places(rt, words, places, out, err)
+            let outcome = try_places(rt, words, places, out, err, meter);
+            status_of(outcome, places.list, places.out, out, err)
         }
         Err(error) => answer_error(error, out, err),
     }
 }
 
-/// Answers the words, which ask for a check of this list over this folder.
-fn answer_check<R, O: Console, E: Console>(
-    rt: &R,
-    words: &[&str],
+/// The status of a command over this list that writes to this folder. Why it didn't come to its stores is printed.
+fn status_of<O: Console, E: Console>(
+    outcome: Result<u8, OpenFault>,
     list: &str,
-    media: &str,
+    folder: &str,
     out: &mut O,
     err: &mut E,
 ) -> u8
-where
-    R: Files + Input + AllocGlobal + Clone + Drop,
-    R::File: FileExt,
-    ensures { result ≤ 2 }
+    ensures done { IfOk outcome (λ status. result ≡ status) }
+    ensures refused { IfErr outcome (λ _. result ≡ 1) }
 {
-    match try_check(rt, words, list, media, out, err) {
+    match outcome {
         Ok(status) => status,
         Err(fault) => refuse(
-            fault.refusal(list, ""),
+            fault.refusal(list, folder),
             Findings::by(fault.reason()),
             out,
             err,
@@ -110,14 +113,15 @@ where
     }
 }
 
-/// Answers the words over this list and this folder.
-fn try_check<R, O: Console, E: Console>(
+/// Answers the words, which ask for a check of this list over this folder.
+fn try_check<R, O: Console, E: Console, M: Meter>(
     rt: &R,
     words: &[&str],
     list: &str,
     media: &str,
     out: &mut O,
     err: &mut E,
+    meter: &mut M,
 ) -> Result<u8, OpenFault>
 where
     R: Files + Input + AllocGlobal + Clone + Drop,
@@ -125,64 +129,19 @@ where
     ensures { IfOk result (λ status. status ≤ 2) }
 {
     let list = read_list(rt, list)?;
-    tell_missing(rt, media, err);
-    let alloc = rt.alloc();
-    let mut shelf = FolderShelf::new(alloc, rt, media)?;
-    let mut bench = MemoryBench::new(alloc);
-    Ok(answer(
-        alloc,
-        words,
-        list.as_slice(),
-        &mut shelf,
-        &mut bench,
-        out,
-        err,
-    ))
+    let mut bench = MemoryBench::new(rt.alloc());
+    answer_over(rt, words, &list, media, &mut bench, out, err, meter)
 }
 
-/// Tells where the folder of the media can't be listed. It is then as an empty one.
-fn tell_missing<R: Files + AllocGlobal + Clone + Drop, E: Console>(
-    rt: &R,
-    media: &str,
-    err: &mut E,
-) {
-    if let Err(error) = fs::read_dir(rt, media) {
-        let _ = err.print_line(format_args!("the folder {media} can't be read: {error}"));
-    }
-}
-
-/// Answers the words, which ask for a command over these places.
-fn answer_places<R, O: Console, E: Console>(
+/// Answers the words, which ask for a command over these places. A list that can't be read is refused first, then an
+/// output that isn't an empty folder.
+fn try_places<R, O: Console, E: Console, M: Meter>(
     rt: &R,
     words: &[&str],
     places: Places<'_>,
     out: &mut O,
     err: &mut E,
-) -> u8
-where
-    R: Files + Input + AllocGlobal + Clone + Drop,
-    R::File: FileExt,
-    ensures { result ≤ 2 }
-{
-    match try_places(rt, words, places, out, err) {
-        Ok(status) => status,
-        Err(fault) => refuse(
-            fault.refusal(places.list, places.out),
-            Findings::by(fault.reason()),
-            out,
-            err,
-        ),
-    }
-}
-
-/// Answers the words over these places. A list that can't be read is refused first, then an output that isn't an empty
-/// folder.
-fn try_places<R, O: Console, E: Console>(
-    rt: &R,
-    words: &[&str],
-    places: Places<'_>,
-    out: &mut O,
-    err: &mut E,
+    meter: &mut M,
 ) -> Result<u8, OpenFault>
 where
     R: Files + Input + AllocGlobal + Clone + Drop,
@@ -191,19 +150,33 @@ where
 {
     let list = read_list(rt, places.list)?;
     require_empty_folder(rt, places.out)?;
-    tell_missing(rt, places.media, err);
+    let mut bench = FolderBench::new(rt.alloc(), rt, places.out, Overwrite::Never)?;
+    answer_over(rt, words, &list, places.media, &mut bench, out, err, meter)
+}
+
+/// Answers the words over this list, the media of this folder, and the bench. Where the folder can't be listed, which
+/// is told, it is as an empty one.
+fn answer_over<R, B: Bench + Reasons, O: Console, E: Console, M: Meter>(
+    rt: &R,
+    words: &[&str],
+    list: &[u8],
+    media: &str,
+    bench: &mut B,
+    out: &mut O,
+    err: &mut E,
+    meter: &mut M,
+) -> Result<u8, OpenFault>
+where
+    R: Files + Input + AllocGlobal + Clone + Drop,
+    R::File: FileExt,
+    ensures { IfOk result (λ status. status ≤ 2) }
+{
+    if let Err(error) = fs::read_dir(rt, media) {
+        let _ = err.print_line(format_args!("the folder {media} can't be read: {error}"));
+    }
     let alloc = rt.alloc();
-    let mut shelf = FolderShelf::new(alloc, rt, places.media)?;
-    let mut bench = FolderBench::new(alloc, rt, places.out, Overwrite::Never)?;
-    Ok(answer(
-        alloc,
-        words,
-        list.as_slice(),
-        &mut shelf,
-        &mut bench,
-        out,
-        err,
-    ))
+    let mut shelf = FolderShelf::new(alloc, rt, media)?;
+    Ok(answer(alloc, words, list, &mut shelf, bench, out, err, meter))
 }
 
 /// Fails where the folder of this path can't be listed or isn't empty.

@@ -1,5 +1,5 @@
-//! `adlcons`: checks, consolidates and renders audio decision lists over folders of sound files. With no words it renders a
-//! stored example over memory and prints what came of it.
+//! `adlcons`: checks, consolidates and renders audio decision lists over folders of sound files. With no words it
+//! renders a stored example over memory and prints what came of it.
 #![tactic(auto)]
 
 mod also;
@@ -13,6 +13,7 @@ mod example;
 mod explanation;
 mod folders;
 mod meanings;
+mod meter;
 mod printer;
 mod reading;
 mod refusal;
@@ -22,7 +23,9 @@ mod stored;
 
 use anyhow::Result;
 use folders::answer_words;
+use meter::ProgressLine;
 use printer::Printer;
+use std::io::IsTerminal;
 use std::process::ExitCode;
 use std::rt::Env;
 use std::{env, io};
@@ -34,13 +37,15 @@ fn words_of(rt: &(impl Env + AllocGlobal)) -> io::Result<Vec<String>> {
     Ok(words)
 }
 
-/// Answers the words of the command line with a status. Words that can't be read are a mistake, as is want of memory for
-/// them.
+/// Answers the words of the command line with a status. Words that can't be read are a mistake, as is out of memory
+/// for them.
 fn run_words(rt: &HostRuntime, words: &[String]) -> io::Result<u8> {
     let words: Vec<&str> = words.iter().map(|word| word.as_str()).collect(rt.alloc())?;
     let mut out = Printer::new(rt.alloc(), rt.stdout())?;
     let mut err = Printer::new(rt.alloc(), rt.stderr())?;
-    Ok(answer_words(rt, words.as_slice(), &mut out, &mut err))
+    let console = Printer::new(rt.alloc(), rt.stderr())?;
+    let mut meter = ProgressLine::new(rt, console, rt.stderr().is_terminal());
+    Ok(answer_words(rt, words.as_slice(), &mut out, &mut err, &mut meter))
 }
 
 fn main(rt: HostRuntime) -> Result<ExitCode> {

@@ -1,4 +1,6 @@
 // What the numbers of refusals mean: the one table that help, explanations and README agree with.
+ghost use Rattle.std.specs.Prelude.{◌≡◌, IfSome, IsNone, IsOk};
+
 use std::fmt;
 use std::fmt::Display;
 use thiserror::Error;
@@ -129,7 +131,8 @@ pub static MEANINGS: [Meaning; 55] = [
         number: 13,
         spot: Spot::Line,
         meaning: "the line isn't of a form that is read",
-        cause: "gain, pan, automation, another curve than LIN, another event than a cut, or a keyword that isn't known there",
+        cause: "gain, pan, automation, another curve than LIN, another event than a cut, \
+                or a keyword that isn't known there",
         remedy: "export the project without what the line says",
         is_answered: true,
     },
@@ -241,7 +244,8 @@ pub static MEANINGS: [Meaning; 55] = [
         number: 26,
         spot: Spot::IndexFile,
         meaning: "the file is cut off",
-        cause: "a chunk is longer than what is left of the file: a copy that broke off, or a recording that wasn't closed",
+        cause: "a chunk is longer than what is left of the file: a copy that broke off, \
+                or a recording that wasn't closed",
         remedy: "copy the file again, or repair its sizes",
         is_answered: true,
     },
@@ -425,7 +429,8 @@ pub static MEANINGS: [Meaning; 55] = [
         number: 62,
         spot: Spot::File,
         meaning: "the output can't be written",
-        cause: "the disk is full, the device failed, the folder may not be written, or a file of the name is there already",
+        cause: "the disk is full, the device failed, the folder may not be written, \
+                or a file of the name is there already",
         remedy: "make room, and run again into an empty folder",
         is_answered: true,
     },
@@ -472,7 +477,9 @@ pub static MEANINGS: [Meaning; 55] = [
 ];
 
 /// What the number means where it names this, or else anywhere.
-pub fn meaning_at(number: u8, spot: Spot) -> Option<Meaning> {
+pub fn meaning_at(number: u8, spot: Spot) -> Option<Meaning>
+    ensures { IfSome result (λ meaning. meaning.number ≡ number) }
+{
     let there = MEANINGS
         .iter()
         .find(|meaning| meaning.number == number && meaning.spot == spot);
@@ -492,7 +499,9 @@ pub struct Explained {
 }
 
 /// What the number of this text means; without one, what all of them mean.
-pub fn meanings_of(number: Option<&str>) -> Result<Explained, NoSuchNumber> {
+pub fn meanings_of(number: Option<&str>) -> Result<Explained, NoSuchNumber>
+    ensures { IsNone number.entry → IsOk result }
+{
     let Some(text) = number else {
         return Ok(Explained { number: None });
     };

@@ -10,7 +10,8 @@ use std::fmt::Display;
 use std::io;
 use std::io::{BufWriter, Write};
 
-/// A writer that takes each text in one write, where it has at most 8192 bytes, and counts the texts that it didn't take.
+/// A writer that takes each text in one write, where it has at most 8192 bytes, and counts the texts that it didn't
+/// take.
 #[derive(Drop)]
 pub struct Printer<W: Write + Drop> {
     writer: BufWriter<W>,
@@ -32,7 +33,8 @@ impl<W: Write + Drop> Printer<W> {
     /// What was printed goes out of the buffer.
     fn finish(&mut self, outcome: io::Result<()>) -> Result<(), PrintFault>
         ensures done { OnOk result (IsOk outcome) }
-        ensures contents { Keeps (writer_contents W.contents self.old.writer) (writer_contents W.contents self.new.writer) }
+        ensures contents { Keeps (writer_contents W.contents self.old.writer)
+            (writer_contents W.contents self.new.writer) }
         ensures cause { HasCause self.old.failures self.new.failures (IsOk result) (IsErr result) }
     {
         let flushed = self.writer.flush();

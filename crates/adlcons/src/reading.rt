@@ -1,6 +1,6 @@
 // Reads the list that the words name.
 ghost use Rattle.std.specs.Prelude.{◌≡◌, IfSome, IfOk, vec_len};
-ghost use Rattle.adlcons.specs.Places.{number_of_read, place_of_read, where_of};
+ghost use Rattle.adlcons.specs.Places.{number_of_read, place_of_read, reason_of_read, where_of};
 
 use crate::refusal::Refusal;
 use std::alloc::{AllocError, Global};
@@ -38,7 +38,9 @@ impl ReadFault {
     }
 
     /// What the system said of it.
-    pub fn reason(self) -> Option<io::Error> {
+    pub fn reason(self) -> Option<io::Error>
+        ensures { result ≡ reason_of_read self }
+    {
         match self {
             ReadFault::Unreadable(error) => Some(error),
             ReadFault::Endless | ReadFault::Memory => None,

@@ -7,7 +7,7 @@ ghost use Rattle.consolidate.specs.Fault.{refusal_of};
 ghost use Rattle.opening.specs.Faults as project;
 ghost use Rattle.adlread.specs.Fault as text;
 ghost use Rattle.adlcons.specs.Lines.{place_text, printed_character, printed_name, refusal_text};
-ghost use Rattle.adlcons.specs.Places.{name_of_url, where_of};
+ghost use Rattle.adlcons.specs.Places.{name_of_url, spot_of, where_of};
 ghost use Rattle.adlcons.specs.declared.refusal.Place.TheVariants as place;
 
 use crate::meanings::Spot;
@@ -149,7 +149,9 @@ impl<'a> Place<'a> {
 
 impl Place<'_> {
     /// What the place names.
-    pub fn spot(&self) -> Spot {
+    pub fn spot(&self) -> Spot
+        ensures { result ≡ spot_of (where_of self.now) }
+    {
         match self {
             Place::Nowhere => Spot::Nowhere,
             Place::Line(_) | Place::LineEntry { .. } | Place::LineIndex { .. } => Spot::Line,
@@ -213,8 +215,8 @@ impl fmt::Display for PrintedName<'_> {
     }
 }
 
-/// The name of the file that a URL names, as it stands in a line. Where no memory is left to decode it, or it names none, it
-/// isn't printed.
+/// The name of the file that a URL names, as it stands in a line. Where no memory is left to decode it, or it names
+/// none, it isn't printed.
 #[derive(Clone, Copy)]
 struct UrlName<'a> {
     url: &'a [u8],

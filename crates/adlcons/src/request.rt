@@ -17,8 +17,8 @@ use clap::{ArgMatches, Error};
 use consolidate::Depth;
 use std::alloc::Global;
 
-/// The words of a command over a list: the list (a file, `-` is standard input), the folder of its media, and the folder
-/// that is written to.
+/// The words of a command over a list: the list (a file, `-` is standard input), the folder of its media, and the
+/// folder that is written to.
 #[derive(Clone, Copy, Debug, PartialEq, Eq)]
 pub struct Places<'a> {
     pub list: &'a str,
@@ -44,12 +44,14 @@ const MISTAKE: &str =
     "a handle is 0 to 4147200000 frames, there are 1 to 64 channels, and a depth is 16, 24 or 32";
 
 /// Reads the words behind the program's name. The error is clap's: a mistake in the words, a request for help or for
-/// the version, or want of memory.
+/// the version, or out of memory.
 pub fn parse<'a>(alloc: Global, words: &'a [&'a str]) -> Result<Request<'a>, Error>
     ensures read { IfOk result (λ request. request_of (texts words.entry.now) ≡ Some (asked_of request)) }
     ensures no_help { IfOk result (λ _. asks_for_help (texts words.entry.now) ≡ false) }
-    ensures refused { IfErr result (λ error. (kind_of error ≡ OutOfMemory) ⊎ (request_of (texts words.entry.now) ≡ None)) }
-    ensures mistake { IfErr result (λ error. asks_for_help (texts words.entry.now) ≡ false → is_shown (kind_of error) ≡ false) }
+    ensures refused { IfErr result
+        (λ error. (kind_of error ≡ OutOfMemory) ⊎ (request_of (texts words.entry.now) ≡ None)) }
+    ensures mistake { IfErr result
+        (λ error. asks_for_help (texts words.entry.now) ≡ false → is_shown (kind_of error) ≡ false) }
 {
     let mut command = command(alloc)?;
     let matches = command.try_get_matches_from_mut(words)?;
@@ -92,7 +94,9 @@ fn request_over<'a>(name: &str, words: &ArgMatches<'a>) -> Option<Request<'a>>
 
 /// What the command of this name asks for over places that it writes to.
 fn request_to<'a>(name: &str, places: Places<'a>, words: &ArgMatches<'a>) -> Option<Request<'a>>
-    ensures { option_map asked_of result ≡ line.asked_to name.now places.entry.list.now places.entry.media.now places.entry.out.now (rows_of (found_of words.now)) }
+    ensures { option_map asked_of result
+        ≡ line.asked_to name.now places.entry.list.now places.entry.media.now places.entry.out.now
+        (rows_of (found_of words.now)) }
 {
     match name {
         "render" => Some(Request::Render(places, chosen_in(words)?)),

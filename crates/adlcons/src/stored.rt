@@ -2,7 +2,7 @@
 use crate::example;
 use anyhow::{Context, Result};
 use consolidate::{Depth, Options, render};
-use shelf::{MemoryBench, MemoryShelf};
+use shelf::{MemoryBench, MemoryShelf, Unwatched};
 
 /// Renders the stored example, and prints the length of the file and the samples in it.
 pub fn run_stored(rt: &(impl AllocGlobal + Print)) -> Result<()> {
@@ -15,7 +15,14 @@ pub fn run_stored(rt: &(impl AllocGlobal + Print)) -> Result<()> {
         channels: None,
         depth: Depth::Sixteen,
     };
-    render(alloc, example::LIST, &options, &mut shelf, &mut bench)?;
+    render(
+        alloc,
+        example::LIST,
+        &options,
+        &mut shelf,
+        &mut bench,
+        &mut Unwatched,
+    )?;
     let file = bench.bytes("render.wav").context("there is no file")?;
     print!(rt; "{} bytes:", file.len())?;
     let samples = file.get(example::SAMPLES_AT..).unwrap_or(&[]);

@@ -11,17 +11,20 @@ use Rattle.sound_terms.specs.declared.Event.{Event}
 use Rattle.list_terms.specs.Project.{Source}
 use Rattle.list_terms.specs.WholeProject.{AreDistinct, AreEvents, AreNumberedSources, is_number}
 
-module _ {X : Type 0} (number_of : X → ℕ) (fine : X → Bool) (each : (x : X) → fine x ≡ true → is_number (number_of x) ≡ true) where
+module _ {X : Type 0} (number_of : X → ℕ) (fine : X → Bool)
+    (each : (x : X) → fine x ≡ true → is_number (number_of x) ≡ true) where
   zero_is_free : (items : List X) → list_all fine items ≡ true → list_any (eqb 0) (map number_of items) ≡ false
   zero_is_free [] h = refl
   zero_is_free (x ∷ items) h = grind (arith, nat_tests, each x, zero_is_free items)
 
   below_with_zero :
-      (items : List X) → list_all fine items ≡ true → (q : ℕ) → list_any (eqb q) (map number_of items ++ (0 ∷ [])) ≡ true → q < 32768
+      (items : List X) → list_all fine items ≡ true → (q : ℕ)
+      → list_any (eqb q) (map number_of items ++ (0 ∷ [])) ≡ true → q < 32768
   below_with_zero [] h q e = grind (arith, nat_tests)
   below_with_zero (x ∷ items) h q e = grind (arith, nat_tests, each x, below_with_zero items)
 
-  length-numbered : (items : List X) → AreDistinct (map number_of items) → list_all fine items ≡ true → length items ≤ 32767
+  length-numbered : (items : List X) → AreDistinct (map number_of items) → list_all fine items ≡ true
+      → length items ≤ 32767
   length-numbered items distinct h =
       let numbers : List ℕ = map number_of items in
       let apart = IsDistinct-push nat_eq_equiv numbers 0 distinct (zero_is_free items h) in

@@ -44,8 +44,9 @@ impl Place {
     }
 }
 
-/// The place that a URL names: an optional `URL:`, `file://`, an authority, `/` and a path, each `%` with two hexadecimal
-/// digits behind it standing for a byte. `None` where it is no such URL, or its last component is no media name.
+/// The place that a URL names: an optional `URL:`, `file://`, an authority, `/` and a path, each `%` with two
+/// hexadecimal digits behind it standing for a byte. `None` where it is no such URL, or its last component is no media
+/// name.
 pub fn place_of(alloc: Global, url: &[u8]) -> Result<Option<Place>, AllocError>
     ensures { IfOk result (λ place. place ≡ place_of_url url.now) }
 {

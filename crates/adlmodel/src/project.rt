@@ -14,8 +14,8 @@ use sound_terms::Event;
 use std::alloc::AllocError;
 use std::marker::Model;
 
-/// What an audio decision list spells: its header, its sources and events in the order of their lines, the separators of
-/// its times, and notices of what was passed over.
+/// What an audio decision list spells: its header, its sources and events in the order of their lines, the separators
+/// of its times, and notices of what was passed over.
 #[derive(Debug, Drop)]
 pub struct Project {
     header: Header,

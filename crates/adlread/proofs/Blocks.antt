@@ -3,6 +3,8 @@ use Rattle.std.proofs.Common.{◌≡◌, ℕ, Bool, true, false, List, [], ◌�
 use Rattle.std.specs.Prelude.{codes, flat_map, is_some, nat_le, unwrap_or, ◌==◌}
 use Rattle.std.specs.List.{list_all}
 use Rattle.std.proofs.lemmas.Bool.Decides.{nat_tests}
+use Rattle.std.proofs.Math.Bool.{and-false}
+use Rattle.facts.specs.Tests.{and_left, and_right}
 use Rattle.sampletime.specs.TimeCode.{default_separators}
 use Rattle.sound_terms.specs.declared.Event.{Event}
 use Rattle.list_terms.specs.declared.Rates.{Rates}
@@ -14,12 +16,10 @@ use Rattle.list_terms.specs.Lines.{lines_of}
 use Rattle.list_terms.specs.Tokens.{trimmed}
 use Rattle.list_terms.specs.Text.{Context, Entries, all_events, before_list, finished, is_behind, is_end, is_list_begin, is_opened, nothing_read, opened, opened_name, outside, project_of, section_of, tag_of, text_refusal, text_value, with_line}
 use Rattle.list_terms.specs.WholeProject.{both_rates, lines_of_section, no_rates, told_rates}
-use Rattle.adlread.specs.CutLines.{NumberedLine, is_empty, numbered, texts}
+use Rattle.adlread.specs.CutLines.{NumberedLine, is_empty, with_numbers, texts}
 use Rattle.adlread.specs.Spells.{AreBlocks, BlankBlock, Block, NoBlocks, SectionBlock, Spells, Titled, lines_of_block}
 use Rattle.adlread.proofs.FieldLaws.{ok_same}
 use Rattle.adlread.proofs.Fits.{Continues, EventsFit, Fits, IndexFits, IsCounted, IsSound, begun, section_walked}
-use Rattle.adlread.proofs.HeaderSoFar.{and_left, and_right}
-use Rattle.adlread.proofs.Tests.{and_false}
 use Rattle.adlread.proofs.LineLaws.{lines_are_cut}
 use Rattle.adlread.proofs.SettingLines.{both_read, settings_read}
 use Rattle.adlread.proofs.Stages.{outside_of, read_all, read_from-all, read_inside, read_last, read_step}
@@ -62,7 +62,7 @@ opens_no_end name other text e = by_tag (tag_of text) refl where
     by_slash false s = rw (t, s) refl
     by_slash true s =
         let is : byte ≡ 47 = grind (arith, nat_tests) in
-        let no : opened_name text ≡ None = rw (t, is, and_false (nat_le 1 (length (47 ∷ rest)))) refl in
+        let no : opened_name text ≡ None = rw (t, is, and-false (nat_le 1 (length (47 ∷ rest)))) refl in
         absurd (cc)
 
 pub outside_opens :
@@ -203,7 +203,7 @@ read_blocks (BlankBlock line {blocks} empty others) p sound c n end behind is fi
     ∙ read_blocks others p sound c line.number end behind is
     (record { header = fits.header; index = fits.index; events = fits.events; notices = fits.notices }) counts ends
 read_blocks (SectionBlock s {blocks} h others) p sound c n end behind is fits counts ends =
-    let w = section_walked p sound blocks c s.meaning s.name s.opening s.content s.ending s.notices fits counts
+    let w = section_walked p sound blocks c s.name s.opening s.content s.ending s.notices counts s.meaning fits
     h.noticed in
     let begin = begun c s.opening.number s.meaning s.name in
     let rest = flat_map lines_of_block blocks ++ (end ∷ behind) in
@@ -255,6 +255,6 @@ value_of text p h =
     let counts : IsCounted first.header = record { counted = refl; told = refl } in
     let rest = flat_map lines_of_block h.blocks ++ (h.end ∷ h.behind) in
     ap (err_map text_refusal) (read_from-all nothing_read 0 (lines_of text)
-    ∙ (ap (read_all nothing_read 0) (ap (numbered 1) (lines_are_cut text h.all h.cut) ∙ h.lines)
+    ∙ (ap (read_all nothing_read 0) (ap (with_numbers 1) (lines_are_cut text h.all h.cut) ∙ h.lines)
     ∙ (read_before h.before nothing_read 0 h.begin rest refl h.blank h.begins
     ∙ read_blocks h.are_blocks p sound first h.begin.number h.end h.behind refl fits counts h.ends)))

@@ -206,7 +206,11 @@ curve_is true line rest e end =
 curve_is false line rest e end =
     let curve = checked_is is_linear line rest e in
     let further = end_is rest end in
-    record { tokens = curve.token ∷ further.tokens; cut = cut_next line rest curve.token further.tokens curve.at further.cut; linear = curve.is }
+    record {
+      tokens = curve.token ∷ further.tokens;
+      cut = cut_next line rest curve.token further.tokens curve.at further.cut;
+      linear = curve.is;
+    }
 
 pub spelled_fade :
     (name text r : List ℕ) (keyword : TokenText) (fade : ℕ) → is_tag text ≡ false
@@ -227,7 +231,11 @@ spelled_fade name text r keyword fade untagged at is e =
       further = curve.tokens;
       told = a.value.0;
       cut =
-          record { untagged = untagged; cut = cut_next text r keyword _ at (cut_next r a.value.1 time.token curve.tokens time.at curve.cut) };
+          record {
+            untagged = untagged;
+            cut = cut_next text r keyword _ at
+                (cut_next r a.value.1 time.token curve.tokens time.at curve.cut);
+          };
       is_fade = is;
       time_is = time.is;
       fade_is = refl;
@@ -254,7 +262,11 @@ read_curve true line tokens cut linear = record { rest = line; curve = refl; end
 read_curve false line [] cut linear = absurd (cc)
 read_curve false line (token ∷ tokens) cut linear =
     let a = first_cut cut in
-    record { rest = a.rest; curve = is_checked is_linear line a.rest token a.at linear; end = is_end_of a.rest tokens a.cut }
+    record {
+      rest = a.rest;
+      curve = is_checked is_linear line a.rest token a.at linear;
+      end = is_end_of a.rest tokens a.cut;
+    }
 
 pub read_fade : (name text : List ℕ) (fade : ℕ) → SpellsFade name text fade → IsReadFade name text fade
 unfolding fade_fields

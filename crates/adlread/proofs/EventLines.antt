@@ -2,6 +2,8 @@
 use Rattle.std.proofs.Common.{◌≡◌, ℕ, Bool, true, false, List, [], ◌∷◌, ◌++◌, length, Option, None, Some, Result, Ok, Err, IsTrue, refl, ap, sym, subst, ◌∙◌, append_assoc, arith}
 use Rattle.std.specs.Prelude.{codes, if◌then◌else◌, ◌==◌, map, unwrap_or, ⊤}
 use Rattle.std.specs.List.{list_any}
+use Rattle.facts.specs.Distinct.{moved, not_taken}
+use Rattle.facts.specs.Tests.{and_both, and_left, and_right}
 use Rattle.sound_terms.specs.declared.Event.{Event}
 use Rattle.list_terms.specs.declared.OpenEntry.{OpenEntry}
 use Rattle.list_terms.specs.declared.Section.TheVariants as section
@@ -17,10 +19,8 @@ use Rattle.adlread.specs.CutLines.{CutsTo, HasTokens, NumberedLine}
 use Rattle.adlread.specs.LineGrammar.{IsLineOf, SpelledEntry, SpellsEntry, SpellsFade, is_remark, is_zero_gain}
 use Rattle.adlread.specs.Spells.{EntriesEnd, FallLine, FirstEntry, GainLine, HasFades, NextEntry, NoEntries, RemarkBehind, RemarkLine, RiseLine, SpellsBehind, SpellsEntries}
 use Rattle.adlread.proofs.CutLaws.{cut_next, cut_none, first_cut, no_cut}
-use Rattle.adlread.proofs.Distinct.{moved, not_taken}
 use Rattle.adlread.proofs.EntryTexts.{IsSpelledEntry, read_entry, read_fade, spelled_entry, spelled_fade, with_fades, without_fades}
 use Rattle.adlread.proofs.FieldLaws.{all_cut, all_tokens_are, chain, end_is, err_map_ok, is_end_of, ok_map_ok, ok_same, unless_ok}
-use Rattle.adlread.proofs.HeaderSoFar.{and_both, and_left, and_right}
 use Rattle.adlread.proofs.Keywords.{other_keyword}
 use Rattle.adlread.proofs.Numbered.{AreDistinct-nil, distinct-changed, distinct-push}
 use Rattle.adlread.proofs.Walk.{walk, walk_step}
@@ -160,7 +160,8 @@ first_remark_read c n text (token ∷ tokens) h is =
 
 -- ---- all lines, as they are read
 
-pub record AreRead (lines : List NumberedLine) (c : Context) (old : Entries) (all : List Event) (separators : Option (List ℕ)) : Type 0 where
+pub record AreRead (lines : List NumberedLine) (c : Context) (old : Entries) (all : List Event)
+    (separators : Option (List ℕ)) : Type 0 where
   pub last : Entries
   pub walked : walk section.EventList (with_entries c old) lines ≡ Ok (with_entries c last)
   pub all_are : all_events last.events last.entry ≡ all
@@ -260,7 +261,11 @@ line_of :
     → is_tag text ≡ false
     → token_at text ≡ Ok (Some (token, rest)) → CutsTo rest tokens → test (token ∷ tokens) ≡ true → IsLineOf test text
 line_of text rest token tokens test untagged at cut passes =
-    record { tokens = token ∷ tokens; cut = record { untagged = untagged; cut = cut_next text rest token tokens at cut }; passes = passes }
+    record {
+      tokens = token ∷ tokens;
+      cut = record { untagged = untagged; cut = cut_next text rest token tokens at cut };
+      passes = passes;
+    }
 
 -- what a line behind an entry says of it
 data IsFurther (text : List ℕ) (entry : OpenEntry) : OpenEntry → Type 0 where
@@ -381,7 +386,8 @@ entry_line_is c next n text rest token entries untagged at is e =
           }
 
 -- what a line says in a list whose last entry is open
-data IsBehindLine (c : Context) (text : List ℕ) (events : List Event) (entry : OpenEntry) (separators : List ℕ) : Context → Type 0 where
+data IsBehindLine (c : Context) (text : List ℕ) (events : List Event) (entry : OpenEntry)
+    (separators : List ℕ) : Context → Type 0 where
   Further :
       (new : OpenEntry) → IsFurther text entry new
       → IsBehindLine c text events entry separators (with_entries c (behind events new separators))
@@ -491,11 +497,12 @@ front_line_is c next n text false t (Ok (Some (token, rest))) f e =
 
 -- ---- all lines that were read
 
-record AreSpelledBehind (lines : List NumberedLine) (c : Context) (events : List Event) (entry : OpenEntry) (separators : List ℕ) (next : Context) : Type 0 where
+-- what lines behind an entry told: its fades, the entries that follow, and the list behind them
+record AreTold
+    (c : Context) (events : List Event) (entry : OpenEntry) (separators : List ℕ) (next : Context) : Type 0 where
   rise : Option ℕ
   fall : Option ℕ
   entries : List SpelledEntry
-  spells : SpellsBehind lines rise fall entries
   free_rise : IsFree rise entry.has_rise
   free_fall : IsFree fall entry.has_fall
   last : Entries
@@ -506,6 +513,11 @@ record AreSpelledBehind (lines : List NumberedLine) (c : Context) (events : List
       AreDistinct (entry_numbers (events ++ entry.event ∷ []))
       → AreDistinct (entry_numbers (all_events last.events last.entry))
 
+-- the lines spell what they told
+abbrev AreSpelledBehind : List NumberedLine → Context → List Event → OpenEntry → List ℕ → Context → Type 0
+AreSpelledBehind lines c events entry separators next =
+    (told : AreTold c events entry separators next) × SpellsBehind lines told.rise told.fall told.entries
+
 none_told : (fade : Option ℕ) → IsFree fade true → fade ≡ None
 none_told None h = refl
 none_told (Some fade) h = absurd (cc)
@@ -515,66 +527,46 @@ with_further :
     (separators : List ℕ) (next : Context)
     → IsFurther line.text entry new → AreSpelledBehind lines c events new separators next
     → AreSpelledBehind (line ∷ lines) c events entry separators next
-with_further line lines c events entry new separators next (Remark h) r = record {
-  rise = r.rise;
-  fall = r.fall;
-  entries = r.entries;
-  spells = RemarkBehind line h r.spells;
-  free_rise = r.free_rise;
-  free_fall = r.free_fall;
-  last = r.last;
-  is = r.is;
-  all_are = r.all_are;
-  separators_are = r.separators_are;
-  distinct = r.distinct;
-}
-with_further line lines c events entry new separators next (Gain h) r = record {
-  rise = r.rise;
-  fall = r.fall;
-  entries = r.entries;
-  spells = GainLine line h r.spells;
-  free_rise = r.free_rise;
-  free_fall = r.free_fall;
-  last = r.last;
-  is = r.is;
-  all_are = r.all_are;
-  separators_are = r.separators_are;
-  distinct = r.distinct;
-}
-with_further line lines c events entry new separators next (Rise fade h free) r =
-    let none = none_told r.rise r.free_rise in
-    record {
-      rise = Some fade;
-      fall = r.fall;
-      entries = r.entries;
-      spells = RiseLine line fade h (subst (λ rise. SpellsBehind lines rise r.fall r.entries) none r.spells);
-      free_rise = free;
-      free_fall = r.free_fall;
-      last = r.last;
-      is = r.is;
-      all_are = r.all_are ∙ ap (λ rise. events ++ faded (with_rise entry fade) rise r.fall ∷ events_of r.entries) none;
-      separators_are = r.separators_are;
-      distinct =
-          λ d. r.distinct
-          (distinct-changed (λ e. e.number) is_event events entry.event (with_rise entry fade).event d refl);
-    }
-with_further line lines c events entry new separators next (Fall fade h free) r =
-    let none = none_told r.fall r.free_fall in
-    record {
-      rise = r.rise;
-      fall = Some fade;
-      entries = r.entries;
-      spells = FallLine line fade h (subst (λ fall. SpellsBehind lines r.rise fall r.entries) none r.spells);
-      free_rise = r.free_rise;
-      free_fall = free;
-      last = r.last;
-      is = r.is;
-      all_are = r.all_are ∙ ap (λ fall. events ++ faded (with_fall entry fade) r.rise fall ∷ events_of r.entries) none;
-      separators_are = r.separators_are;
-      distinct =
-          λ d. r.distinct
-          (distinct-changed (λ e. e.number) is_event events entry.event (with_fall entry fade).event d refl);
-    }
+with_further line lines c events entry new separators next (Remark h) (r, spells) = (r, RemarkBehind line h spells)
+with_further line lines c events entry new separators next (Gain h) (r, spells) = (r, GainLine line h spells)
+with_further line lines c events entry new separators next (Rise fade h free) (r, spells) =
+    let none = none_told r.rise r.free_rise in (
+      record {
+        rise = Some fade;
+        fall = r.fall;
+        entries = r.entries;
+        free_rise = free;
+        free_fall = r.free_fall;
+        last = r.last;
+        is = r.is;
+        all_are =
+            r.all_are ∙ ap (λ rise. events ++ faded (with_rise entry fade) rise r.fall ∷ events_of r.entries) none;
+        separators_are = r.separators_are;
+        distinct =
+            λ d. r.distinct
+            (distinct-changed (λ e. e.number) is_event events entry.event (with_rise entry fade).event d refl);
+      },
+      RiseLine line fade h (subst (λ rise. SpellsBehind lines rise r.fall r.entries) none spells),
+    )
+with_further line lines c events entry new separators next (Fall fade h free) (r, spells) =
+    let none = none_told r.fall r.free_fall in (
+      record {
+        rise = r.rise;
+        fall = Some fade;
+        entries = r.entries;
+        free_rise = r.free_rise;
+        free_fall = free;
+        last = r.last;
+        is = r.is;
+        all_are =
+            r.all_are ∙ ap (λ fall. events ++ faded (with_fall entry fade) r.rise fall ∷ events_of r.entries) none;
+        separators_are = r.separators_are;
+        distinct =
+            λ d. r.distinct
+            (distinct-changed (λ e. e.number) is_event events entry.event (with_fall entry fade).event d refl);
+      },
+      FallLine line fade h (subst (λ fall. SpellsBehind lines r.rise fall r.entries) none spells),
+    )
 
 -- an entry with the fades that its lines tell
 abbrev told_entry : Event × List ℕ → (rise fall : Option ℕ) → SpelledEntry
@@ -588,6 +580,12 @@ told_fades g rise fall plain = record {
   fall_is = ap (λ (e : Event). unwrap_or fall e.fall.length) plain;
 }
 
+told_spelled :
+    (text : List ℕ) (n : ℕ) (g : Event × List ℕ) (rise fall : Option ℕ) → IsSpelledEntry text n g
+    → SpellsEntry text (told_entry g rise fall)
+told_spelled text n g rise fall s =
+    s.spells (record { length = unwrap_or rise g.0.rise.length }) (record { length = unwrap_or fall g.0.fall.length })
+
 with_line_behind :
     (line : NumberedLine) (lines : List NumberedLine) (c : Context) (events : List Event) (entry : OpenEntry)
     (separators : List ℕ) (middle next : Context)
@@ -598,27 +596,26 @@ with_line_behind :
 with_line_behind line lines c events entry separators middle next (Further new f) others =
     with_further line lines c events entry new separators next f (others events new refl)
 with_line_behind line lines c events entry separators middle next (Another n g s free) others =
-    let r = others (events ++ entry.event ∷ []) (opened_entry g.0) refl in
-    record {
-      rise = None;
-      fall = None;
-      entries = told_entry g r.rise r.fall ∷ r.entries;
-      spells = NextEntry line (told_entry g r.rise r.fall)
-          (s.spells (record { length = unwrap_or r.rise g.0.rise.length })
-          (record { length = unwrap_or r.fall g.0.fall.length }))
-          (told_fades g r.rise r.fall s.plain) r.spells;
-      free_rise = tt;
-      free_fall = tt;
-      last = r.last;
-      is = r.is;
-      all_are =
-          r.all_are ∙ append_assoc events (entry.event ∷ [])
-          (faded (opened_entry g.0) r.rise r.fall ∷ events_of r.entries);
-      separators_are = r.separators_are;
-      distinct =
-          λ d. r.distinct
-          (distinct-push (λ e. e.number) is_event (events ++ entry.event ∷ []) g.0 g.0.number d free refl);
-    }
+    let front = events ++ entry.event ∷ [] in
+    let told = others front (opened_entry g.0) refl in
+    let r = told.0 in (
+      record {
+        rise = None;
+        fall = None;
+        entries = told_entry g r.rise r.fall ∷ r.entries;
+        free_rise = tt;
+        free_fall = tt;
+        last = r.last;
+        is = r.is;
+        all_are =
+            r.all_are ∙ append_assoc events (entry.event ∷ [])
+            (faded (opened_entry g.0) r.rise r.fall ∷ events_of r.entries);
+        separators_are = r.separators_are;
+        distinct = λ d. r.distinct (distinct-push (λ e. e.number) is_event front g.0 g.0.number d free refl);
+      },
+      NextEntry line (told_entry g r.rise r.fall) (told_spelled line.text n g r.rise r.fall s)
+          (told_fades g r.rise r.fall s.plain) told.1,
+    )
 
 behind_is_read :
     (lines : List NumberedLine) (c : Context) (events : List Event) (entry : OpenEntry) (separators : List ℕ)
@@ -626,19 +623,21 @@ behind_is_read :
     → walk section.EventList (with_entries c (behind events entry separators)) lines ≡ Ok next
     → AreSpelledBehind lines c events entry separators next
 unfolding in_section
-behind_is_read [] c events entry separators next e = record {
-  rise = None;
-  fall = None;
-  entries = [];
-  spells = EntriesEnd;
-  free_rise = tt;
-  free_fall = tt;
-  last = behind events entry separators;
-  is = sym (ok_same _ _ e);
-  all_are = refl;
-  separators_are = refl;
-  distinct = λ d. d;
-}
+behind_is_read [] c events entry separators next e = (
+  record {
+    rise = None;
+    fall = None;
+    entries = [];
+    free_rise = tt;
+    free_fall = tt;
+    last = behind events entry separators;
+    is = sym (ok_same _ _ e);
+    all_are = refl;
+    separators_are = refl;
+    distinct = λ d. d;
+  },
+  EntriesEnd,
+)
 behind_is_read (line ∷ lines) c events entry separators next e =
     let f = chain
     (in_section 25 (with_entries c (behind events entry separators)) line.number line.text section.EventList) _
@@ -665,15 +664,22 @@ with_front_line :
     → AreSpelledEntries (line ∷ lines) c next
 with_front_line line lines c middle next (Before h) e others =
     let r = others e in
-    record { entries = r.entries; spells = RemarkLine line h r.spells; last = r.last; is = r.is; all_are = r.all_are; separators_are = r.separators_are; distinct = r.distinct }
+    record {
+      entries = r.entries;
+      spells = RemarkLine line h r.spells;
+      last = r.last;
+      is = r.is;
+      all_are = r.all_are;
+      separators_are = r.separators_are;
+      distinct = r.distinct;
+    }
 with_front_line line lines c middle next (First n g s) e others =
-    let r = behind_is_read lines c [] (opened_entry g.0) g.1 next e in
+    let told = behind_is_read lines c [] (opened_entry g.0) g.1 next e in
+    let r = told.0 in
     record {
       entries = told_entry g r.rise r.fall ∷ r.entries;
-      spells = FirstEntry line (told_entry g r.rise r.fall)
-          (s.spells (record { length = unwrap_or r.rise g.0.rise.length })
-          (record { length = unwrap_or r.fall g.0.fall.length }))
-          (told_fades g r.rise r.fall s.plain) r.spells;
+      spells = FirstEntry line (told_entry g r.rise r.fall) (told_spelled line.text n g r.rise r.fall s)
+          (told_fades g r.rise r.fall s.plain) told.1;
       last = r.last;
       is = r.is;
       all_are = r.all_are;
@@ -686,7 +692,15 @@ pub entries_are_read :
     → AreSpelledEntries lines c next
 unfolding in_section
 entries_are_read [] c next e =
-    record { entries = []; spells = NoEntries; last = nothing; is = sym (ok_same _ _ e); all_are = refl; separators_are = refl; distinct = AreDistinct-nil }
+    record {
+      entries = [];
+      spells = NoEntries;
+      last = nothing;
+      is = sym (ok_same _ _ e);
+      all_are = refl;
+      separators_are = refl;
+      distinct = AreDistinct-nil;
+    }
 entries_are_read (line ∷ lines) c next e =
     let f = chain (in_section 25 (with_entries c nothing) line.number line.text section.EventList) _ next e in
     with_front_line line lines c f.value next

@@ -3,6 +3,7 @@ use Rattle.std.proofs.Common.{◌≡◌, ℕ, zero, suc, ◌<◌, ◌≤◌, Boo
 use Rattle.std.specs.Prelude.{ok_or, codes, if◌then◌else◌}
 use Rattle.std.specs.List.{list_all}
 use Rattle.std.proofs.lemmas.Slice.Eq.{bytes_eq-Decides}
+use Rattle.facts.specs.Tests.{and_left, and_right, and_both}
 use Rattle.sampletime.specs.TimeCode.{samples_of}
 use Rattle.sound_terms.specs.declared.Channels.{Channels}
 use Rattle.list_terms.specs.declared.TextFault.{TextFault}
@@ -13,7 +14,6 @@ use Rattle.list_terms.specs.Fields.{channels_field, channels_of, checked_field, 
 use Rattle.adlread.specs.CutLines.{CutsTo, OnlyBlanks}
 use Rattle.adlread.specs.LineGrammar.{IsNumber, SpellsChannels, TellsTime}
 use Rattle.adlread.proofs.CutLaws.{cut_next, cut_none, first_cut, no_cut, rest_shorter}
-use Rattle.adlread.proofs.HeaderSoFar.{and_left, and_right, and_both}
 use Rattle.adlread.proofs.NumberLaws.{channels_read, channels_told, number_read, number_told}
 use Rattle.adlread.proofs.TokenRun.{all_tokens-step, all_tokens-refused, all_tokens-fault, all_tokens-none, no_bytes}
 
@@ -161,8 +161,11 @@ optional_time_told line g e =
     let c = chain (field line) _ g e in
     let d = chain (optional_time 25 c.value.0.content) _ g c.others in
     let same : (d.value, c.value.1) ≡ g = cc in
-    rw (← same) (record
-    { token = c.value.0; at = field_at line c.value c.is; is = told_time c.value.0.content d.value d.is })
+    rw (← same) (record {
+      token = c.value.0;
+      at = field_at line c.value c.is;
+      is = told_time c.value.0.content d.value d.is;
+    })
 
 pub told_optional_time :
     (line rest : List ℕ) (token : TokenText) (time : Option ℕ) → token_at line ≡ Ok (Some (token, rest))
@@ -224,7 +227,11 @@ all_tokens_are allowed (suc n) line short e =
         by_test true a =
             let others = ih rest (rest_shorter line rest token t)
             (sym (all_tokens-step allowed n line rest token t a) ∙ e) in
-            record { tokens = token ∷ others.tokens; cut = cut_next line rest token others.tokens t others.cut; all = and_both (allowed token) (list_all allowed others.tokens) a others.all }
+            record {
+              tokens = token ∷ others.tokens;
+              cut = cut_next line rest token others.tokens t others.cut;
+              all = and_both (allowed token) (list_all allowed others.tokens) a others.all;
+            }
         by_test false a = absurd (let no = sym (all_tokens-refused allowed n line rest token t a) ∙ e in cc)
 
 list_all-any : {X : Type 0} (xs : List X) → list_all (λ x. true) xs ≡ true

@@ -2,6 +2,7 @@
 use Rattle.std.proofs.Common.{◌≡◌, ℕ, ◌+◌, Bool, true, false, List, [], ◌∷◌, Option, None, Ok, IsTrue, refl, ap, sym, ◌∙◌, arith}
 use Rattle.std.specs.Prelude.{unwrap_or, ◌==◌, ◌&&◌, map}
 use Rattle.std.specs.List.{list_all, onto_first}
+use Rattle.facts.specs.Tests.{and_both, and_left, and_right}
 use Rattle.sampletime.specs.TimeCode.{default_separators}
 use Rattle.sound_terms.specs.declared.Event.{Event}
 use Rattle.list_terms.specs.declared.OpenEntry.{OpenEntry}
@@ -10,12 +11,12 @@ use Rattle.list_terms.specs.Lines.{cut_lines, lines_of, without_cr, without_mark
 use Rattle.list_terms.specs.Text.{Context, HeaderRead, all_events, is_behind, read_from, with_line}
 use Rattle.list_terms.specs.WholeProject.{IsHeader, is_line_byte}
 use Rattle.adlread.specs.SoFar.{IsHeaderSoFar}
-use Rattle.adlread.proofs.HeaderSoFar.{and_both, and_left, and_right}
 
 both_told :
-    (rates :
-    Rates) → (rates.sample_rate && rates.frame_rate) ≡ true → rates ≡ record { sample_rate = true; frame_rate = true }
-both_told rates h = rw (and_left rates.sample_rate rates.frame_rate h, and_right rates.sample_rate rates.frame_rate h) refl
+    (rates : Rates) → (rates.sample_rate && rates.frame_rate) ≡ true
+    → rates ≡ record { sample_rate = true; frame_rate = true }
+both_told rates h =
+    rw (and_left rates.sample_rate rates.frame_rate h, and_right rates.sample_rate rates.frame_rate h) refl
 
 pub IsHeader-from_so_far :
     (h : HeaderRead) → IsHeaderSoFar h → IsTrue (h.rates.sample_rate && h.rates.frame_rate) → IsHeader h.lines
@@ -40,8 +41,8 @@ abbrev are_lines : List (List ℕ) → Bool
 are_lines lines = list_all (list_all is_line_byte) lines
 
 onto_first-line :
-    (b :
-    ℕ) (lines : List (List ℕ)) → is_line_byte b ≡ true → are_lines lines ≡ true → are_lines (onto_first b lines) ≡ true
+    (b : ℕ) (lines : List (List ℕ)) → is_line_byte b ≡ true → are_lines lines ≡ true
+    → are_lines (onto_first b lines) ≡ true
 onto_first-line b [] h all = rw h refl
 onto_first-line b (l ∷ lines) h all = rw h all
 
@@ -61,13 +62,15 @@ without_cr-line (b ∷ []) h = by_test (b == 13) refl where
   by_test true e = rw e refl
   by_test false e = rw e h
 without_cr-line (b ∷ c ∷ text) h =
-    and_both (is_line_byte b) (list_all is_line_byte (without_cr (c ∷ text))) (and_left (is_line_byte b) (list_all is_line_byte (c ∷ text)) h)
+    and_both (is_line_byte b) (list_all is_line_byte (without_cr (c ∷ text)))
+    (and_left (is_line_byte b) (list_all is_line_byte (c ∷ text)) h)
     (without_cr-line (c ∷ text) (and_right (is_line_byte b) (list_all is_line_byte (c ∷ text)) h))
 
 map-lines : (lines : List (List ℕ)) → are_lines lines ≡ true → are_lines (map without_cr lines) ≡ true
 map-lines [] h = refl
 map-lines (l ∷ lines) h =
-    and_both (list_all is_line_byte (without_cr l)) (are_lines (map without_cr lines)) (without_cr-line l (and_left (list_all is_line_byte l) (are_lines lines) h))
+    and_both (list_all is_line_byte (without_cr l)) (are_lines (map without_cr lines))
+    (without_cr-line l (and_left (list_all is_line_byte l) (are_lines lines) h))
     (map-lines lines (and_right (list_all is_line_byte l) (are_lines lines) h))
 
 pub lines_of-lines : (text : List ℕ) → list_all (list_all is_line_byte) (lines_of text) ≡ true
@@ -87,10 +90,10 @@ rest_of-lines lines rest text e h = and_right (list_all is_line_byte text) (are_
 
 -- where no entry was read no separators were found
 pub standard-from_entries :
-    (events :
-    List Event) (entry : Option OpenEntry) (found : Option (List ℕ)) (old_events : List Event) (old_found : Option (List ℕ))
-    (separators :
-    List ℕ) → events ≡ all_events old_events entry → found ≡ old_found → separators ≡ unwrap_or found default_separators
+    (events : List Event) (entry : Option OpenEntry) (found : Option (List ℕ)) (old_events : List Event)
+    (old_found : Option (List ℕ))
+    (separators : List ℕ) → events ≡ all_events old_events entry → found ≡ old_found
+    → separators ≡ unwrap_or found default_separators
     → (all_events old_events entry ≡ [] → old_found ≡ None) → events ≡ [] → separators ≡ default_separators
 standard-from_entries events entry found old_events old_found separators same kept chosen none nothing =
     chosen ∙ ap (λ f. unwrap_or f default_separators) (kept ∙ none (sym same ∙ nothing))

@@ -1,7 +1,8 @@
 -- What a list that is read so far still has to say for a project, section by section.
 use Rattle.std.proofs.Common.{◌≡◌, ℕ, ◌+◌, ◌≤◌, Bool, true, false, List, [], ◌∷◌, ◌++◌, length, Option, None, Some, Ok, IsTrue, refl, ap, sym, subst, ◌∙◌, append_assoc, arith}
-use Rattle.std.specs.Prelude.{flat_map, is_some, unwrap_or}
+use Rattle.std.specs.Prelude.{flat_map, is_some, unwrap_or, ◌==◌}
 use Rattle.std.specs.List.{list_all}
+use Rattle.facts.specs.Tests.{and_left, and_right}
 use Rattle.sampletime.specs.TimeCode.{default_separators}
 use Rattle.sound_terms.specs.declared.Event.{Event}
 use Rattle.list_terms.specs.declared.Notice.{Notice}
@@ -10,15 +11,15 @@ use Rattle.list_terms.specs.declared.Section.{Section}
 use Rattle.list_terms.specs.declared.Section.TheVariants as section
 use Rattle.list_terms.specs.declared.Stage.TheVariants as stage
 use Rattle.list_terms.specs.Project.{Header, ListProject, Source}
-use Rattle.list_terms.specs.Text.{Context, Entries, HeaderRead, all_events, in_section, in_unsupported, is_opened, no_entry, with_section}
+use Rattle.list_terms.specs.HeaderLaws.{IsKept, lines_at, project_kept, put_lines, sequence_kept, system_kept, told_in, told_in-none, told_in-sequence, told_in-system, track_list_kept, version_kept}
+use Rattle.list_terms.specs.Text.{Context, Entries, HeaderRead, all_events, in_section, in_unsupported, is_opened, no_entry, with_lines, with_section}
 use Rattle.list_terms.specs.WholeProject.{AreDistinct, both_rates, entry_numbers, index_numbers, is_system_line, line_count, lines_of_section, no_rates, told_rates}
 use Rattle.adlread.specs.CutLines.{NumberedLine, is_empty, texts}
 use Rattle.adlread.specs.LineGrammar.{SpelledEntry}
-use Rattle.adlread.specs.Spells.{Block, IsPassedOver, SectionText, SpellsEntries, SpellsSources, Titled, kept, notice, notices_of_block, one_or_none, sections, separators_of}
+use Rattle.adlread.specs.Spells.{Block, IsPassedOver, SectionText, SpellsEntries, SpellsSources, Titled, kept, notice, notices_of_block, one_or_none, section_rank, sections, separators_of}
 use Rattle.adlread.proofs.EventLines.{events_of, first_separators, read_entries, with_entries}
 use Rattle.adlread.proofs.FieldLaws.{ok_same}
-use Rattle.adlread.proofs.HeaderSoFar.{and_left, and_right}
-use Rattle.adlread.proofs.KeptLines.{IsKept, keep_all, keep_all-project, keep_all-sequence, keep_all-system, keep_all-track_list, keep_all-version, read_header, told_in, told_in-project, told_in-sequence, told_in-system, told_in-track_list, told_in-version, with_header}
+use Rattle.adlread.proofs.KeptLines.{keep_all-put, read_header, with_header}
 use Rattle.adlread.proofs.SourceLines.{read_sources}
 use Rattle.adlread.proofs.Stages.{outside_of}
 use Rattle.adlread.proofs.Walk.{walk}
@@ -27,7 +28,8 @@ use Rattle.adlread.proofs.Walk.{walk}
 abbrev pub Continues : Option (List (List ℕ)) → List (List (List ℕ)) → Option (List (List ℕ)) → Type 0
 Continues now more all = one_or_none now ++ more ≡ one_or_none all
 
-pub record IsContinued (now : Header) (versions projects systems sequences track_lists : List (List (List ℕ))) (all : Header) : Type 0 where
+pub record IsContinued (now : Header) (versions projects systems sequences track_lists : List (List (List ℕ)))
+    (all : Header) : Type 0 where
   pub version : Continues now.version versions all.version
   pub project : Continues now.project projects all.project
   pub system : Continues now.system systems all.system
@@ -115,37 +117,145 @@ no_more_lines now blocks all h =
     let e = is_no_more now.track_list _ all.track_list h.track_list in
     omega (arith, a, b, c, d, e)
 
+-- ---- a section of the header
+
+abbrev pub titled : Section → List ℕ → NumberedLine → List NumberedLine → NumberedLine → List Notice → SectionText
+titled s name opening content ending notices =
+    record { meaning = s; name = name; opening = opening; content = content; ending = ending; notices = notices }
+
+-- what fits a header that has a section fits one without it, and the section before it
+pub record IsHeaderPart (s : Section) : Type 0 where
+  pub kept : IsKept s
+  pub no_index : (section_rank s == section_rank section.SourceIndex) ≡ false
+  pub no_events : (section_rank s == section_rank section.EventList) ≡ false
+  pub silent : (part : SectionText) → part.notices ≡ [] → IsPassedOver s part
+  pub counted :
+      (h : Header) (lines : List (List ℕ)) → lines_at s h ≡ None
+      → line_count (put_lines s (Some lines) h) ≡ line_count h + length lines
+  pub behind :
+      (name : List ℕ) (opening : NumberedLine) (content : List NumberedLine) (ending : NumberedLine)
+      (notices : List Notice) (blocks : List Block) (now all : Header)
+      → HeaderFits now (Titled (titled s name opening content ending notices) ∷ blocks) all
+      → (lines_at s now ≡ None) × HeaderFits (put_lines s (Some (texts content)) now) blocks all
+  pub before :
+      (name : List ℕ) (opening : NumberedLine) (content : List NumberedLine) (ending : NumberedLine)
+      (notices : List Notice) (blocks : List Block) (now all : Header) → lines_at s now ≡ None
+      → HeaderFits (put_lines s (Some (texts content)) now) blocks all
+      → HeaderFits now (Titled (titled s name opening content ending notices) ∷ blocks) all
+
+continued :
+    {now all : Header} {v p s q t : List (List (List ℕ))} → Continues now.version v all.version
+    → Continues now.project p all.project → Continues now.system s all.system → Continues now.sequence q all.sequence
+    → Continues now.track_list t all.track_list → IsContinued now v p s q t all
+continued v p s q t = record { version = v; project = p; system = s; sequence = q; track_list = t }
+
+-- none was read, so the section that stands there goes on
+none_kept :
+    (now : Option (List (List ℕ))) (lines : List (List ℕ)) (more : List (List (List ℕ)))
+    (all : Option (List (List ℕ))) → now ≡ None → Continues (Some lines) more all → Continues now (lines ∷ more) all
+none_kept now lines more all none fits = subst (λ ls. Continues ls (lines ∷ more) all) (sym none) fits
+
+pub version_part : IsHeaderPart section.Version
+version_part = record {
+  kept = version_kept;
+  no_index = refl;
+  no_events = refl;
+  silent = λ part none. none;
+  counted = λ h lines none. let e = ap (λ ls. line_count (put_lines section.Version ls h)) none in omega (arith, e);
+  behind = λ name opening content ending notices blocks now all h.
+      let f = first_kept now.version (texts content) (kept section.Version blocks) all.version h.version in
+      (f.0, continued f.1 h.project h.system h.sequence h.track_list);
+  before = λ name opening content ending notices blocks now all none h.
+      continued (none_kept now.version (texts content) (kept section.Version blocks) all.version none h.version)
+      h.project h.system h.sequence h.track_list;
+}
+
+pub project_part : IsHeaderPart section.Project
+project_part = record {
+  kept = project_kept;
+  no_index = refl;
+  no_events = refl;
+  silent = λ part none. none;
+  counted = λ h lines none. let e = ap (λ ls. line_count (put_lines section.Project ls h)) none in omega (arith, e);
+  behind = λ name opening content ending notices blocks now all h.
+      let f = first_kept now.project (texts content) (kept section.Project blocks) all.project h.project in
+      (f.0, continued h.version f.1 h.system h.sequence h.track_list);
+  before = λ name opening content ending notices blocks now all none h.
+      continued h.version (none_kept now.project (texts content) (kept section.Project blocks)
+      all.project none h.project) h.system h.sequence h.track_list;
+}
+
+pub system_part : IsHeaderPart section.System
+system_part = record {
+  kept = system_kept;
+  no_index = refl;
+  no_events = refl;
+  silent = λ part none. none;
+  counted = λ h lines none. let e = ap (λ ls. line_count (put_lines section.System ls h)) none in omega (arith, e);
+  behind = λ name opening content ending notices blocks now all h.
+      let f = first_kept now.system (texts content) (kept section.System blocks) all.system h.system in
+      (f.0, continued h.version h.project f.1 h.sequence h.track_list);
+  before = λ name opening content ending notices blocks now all none h.
+      continued h.version h.project (none_kept now.system (texts content) (kept section.System blocks)
+      all.system none h.system) h.sequence h.track_list;
+}
+
+pub sequence_part : IsHeaderPart section.Sequence
+sequence_part = record {
+  kept = sequence_kept;
+  no_index = refl;
+  no_events = refl;
+  silent = λ part none. none;
+  counted = λ h lines none. let e = ap (λ ls. line_count (put_lines section.Sequence ls h)) none in omega (arith, e);
+  behind = λ name opening content ending notices blocks now all h.
+      let f = first_kept now.sequence (texts content) (kept section.Sequence blocks) all.sequence h.sequence in
+      (f.0, continued h.version h.project h.system f.1 h.track_list);
+  before = λ name opening content ending notices blocks now all none h.
+      continued h.version h.project h.system (none_kept now.sequence (texts content) (kept section.Sequence blocks)
+      all.sequence none h.sequence) h.track_list;
+}
+
+pub track_list_part : IsHeaderPart section.TrackList
+track_list_part = record {
+  kept = track_list_kept;
+  no_index = refl;
+  no_events = refl;
+  silent = λ part none. none;
+  counted = λ h lines none. let e = ap (λ ls. line_count (put_lines section.TrackList ls h)) none in omega (arith, e);
+  behind = λ name opening content ending notices blocks now all h.
+      let f = first_kept now.track_list (texts content) (kept section.TrackList blocks) all.track_list h.track_list in
+      (f.0, continued h.version h.project h.system h.sequence f.1);
+  before = λ name opening content ending notices blocks now all none h.
+      continued h.version h.project h.system h.sequence
+      (none_kept now.track_list (texts content) (kept section.TrackList blocks) all.track_list none h.track_list);
+}
+
 -- ---- a section is read
 
 abbrev pub begun : Context → ℕ → Section → List ℕ → Context
 begun c n s name = record (with_section c n s) { stage = stage.Inside s; name = name }
 
+-- the lines of a header's section begin with none
+pub begun_kept :
+    (s : Section) → IsKept s → (c : Context) (n : ℕ) (name : List ℕ)
+    → begun c n s name
+    ≡ record (with_lines c (put_lines s (Some []) c.header.lines)) { stage = stage.Inside s; name = name }
+begun_kept s is c n name = ap (λ (d : Context). record d { stage = stage.Inside s; name = name }) (is.begun c n)
+
+-- a section of another meaning in front
+pub other_section :
+    (meaning : Section) (part : SectionText) (blocks : List Block)
+    → (section_rank part.meaning == section_rank meaning) ≡ false
+    → sections meaning blocks ≡ sections meaning (Titled part ∷ blocks)
+other_section meaning part blocks other = rw other refl
+
 -- the content is read, and the others still fit
-pub record IsWalked (s : Section) (c : Context) (content : List NumberedLine) (blocks : List Block) (p : ListProject) : Type 0 where
+pub record IsWalked (s : Section) (c : Context) (content : List NumberedLine) (blocks : List Block)
+    (p : ListProject) : Type 0 where
   pub last : Context
   pub walked : walk s c content ≡ Ok last
   pub fits : Fits (outside_of last) blocks p
   pub counts : IsCounted last.header
-
-pub is_kept_version : IsKept section.Version
-unfolding in_section
-is_kept_version c n text = refl
-
-pub is_kept_project : IsKept section.Project
-unfolding in_section
-is_kept_project c n text = refl
-
-pub is_kept_system : IsKept section.System
-unfolding in_section
-is_kept_system c n text = refl
-
-pub is_kept_sequence : IsKept section.Sequence
-unfolding in_section
-is_kept_sequence c n text = refl
-
-pub is_kept_track_list : IsKept section.TrackList
-unfolding in_section
-is_kept_track_list c n text = refl
 
 -- a source index stands there, so none was read
 index_free :
@@ -160,7 +270,8 @@ index_free false now part more all fits =
     (refl, (fits.0, (none, subst (λ (s : SectionText). SpellsSources s.content all s.notices) same fits.1.1.1)))
 
 -- an event list stands there, so none was read
-record IsFirstList (has : Bool) (now : Entries) (part : SectionText) (more : List SectionText) (events : List Event) (separators : List ℕ) : Type 0 where
+record IsFirstList (has : Bool) (now : Entries) (part : SectionText) (more : List SectionText) (events : List Event)
+    (separators : List ℕ) : Type 0 where
   free : has ≡ false
   none : now ≡ no_entry
   no_other : more ≡ []
@@ -208,400 +319,165 @@ unsupported_lines (line ∷ content) c empty =
     (unsupported_lines content c (and_right (is_empty line.text) (list_all is_empty (texts content)) empty))
 
 module _ (p : ListProject) (sound : IsSound p) (blocks : List Block) where
-  header_walked :
-      (s : Section) → IsKept s → (b : Context) (content : List NumberedLine) (lines : Header) (told : Rates)
-      → keep_all s (texts content) b.header.lines ≡ lines → HeaderFits lines blocks p.header
-      → line_count lines ≡ b.header.kept + length (texts content) → told_in s b.header.rates (texts content) ≡ Ok told
-      → told_rates no_rates (lines_of_section lines.sequence) ≡ Ok told
-      → IndexFits b.has_index b.sources (sections section.SourceIndex blocks) p.sources
-      → EventsFit b.has_events b.entries (sections section.EventList blocks) p.events p.separators
-      → b.notices ++ flat_map notices_of_block blocks ≡ p.notices → IsWalked s b content blocks p
-  header_walked s same b content lines told are fits counted e sequence index events notices =
-      let short = no_more_lines lines blocks p.header fits in
-      record {
-        last = with_header b (record { lines = lines; kept = line_count lines; rates = told });
-        walked = read_header s same content b told (line_count lines) counted (omega (arith, short, sound.few)) e
-            ∙ ap (λ ls. Ok (with_header b (record { lines = ls; kept = line_count lines; rates = told }))) are;
-        fits = record { header = fits; index = index; events = events; notices = notices };
-        counts = record { counted = refl; told = sequence };
-      }
-
-  version_walked :
+  module _
       (c : Context) (name : List ℕ) (opening : NumberedLine) (content : List NumberedLine) (ending : NumberedLine)
-      (notices : List Notice)
-      → Fits c (Titled
-      (record {
-        meaning = section.Version;
-        name = name;
-        opening = opening;
-        content = content;
-        ending =
-            ending;
-        notices = notices;
-      }) ∷ blocks) p
-      → IsCounted c.header → notices ≡ []
-      → (is_opened c section.Version ≡ false) × IsWalked section.Version
-      (begun c opening.number section.Version name) content blocks p
-  version_walked c name opening content ending notices fits counts none =
-      let first = first_kept c.header.lines.version (texts content)
-      (kept section.Version blocks) p.header.version fits.header.version in
-      let lines : Header = record c.header.lines { version = Some (texts content) } in
-      let before = ap (λ ls. line_count (record c.header.lines { version = ls })) first.0 in (
-        ap is_some first.0,
-        header_walked section.Version is_kept_version
-            (begun c opening.number section.Version name) content lines c.header.rates
-            (keep_all-version c.header.lines [] (texts content))
-            (record {
-              version = first.1;
-              project = fits.header.project;
-              system = fits.header.system;
-              sequence =
-                  fits.header.sequence;
-              track_list = fits.header.track_list;
-            }) (omega (arith, counts.counted, before))
-            (told_in-version c.header.rates (texts content)) counts.told fits.index fits.events
-            (subst (λ ns. c.notices ++ (ns ++ flat_map notices_of_block blocks) ≡ p.notices) none fits.notices),
-      )
+      (notices : List Notice) (counts : IsCounted c.header) where
+    -- the section stands there, of this meaning
+    abbrev Stands : Section → Type 0
+    Stands s = Fits c (Titled (titled s name opening content ending notices) ∷ blocks) p
 
-  project_walked :
-      (c : Context) (name : List ℕ) (opening : NumberedLine) (content : List NumberedLine) (ending : NumberedLine)
-      (notices : List Notice)
-      → Fits c (Titled
-      (record {
-        meaning = section.Project;
-        name = name;
-        opening = opening;
-        content = content;
-        ending =
-            ending;
-        notices = notices;
-      }) ∷ blocks) p
-      → IsCounted c.header → notices ≡ []
-      → (is_opened c section.Project ≡ false) × IsWalked section.Project
-      (begun c opening.number section.Project name) content blocks p
-  project_walked c name opening content ending notices fits counts none =
-      let first = first_kept c.header.lines.project (texts content)
-      (kept section.Project blocks) p.header.project fits.header.project in
-      let lines : Header = record c.header.lines { project = Some (texts content) } in
-      let before = ap (λ ls. line_count (record c.header.lines { project = ls })) first.0 in (
-        ap is_some first.0,
-        header_walked section.Project is_kept_project
-            (begun c opening.number section.Project name) content lines c.header.rates
-            (keep_all-project c.header.lines [] (texts content))
-            (record {
-              version = fits.header.version;
-              project = first.1;
-              system = fits.header.system;
-              sequence =
-                  fits.header.sequence;
-              track_list = fits.header.track_list;
-            }) (omega (arith, counts.counted, before))
-            (told_in-project c.header.rates (texts content)) counts.told fits.index fits.events
-            (subst (λ ns. c.notices ++ (ns ++ flat_map notices_of_block blocks) ≡ p.notices) none fits.notices),
-      )
+    abbrev Walked : Section → Type 0
+    Walked s = (is_opened c s ≡ false) × IsWalked s (begun c opening.number s name) content blocks p
 
-  system_walked :
-      (c : Context) (name : List ℕ) (opening : NumberedLine) (content : List NumberedLine) (ending : NumberedLine)
-      (notices : List Notice)
-      → Fits c (Titled
-      (record {
-        meaning = section.System;
-        name = name;
-        opening = opening;
-        content = content;
-        ending =
-            ending;
-        notices = notices;
-      }) ∷ blocks) p
-      → IsCounted c.header → notices ≡ []
-      → (is_opened c section.System ≡ false) × IsWalked section.System
-      (begun c opening.number section.System name) content blocks p
-  system_walked c name opening content ending notices fits counts none =
-      let first = first_kept c.header.lines.system (texts content)
-      (kept section.System blocks) p.header.system fits.header.system in
-      let lines : Header = record c.header.lines { system = Some (texts content) } in
-      let before = ap (λ ls. line_count (record c.header.lines { system = ls })) first.0 in
-      let fine = subst (λ ls. list_all is_system_line (lines_of_section ls) ≡ true)
-      (kept_is_all (texts content) _ p.header.system first.1) sound.settings in (
-        ap is_some first.0,
-        header_walked section.System is_kept_system
-            (begun c opening.number section.System name) content lines c.header.rates
-            (keep_all-system c.header.lines [] (texts content))
-            (record {
-              version = fits.header.version;
-              project = fits.header.project;
-              system = first.1;
-              sequence =
-                  fits.header.sequence;
-              track_list = fits.header.track_list;
-            }) (omega (arith, counts.counted, before))
-            (told_in-system c.header.rates (texts content) fine) counts.told fits.index fits.events
-            (subst (λ ns. c.notices ++ (ns ++ flat_map notices_of_block blocks) ≡ p.notices) none fits.notices),
-      )
+    -- the notices behind those of this section
+    told_behind :
+        (told : List Notice) → notices ≡ told
+        → c.notices ++ (notices ++ flat_map notices_of_block blocks) ≡ p.notices
+        → (c.notices ++ told) ++ flat_map notices_of_block blocks ≡ p.notices
+    told_behind told same are = append_assoc c.notices told (flat_map notices_of_block blocks)
+        ∙ subst (λ ns. c.notices ++ (ns ++ flat_map notices_of_block blocks) ≡ p.notices) same are
 
-  sequence_walked :
-      (c : Context) (name : List ℕ) (opening : NumberedLine) (content : List NumberedLine) (ending : NumberedLine)
-      (notices : List Notice)
-      → Fits c (Titled
-      (record {
-        meaning = section.Sequence;
-        name = name;
-        opening = opening;
-        content = content;
-        ending =
-            ending;
-        notices = notices;
-      }) ∷ blocks) p
-      → IsCounted c.header → notices ≡ []
-      → (is_opened c section.Sequence ≡ false) × IsWalked section.Sequence
-      (begun c opening.number section.Sequence name) content blocks p
-  sequence_walked c name opening content ending notices fits counts none =
-      let first = first_kept c.header.lines.sequence (texts content)
-      (kept section.Sequence blocks) p.header.sequence fits.header.sequence in
-      let lines : Header = record c.header.lines { sequence = Some (texts content) } in
-      let before = ap (λ ls. line_count (record c.header.lines { sequence = ls })) first.0 in
-      let both = subst (λ ls. told_rates no_rates (lines_of_section ls) ≡ Ok both_rates)
-      (kept_is_all (texts content) _ p.header.sequence first.1) sound.rates in
-      let none_told : no_rates ≡ c.header.rates =
-      ok_same _ _ (subst (λ ls. told_rates no_rates (lines_of_section ls) ≡ Ok c.header.rates) first.0
-      counts.told) in (
-        ap is_some first.0,
-        header_walked section.Sequence is_kept_sequence
-            (begun c opening.number section.Sequence name) content lines both_rates
-            (keep_all-sequence c.header.lines [] (texts content))
-            (record {
-              version = fits.header.version;
-              project = fits.header.project;
-              system =
-                  fits.header.system;
-              sequence =
-                  first.1;
-              track_list = fits.header.track_list;
-            }) (omega (arith, counts.counted, before))
-            (told_in-sequence c.header.rates (texts content)
-            ∙ (ap (λ r. told_rates r (texts content)) (sym none_told) ∙ both)) both fits.index fits.events
-            (subst (λ ns. c.notices ++ (ns ++ flat_map notices_of_block blocks) ≡ p.notices) none fits.notices),
-      )
+    header_walked :
+        (s : Section) → IsHeaderPart s → Stands s → notices ≡ [] → (told : Rates)
+        → told_in s c.header.rates (texts content) ≡ Ok told
+        → told_rates no_rates (lines_of_section (put_lines s (Some (texts content)) c.header.lines).sequence) ≡ Ok told
+        → Walked s
+    header_walked s part fits none told e sequence =
+        let this = titled s name opening content ending notices in
+        let f = part.behind name opening content ending notices blocks c.header.lines p.header fits.header in
+        let lines = put_lines s (Some (texts content)) c.header.lines in
+        let b = record (with_lines c (put_lines s (Some []) c.header.lines)) { stage = stage.Inside s; name = name } in
+        let last = with_header b (record { lines = lines; kept = line_count lines; rates = told }) in
+        let short = no_more_lines lines blocks p.header f.1 in
+        let more = part.counted c.header.lines (texts content) f.0 in
+        let read : walk s b content ≡ Ok last =
+        read_header s part.kept content b told (line_count lines) (omega (arith, counts.counted, more))
+        (omega (arith, short, sound.few)) e
+        ∙ ap (λ ls. Ok (with_header b (record { lines = ls; kept = line_count lines; rates = told })))
+        (keep_all-put s part.kept c.header.lines [] (texts content)) in (
+          part.kept.opened c ∙ ap is_some f.0,
+          record {
+            last = last;
+            walked = ap (λ d. walk s d content) (begun_kept s part.kept c opening.number name) ∙ read;
+            fits = record {
+              header = f.1;
+              index = subst (λ parts. IndexFits c.has_index c.sources parts p.sources)
+                  (sym (other_section section.SourceIndex this blocks part.no_index)) fits.index;
+              events = subst (λ parts. EventsFit c.has_events c.entries parts p.events p.separators)
+                  (sym (other_section section.EventList this blocks part.no_events)) fits.events;
+              notices =
+                  subst (λ ns. c.notices ++ (ns ++ flat_map notices_of_block blocks) ≡ p.notices) none fits.notices;
+            };
+            counts = record { counted = refl; told = sequence };
+          },
+        )
 
-  track_list_walked :
-      (c : Context) (name : List ℕ) (opening : NumberedLine) (content : List NumberedLine) (ending : NumberedLine)
-      (notices : List Notice)
-      → Fits c (Titled
-      (record {
-        meaning = section.TrackList;
-        name = name;
-        opening = opening;
-        content = content;
-        ending =
-            ending;
-        notices = notices;
-      }) ∷ blocks) p
-      → IsCounted c.header → notices ≡ []
-      → (is_opened c section.TrackList ≡ false) × IsWalked section.TrackList
-      (begun c opening.number section.TrackList name) content blocks p
-  track_list_walked c name opening content ending notices fits counts none =
-      let first = first_kept c.header.lines.track_list (texts content)
-      (kept section.TrackList blocks) p.header.track_list fits.header.track_list in
-      let lines : Header = record c.header.lines { track_list = Some (texts content) } in
-      let before = ap (λ ls. line_count (record c.header.lines { track_list = ls })) first.0 in (
-        ap is_some first.0,
-        header_walked section.TrackList is_kept_track_list
-            (begun c opening.number section.TrackList name) content lines c.header.rates
-            (keep_all-track_list c.header.lines [] (texts content))
-            (record {
-              version = fits.header.version;
-              project = fits.header.project;
-              system =
-                  fits.header.system;
-              sequence =
-                  fits.header.sequence;
-              track_list = first.1;
-            }) (omega (arith, counts.counted, before))
-            (told_in-track_list c.header.rates (texts content)) counts.told fits.index fits.events
-            (subst (λ ns. c.notices ++ (ns ++ flat_map notices_of_block blocks) ≡ p.notices) none fits.notices),
-      )
+    system_walked : Stands section.System → notices ≡ [] → Walked section.System
+    system_walked fits none =
+        let f = system_part.behind name opening content ending notices blocks c.header.lines p.header fits.header in
+        let fine = subst (λ ls. list_all is_system_line (lines_of_section ls) ≡ true)
+        (kept_is_all (texts content) _ p.header.system f.1.system) sound.settings in
+        header_walked section.System system_part fits none c.header.rates
+        (told_in-system c.header.rates (texts content) fine) counts.told
 
-  index_walked :
-      (c : Context) (name : List ℕ) (opening : NumberedLine) (content : List NumberedLine) (ending : NumberedLine)
-      (notices : List Notice)
-      → Fits c (Titled
-      (record {
-        meaning = section.SourceIndex;
-        name = name;
-        opening = opening;
-        content = content;
-        ending =
-            ending;
-        notices = notices;
-      }) ∷ blocks) p
-      → IsCounted c.header
-      → (is_opened c section.SourceIndex ≡ false) × IsWalked section.SourceIndex
-      (begun c opening.number section.SourceIndex name) content blocks p
-  index_walked c name opening content ending notices fits counts =
-      let part : SectionText =
-      record { meaning = section.SourceIndex; name = name; opening = opening; content = content; ending = ending; notices = notices } in
-      let i = index_free c.has_index c.sources part (sections section.SourceIndex blocks) p.sources fits.index in
-      let b = begun c opening.number section.SourceIndex name in
-      let distinct = subst (λ ss. AreDistinct (index_numbers (ss ++ p.sources))) (sym i.1.0) sound.indexes in (
-        i.0,
-        record {
-          last = record b { sources = p.sources; notices = c.notices ++ notices };
-          walked =
-              read_sources i.1.1.1 b distinct ∙ ap
-              (λ ss. Ok (record b { sources = ss ++ p.sources; notices = c.notices ++ notices })) i.1.0;
-          fits = record {
-            header = fits.header;
-            index = (i.1.1.0, refl);
-            events = fits.events;
-            notices = append_assoc c.notices notices (flat_map notices_of_block blocks) ∙ fits.notices;
-          };
-          counts = counts;
-        },
-      )
+    sequence_walked : Stands section.Sequence → notices ≡ [] → Walked section.Sequence
+    sequence_walked fits none =
+        let f = sequence_part.behind name opening content ending notices blocks c.header.lines p.header fits.header in
+        let both = subst (λ ls. told_rates no_rates (lines_of_section ls) ≡ Ok both_rates)
+        (kept_is_all (texts content) _ p.header.sequence f.1.sequence) sound.rates in
+        let none_told : no_rates ≡ c.header.rates =
+        ok_same _ _ (subst (λ ls. told_rates no_rates (lines_of_section ls) ≡ Ok c.header.rates) f.0 counts.told) in
+        header_walked section.Sequence sequence_part fits none both_rates
+        (told_in-sequence c.header.rates (texts content)
+        ∙ (ap (λ r. told_rates r (texts content)) (sym none_told) ∙ both)) both
 
-  events_walked :
-      (c : Context) (name : List ℕ) (opening : NumberedLine) (content : List NumberedLine) (ending : NumberedLine)
-      (notices : List Notice)
-      → Fits c (Titled
-      (record {
-        meaning = section.EventList;
-        name = name;
-        opening = opening;
-        content = content;
-        ending =
-            ending;
-        notices = notices;
-      }) ∷ blocks) p
-      → IsCounted c.header → notices ≡ []
-      → (is_opened c section.EventList ≡ false) × IsWalked section.EventList
-      (begun c opening.number section.EventList name) content blocks p
-  events_walked c name opening content ending notices fits counts none =
-      let part : SectionText =
-      record { meaning = section.EventList; name = name; opening = opening; content = content; ending = ending; notices = notices } in
-      let i = events_free c.has_events c.entries part
-      (sections section.EventList blocks) p.events p.separators fits.events in
-      let b = begun c opening.number section.EventList name in
-      let r = read_entries i.spells b (subst (λ es. AreDistinct (entry_numbers es)) i.events_are sound.entries) in (
-        i.free,
-        record {
-          last = with_entries b r.last;
-          walked = ap (λ es. walk section.EventList (with_entries b es) content) i.none ∙ r.walked;
-          fits = record {
-            header = fits.header;
-            index = fits.index;
-            events = (
-              i.no_other,
-              (
-                r.all_are ∙ sym i.events_are,
-                ap (λ s. unwrap_or s default_separators) r.separators_are ∙ first_are i.entries ∙ sym i.separators_are,
-              ),
-            );
-            notices = subst (λ ns. c.notices ++ (ns ++ flat_map notices_of_block blocks) ≡ p.notices) none fits.notices;
-          };
-          counts = counts;
-        },
-      )
+    index_walked : Stands section.SourceIndex → Walked section.SourceIndex
+    index_walked fits =
+        let part = titled section.SourceIndex name opening content ending notices in
+        let i = index_free c.has_index c.sources part (sections section.SourceIndex blocks) p.sources fits.index in
+        let b = begun c opening.number section.SourceIndex name in
+        let distinct = subst (λ ss. AreDistinct (index_numbers (ss ++ p.sources))) (sym i.1.0) sound.indexes in (
+          i.0,
+          record {
+            last = record b { sources = p.sources; notices = c.notices ++ notices };
+            walked =
+                read_sources i.1.1.1 b distinct ∙ ap
+                (λ ss. Ok (record b { sources = ss ++ p.sources; notices = c.notices ++ notices })) i.1.0;
+            fits = record {
+              header = fits.header;
+              index = (i.1.1.0, refl);
+              events = fits.events;
+              notices = told_behind notices refl fits.notices;
+            };
+            counts = counts;
+          },
+        )
 
-  skipped_walked :
-      (c : Context) (name : List ℕ) (opening : NumberedLine) (content : List NumberedLine) (ending : NumberedLine)
-      (notices : List Notice)
-      → Fits c (Titled
-      (record {
-        meaning = section.Skipped;
-        name = name;
-        opening = opening;
-        content = content;
-        ending =
-            ending;
-        notices = notices;
-      }) ∷ blocks) p
-      → IsCounted c.header → notices ≡ notice 1 opening ∷ []
-      → IsWalked section.Skipped (begun c opening.number section.Skipped name) content blocks p
-  skipped_walked c name opening content ending notices fits counts told =
-      let b = begun c opening.number section.Skipped name in
-      record {
-        last = b;
-        walked = skipped_lines content b;
-        fits = record {
-          header = fits.header;
-          index = fits.index;
-          events = fits.events;
-          notices = append_assoc c.notices (notice 1 opening ∷ []) (flat_map notices_of_block blocks)
-              ∙ subst (λ ns. c.notices ++ (ns ++ flat_map notices_of_block blocks) ≡ p.notices) told fits.notices;
-        };
-        counts = counts;
-      }
+    events_walked : Stands section.EventList → notices ≡ [] → Walked section.EventList
+    events_walked fits none =
+        let part = titled section.EventList name opening content ending notices in
+        let i = events_free c.has_events c.entries part
+        (sections section.EventList blocks) p.events p.separators fits.events in
+        let b = begun c opening.number section.EventList name in
+        let r = read_entries i.spells b (subst (λ es. AreDistinct (entry_numbers es)) i.events_are sound.entries) in
+        let separators = ap (λ s. unwrap_or s default_separators) r.separators_are ∙ first_are i.entries in (
+          i.free,
+          record {
+            last = with_entries b r.last;
+            walked = ap (λ es. walk section.EventList (with_entries b es) content) i.none ∙ r.walked;
+            fits = record {
+              header = fits.header;
+              index = fits.index;
+              events = (i.no_other, (r.all_are ∙ sym i.events_are, separators ∙ sym i.separators_are));
+              notices =
+                  subst (λ ns. c.notices ++ (ns ++ flat_map notices_of_block blocks) ≡ p.notices) none fits.notices;
+            };
+            counts = counts;
+          },
+        )
 
-  unsupported_walked :
-      (c : Context) (name : List ℕ) (opening : NumberedLine) (content : List NumberedLine) (ending : NumberedLine)
-      (notices : List Notice)
-      → Fits c (Titled
-      (record {
-        meaning = section.Unsupported;
-        name = name;
-        opening = opening;
-        content = content;
-        ending =
-            ending;
-        notices = notices;
-      }) ∷ blocks) p
-      → IsCounted c.header → IsTrue (list_all is_empty (texts content)) → notices ≡ notice 1 opening ∷ []
-      → IsWalked section.Unsupported (begun c opening.number section.Unsupported name) content blocks p
-  unsupported_walked c name opening content ending notices fits counts empty told =
-      let b = begun c opening.number section.Unsupported name in
-      record {
-        last = b;
-        walked = unsupported_lines content b empty;
-        fits = record {
-          header = fits.header;
-          index = fits.index;
-          events = fits.events;
-          notices = append_assoc c.notices (notice 1 opening ∷ []) (flat_map notices_of_block blocks)
-              ∙ subst (λ ns. c.notices ++ (ns ++ flat_map notices_of_block blocks) ≡ p.notices) told fits.notices;
-        };
-        counts = counts;
-      }
+    skipped_walked : Stands section.Skipped → notices ≡ notice 1 opening ∷ [] → Walked section.Skipped
+    skipped_walked fits told =
+        let b = begun c opening.number section.Skipped name in
+        let behind = told_behind (notice 1 opening ∷ []) told fits.notices in (
+          refl,
+          record {
+            last = b;
+            walked = skipped_lines content b;
+            fits = record { header = fits.header; index = fits.index; events = fits.events; notices = behind };
+            counts = counts;
+          },
+        )
 
-  pub section_walked :
-      (c : Context) (meaning : Section) (name : List ℕ) (opening : NumberedLine) (content : List NumberedLine)
-      (ending : NumberedLine) (notices : List Notice)
-      → Fits c (Titled
-      (record {
-        meaning = meaning;
-        name = name;
-        opening = opening;
-        content = content;
-        ending = ending;
-        notices =
-            notices;
-      }) ∷ blocks) p
-      → IsCounted c.header
-      → IsPassedOver meaning
-      (record {
-        meaning = meaning;
-        name = name;
-        opening = opening;
-        content = content;
-        ending = ending;
-        notices =
-            notices;
-      })
-      → (is_opened c meaning ≡ false) × IsWalked meaning (begun c opening.number meaning name) content blocks p
-  section_walked c section.Version name opening content ending notices fits counts over =
-      version_walked c name opening content ending notices fits counts over
-  section_walked c section.Project name opening content ending notices fits counts over =
-      project_walked c name opening content ending notices fits counts over
-  section_walked c section.System name opening content ending notices fits counts over =
-      system_walked c name opening content ending notices fits counts over
-  section_walked c section.Sequence name opening content ending notices fits counts over =
-      sequence_walked c name opening content ending notices fits counts over
-  section_walked c section.TrackList name opening content ending notices fits counts over =
-      track_list_walked c name opening content ending notices fits counts over
-  section_walked c section.SourceIndex name opening content ending notices fits counts over =
-      index_walked c name opening content ending notices fits counts
-  section_walked c section.EventList name opening content ending notices fits counts over =
-      events_walked c name opening content ending notices fits counts over
-  section_walked c section.Skipped name opening content ending notices fits counts over =
-      (refl, skipped_walked c name opening content ending notices fits counts over)
-  section_walked c section.Unsupported name opening content ending notices fits counts over =
-      (refl, unsupported_walked c name opening content ending notices fits counts over.0 over.1)
+    unsupported_walked :
+        Stands section.Unsupported → IsTrue (list_all is_empty (texts content)) → notices ≡ notice 1 opening ∷ []
+        → Walked section.Unsupported
+    unsupported_walked fits empty told =
+        let b = begun c opening.number section.Unsupported name in
+        let behind = told_behind (notice 1 opening ∷ []) told fits.notices in (
+          refl,
+          record {
+            last = b;
+            walked = unsupported_lines content b empty;
+            fits = record { header = fits.header; index = fits.index; events = fits.events; notices = behind };
+            counts = counts;
+          },
+        )
+
+    pub section_walked :
+        (s : Section) → Stands s → IsPassedOver s (titled s name opening content ending notices) → Walked s
+    section_walked section.Version fits over =
+        header_walked section.Version version_part fits over c.header.rates
+        (told_in-none section.Version (λ rates text. refl) c.header.rates (texts content)) counts.told
+    section_walked section.Project fits over =
+        header_walked section.Project project_part fits over c.header.rates
+        (told_in-none section.Project (λ rates text. refl) c.header.rates (texts content)) counts.told
+    section_walked section.System fits over = system_walked fits over
+    section_walked section.Sequence fits over = sequence_walked fits over
+    section_walked section.TrackList fits over =
+        header_walked section.TrackList track_list_part fits over c.header.rates
+        (told_in-none section.TrackList (λ rates text. refl) c.header.rates (texts content)) counts.told
+    section_walked section.SourceIndex fits over = index_walked fits
+    section_walked section.EventList fits over = events_walked fits over
+    section_walked section.Skipped fits over = skipped_walked fits over
+    section_walked section.Unsupported fits over = unsupported_walked fits over.0 over.1

@@ -3,6 +3,8 @@ use Rattle.std.proofs.Common.{◌≡◌, ℕ, ◌+◌, ◌≤◌, Bool, true, fa
 use Rattle.std.specs.Prelude.{codes, is_some, nat_le, not, ◌&&◌}
 use Rattle.std.specs.List.{list_all}
 use Rattle.std.proofs.lemmas.Bool.Decides.{nat_tests}
+use Rattle.facts.specs.Lists.{all_push}
+use Rattle.facts.specs.Tests.{and_both}
 use Rattle.list_terms.specs.declared.Rates.{Rates}
 use Rattle.list_terms.specs.declared.Section.TheVariants as section
 use Rattle.list_terms.specs.declared.TextFault.{TextFault}
@@ -10,39 +12,42 @@ use Rattle.list_terms.specs.declared.TextFault.TheVariants.{SectionMismatch}
 use Rattle.list_terms.specs.EntryLines.{system_line}
 use Rattle.list_terms.specs.Text.{HeaderRead, is_end, is_tag, keep, no_header, rates_with, sequence_rates, system_rates, with_text}
 use Rattle.list_terms.specs.Tokens.{trimmed}
-use Rattle.list_terms.specs.WholeProject.{is_kept, is_line_byte, is_system_line, lines_of_section, no_rates, told_rates}
+use Rattle.list_terms.specs.WholeProject.{are_kept, is_kept, is_line_byte, is_system_line, line_count, lines_of_section, no_rates, told_rates}
 use Rattle.adlread.specs.SoFar.{IsHeaderSoFar}
 
-pub and_left : (a b : Bool) → (a && b) ≡ true → a ≡ true
-and_left true b h = refl
-and_left false b h = h
-
-pub and_right : (a b : Bool) → (a && b) ≡ true → b ≡ true
-and_right true b h = h
-and_right false b h = absurd (cc)
-
-pub and_both : (a b : Bool) → a ≡ true → b ≡ true → (a && b) ≡ true
-and_both a b h k = rw (h, k) refl
-
-pub all_push :
-    {X :
-    Type 0} (test : X → Bool) (xs : List X) (x : X) → list_all test xs ≡ true → test x ≡ true → list_all test (xs ++ x ∷ []) ≡ true
-all_push test [] x h k = rw k refl
-all_push test (y ∷ xs) x h k =
-    rw (and_left (test y) (list_all test xs) h) (all_push test xs x (and_right (test y) (list_all test xs) h) k)
+-- the header is so, fact by fact
+so_far :
+    {header : HeaderRead} → let lines = header.lines in
+    are_kept (codes "VERSION") lines.version ≡ true → are_kept (codes "PROJECT") lines.project ≡ true
+    → are_kept (codes "SYSTEM") lines.system ≡ true → are_kept (codes "SEQUENCE") lines.sequence ≡ true
+    → are_kept (codes "TRACKLIST") lines.track_list ≡ true
+    → list_all is_system_line (lines_of_section lines.system) ≡ true
+    → told_rates no_rates (lines_of_section lines.sequence) ≡ Ok header.rates → line_count lines ≤ header.kept
+    → header.kept ≤ 65535 → IsHeaderSoFar header
+so_far v p s q t settings rates counted few = record {
+  version = v;
+  project = p;
+  system = s;
+  sequence = q;
+  track_list = t;
+  settings = settings;
+  rates = rates;
+  counted = counted;
+  few = few;
+}
 
 -- ---- one line more
 
 all_with :
-    (test :
-    List ℕ → Bool) (text : List ℕ) (lines : Option (List (List ℕ))) → list_all test (lines_of_section lines) ≡ true
+    (test : List ℕ → Bool) (text : List ℕ) (lines : Option (List (List ℕ)))
+    → list_all test (lines_of_section lines) ≡ true
     → test text ≡ true → list_all test (lines_of_section (with_text text lines)) ≡ true
 all_with test text None h k = refl
 all_with test text (Some front) h k = all_push test front text h k
 
 length_with :
-    (text :
-    List ℕ) (lines : Option (List (List ℕ))) → length (lines_of_section (with_text text lines)) ≤ length (lines_of_section lines) + 1
+    (text : List ℕ) (lines : Option (List (List ℕ)))
+    → length (lines_of_section (with_text text lines)) ≤ length (lines_of_section lines) + 1
 length_with text None = omega arith
 length_with text (Some front) = omega (arith, length-append front (text ∷ []))
 
@@ -80,94 +85,66 @@ system_rates-says :
     (rates told : Rates) (text : List ℕ) → system_rates 25 rates text ≡ Ok told → SaysNothing rates told text
 system_rates-says rates told text h = by_parts (is_tag text) refl (system_line 25 text) refl where
   by_parts :
-      (tag :
-      Bool) → is_tag text ≡ tag → (said : Result (Unit {0}) TextFault) → system_line 25 text ≡ said → SaysNothing rates told text
+      (tag : Bool) → is_tag text ≡ tag → (said : Result (Unit {0}) TextFault) → system_line 25 text ≡ said
+      → SaysNothing rates told text
   by_parts true t said s = let f : system_rates 25 rates text ≡ Err SectionMismatch = rw t refl in absurd (cc)
   by_parts false t (Err fault) s = let f : system_rates 25 rates text ≡ Err fault = rw (t, s) refl in absurd (cc)
   by_parts false t (Ok said) s =
       let f : system_rates 25 rates text ≡ Ok rates = rw (t, s) refl in
       record { same = cc; line = rw (t, s) refl }
 
-module _ (header : HeaderRead) (is : IsHeaderSoFar header) (text : List ℕ) (told : Rates) (room : nat_le 65535 header.kept ≡ false) where
+module _ (header : HeaderRead) (is : IsHeaderSoFar header) (text : List ℕ) (told : Rates)
+    (room : nat_le 65535 header.kept ≡ false) where
   room_for_one : header.kept + 1 ≤ 65535
   room_for_one = grind (arith, nat_tests)
 
   pub with_version :
       is_kept (codes "VERSION") text ≡ true → rates_with 25 section.Version header.rates text ≡ Ok told
       → IsHeaderSoFar (record { lines = keep section.Version text header.lines; kept = header.kept + 1; rates = told })
-  with_version kept says = record {
-    version = all_with (is_kept (codes "VERSION")) text header.lines.version is.version kept;
-    project = is.project;
-    system = is.system;
-    sequence = is.sequence;
-    track_list = is.track_list;
-    settings = is.settings;
-    rates = is.rates ∙ says;
-    counted = omega (arith, length_with text header.lines.version, is.counted);
-    few = room_for_one;
-  }
+  with_version kept says =
+      so_far (all_with (is_kept (codes "VERSION")) text header.lines.version is.version kept)
+      is.project is.system is.sequence is.track_list is.settings (is.rates ∙ says)
+      (omega (arith, length_with text header.lines.version, is.counted)) room_for_one
 
   pub with_project :
       is_kept (codes "PROJECT") text ≡ true → rates_with 25 section.Project header.rates text ≡ Ok told
       → IsHeaderSoFar (record { lines = keep section.Project text header.lines; kept = header.kept + 1; rates = told })
-  with_project kept says = record {
-    version = is.version;
-    project = all_with (is_kept (codes "PROJECT")) text header.lines.project is.project kept;
-    system = is.system;
-    sequence = is.sequence;
-    track_list = is.track_list;
-    settings = is.settings;
-    rates = is.rates ∙ says;
-    counted = omega (arith, length_with text header.lines.project, is.counted);
-    few = room_for_one;
-  }
+  with_project kept says =
+      so_far is.version (all_with (is_kept (codes "PROJECT")) text header.lines.project is.project kept)
+      is.system is.sequence is.track_list is.settings (is.rates ∙ says)
+      (omega (arith, length_with text header.lines.project, is.counted)) room_for_one
 
   pub with_system :
       is_kept (codes "SYSTEM") text ≡ true → rates_with 25 section.System header.rates text ≡ Ok told
       → IsHeaderSoFar (record { lines = keep section.System text header.lines; kept = header.kept + 1; rates = told })
   with_system kept says =
       let nothing = system_rates-says header.rates told text says in
-      record {
-        version = is.version;
-        project = is.project;
-        system = all_with (is_kept (codes "SYSTEM")) text header.lines.system is.system kept;
-        sequence = is.sequence;
-        track_list = is.track_list;
-        settings = all_with is_system_line text header.lines.system is.settings nothing.line;
-        rates = is.rates ∙ ap (λ (r : Rates). let x : Result Rates TextFault = Ok r in x) nothing.same;
-        counted = omega (arith, length_with text header.lines.system, is.counted);
-        few = room_for_one;
-      }
+      so_far is.version is.project (all_with (is_kept (codes "SYSTEM")) text header.lines.system is.system kept)
+      is.sequence is.track_list (all_with is_system_line text header.lines.system is.settings nothing.line)
+      (is.rates ∙ ap (λ (r : Rates). let x : Result Rates TextFault = Ok r in x) nothing.same)
+      (omega (arith, length_with text header.lines.system, is.counted)) room_for_one
 
   pub with_sequence :
-      is_some header.lines.sequence ≡ true → is_kept (codes "SEQUENCE") text ≡ true → rates_with 25 section.Sequence header.rates text ≡ Ok told
+      is_some header.lines.sequence ≡ true → is_kept (codes "SEQUENCE") text ≡ true
+      → rates_with 25 section.Sequence header.rates text ≡ Ok told
       → IsHeaderSoFar (record { lines = keep section.Sequence text header.lines; kept = header.kept + 1; rates = told })
-  with_sequence there kept says = record {
-    version = is.version;
-    project = is.project;
-    system = is.system;
-    sequence = all_with (is_kept (codes "SEQUENCE")) text header.lines.sequence is.sequence kept;
-    track_list = is.track_list;
-    settings = is.settings;
-    rates = told_with header.rates told header.lines.sequence text there is.rates says;
-    counted = omega (arith, length_with text header.lines.sequence, is.counted);
-    few = room_for_one;
-  }
+  with_sequence there kept says =
+      so_far is.version is.project is.system (all_with (is_kept (codes "SEQUENCE"))
+      text header.lines.sequence is.sequence kept) is.track_list is.settings
+      (told_with header.rates told header.lines.sequence text there is.rates says)
+      (omega (arith, length_with text header.lines.sequence, is.counted)) room_for_one
 
   pub with_track_list :
       is_kept (codes "TRACKLIST") text ≡ true → rates_with 25 section.TrackList header.rates text ≡ Ok told
-      → IsHeaderSoFar (record { lines = keep section.TrackList text header.lines; kept = header.kept + 1; rates = told })
-  with_track_list kept says = record {
-    version = is.version;
-    project = is.project;
-    system = is.system;
-    sequence = is.sequence;
-    track_list = all_with (is_kept (codes "TRACKLIST")) text header.lines.track_list is.track_list kept;
-    settings = is.settings;
-    rates = is.rates ∙ says;
-    counted = omega (arith, length_with text header.lines.track_list, is.counted);
-    few = room_for_one;
-  }
+      → IsHeaderSoFar (record {
+        lines = keep section.TrackList text header.lines;
+        kept = header.kept + 1;
+        rates = told;
+      })
+  with_track_list kept says =
+      so_far is.version is.project is.system is.sequence
+      (all_with (is_kept (codes "TRACKLIST")) text header.lines.track_list is.track_list kept) is.settings
+      (is.rates ∙ says) (omega (arith, length_with text header.lines.track_list, is.counted)) room_for_one
 
 -- ---- one section more
 
@@ -177,80 +154,28 @@ nothing_told (Some lines) h = absurd (cc)
 
 module _ (header : HeaderRead) (is : IsHeaderSoFar header) where
   pub opens_version : IsHeaderSoFar (record header { lines = record header.lines { version = Some [] } })
-  opens_version = record {
-    version = refl;
-    project = is.project;
-    system = is.system;
-    sequence = is.sequence;
-    track_list = is.track_list;
-    settings = is.settings;
-    rates = is.rates;
-    counted = omega (arith, is.counted);
-    few = is.few;
-  }
+  opens_version =
+      so_far refl is.project is.system is.sequence is.track_list is.settings is.rates (omega (arith, is.counted)) is.few
 
   pub opens_project : IsHeaderSoFar (record header { lines = record header.lines { project = Some [] } })
-  opens_project = record {
-    version = is.version;
-    project = refl;
-    system = is.system;
-    sequence = is.sequence;
-    track_list = is.track_list;
-    settings = is.settings;
-    rates = is.rates;
-    counted = omega (arith, is.counted);
-    few = is.few;
-  }
+  opens_project =
+      so_far is.version refl is.system is.sequence is.track_list is.settings is.rates (omega (arith, is.counted)) is.few
 
   pub opens_system : IsHeaderSoFar (record header { lines = record header.lines { system = Some [] } })
-  opens_system = record {
-    version = is.version;
-    project = is.project;
-    system = refl;
-    sequence = is.sequence;
-    track_list = is.track_list;
-    settings = refl;
-    rates = is.rates;
-    counted = omega (arith, is.counted);
-    few = is.few;
-  }
+  opens_system =
+      so_far is.version is.project refl is.sequence is.track_list refl is.rates (omega (arith, is.counted)) is.few
 
   pub opens_sequence :
-      is_some header.lines.sequence ≡ false → IsHeaderSoFar (record header { lines = record header.lines { sequence = Some [] } })
-  opens_sequence new = record {
-    version = is.version;
-    project = is.project;
-    system = is.system;
-    sequence = refl;
-    track_list = is.track_list;
-    settings = is.settings;
-    rates = ap (told_rates no_rates) (sym (nothing_told header.lines.sequence new)) ∙ is.rates;
-    counted = omega (arith, is.counted);
-    few = is.few;
-  }
+      is_some header.lines.sequence ≡ false
+      → IsHeaderSoFar (record header { lines = record header.lines { sequence = Some [] } })
+  opens_sequence new =
+      so_far is.version is.project is.system refl is.track_list is.settings
+      (ap (told_rates no_rates) (sym (nothing_told header.lines.sequence new)) ∙ is.rates) (omega (arith, is.counted))
+      is.few
 
   pub opens_track_list : IsHeaderSoFar (record header { lines = record header.lines { track_list = Some [] } })
-  opens_track_list = record {
-    version = is.version;
-    project = is.project;
-    system = is.system;
-    sequence = is.sequence;
-    track_list = refl;
-    settings = is.settings;
-    rates = is.rates;
-    counted = omega (arith, is.counted);
-    few = is.few;
-  }
+  opens_track_list =
+      so_far is.version is.project is.system is.sequence refl is.settings is.rates (omega (arith, is.counted)) is.few
 
 pub IsHeaderSoFar-none : IsHeaderSoFar no_header
-IsHeaderSoFar-none = record {
-  version = refl;
-  project = refl;
-  system = refl;
-  sequence = refl;
-  track_list = refl;
-  settings = refl;
-  rates = refl;
-  counted = omega arith;
-  few = omega arith;
-}
+IsHeaderSoFar-none = so_far refl refl refl refl refl refl refl (omega arith) (omega arith)

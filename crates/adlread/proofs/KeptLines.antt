@@ -1,129 +1,37 @@
 -- The lines of a section that is kept: each of them, in their order.
-use Rattle.std.proofs.Common.{◌≡◌, ℕ, ◌+◌, ◌≤◌, Bool, true, false, List, [], ◌∷◌, ◌++◌, length, Some, Result, Ok, Err, refl, ap, sym, ◌∙◌, append_assoc, arith}
-use Rattle.std.specs.Prelude.{nat_le, not, is_ok}
-use Rattle.std.specs.List.{list_all}
+use Rattle.std.proofs.Common.{◌≡◌, ℕ, ◌+◌, ◌≤◌, false, List, [], ◌∷◌, ◌++◌, length, Some, Result, Ok, refl, ap, sym, ◌∙◌, append_assoc, arith}
+use Rattle.std.specs.Prelude.{nat_le}
 use Rattle.std.proofs.lemmas.Bool.Decides.{nat_tests}
 use Rattle.std.proofs.lemmas.List.{append-nil}
 use Rattle.list_terms.specs.declared.Rates.{Rates}
 use Rattle.list_terms.specs.declared.Section.{Section}
-use Rattle.list_terms.specs.declared.Section.TheVariants as section
 use Rattle.list_terms.specs.declared.TextFault.{TextFault}
 use Rattle.list_terms.specs.declared.TextFault.TheVariants.{TooMany}
 use Rattle.list_terms.specs.Project.{Header}
-use Rattle.list_terms.specs.Steps.{◌>>=◌}
-use Rattle.list_terms.specs.EntryLines.{system_line}
-use Rattle.list_terms.specs.Text.{Context, HeaderRead, at_line, in_header, in_section, is_tag, keep, kept_line, rates_with, sequence_rates, system_rates}
-use Rattle.list_terms.specs.WholeProject.{is_system_line, told_rates}
+use Rattle.list_terms.specs.HeaderLaws.{IsKept, put_lines, told_in}
+use Rattle.list_terms.specs.Text.{Context, HeaderRead, at_line, in_header, in_section, keep, kept_line, rates_with}
 use Rattle.adlread.specs.CutLines.{NumberedLine, texts}
 use Rattle.adlread.proofs.FieldLaws.{chain, err_map_ok, ok_map_ok, ok_same, unless_ok}
-use Rattle.adlread.proofs.HeaderSoFar.{and_left, and_right}
 use Rattle.adlread.proofs.Walk.{walk, walk_step}
 
 abbrev pub with_header : Context → HeaderRead → Context
 with_header c header = record c { header = header }
-
--- the rates that lines of this section tell behind others
-abbrev pub told_in : Section → Rates → List (List ℕ) → Result Rates TextFault
-told_in s rates [] = Ok rates
-told_in s rates (text ∷ lines) = rates_with 25 s rates text >>= (λ next. told_in s next lines)
 
 -- the header with these lines more
 abbrev pub keep_all : Section → List (List ℕ) → Header → Header
 keep_all s [] h = h
 keep_all s (text ∷ lines) h = keep_all s lines (keep s text h)
 
--- ---- the sections
-
-module _ (h : Header) where
-  pub keep_all-version : (front lines : List (List ℕ))
-      → keep_all section.Version lines (record h { version = Some front })
-      ≡ record h { version = Some (front ++ lines) }
-  keep_all-version front [] = ap (λ ls. record h { version = Some ls }) (sym (append-nil front))
-  keep_all-version front (t ∷ lines) =
-      keep_all-version (front ++ t ∷ []) lines
-      ∙ ap (λ ls. record h { version = Some ls }) (append_assoc front (t ∷ []) lines)
-
-  pub keep_all-project : (front lines : List (List ℕ))
-      → keep_all section.Project lines (record h { project = Some front })
-      ≡ record h { project = Some (front ++ lines) }
-  keep_all-project front [] = ap (λ ls. record h { project = Some ls }) (sym (append-nil front))
-  keep_all-project front (t ∷ lines) =
-      keep_all-project (front ++ t ∷ []) lines
-      ∙ ap (λ ls. record h { project = Some ls }) (append_assoc front (t ∷ []) lines)
-
-  pub keep_all-system : (front lines : List (List ℕ))
-      → keep_all section.System lines (record h { system = Some front }) ≡ record h { system = Some (front ++ lines) }
-  keep_all-system front [] = ap (λ ls. record h { system = Some ls }) (sym (append-nil front))
-  keep_all-system front (t ∷ lines) =
-      keep_all-system (front ++ t ∷ []) lines
-      ∙ ap (λ ls. record h { system = Some ls }) (append_assoc front (t ∷ []) lines)
-
-  pub keep_all-sequence : (front lines : List (List ℕ))
-      → keep_all section.Sequence lines (record h { sequence = Some front })
-      ≡ record h { sequence = Some (front ++ lines) }
-  keep_all-sequence front [] = ap (λ ls. record h { sequence = Some ls }) (sym (append-nil front))
-  keep_all-sequence front (t ∷ lines) =
-      keep_all-sequence (front ++ t ∷ []) lines
-      ∙ ap (λ ls. record h { sequence = Some ls }) (append_assoc front (t ∷ []) lines)
-
-  pub keep_all-track_list : (front lines : List (List ℕ))
-      → keep_all section.TrackList lines (record h { track_list = Some front })
-      ≡ record h { track_list = Some (front ++ lines) }
-  keep_all-track_list front [] = ap (λ ls. record h { track_list = Some ls }) (sym (append-nil front))
-  keep_all-track_list front (t ∷ lines) =
-      keep_all-track_list (front ++ t ∷ []) lines
-      ∙ ap (λ ls. record h { track_list = Some ls }) (append_assoc front (t ∷ []) lines)
-
--- ---- what they tell
-
-pub told_in-version : (rates : Rates) (lines : List (List ℕ)) → told_in section.Version rates lines ≡ Ok rates
-told_in-version rates [] = refl
-told_in-version rates (t ∷ lines) = told_in-version rates lines
-
-pub told_in-project : (rates : Rates) (lines : List (List ℕ)) → told_in section.Project rates lines ≡ Ok rates
-told_in-project rates [] = refl
-told_in-project rates (t ∷ lines) = told_in-project rates lines
-
-pub told_in-track_list : (rates : Rates) (lines : List (List ℕ)) → told_in section.TrackList rates lines ≡ Ok rates
-told_in-track_list rates [] = refl
-told_in-track_list rates (t ∷ lines) = told_in-track_list rates lines
-
-system_line_told : (rates : Rates) (text : List ℕ) → is_system_line text ≡ true → system_rates 25 rates text ≡ Ok rates
-system_line_told rates text h =
-    by_parts (is_tag text) refl (system_line 25 text) refl (and_left (not (is_tag text)) _ h)
-    (and_right (not (is_tag text)) _ h) where
-      by_parts :
-          (tag : Bool) → is_tag text ≡ tag → (said : Result (Unit {0}) TextFault) → system_line 25 text ≡ said
-          → not (is_tag text) ≡ true → is_ok (system_line 25 text) ≡ true → system_rates 25 rates text ≡ Ok rates
-      by_parts true t said s untagged ok = let f : false ≡ true = rw t at untagged in absurd (cc)
-      by_parts false t (Err fault) s untagged ok = let f : false ≡ true = rw s at ok in absurd (cc)
-      by_parts false t (Ok said) s untagged ok = rw (t, s) refl
-
-pub told_in-system :
-    (rates : Rates) (lines : List (List ℕ)) → list_all is_system_line lines ≡ true
-    → told_in section.System rates lines ≡ Ok rates
-told_in-system rates [] h = refl
-told_in-system rates (text ∷ lines) h =
-    rw (system_line_told rates text (and_left (is_system_line text) (list_all is_system_line lines) h))
-    (told_in-system rates lines (and_right (is_system_line text) (list_all is_system_line lines) h))
-
-pub told_in-sequence :
-    (rates : Rates) (lines : List (List ℕ)) → told_in section.Sequence rates lines ≡ told_rates rates lines
-told_in-sequence rates [] = refl
-told_in-sequence rates (text ∷ lines) =
-    by_first (sequence_rates rates text) refl (λ next. told_in-sequence next lines) where
-      by_first :
-          (first : Result Rates TextFault) → sequence_rates rates text ≡ first
-          → ((next : Rates) → told_in section.Sequence next lines ≡ told_rates next lines)
-          → told_in section.Sequence rates (text ∷ lines) ≡ told_rates rates (text ∷ lines)
-      by_first (Ok next) e ih = rw e (ih next)
-      by_first (Err fault) e ih = rw e refl
+pub keep_all-put :
+    (s : Section) → IsKept s → (h : Header) (front lines : List (List ℕ))
+    → keep_all s lines (put_lines s (Some front) h) ≡ put_lines s (Some (front ++ lines)) h
+keep_all-put s kept h front [] = ap (λ ls. put_lines s (Some ls) h) (sym (append-nil front))
+keep_all-put s kept h front (t ∷ lines) =
+    ap (keep_all s lines) (kept.keeps h front t)
+    ∙ (keep_all-put s kept h (front ++ t ∷ []) lines
+    ∙ ap (λ ls. put_lines s (Some ls) h) (append_assoc front (t ∷ []) lines))
 
 -- ---- the lines, as they are read
-
--- the lines of this section are those of a header
-abbrev pub IsKept : Section → Type 0
-IsKept s = (c : Context) (n : ℕ) (text : List ℕ) → in_section 25 c n text s ≡ in_header 25 c n text s
 
 header_line_read :
     (s : Section) (c : Context) (n : ℕ) (text : List ℕ) (told : Rates) → nat_le 65535 c.header.kept ≡ false
@@ -148,7 +56,7 @@ read_header s same (line ∷ lines) c told count counted few e =
     let next = with_header c
     (record { lines = keep s line.text c.header.lines; kept = c.header.kept + 1; rates = first.value }) in
     walk_step s c next line lines
-    (same c line.number line.text ∙ header_line_read s c line.number line.text first.value under first.is)
+    (same.read c line.number line.text ∙ header_line_read s c line.number line.text first.value under first.is)
     ∙ read_header s same lines next told count (omega arith) few first.others
 
 -- ---- the lines that were read
@@ -189,7 +97,13 @@ with_first :
     (s : Section) (c middle next : Context) (text : List ℕ) (lines : List (List ℕ)) → IsHeaderLine s c middle text
     → AreHeaderLines s middle next lines → AreHeaderLines s c next (text ∷ lines)
 with_first s c middle next text lines f r =
-    record { kept = r.kept; rates = r.rates; is = r.is ∙ ap (λ m. with_header m (record { lines = keep_all s lines m.header.lines; kept = r.kept; rates = r.rates })) f.is }
+    record {
+      kept = r.kept;
+      rates = r.rates;
+      is = r.is
+          ∙ ap (λ m. with_header m (record { lines = keep_all s lines m.header.lines; kept = r.kept; rates = r.rates }))
+          f.is;
+    }
 
 pub header_is_read :
     (s : Section) → IsKept s → (lines : List NumberedLine) (c next : Context) → walk s c lines ≡ Ok next
@@ -198,5 +112,5 @@ header_is_read s same [] c next e = record { kept = c.header.kept; rates = c.hea
 header_is_read s same (line ∷ lines) c next e =
     let f = chain (in_section 25 c line.number line.text s) (λ m. walk s m lines) next e in
     with_first s c f.value next line.text (texts lines)
-    (header_line_is s c f.value line.number line.text (sym (same c line.number line.text) ∙ f.is))
+    (header_line_is s c f.value line.number line.text (sym (same.read c line.number line.text) ∙ f.is))
     (header_is_read s same lines f.value next f.others)

@@ -3,10 +3,10 @@ use Rattle.std.proofs.Common.{◌≡◌, ℕ, true, false, List, ap, ◌∙◌}
 use Rattle.std.specs.Prelude.{bytes_eq}
 use Rattle.std.specs.Str.{str_to_ascii_lowercase}
 use Rattle.std.proofs.lemmas.Slice.Eq.{bytes_eq-Decides}
+use Rattle.std.proofs.Math.Bool.{and-false}
+use Rattle.facts.specs.Tests.{and_right}
 use Rattle.list_terms.specs.Tokens.{TokenText}
 use Rattle.list_terms.specs.Fields.{is_keyword, is_same_name}
-use Rattle.adlread.proofs.Tests.{and_false}
-use Rattle.adlread.proofs.HeaderSoFar.{and_right}
 
 -- names that differ but for case
 pub other_keyword :
@@ -19,4 +19,4 @@ other_keyword name other token differ is =
     (bytes_eq-Decides lower (str_to_ascii_lowercase name)).0 (and_right _ (is_same_name token.content name) is) in
     let no : is_same_name token.content other ≡ false = ap (λ t. bytes_eq t (str_to_ascii_lowercase other)) same
     ∙ differ in
-    rw no (and_false _)
+    rw no (and-false _)

@@ -1,6 +1,5 @@
 pub mod Blocks
 pub mod CutLaws
-pub mod Distinct
 pub mod EntryTexts
 pub mod EventLines
 pub mod FieldLaws
@@ -19,7 +18,6 @@ pub mod SourceTexts
 pub mod SourceLines
 pub mod SpelledLists
 pub mod Stages
-pub mod Tests
 pub mod TokenRun
 pub mod Walk
 pub mod WalkedSections

@@ -3,10 +3,10 @@ use Rattle.std.proofs.Common.{◌≡◌, ℕ, Bool, true, false, List, [], ◌�
 use Rattle.std.specs.Prelude.{map, ◌==◌}
 use Rattle.std.specs.List.{list_all, onto_first}
 use Rattle.std.proofs.lemmas.Bool.Decides.{nat_tests}
+use Rattle.facts.specs.Tests.{and_both, and_left, and_right}
 use Rattle.list_terms.specs.Lines.{cut_lines, lines_of, without_cr, without_mark}
 use Rattle.list_terms.specs.WholeProject.{is_line_byte}
 use Rattle.adlread.specs.CutLines.{EndedPart, HasLines, HasParts, LastPart, NoPart}
-use Rattle.adlread.proofs.HeaderSoFar.{and_both, and_left, and_right}
 
 no_end : (byte : ℕ) → is_line_byte byte ≡ true → (byte == 10) ≡ false
 no_end byte h = grind (arith, nat_tests)

@@ -7,13 +7,13 @@ use Rattle.std.proofs.lemmas.Bool.Decides.{nat_tests}
 use Rattle.std.proofs.lemmas.Fmt.{decimal_digit, decimal_nonempty, decimal_step}
 use Rattle.std.proofs.lemmas.List.{append-nil}
 use Rattle.std.proofs.lemmas.List.Sums.{fold-append}
+use Rattle.facts.specs.Tests.{and_both, and_left, and_right}
+use Rattle.facts.specs.Prefixes.{take_more}
 use Rattle.sampletime.specs.TimeCode.{is_digit}
 use Rattle.sound_terms.specs.declared.Channels.{Channels}
 use Rattle.list_terms.specs.Fields.{are_digits, channel_range, channels_of, is_tilde, number_up_to, spelled}
 use Rattle.list_terms.specs.Names.{behind_byte}
-use Rattle.list_terms.specs.TokenLaws.{take_more}
 use Rattle.adlread.specs.LineGrammar.{ChannelRun, IsNumber, OneChannel, SpellsChannels}
-use Rattle.adlread.proofs.HeaderSoFar.{and_both, and_left, and_right}
 
 -- one digit more
 abbrev with_digit : ℕ → ℕ → ℕ
@@ -111,7 +111,11 @@ record Prints (n : ℕ) : Type 0 where
 one_digit : (n : ℕ) → n < 10 → Prints n
 one_digit n one =
     let is = decimal_digit n one in
-    record { value = ap spelled is ∙ omega arith; digits = ap (list_all is_digit) is ∙ and_both (is_digit (48 + n)) true (is_one_digit n one) refl }
+    record {
+      value = ap spelled is ∙ omega arith;
+      digits = ap (list_all is_digit) is
+          ∙ and_both (is_digit (48 + n)) true (is_one_digit n one) refl;
+    }
 
 one_more : (n : ℕ) → 10 ≤ n → n ≤ 32767 → Prints (n / 10) → Prints n
 one_more n more small front =

@@ -11,7 +11,8 @@ use Rattle.list_terms.specs.Text.{is_end, is_unsupported, section_of, tag_of}
 -- the section that these tests choose
 abbrev chosen : (a b c d e f g h : Bool) → Section
 chosen a b c d e f g h =
-    if a then section.Version else if b then section.Project else if c then section.System else if d then section.Sequence
+    if a then section.Version else if b then section.Project else if c then section.System else if d
+    then section.Sequence
     else if e then section.TrackList else if f then section.SourceIndex else if g then section.EventList
     else if h then section.Unsupported else section.Skipped
 
@@ -39,14 +40,18 @@ passed false false false false false false false true = tt
 passed false false false false false false false false = tt
 
 abbrev PassedBy : List ℕ → Section → Type 0
-PassedBy name = Passed (is_same_name name (codes "VERSION")) (is_same_name name (codes "PROJECT")) (is_same_name name (codes "SYSTEM"))
+PassedBy name =
+    Passed (is_same_name name (codes "VERSION")) (is_same_name name (codes "PROJECT"))
+    (is_same_name name (codes "SYSTEM"))
     (is_same_name name (codes "SEQUENCE")) (is_same_name name (codes "TRACKLIST"))
 
 passed_by_name : (name : List ℕ) → PassedBy name (section_of name)
 unfolding section_of
 passed_by_name name =
-    passed (is_same_name name (codes "VERSION")) (is_same_name name (codes "PROJECT")) (is_same_name name (codes "SYSTEM"))
-    (is_same_name name (codes "SEQUENCE")) (is_same_name name (codes "TRACKLIST")) (is_same_name name (codes "SOURCE_INDEX"))
+    passed (is_same_name name (codes "VERSION")) (is_same_name name (codes "PROJECT"))
+    (is_same_name name (codes "SYSTEM"))
+    (is_same_name name (codes "SEQUENCE")) (is_same_name name (codes "TRACKLIST"))
+    (is_same_name name (codes "SOURCE_INDEX"))
     (is_same_name name (codes "EVENT_LIST")) (is_unsupported name)
 
 passed_as : (name : List ℕ) (s : Section) → section_of name ≡ s → PassedBy name s

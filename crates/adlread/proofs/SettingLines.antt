@@ -2,6 +2,9 @@
 use Rattle.std.proofs.Common.{◌≡◌, ℕ, Bool, true, false, List, [], ◌∷◌, Option, None, Some, Result, Ok, Err, refl, ap, sym, ◌∙◌}
 use Rattle.std.specs.Prelude.{codes, if◌then◌else◌, is_ok, not, ◌||◌}
 use Rattle.std.specs.List.{list_all, list_any}
+use Rattle.std.proofs.lemmas.Bool.{not-true}
+use Rattle.std.proofs.Math.Bool.{or-false, or-true, or_assoc}
+use Rattle.facts.specs.Tests.{and_both, and_left, and_right}
 use Rattle.list_terms.specs.declared.Rates.{Rates}
 use Rattle.list_terms.specs.declared.TextFault.{TextFault}
 use Rattle.list_terms.specs.declared.TextFault.TheVariants.{SectionMismatch, Unsupported, WrongSequence}
@@ -14,8 +17,6 @@ use Rattle.adlread.specs.CutLines.{CutsTo, HasTokens, HaveTokens, NextLine, NoLi
 use Rattle.adlread.specs.LineGrammar.{AreSettings, TellRates, begins, has_first, is_sequence, is_system, may_have_first}
 use Rattle.adlread.proofs.CutLaws.{cut_next, cut_none, first_cut, no_cut}
 use Rattle.adlread.proofs.FieldLaws.{at_field, chain, end_is, field_at, is_end_of, ok_same}
-use Rattle.adlread.proofs.HeaderSoFar.{and_both, and_left, and_right}
-use Rattle.adlread.proofs.Tests.{not_true}
 use Rattle.adlread.proofs.Keywords.{other_keyword}
 
 -- ---- SYSTEM
@@ -140,7 +141,7 @@ settings_are (line ∷ lines) all =
       tokens = s.tokens ∷ others.tokens;
       cut =
           NextLine (record {
-            untagged = not_true (is_tag line)
+            untagged = not-true (is_tag line)
                 (and_left (not (is_tag line)) (is_ok (system_line 25 line)) first);
             cut = s.cut;
           }) others.cut;
@@ -171,7 +172,11 @@ rate_is known line e =
           → IsCutAs line (λ tokens. has_first known tokens ≡ true)
       by_test cut at true k o =
           let further = end_is cut.1 (rw k at o) in
-          record { tokens = cut.0 ∷ further.tokens; cut = cut_next line cut.1 cut.0 further.tokens at further.cut; holds = k }
+          record {
+            tokens = cut.0 ∷ further.tokens;
+            cut = cut_next line cut.1 cut.0 further.tokens at further.cut;
+            holds = k;
+          }
       by_test cut at false k o =
           absurd (let no : ◌≡◌ {A = Result (Unit {0}) TextFault} (Err WrongSequence) (Ok tt) = rw k at o in cc)
 
@@ -180,29 +185,17 @@ abbrev joined : Rates → (sample_rate frame_rate : Bool) → Rates
 joined rates sample_rate frame_rate =
     record { sample_rate = rates.sample_rate || sample_rate; frame_rate = rates.frame_rate || frame_rate }
 
-or_false : (a : Bool) → (a || false) ≡ a
-or_false true = refl
-or_false false = refl
-
-or_true : (a : Bool) → (a || true) ≡ true
-or_true true = refl
-or_true false = refl
-
-or_more : (a b c : Bool) → ((a || b) || c) ≡ (a || (b || c))
-or_more true b c = refl
-or_more false b c = refl
-
 joined-none : (rates : Rates) → joined rates false false ≡ rates
-joined-none rates = rw (or_false rates.sample_rate, or_false rates.frame_rate) refl
+joined-none rates = rw (or-false rates.sample_rate, or-false rates.frame_rate) refl
 
 joined-sample : (rates : Rates) → joined rates true false ≡ record rates { sample_rate = true }
-joined-sample rates = rw (or_true rates.sample_rate, or_false rates.frame_rate) refl
+joined-sample rates = rw (or-true rates.sample_rate, or-false rates.frame_rate) refl
 
 joined-frame : (rates : Rates) → joined rates false true ≡ record rates { frame_rate = true }
-joined-frame rates = rw (or_false rates.sample_rate, or_true rates.frame_rate) refl
+joined-frame rates = rw (or-false rates.sample_rate, or-true rates.frame_rate) refl
 
 joined-more : (rates : Rates) (a b c d : Bool) → joined (joined rates a b) c d ≡ joined rates (a || c) (b || d)
-joined-more rates a b c d = rw (or_more rates.sample_rate a c, or_more rates.frame_rate b d) refl
+joined-more rates a b c d = rw (or_assoc rates.sample_rate a c, or_assoc rates.frame_rate b d) refl
 
 abbrev tells_sample_rate : List TokenText → Bool
 tells_sample_rate tokens = begins (codes "SEQ_SAMPLE_RATE") tokens
@@ -248,8 +241,7 @@ rates_read (NextLine {line} {tokens} {lines} {others} h more) all rates =
     (and_left (is_sequence tokens) (list_all is_sequence others) all) in
     let next = joined rates (tells_sample_rate tokens) (tells_frame_rate tokens) in
     let later = rates_read more (and_right (is_sequence tokens) (list_all is_sequence others) all) next in
-    rw first (later
-    ∙ ap Ok (joined-more rates (tells_sample_rate tokens) (tells_frame_rate tokens)
+    rw first (later ∙ ap Ok (joined-more rates (tells_sample_rate tokens) (tells_frame_rate tokens)
     (list_any tells_sample_rate others) (list_any tells_frame_rate others)))
 
 -- both rates are told

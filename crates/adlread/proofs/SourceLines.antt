@@ -3,6 +3,8 @@ use Rattle.std.proofs.Common.{◌≡◌, ℕ, Bool, true, false, List, [], ◌�
 use Rattle.std.specs.Prelude.{is_some, codes, if◌then◌else◌, ◌==◌, not}
 use Rattle.std.specs.List.{list_any}
 use Rattle.std.proofs.lemmas.List.{append-nil}
+use Rattle.std.proofs.lemmas.Bool.{not-true}
+use Rattle.facts.specs.Distinct.{moved, not_taken}
 use Rattle.list_terms.specs.declared.Notice.{Notice}
 use Rattle.list_terms.specs.declared.Section.TheVariants as section
 use Rattle.list_terms.specs.declared.TextFault.{TextFault}
@@ -21,9 +23,7 @@ use Rattle.adlread.specs.Spells.{BlankLine, DroppedLine, SourceLine, SourcesEnd,
 use Rattle.adlread.specs.LineGrammar.{IsLineOf, SpellsSource, is_no_source}
 use Rattle.adlread.proofs.CutLaws.{cut_next, cut_none, first_cut, no_cut}
 use Rattle.adlread.proofs.Numbered.{distinct-push}
-use Rattle.adlread.proofs.Tests.{not_true}
 use Rattle.adlread.proofs.Walk.{walk, walk_step}
-use Rattle.adlread.proofs.Distinct.{moved, not_taken}
 use Rattle.adlread.proofs.FieldLaws.{IsField, IsImage, at_field, chain, checked_is, err_map_ok, ok_map_ok, end_is, field_at, if_ok, ok_same, unless_ok, is_checked, is_end_of, is_number, number_is, optional_time_told, told_optional_time}
 
 url_is : (line : List ℕ) (g : List ℕ × List ℕ) → url_field line ≡ Ok g
@@ -167,7 +167,7 @@ module _ (c : Context) (n : ℕ) (text : List ℕ) where
   dropped_source_line [] h other = absurd (cc)
   dropped_source_line (token ∷ tokens) h other =
       let f = first_cut h.cut in
-      rw (h.untagged, f.at, not_true (is_keyword (codes "Index") token) other, is_end_of f.rest tokens f.cut) refl
+      rw (h.untagged, f.at, not-true (is_keyword (codes "Index") token) other, is_end_of f.rest tokens f.cut) refl
 
 -- what a line that is read says
 data IsSourceLine (c : Context) (n : ℕ) (text : List ℕ) : Context → Type 0 where
@@ -309,7 +309,13 @@ with_line :
     → IsSourceLine c line.number line.text middle
     → AreReadSources lines middle next → AreReadSources (line ∷ lines) c next
 with_line line lines c middle next (Blank h) r =
-    record { sources = r.sources; dropped = r.dropped; spells = BlankLine line h r.spells; is = r.is; distinct = r.distinct }
+    record {
+      sources = r.sources;
+      dropped = r.dropped;
+      spells = BlankLine line h r.spells;
+      is = r.is;
+      distinct = r.distinct;
+    }
 with_line line lines c middle next (Told source h free) r = record {
   sources = source ∷ r.sources;
   dropped = r.dropped;

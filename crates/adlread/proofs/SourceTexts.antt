@@ -5,6 +5,8 @@ use Rattle.std.specs.List.{list_all, list_any}
 use Rattle.std.proofs.lemmas.Bool.Decides.{nat_tests}
 use Rattle.std.proofs.lemmas.List.{append-nil}
 use Rattle.std.proofs.lemmas.Slice.Eq.{bytes_eq-Decides}
+use Rattle.facts.specs.Lists.{all_push}
+use Rattle.facts.specs.Tests.{and_both, and_left, and_right}
 use Rattle.list_terms.specs.declared.TextFault.{TextFault}
 use Rattle.list_terms.specs.declared.TextFault.TheVariants.{BadUrl, DuplicateNumber, MissingField, Unsupported}
 use Rattle.list_terms.specs.declared.TokenKind.{TokenKind}
@@ -18,12 +20,12 @@ use Rattle.list_terms.specs.Text.{source_with}
 use Rattle.list_terms.specs.Tokens.{Cut, TokenText, is_quoted_byte, is_word_byte, token_at, token_text}
 use Rattle.list_terms.specs.TokenLaws.{IsCut, is_content, is_word, token_at-cut, token_at-token_text}
 use Rattle.list_terms.specs.WholeProject.{has_whole_texts, is_line_byte, is_one_token, is_quotable}
-use Rattle.adlread.proofs.HeaderSoFar.{all_push, and_both, and_left, and_right}
 
 -- ---- steps that may fail
 
 pub if_bind :
-    {A B E : Type 0} (r : Result A E) (f : A → Result B E) (P : B → Type 0) → ((x : A) → IfOk (f x) P) → IfOk (r >>= f) P
+    {A B E : Type 0} (r : Result A E) (f : A → Result B E) (P : B → Type 0) → ((x : A) → IfOk (f x) P)
+    → IfOk (r >>= f) P
 if_bind (Ok x) f P h = h x
 if_bind (Err e) f P h = tt
 
@@ -35,7 +37,8 @@ if_then (Ok x) f Q P q h = h x q
 if_then (Err e) f Q P q h = tt
 
 pub if_mapped :
-    {A B D E : Type 0} (r : Result A D) (f : A → B) (g : D → E) (Q : A → Type 0) (P : B → Type 0) → IfOk r Q → ((x : A) → Q x → P (f x))
+    {A B D E : Type 0} (r : Result A D) (f : A → B) (g : D → E) (Q : A → Type 0) (P : B → Type 0) → IfOk r Q
+    → ((x : A) → Q x → P (f x))
     → IfOk (err_map g (ok_map f r)) P
 if_mapped (Ok x) f g Q P q h = h x q
 if_mapped (Err e) f g Q P q h = tt
@@ -61,7 +64,8 @@ field_is_cut line h = by_cut (token_at line) refl where
 
 checked_rest : (test : TokenText → Bool) (line : List ℕ) → IsText line → IfOk (checked_field test line) IsText
 checked_rest test line h =
-    if_then (field line) _ (λ f. IsCut is_line_byte f.0 f.1) IsText (field_is_cut line h) (λ f cut. by_test f cut (test f.0) refl) where
+    if_then (field line) _ (λ f. IsCut is_line_byte f.0 f.1) IsText (field_is_cut line h)
+    (λ f cut. by_test f cut (test f.0) refl) where
       by_test :
           (f : TokenText × List ℕ) → IsCut is_line_byte f.0 f.1 → (passes : Bool) → test f.0 ≡ passes
           → IfOk (if test f.0 then Ok f.1 else Err Unsupported) IsText
@@ -96,12 +100,16 @@ content_is_quotable Word content h = word_is_quotable content h
 both_bytes : (text : List ℕ) → list_all is_quoted_byte text ≡ true → IsText text → list_all is_quotable text ≡ true
 both_bytes [] h k = refl
 both_bytes (b ∷ text) h k =
-    rw (and_left (is_quoted_byte b) (list_all is_quoted_byte text) h, and_left (is_line_byte b) (list_all is_line_byte text) k)
-    (both_bytes text (and_right (is_quoted_byte b) (list_all is_quoted_byte text) h) (and_right (is_line_byte b) (list_all is_line_byte text) k))
+    rw (
+      and_left (is_quoted_byte b) (list_all is_quoted_byte text) h,
+      and_left (is_line_byte b) (list_all is_line_byte text) k,
+    )
+    (both_bytes text (and_right (is_quoted_byte b) (list_all is_quoted_byte text) h)
+    (and_right (is_line_byte b) (list_all is_line_byte text) k))
 
 text_is_line :
-    (kind :
-    TokenKind) (content : List ℕ) → IsText content → IsText (token_text (record { kind = kind; content = content }))
+    (kind : TokenKind) (content : List ℕ) → IsText content
+    → IsText (token_text (record { kind = kind; content = content }))
 text_is_line Quoted content h = all_push is_line_byte content 34 h refl
 text_is_line Keyword content h = all_push is_line_byte content 41 h refl
 text_is_line Word content h = h
@@ -109,7 +117,8 @@ text_is_line Word content h = h
 text_is_one_token :
     (token : TokenText) → is_content token.kind token.content ≡ true → is_one_token (token_text token) ≡ true
 text_is_one_token token h =
-    let again = ap token_at (sym (append-nil (token_text token))) ∙ token_at-token_text token.kind token.content [] h refl in
+    let again =
+    ap token_at (sym (append-nil (token_text token))) ∙ token_at-token_text token.kind token.content [] h refl in
     rw again ((bytes_eq-Decides (token_text token) (token_text token)).1 refl)
 
 -- a text, and what follows it
@@ -123,14 +132,20 @@ is_uid uid = list_all is_line_byte uid && is_one_token uid
 url_is_quotable : (line : List ℕ) → IsText line → IfOk (url_field line) (λ f. Read (list_all is_quotable) f.0 f.1)
 unfolding url_field
 url_is_quotable line h =
-    if_then (field line) _ (λ f. IsCut is_line_byte f.0 f.1) (λ f. Read (list_all is_quotable) f.0 f.1) (field_is_cut line h)
+    if_then (field line) _ (λ f. IsCut is_line_byte f.0 f.1) (λ f. Read (list_all is_quotable) f.0 f.1)
+    (field_is_cut line h)
     (λ f cut. by_place f cut (is_some (place_of_url f.0.content)) refl) where
       by_place :
-          (f :
-          TokenText × List ℕ) → IsCut is_line_byte f.0 f.1 → (there : Bool) → is_some (place_of_url f.0.content) ≡ there
-          → IfOk {T = List ℕ × List ℕ} (if is_some (place_of_url f.0.content) then Ok (f.0.content, f.1) else Err BadUrl) (λ g. Read (list_all is_quotable) g.0 g.1)
+          (f : TokenText × List ℕ) → IsCut is_line_byte f.0 f.1 → (there : Bool)
+          → is_some (place_of_url f.0.content) ≡ there
+          → IfOk {T = List ℕ × List ℕ} (if is_some (place_of_url f.0.content) then Ok (f.0.content, f.1)
+          else Err BadUrl) (λ g. Read (list_all is_quotable) g.0 g.1)
       by_place f cut true e =
-          rw e (record { text_is = both_bytes f.0.content (content_is_quotable f.0.kind f.0.content cut.content) cut.inside; rest_is = cut.behind })
+          rw e (record {
+            text_is = both_bytes f.0.content (content_is_quotable f.0.kind f.0.content cut.content)
+                cut.inside;
+            rest_is = cut.behind;
+          })
       by_place f cut false e = rw e tt
 
 uid_is_one_token : (line : List ℕ) → IsText line → IfOk (uid_field line) (λ f. Read is_uid f.0 f.1)
@@ -148,7 +163,8 @@ HasTexts source = has_whole_texts source ≡ true
 source_has_texts : (number : ℕ) (line : List ℕ) → IsText line → IfOk (source_fields 25 number line) HasTexts
 unfolding source_fields
 source_has_texts number line h =
-    if_then (checked_field (is_keyword (codes "F")) line) _ IsText HasTexts (checked_rest (is_keyword (codes "F")) line h)
+    if_then (checked_field (is_keyword (codes "F")) line) _ IsText HasTexts
+    (checked_rest (is_keyword (codes "F")) line h)
     (λ rest l. if_then (url_field rest) _ (λ f. Read (list_all is_quotable) f.0 f.1) HasTexts (url_is_quotable rest l)
     (λ url u. if_then (uid_field url.1) _ (λ f. Read is_uid f.0 f.1) HasTexts (uid_is_one_token url.1 u.rest_is)
     (λ uid i. if_bind (optional_time_field 25 uid.1) _ HasTexts
@@ -164,8 +180,10 @@ sources_have_texts sources number text all h = by_test (list_any (λ other. othe
   by_test :
       (taken : Bool) → list_any (λ other. other.number == number) sources ≡ taken
       → IfOk (if list_any (λ other. other.number == number) sources then Err DuplicateNumber
-      else source_fields 25 number text >>= (λ source. Ok (sources ++ source ∷ []))) (λ new. IsTrue (list_all has_whole_texts new))
+      else source_fields 25 number text >>= (λ source. Ok (sources ++ source ∷ [])))
+      (λ new. IsTrue (list_all has_whole_texts new))
   by_test true e = rw e tt
   by_test false e =
-      rw e (if_then (source_fields 25 number text) _ HasTexts (λ new. IsTrue (list_all has_whole_texts new)) (source_has_texts number text h)
+      rw e (if_then (source_fields 25 number text) _ HasTexts (λ new. IsTrue (list_all has_whole_texts new))
+      (source_has_texts number text h)
       (λ source fine. all_push has_whole_texts sources source all fine))

@@ -3,6 +3,8 @@ use Rattle.std.proofs.Common.{◌≡◌, ℕ, zero, suc, ◌+◌, ◌≤◌, Boo
 use Rattle.std.specs.Prelude.{codes, flat_map, is_some, not, unwrap_or, if◌then◌else◌, ◌==◌, ◌&&◌}
 use Rattle.std.specs.List.{list_all}
 use Rattle.std.proofs.lemmas.List.{append-nil}
+use Rattle.std.proofs.lemmas.Bool.{not-false}
+use Rattle.facts.specs.Tests.{and_both, and_left, and_right}
 use Rattle.sampletime.specs.TimeCode.{default_separators}
 use Rattle.list_terms.specs.declared.Stage.TheVariants as stage
 use Rattle.list_terms.specs.declared.TextFault.TheVariants.{MissingSection, MissingSequence, RepeatedSection, SectionMismatch}
@@ -11,12 +13,11 @@ use Rattle.list_terms.specs.Lines.{lines_of}
 use Rattle.list_terms.specs.Tokens.{trimmed}
 use Rattle.list_terms.specs.Text.{Context, all_events, at_line, before_list, finished, is_behind, is_end, is_list_begin, is_opened, nothing_read, opened, opened_name, outside, project_of, read_from, section_of, text_refusal, text_value, with_line}
 use Rattle.list_terms.specs.WholeProject.{AreDistinct, IsHeader, entry_numbers, index_numbers, is_line_byte, lines_of_section}
-use Rattle.adlread.specs.CutLines.{NumberedLine, is_empty, numbered, texts}
+use Rattle.adlread.specs.CutLines.{NumberedLine, is_empty, with_numbers, texts}
 use Rattle.adlread.specs.Spells.{AreBlocks, Blank, BlankBlock, Block, NoBlocks, SectionBlock, SectionText, Spells, Titled, lines_of_block, one_or_none}
 use Rattle.adlread.proofs.Blocks.{before_begin, before_blank, before_line_is, outside_blank, outside_end, outside_line_is, outside_opens, opened_begun}
 use Rattle.adlread.proofs.FieldLaws.{chain, err_map_ok, ok_same, unless_ok}
 use Rattle.adlread.proofs.Fits.{EventsFit, Fits, IndexFits, begun}
-use Rattle.adlread.proofs.HeaderSoFar.{and_both, and_left, and_right}
 use Rattle.adlread.proofs.Numbered.{AreDistinct-nil}
 use Rattle.adlread.proofs.Finished.{IsHeader-from_so_far, lines_of-lines}
 use Rattle.adlread.proofs.SoFar.{IsSoFar-line, IsSoFar-nothing}
@@ -24,7 +25,6 @@ use Rattle.adlread.specs.SoFar.{IsSoFar}
 use Rattle.adlread.proofs.LineLaws.{has_lines}
 use Rattle.adlread.proofs.SettingLines.{both_are_told, settings_are}
 use Rattle.adlread.proofs.Stages.{outside_of, read_all, read_fault, read_from-all, read_last, read_step, section_is_read, stays_inside}
-use Rattle.adlread.proofs.Tests.{not_false}
 use Rattle.adlread.proofs.WalkedSections.{IsFresh, IsWalkedOver, walked_over}
 
 -- ---- the end of a list
@@ -264,7 +264,15 @@ list_is_read (line ∷ lines) c n p is e =
       by_begin some true begins =
           let step = read_step c (outside_of c) n line lines
           (before_line_is c line.number line.text is ∙ before_begin c line.number (trimmed line.text) begins) refl in
-          record { before = []; begin = line; rest = lines; lines_are = refl; blank = refl; begins = begins; others = sym step ∙ e }
+          record {
+            before = [];
+            begin = line;
+            rest = lines;
+            lines_are = refl;
+            blank = refl;
+            begins = begins;
+            others = sym step ∙ e;
+          }
       by_begin some false other =
           let wrong = before_line_is c line.number line.text is
           ∙ before_wrong c line.number (trimmed line.text) some other in
@@ -299,7 +307,7 @@ header_end c n p so_far e =
     let same = ap (λ (q : ListProject). q.header) (ok_same _ _ told.1) in
     subst IsHeader same
     (IsHeader-from_so_far c.header so_far.header
-    (not_false (c.header.rates.sample_rate && c.header.rates.frame_rate) told.0))
+    (not-false (c.header.rates.sample_rate && c.header.rates.frame_rate) told.0))
 
 header_is_whole :
     (lines : List (List ℕ)) (c : Context) (n : ℕ) (p : ListProject) → IsSoFar c
@@ -327,7 +335,7 @@ unfolding text_value
 spelled_of text p e =
     let read = err_map_ok text_refusal (read_from 25 nothing_read 0 (lines_of text)) p e in
     let whole = header_is_whole (lines_of text) nothing_read 0 p IsSoFar-nothing (lines_of-lines text) read in
-    let l = list_is_read (numbered 1 (lines_of text)) nothing_read 0 p refl
+    let l = list_is_read (with_numbers 1 (lines_of text)) nothing_read 0 p refl
     (sym (read_from-all nothing_read 0 (lines_of text)) ∙ read) in
     let b = body_is_read p (length l.rest) l.rest (outside_of nothing_read) l.begin.number (omega arith) refl
     (record { index = λ _. refl; events = λ _. refl; indexes = AreDistinct-nil; numbers = AreDistinct-nil }) l.others in
@@ -355,7 +363,12 @@ spelled_of text p e =
         rates = both_are_told (lines_of_section p.header.sequence) whole.rates;
       };
       index =
-          record { part = b.fits.index.1.0; once = b.fits.index.1.1.0; lines = b.fits.index.1.1.1; distinct = b.indexes };
+          record {
+            part = b.fits.index.1.0;
+            once = b.fits.index.1.1.0;
+            lines = b.fits.index.1.1.1;
+            distinct = b.indexes;
+          };
       events = record {
         part = b.fits.events.1.0;
         entries = b.fits.events.1.1.0;

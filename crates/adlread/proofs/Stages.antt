@@ -2,6 +2,8 @@
 use Rattle.std.proofs.Common.{◌≡◌, ℕ, ◌+◌, Bool, true, false, List, [], ◌∷◌, ◌++◌, Option, None, Some, Result, Ok, Err, refl, ap, sym, subst, ◌∙◌}
 use Rattle.std.specs.Prelude.{codes, if◌then◌else◌, max, not}
 use Rattle.std.specs.List.{list_all}
+use Rattle.std.proofs.lemmas.Bool.{not-true}
+use Rattle.facts.specs.Tests.{and_both, and_left, and_right}
 use Rattle.list_terms.specs.declared.Section.{Section}
 use Rattle.list_terms.specs.declared.Section.TheVariants as section
 use Rattle.list_terms.specs.declared.Stage.TheVariants as stage
@@ -12,13 +14,11 @@ use Rattle.list_terms.specs.Steps.{◌>>=◌, err_map, ok_map}
 use Rattle.list_terms.specs.Fields.{is_keyword, number_field}
 use Rattle.list_terms.specs.Tokens.{Cut, token_at, trimmed}
 use Rattle.list_terms.specs.Text.{Context, Entries, LocatedFault, at_entry, at_line, at_open, entry_line, entry_of, finished, further_line, in_event_list, in_header, in_section, in_unsupported, is_behind, is_end, is_tag, read_from, with_line}
-use Rattle.adlread.specs.CutLines.{NumberedLine, is_empty, numbered, texts}
+use Rattle.adlread.specs.CutLines.{NumberedLine, is_empty, with_numbers, texts}
 use Rattle.adlread.proofs.EventLines.{with_entries}
 use Rattle.adlread.proofs.FieldLaws.{chain, err_map_ok, ok_map_ok, ok_same}
-use Rattle.adlread.proofs.HeaderSoFar.{and_both, and_left, and_right}
 use Rattle.adlread.proofs.KeptLines.{header_line_is}
 use Rattle.adlread.proofs.SourceLines.{source_line_stays}
-use Rattle.adlread.proofs.Tests.{not_true}
 use Rattle.adlread.proofs.Walk.{walk, walk_step}
 
 -- ---- the lines of a list, with their numbers
@@ -30,7 +30,7 @@ read_all c number (line ∷ lines) = with_line 25 c line.number line.text >>= (�
 
 pub read_from-all :
     (c : Context) (number : ℕ) (lines : List (List ℕ))
-    → read_from 25 c number lines ≡ read_all c number (numbered (number + 1) lines)
+    → read_from 25 c number lines ≡ read_all c number (with_numbers (number + 1) lines)
 unfolding read_from
 read_from-all c number [] = refl
 read_from-all c number (text ∷ lines) =
@@ -38,11 +38,11 @@ read_from-all c number (text ∷ lines) =
       by_first :
           (first : Result Context LocatedFault)
           → ((next : Context)
-          → read_from 25 next (number + 1) lines ≡ read_all next (number + 1) (numbered (number + 1 + 1) lines))
+          → read_from 25 next (number + 1) lines ≡ read_all next (number + 1) (with_numbers (number + 1 + 1) lines))
           → (first >>= (λ next. if is_behind next.stage then finished 25 next (number + 1) else read_from 25 next
           (number + 1) lines))
           ≡ (first >>= (λ next. if is_behind next.stage then finished 25 next (number + 1) else read_all next
-          (number + 1) (numbered (number + 1 + 1) lines)))
+          (number + 1) (with_numbers (number + 1 + 1) lines)))
       by_first (Err fault) ih = refl
       by_first (Ok next) ih =
           ap (λ others. if is_behind next.stage then finished 25 next (number + 1) else others) (ih next)
@@ -197,7 +197,7 @@ read_inside s [] c last n end rest open_is inside ends e =
     ∙ ap (λ l. read_all (outside_of l) end.number rest) same
 read_inside s (line ∷ content) c last n end rest open_is inside ends e =
     let f = chain (in_section 25 c line.number line.text s) (λ m. walk s m content) last e in
-    let more = not_true (is_end c.name (trimmed line.text))
+    let more = not-true (is_end c.name (trimmed line.text))
     (and_left (stays_inside c.name line.text) (list_all (stays_inside c.name) (texts content)) inside) in
     let others = and_right (stays_inside c.name line.text) (list_all (stays_inside c.name) (texts content)) inside in
     let stays = line_stays s c f.value line.number line.text f.is in

@@ -14,13 +14,15 @@ pub IsLeft-whole : (allowed : TokenText → Bool) (line : List ℕ) → IsLeft a
 IsLeft-whole allowed line = record { steps = length line; enough = omega arith; same = refl }
 
 pub all_tokens-step :
-    (allowed : TokenText → Bool) (n : ℕ) (line rest : List ℕ) (token : TokenText) → token_at line ≡ Ok (Some (token, rest))
+    (allowed : TokenText → Bool) (n : ℕ) (line rest : List ℕ) (token : TokenText)
+    → token_at line ≡ Ok (Some (token, rest))
     → allowed token ≡ true → all_tokens allowed (suc n) line ≡ all_tokens allowed n rest
 unfolding all_tokens
 all_tokens-step allowed n line rest token e h = rw (e, h, all_tokens)
 
 pub all_tokens-refused :
-    (allowed : TokenText → Bool) (n : ℕ) (line rest : List ℕ) (token : TokenText) → token_at line ≡ Ok (Some (token, rest))
+    (allowed : TokenText → Bool) (n : ℕ) (line rest : List ℕ) (token : TokenText)
+    → token_at line ≡ Ok (Some (token, rest))
     → allowed token ≡ false → all_tokens allowed (suc n) line ≡ Err Unsupported
 unfolding all_tokens
 all_tokens-refused allowed n line rest token e h = rw (e, h, all_tokens)
@@ -48,9 +50,11 @@ token_at-nil = refl
 -- one token more
 pub IsLeft-next :
     (allowed : TokenText → Bool) (line left rest : List ℕ) (token : TokenText) → IsLeft allowed line left
-    → token_at left ≡ Ok (Some (token, rest)) → allowed token ≡ true → length rest < length left → IsLeft allowed line rest
+    → token_at left ≡ Ok (Some (token, rest)) → allowed token ≡ true → length rest < length left
+    → IsLeft allowed line rest
 IsLeft-next allowed line left rest token h e is shorter = by_steps h.steps h.enough h.same where
-  by_steps : (n : ℕ) → length left ≤ n → all_tokens allowed n left ≡ all_tokens allowed (length line) line → IsLeft allowed line rest
+  by_steps : (n : ℕ) → length left ≤ n → all_tokens allowed n left ≡ all_tokens allowed (length line) line
+      → IsLeft allowed line rest
   by_steps zero enough same = absurd (omega arith)
   by_steps (suc n) enough same =
       record { steps = n; enough = omega arith; same = sym (all_tokens-step allowed n left rest token e is) ∙ same }
@@ -71,7 +75,8 @@ pub IsLeft-fault :
 IsLeft-fault allowed line left fault h e = by_steps h.steps h.enough h.same where
   by_steps : (n : ℕ) → length left ≤ n → all_tokens allowed n left ≡ all_tokens allowed (length line) line
       → all_tokens allowed (length line) line ≡ Err fault
-  by_steps zero enough same = let none : token_at left ≡ Ok None = ap token_at (no_bytes left enough) ∙ token_at-nil in absurd (cc)
+  by_steps zero enough same = let none : token_at left ≡ Ok None = ap token_at (no_bytes left enough) ∙ token_at-nil in
+      absurd (cc)
   by_steps (suc n) enough same = sym same ∙ all_tokens-fault allowed n left fault e
 
 pub IsLeft-end :

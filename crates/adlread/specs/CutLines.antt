@@ -1,19 +1,11 @@
 -- How a text is cut into lines, and a line into tokens.
 use Rattle.std.specs.Prelude.{◌≡◌, ℕ, ◌+◌, ◌==◌, Bool, true, false, List, [], ◌∷◌, ◌++◌, length, map, IsTrue}
 use Rattle.std.specs.List.{list_all}
-use Rattle.list_terms.specs.declared.TokenKind.{TokenKind}
-use Rattle.list_terms.specs.declared.TokenKind.TheVariants.{Quoted, Keyword, Word}
-use Rattle.list_terms.specs.Tokens.{TokenText, is_blank, is_word_byte, token_text, trimmed}
-use Rattle.list_terms.specs.TokenLaws.{is_content, stops}
+use Rattle.list_terms.specs.Tokens.{TokenText, is_blank, token_text, trimmed}
+use Rattle.list_terms.specs.TokenLaws.{ends_token, is_content}
 use Rattle.list_terms.specs.Text.{is_tag}
 use Rattle.list_terms.specs.Lines.{without_cr, without_mark}
 use Rattle.list_terms.specs.WholeProject.{is_line_byte}
-
--- a word goes on as far as it can: no further byte of words may follow it
-abbrev pub ends_token : TokenKind → List ℕ → Bool
-ends_token Quoted rest = true
-ends_token Keyword rest = true
-ends_token Word rest = stops is_word_byte rest
 
 -- the line is these tokens, parted by blanks or by nothing
 pub data CutsTo : List ℕ → List TokenText → Type 0 where
@@ -54,9 +46,9 @@ pub record NumberedLine : Type 0 where
   pub text : List ℕ
 
 -- these lines, numbered from here on
-abbrev pub numbered : ℕ → List (List ℕ) → List NumberedLine
-numbered number [] = []
-numbered number (text ∷ lines) = record { number = number; text = text } ∷ numbered (number + 1) lines
+abbrev pub with_numbers : ℕ → List (List ℕ) → List NumberedLine
+with_numbers number [] = []
+with_numbers number (text ∷ lines) = record { number = number; text = text } ∷ with_numbers (number + 1) lines
 
 abbrev pub texts : List NumberedLine → List (List ℕ)
 texts lines = map (λ line. line.text) lines

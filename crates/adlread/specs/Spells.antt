@@ -10,7 +10,7 @@ use Rattle.list_terms.specs.Project.{Header, Source, ListProject}
 use Rattle.list_terms.specs.Tokens.{trimmed}
 use Rattle.list_terms.specs.Text.{is_end, is_list_begin, opened_name, section_of}
 use Rattle.list_terms.specs.WholeProject.{AreDistinct, entry_numbers, index_numbers, line_count, lines_of_section}
-use Rattle.adlread.specs.CutLines.{HasLines, HasTokens, NumberedLine, is_empty, numbered, texts}
+use Rattle.adlread.specs.CutLines.{HasLines, HasTokens, NumberedLine, is_empty, with_numbers, texts}
 use Rattle.adlread.specs.LineGrammar.{AreSettings, IsLineOf, SpelledEntry, SpellsEntry, SpellsFade, SpellsSource, TellRates, is_no_source, is_remark, is_zero_gain}
 
 -- ---- the source index and the event list
@@ -111,7 +111,8 @@ IsPassedOver section.TrackList s = s.notices ≡ []
 IsPassedOver section.SourceIndex s = ⊤
 IsPassedOver section.EventList s = s.notices ≡ []
 IsPassedOver section.Skipped s = s.notices ≡ notice 1 s.opening ∷ []
-IsPassedOver section.Unsupported s = IsTrue (list_all is_empty (texts s.content)) × (s.notices ≡ notice 1 s.opening ∷ [])
+IsPassedOver section.Unsupported s =
+    IsTrue (list_all is_empty (texts s.content)) × (s.notices ≡ notice 1 s.opening ∷ [])
 
 -- the line `<NAME>`, lines none of which is `</NAME>`, and the line `</NAME>`
 pub record IsSection (s : SectionText) : Type 0 where
@@ -195,7 +196,7 @@ pub record Spells (text : List ℕ) (project : ListProject) : Type 0 where
   pub end : NumberedLine
   pub behind : List NumberedLine
   pub cut : HasLines text all
-  pub lines : numbered 1 all ≡ before ++ (begin ∷ (flat_map lines_of_block blocks ++ (end ∷ behind)))
+  pub lines : with_numbers 1 all ≡ before ++ (begin ∷ (flat_map lines_of_block blocks ++ (end ∷ behind)))
   pub blank : IsTrue (list_all is_empty (texts before))
   pub begins : IsTrue (is_list_begin (trimmed begin.text))
   pub are_blocks : AreBlocks blocks

@@ -146,7 +146,8 @@ impl<'a> Draft<'a> {
 
     /// Notes that a section begins; one that is passed over gives notice 1.
     fn begin(&mut self, alloc: Global, section: Section, number: u64) -> Result<(), AdlFault>
-        ensures { Reads (λ _. context_of self.new) result (Ok (text.with_section (context_of self.old) number section)) }
+        ensures { Reads (λ _. context_of self.new) result
+            (Ok (text.with_section (context_of self.old) number section)) }
     {
         match section {
             Section::Version => self.header.lines.version = Some(KeptLines::new(alloc)),
@@ -178,7 +179,8 @@ impl<'a> Draft<'a> {
         line: &[u8],
         number: u64,
     ) -> Result<(), AdlFault>
-        ensures { Reads (λ _. context_of self.new) result (text.in_section 25 (context_of self.old) number line.now section) }
+        ensures { Reads (λ _. context_of self.new) result
+            (text.in_section 25 (context_of self.old) number line.now section) }
     {
         match section {
             Section::Version
@@ -202,7 +204,8 @@ impl<'a> Draft<'a> {
         line: &[u8],
         number: u64,
     ) -> Result<(), AdlFault>
-        ensures { Reads (λ _. context_of self.new) result (text.in_header 25 (context_of self.old) number line.now section) }
+        ensures { Reads (λ _. context_of self.new) result
+            (text.in_header 25 (context_of self.old) number line.now section) }
     {
         match self.header.keep(alloc, section, line) {
             Ok(()) => Ok(()),
@@ -213,7 +216,8 @@ impl<'a> Draft<'a> {
     /// Reads a line of the source index.
     #[tactic(auto, unfolding(list_terms::specs::Text::in_source_index))]
     fn in_source_index(&mut self, alloc: Global, line: &[u8], number: u64) -> Result<(), AdlFault>
-        ensures { Reads (λ _. context_of self.new) result (text.in_source_index 25 (context_of self.old) number line.now) }
+        ensures { Reads (λ _. context_of self.new) result
+            (text.in_source_index 25 (context_of self.old) number line.now) }
     {
         if is_tag(line) {
             return Err(at_line(TextFault::SectionMismatch, number));
@@ -237,7 +241,8 @@ impl<'a> Draft<'a> {
         tokens: &mut Tokens<'_>,
         line: u64,
     ) -> Result<(), AdlFault>
-        ensures { Reads (λ _. context_of self.new) result (text.index_line 25 (context_of self.old) line tokens.old.rest.now) }
+        ensures { Reads (λ _. context_of self.new) result
+            (text.index_line 25 (context_of self.old) line tokens.old.rest.now) }
     {
         let number = located(number_field(tokens), Location::Line { line })?;
         match self.index.add(alloc, number, tokens) {
@@ -252,7 +257,8 @@ impl<'a> Draft<'a> {
     /// Drops another line of the source index, with notice 2.
     #[tactic(auto, unfolding(list_terms::specs::Text::dropped_line))]
     fn dropped_line(&mut self, tokens: &mut Tokens<'_>, line: u64) -> Result<(), AdlFault>
-        ensures { Reads (λ _. context_of self.new) result (text.dropped_line (context_of self.old) line tokens.old.rest.now) }
+        ensures { Reads (λ _. context_of self.new) result
+            (text.dropped_line (context_of self.old) line tokens.old.rest.now) }
     {
         located(end_line(tokens), Location::Line { line })?;
         self.note(2, line)
@@ -261,7 +267,8 @@ impl<'a> Draft<'a> {
     /// Reads a line of the event list.
     #[tactic(auto, unfolding(list_terms::specs::Text::in_event_list))]
     fn in_event_list(&mut self, line: &[u8], number: u64) -> Result<(), AdlFault>
-        ensures { Reads (λ _. context_of self.new) result (text.in_event_list 25 (context_of self.old) number line.now) }
+        ensures { Reads (λ _. context_of self.new) result
+            (text.in_event_list 25 (context_of self.old) number line.now) }
     {
         if is_tag(line) {
             return Err(at_line(TextFault::SectionMismatch, number));
@@ -281,7 +288,8 @@ impl<'a> Draft<'a> {
     /// Reads an `(Entry)` line, behind this keyword.
     #[tactic(auto, unfolding(list_terms::specs::Text::entry_line))]
     fn entry_line(&mut self, tokens: &mut Tokens<'_>, line: u64) -> Result<(), AdlFault>
-        ensures { Reads (λ _. context_of self.new) result (text.entry_line 25 (context_of self.old) line tokens.old.rest.now) }
+        ensures { Reads (λ _. context_of self.new) result
+            (text.entry_line 25 (context_of self.old) line tokens.old.rest.now) }
     {
         let number = located(number_field(tokens), Location::Line { line })?;
         match self.events.add(number, tokens) {

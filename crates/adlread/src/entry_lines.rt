@@ -104,7 +104,8 @@ fn cut_field(tokens: &mut Tokens<'_>) -> Result<(), TextFault>
 /// Reads the channels of the source, and as many of the destination.
 #[tactic(auto, unfolding(list_terms::specs::EntryLines::channel_fields))]
 fn channel_fields(tokens: &mut Tokens<'_>) -> Result<(Channels, Channels), TextFault>
-    ensures value { ok_map (λ channels. (channels.0, channels.1, tokens.new.rest.now)) result ≡ spec.channel_fields tokens.old.rest.now }
+    ensures value { ok_map (λ channels. (channels.0, channels.1, tokens.new.rest.now)) result
+        ≡ spec.channel_fields tokens.old.rest.now }
     ensures source { IfOk result (λ channels. IsTrue (are_channels channels.0)) }
     ensures dest { IfOk result (λ channels. IsTrue (are_channels channels.1)) }
     ensures widths { IfOk result (λ channels. channels.0.last - channels.0.first ≡ channels.1.last - channels.1.first) }
@@ -130,7 +131,8 @@ pub struct Times {
 #[tactic(auto, unfolding(list_terms::specs::EntryLines::time_fields))]
 fn time_fields(tokens: &mut Tokens<'_>) -> Result<(Times, Separators), TextFault>
     ensures value { ok_map (λ times. (times_of times.0, times.1)) result ≡ spec.time_fields 25 tokens.old.rest.now }
-    ensures in_day { IfOk result (λ times. (times.0.source_in ≤ day) × (times.0.dest_in ≤ day) × (times.0.dest_out ≤ day)) }
+    ensures in_day { IfOk result (λ times. (times.0.source_in ≤ day) × (times.0.dest_in ≤ day)
+        × (times.0.dest_out ≤ day)) }
 {
     let (source_in, _) = time_field(tokens)?;
     let (dest_in, separators) = time_field(tokens)?;

@@ -38,7 +38,8 @@ pub fn field<'a>(tokens: &mut Tokens<'a>) -> Result<Token<'a>, TextFault>
 
 /// The next token, which has to be the keyword of this name.
 pub fn keyword_field(name: &[u8], tokens: &mut Tokens<'_>) -> Result<(), TextFault>
-    ensures { ok_map (λ _. tokens.new.rest.now) result ≡ spec.checked_field (spec.is_keyword name.now) tokens.old.rest.now }
+    ensures { ok_map (λ _. tokens.new.rest.now) result
+        ≡ spec.checked_field (spec.is_keyword name.now) tokens.old.rest.now }
 {
     let token = field(tokens)?;
     if is_keyword(name, &token) {
@@ -61,7 +62,8 @@ pub fn number_field(tokens: &mut Tokens<'_>) -> Result<u32, TextFault>
 /// A run of channels.
 #[tactic(auto, unfolding(list_terms::specs::Fields::channels_field))]
 pub fn channels_field(tokens: &mut Tokens<'_>) -> Result<Channels, TextFault>
-    ensures exact { ok_map (λ channels. (channels, tokens.new.rest.now)) result ≡ spec.channels_field tokens.old.rest.now }
+    ensures exact { ok_map (λ channels. (channels, tokens.new.rest.now)) result
+        ≡ spec.channels_field tokens.old.rest.now }
     ensures range { IfOk result (λ channels. IsTrue (are_channels channels)) }
 {
     let token = field(tokens)?;
@@ -71,7 +73,8 @@ pub fn channels_field(tokens: &mut Tokens<'_>) -> Result<Channels, TextFault>
 /// A time and its separators.
 #[tactic(auto, unfolding(list_terms::specs::Fields::time_field))]
 pub fn time_field(tokens: &mut Tokens<'_>) -> Result<(SampleTime, Separators), TextFault>
-    ensures exact { ok_map (λ time. (time.0, time.1, tokens.new.rest.now)) result ≡ spec.time_field 25 tokens.old.rest.now }
+    ensures exact { ok_map (λ time. (time.0, time.1, tokens.new.rest.now)) result
+        ≡ spec.time_field 25 tokens.old.rest.now }
     ensures in_day { IfOk result (λ time. time.0 ≤ day) }
 {
     let token = field(tokens)?;
@@ -81,7 +84,8 @@ pub fn time_field(tokens: &mut Tokens<'_>) -> Result<(SampleTime, Separators), T
 /// A time, or `_` where none is told.
 #[tactic(auto, unfolding(list_terms::specs::Fields::optional_time_field))]
 pub fn optional_time_field(tokens: &mut Tokens<'_>) -> Result<Option<SampleTime>, TextFault>
-    ensures exact { ok_map (λ time. (time, tokens.new.rest.now)) result ≡ spec.optional_time_field 25 tokens.old.rest.now }
+    ensures exact { ok_map (λ time. (time, tokens.new.rest.now)) result
+        ≡ spec.optional_time_field 25 tokens.old.rest.now }
     ensures in_day { IfOk result (λ time. IsTrue (is_time_of_day time)) }
 {
     let token = field(tokens)?;
@@ -115,7 +119,8 @@ pub fn end_line(tokens: &mut Tokens<'_>) -> Result<(), TextFault>
 /// Cuts what is left of a line into tokens, each of which has to be a zero.
 #[tactic(auto, unfolding(list_terms::specs::Tokens::all_tokens))]
 pub fn end_with_zeros(tokens: &mut Tokens<'_>) -> Result<(), TextFault>
-    ensures exact { ok_map (λ _. tt) result ≡ all_tokens (λ t. spec.is_zero t.content) (length tokens.old.rest.now) tokens.old.rest.now }
+    ensures exact { ok_map (λ _. tt) result ≡ all_tokens (λ t.
+        spec.is_zero t.content) (length tokens.old.rest.now) tokens.old.rest.now }
 {
     while let Some(token) = tokens.next_token()? {
         if !is_zero(token.content) {

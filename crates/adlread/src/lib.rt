@@ -1,8 +1,8 @@
 //! Reads the text of an audio decision list (AES31-3) as a project.
 //!
-//! The profile is this project's own: seven sections are known, and four of them are cut into tokens. They may come in any
-//! order, names and keywords in any case, and any number of spaces and tabs between tokens. 48000 samples and 25 frames a
-//! second are the rates that are read.
+//! The profile is this project's own: seven sections are known, and four of them are cut into tokens. They may come in
+//! any order, names and keywords in any case, and any number of spaces and tabs between tokens. 48000 samples and 25
+//! frames a second are the rates that are read.
 #![tactic(auto)]
 
 ghost use Rattle.std.specs.Prelude.{false, IfErr, IfOk, IsTrue, Ok, ◌≡◌};
@@ -35,8 +35,10 @@ use std::alloc::Global;
 pub fn read(alloc: Global, text: &[u8]) -> Result<Project, AdlFault>
     ensures exact { Gives (λ project. project) refusal (λ r. r.number) result (text_value text.now) }
     ensures spelled { IfOk result (λ project. Spells text.now project) }
-    ensures only { (project : ListProject) → Spells text.now project → Gives (λ p. p) refusal (λ r. r.number) result (Ok project) }
-    ensures faulty { IfErr result (λ fault. is_memory (refusal fault).number ≡ false → (project : ListProject) → Spells text.now project → ⊥) }
+    ensures only { (project : ListProject) → Spells text.now project
+        → Gives (λ p. p) refusal (λ r. r.number) result (Ok project) }
+    ensures faulty { IfErr result (λ fault. is_memory (refusal fault).number ≡ false → (project : ListProject)
+        → Spells text.now project → ⊥) }
     ensures memory_line { IfErr result (λ fault. IsTrue (is_memory (refusal fault).number) → line_of fault ≡ 0) }
 {
     read_lines(alloc, text)

@@ -47,7 +47,8 @@ impl SourceIndex {
         tokens: &mut Tokens<'_>,
     ) -> Result<(), LineFault>
         requires { IsTrue (is_number number) }
-        ensures { Says (λ _. self.new.sources.items) result (source_with 25 self.old.sources.items number tokens.old.rest.now) }
+        ensures { Says (λ _. self.new.sources.items) result
+            (source_with 25 self.old.sources.items number tokens.old.rest.now) }
     {
         if self.numbers.contains(number) {
             return Err(LineFault::Text(TextFault::DuplicateNumber));
@@ -102,7 +103,8 @@ impl EventList {
     #[tactic(auto, unfolding(list_terms::specs::Text::entry_of))]
     pub fn add(&mut self, number: u32, tokens: &mut Tokens<'_>) -> Result<(), LineFault>
         requires { IsTrue (is_number number) }
-        ensures { Says (λ _. entries_of self.new) result (entry_of 25 (entries_of self.old) number tokens.old.rest.now) }
+        ensures { Says (λ _. entries_of self.new) result
+            (entry_of 25 (entries_of self.old) number tokens.old.rest.now) }
     {
         if self.numbers.contains(number) {
             return Err(LineFault::Text(TextFault::DuplicateNumber));
@@ -128,7 +130,8 @@ impl EventList {
         token: &Token<'_>,
         tokens: &mut Tokens<'_>,
     ) -> Result<(), TextFault>
-        ensures { ok_map (λ _. entries_of self.new) result ≡ further_line 25 (entries_of self.old) (token_view token.now) tokens.old.rest.now }
+        ensures { ok_map (λ _. entries_of self.new) result
+            ≡ further_line 25 (entries_of self.old) (token_view token.now) tokens.old.rest.now }
     {
         match self.entry {
             None => remark(token, tokens),

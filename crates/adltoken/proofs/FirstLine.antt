@@ -83,8 +83,10 @@ lines_in-first text end at inside =
     let lf = ten_from_test (get_or text (position_or_len is_lf text) 0) (passes_at_first is_lf text 0 within) in
     let whole = split_at_first is_lf text 0 within in
     let first = cut_lines-line (before_first is_lf text) (after_first is_lf text) (no_lf_before text) in
-    let cut : cut_lines text ≡ before_first is_lf text ∷ cut_lines (after_first is_lf text) = ap cut_lines whole ∙ rw lf first in
-    let mapped : lines_in text ≡ without_cr (before_first is_lf text) ∷ lines_in (after_first is_lf text) = ap (map without_cr) cut in
+    let cut : cut_lines text ≡ before_first is_lf text ∷ cut_lines (after_first is_lf text) =
+    ap cut_lines whole ∙ rw lf first in
+    let mapped : lines_in text ≡ without_cr (before_first is_lf text) ∷ lines_in (after_first is_lf text) =
+    ap (map without_cr) cut in
     rw at mapped
 
 pub lines_in-only :
@@ -95,7 +97,8 @@ lines_in-only text end some at past =
 
 -- a line, the LF behind it, and what follows
 pub lines_in-cut :
-    (text line after cut : List ℕ) (end : ℕ) → end ≡ position_or_len is_lf text → line ≡ take end text → after ≡ drop end text
+    (text line after cut : List ℕ) (end : ℕ) → end ≡ position_or_len is_lf text → line ≡ take end text
+    → after ≡ drop end text
     → cut ≡ without_cr line → 0 < length after → lines_in text ≡ cut ∷ lines_in (take (length after - 1) (drop 1 after))
 lines_in-cut text line after cut end at front back trim some =
     let inside : end < length text = omega (arith, length-drop end text, ap length back) in
@@ -104,7 +107,8 @@ lines_in-cut text line after cut end at front back trim some =
 
 -- the last line, and nothing behind it
 pub lines_in-last :
-    (text line after cut : List ℕ) (end : ℕ) → 0 < length text → end ≡ position_or_len is_lf text → line ≡ take end text → after ≡ drop end text
+    (text line after cut : List ℕ) (end : ℕ) → 0 < length text → end ≡ position_or_len is_lf text → line ≡ take end text
+    → after ≡ drop end text
     → cut ≡ without_cr line → length after < 1 → lines_in text ≡ cut ∷ lines_in after
 lines_in-last text line after cut end some at front back trim none =
     let past : length text ≤ end = omega (arith, length-drop end text, ap length back) in

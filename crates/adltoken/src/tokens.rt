@@ -48,11 +48,14 @@ impl<'a> Tokens<'a> {
     /// The next token; `None` where only spaces and tabs are left. Nothing is cut off where there is none or a fault.
     #[tactic(auto, unfolding(list_terms::specs::Tokens::token_at))]
     pub fn next_token(&mut self) -> Result<Option<Token<'a>>, TextFault>
-        ensures exact { ok_map (λ next. option_map (λ token. (token_view token, self.new.rest.now)) next) result ≡ spec.token_at self.old.rest.now }
-        ensures shorter { IfOk result (λ next. IfSome next (λ token. length self.new.rest.now < length self.old.rest.now)) }
+        ensures exact { ok_map (λ next. option_map (λ token. (token_view token, self.new.rest.now)) next) result
+            ≡ spec.token_at self.old.rest.now }
+        ensures shorter { IfOk result (λ next. IfSome next (λ token.
+            length self.new.rest.now < length self.old.rest.now)) }
         ensures whole { IfOk result (λ next. IfSome next (λ token. token.text.now ≡ token_text (token_view token))) }
         ensures place { IfOk result (λ next. IfSome next (λ token.
-            (token.at + length token.text.now ≡ self.new.at) × (self.new.at + length self.new.rest.now ≡ self.old.at + length self.old.rest.now))) }
+            (token.at + length token.text.now ≡ self.new.at)
+            × (self.new.at + length self.new.rest.now ≡ self.old.at + length self.old.rest.now))) }
     {
         let line = skip_blanks(self.rest);
         let Some(cut) = first_token(line)? else {

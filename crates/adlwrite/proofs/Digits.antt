@@ -3,25 +3,12 @@ use Rattle.std.proofs.Common.{◌≡◌, ℕ, ◌+◌, ◌/◌, ◌%◌, ◌<◌
 use Rattle.std.specs.Prelude.{decimal, nat_le}
 use Rattle.std.proofs.lemmas.Bool.{cases_lt}
 use Rattle.std.proofs.lemmas.Bool.Decides.{nat_tests}
-use Rattle.std.proofs.lemmas.Fmt.{decimal_digit, decimal_step}
+use Rattle.std.proofs.lemmas.Fmt.{decimal_digit}
+use Rattle.facts.specs.Digits.{decimal_five, decimal_four, decimal_three, decimal_two}
 use Rattle.list_terms.specs.Fields.{are_digits, number_up_to, spelled}
 use Rattle.list_terms.specs.WrittenText.{number_text}
 
 -- ---- the digits that are written
-
-decimal_two : (n : ℕ) → 10 ≤ n → n < 100 → decimal n ≡ (48 + n / 10) ∷ (48 + n % 10) ∷ []
-decimal_two n low high =
-    decimal_step n low (omega arith) ∙ ap (λ ds. ds ++ ((48 + n % 10) ∷ [])) (decimal_digit (n / 10) (omega arith))
-
-decimal_three : (n : ℕ) → 100 ≤ n → n < 1000 → decimal n ≡ (48 + n / 10 / 10) ∷ (48 + n / 10 % 10) ∷ (48 + n % 10) ∷ []
-decimal_three n low high =
-    decimal_step n (omega arith) (omega arith) ∙ ap (λ ds. ds ++ ((48 + n % 10) ∷ [])) (decimal_two (n / 10) (omega arith) (omega arith))
-
-decimal_four :
-    (n : ℕ) → 1000 ≤ n → n < 10000
-    → decimal n ≡ (48 + n / 10 / 10 / 10) ∷ (48 + n / 10 / 10 % 10) ∷ (48 + n / 10 % 10) ∷ (48 + n % 10) ∷ []
-decimal_four n low high =
-    decimal_step n (omega arith) (omega arith) ∙ ap (λ ds. ds ++ ((48 + n % 10) ∷ [])) (decimal_three (n / 10) (omega arith) (omega arith))
 
 same_four :
     (a b c d a' b' c' d' : ℕ) → a ≡ a' → b ≡ b' → c ≡ c' → d ≡ d'
@@ -39,12 +26,16 @@ five_of n = (48 + n / 10000) ∷ (48 + n / 1000 % 10) ∷ (48 + n / 100 % 10) �
 number_text-four : (n : ℕ) → n < 10000 → number_text n ≡ four_of n
 number_text-four n h =
     ⊎_elim
-    (λ one. rw (decimal_digit n one) (same_four _ _ _ _ _ _ _ _ (omega arith) (omega arith) (omega arith) (omega arith)))
+    (λ one. rw (decimal_digit n one) (same_four _ _ _ _ _ _ _ _ (omega arith) (omega arith) (omega arith)
+    (omega arith)))
     (λ two. ⊎_elim
-    (λ low. rw (decimal_two n two low) (same_four _ _ _ _ _ _ _ _ (omega arith) (omega arith) (omega arith) (omega arith)))
+    (λ low. rw (decimal_two n two low) (same_four _ _ _ _ _ _ _ _ (omega arith) (omega arith) (omega arith)
+    (omega arith)))
     (λ three. ⊎_elim
-    (λ low. rw (decimal_three n three low) (same_four _ _ _ _ _ _ _ _ (omega arith) (omega arith) (omega arith) (omega arith)))
-    (λ four. rw (decimal_four n four h) (same_four _ _ _ _ _ _ _ _ (omega arith) (omega arith) (omega arith) (omega arith)))
+    (λ low. rw (decimal_three n three low) (same_four _ _ _ _ _ _ _ _ (omega arith) (omega arith) (omega arith)
+    (omega arith)))
+    (λ four. rw (decimal_four n four h) (same_four _ _ _ _ _ _ _ _ (omega arith) (omega arith) (omega arith)
+    (omega arith)))
     (cases_lt n 1000))
     (cases_lt n 100))
     (cases_lt n 10)
@@ -56,9 +47,8 @@ same_five a b c d e a' b' c' d' e' ea eb ec ed ee = cc
 
 number_text-five : (n : ℕ) → 10000 ≤ n → n < 100000 → number_text n ≡ five_of n
 number_text-five n low high =
-    let five : decimal n ≡ _ = decimal_step n (omega arith) (omega arith)
-    ∙ ap (λ ds. ds ++ ((48 + n % 10) ∷ [])) (decimal_four (n / 10) (omega arith) (omega arith)) in
-    rw five (same_five _ _ _ _ _ _ _ _ _ _ (omega arith) (omega arith) (omega arith) (omega arith) (omega arith))
+    rw (decimal_five n low high) (same_five _ _ _ _ _ _ _ _ _ _ (omega arith) (omega arith) (omega arith) (omega arith)
+    (omega arith))
 
 -- ---- digits are read
 

@@ -3,20 +3,13 @@ use Rattle.std.proofs.Common.{◌≡◌, ℕ, ◌≤◌, Bool, true, false, ◌&
 use Rattle.std.specs.Prelude.{is_some, nat_le}
 use Rattle.std.specs.List.{list_all}
 use Rattle.std.proofs.lemmas.Bool.Decides.{nat_tests}
+use Rattle.facts.specs.Tests.{and_left, and_right}
 use Rattle.sampletime.specs.TimeCode.{day}
 use Rattle.sound_terms.specs.declared.Event.{Event}
 use Rattle.list_terms.specs.Names.{place_of_url}
 use Rattle.list_terms.specs.Project.{Source}
 use Rattle.list_terms.specs.Tokens.{is_quoted_byte}
 use Rattle.list_terms.specs.WholeProject.{are_channels, has_same_widths, has_times_of_day, has_whole_texts, is_event, is_line_byte, is_number, is_one_token, is_quotable, is_source, is_time_of_day}
-
-pub and_left : (a b : Bool) → (a && b) ≡ true → a ≡ true
-and_left true b h = refl
-and_left false b h = h
-
-pub and_right : (a b : Bool) → (a && b) ≡ true → b ≡ true
-and_right true b h = h
-and_right false b h = absurd (cc)
 
 pub all_weaker :
     (p q : ℕ → Bool) (each : (b : ℕ) → p b ≡ true → q b ≡ true) (text : List ℕ) → list_all p text ≡ true
@@ -46,8 +39,11 @@ source_facts source h k =
       place = and_left (is_some (place_of_url source.url)) _ h1;
       start = and_left (is_time_of_day source.start) (is_time_of_day source.length) h2;
       length = and_right (is_time_of_day source.start) (is_time_of_day source.length) h2;
-      quoted = all_weaker is_quotable is_quoted_byte (λ b e. and_left (is_quoted_byte b) (is_line_byte b) e) source.url quotable;
-      url_line = all_weaker is_quotable is_line_byte (λ b e. and_right (is_quoted_byte b) (is_line_byte b) e) source.url quotable;
+      quoted = all_weaker is_quotable is_quoted_byte (λ b e. and_left (is_quoted_byte b) (is_line_byte b) e)
+          source.url quotable;
+      url_line =
+          all_weaker is_quotable is_line_byte (λ b e. and_right (is_quoted_byte b) (is_line_byte b) e)
+          source.url quotable;
       uid_line = and_left (list_all is_line_byte source.uid) (is_one_token source.uid) k1;
       uid = and_right (list_all is_line_byte source.uid) (is_one_token source.uid) k1;
     }

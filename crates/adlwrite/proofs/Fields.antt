@@ -45,7 +45,10 @@ pub time_field-written :
     → time_field 25 (32 ∷ (text_of 25 t separators ++ rest)) ≡ Ok (t, separators, rest)
 unfolding time_field
 time_field-written t separators rest h i s =
-    rw (field-word (text_of 25 t separators) rest (time_is_a_word t separators h i) s, samples_of-text_of t separators h i)
+    rw (
+      field-word (text_of 25 t separators) rest (time_is_a_word t separators h i) s,
+      samples_of-text_of t separators h i,
+    )
 
 -- a text that is a time isn't `_`
 not_missing : (text : List ℕ) (time : ℕ × List ℕ) → samples_of 25 text ≡ Some time → bytes_eq text (codes "_") ≡ false
@@ -70,13 +73,16 @@ optional_time_is_a_word None project r i h = refl
 optional_time_is_a_word (Some t) project r i h = rw r (time_is_a_word t project.separators (grind (arith, nat_tests)) i)
 
 pub optional_time_field-written :
-    (time :
-    Option ℕ) (project : ListProject) (rest : List ℕ) → project.rate ≡ 25 → IsTrue (are_separators project.separators)
+    (time : Option ℕ) (project : ListProject) (rest : List ℕ) → project.rate ≡ 25
+    → IsTrue (are_separators project.separators)
     → IsTrue (is_time_of_day time) → stops is_word_byte rest ≡ true
     → optional_time_field 25 (32 ∷ (time_text project time ++ rest)) ≡ Ok (time, rest)
 unfolding optional_time_field
 optional_time_field-written time project rest r i h s =
-    rw (field-word (time_text project time) rest (optional_time_is_a_word time project r i h) s, optional_time-written time project r i h)
+    rw (
+      field-word (time_text project time) rest (optional_time_is_a_word time project r i h) s,
+      optional_time-written time project r i h,
+    )
 
 pub url_field-written :
     (url rest : List ℕ) → list_all is_quoted_byte url ≡ true → IsTrue (is_some (place_of_url url))

@@ -46,118 +46,131 @@ nothing_ends = refl
 
 -- ---- a source
 
-module _ (project : ListProject) (rate : project.rate ≡ 25) (separators : IsTrue (are_separators project.separators)) where
-  last_optional_time :
-      (time :
-      Option ℕ) → IsTrue (is_time_of_day time) → optional_time_field 25 (32 ∷ time_text project time) ≡ Ok (time, [])
-  last_optional_time time h =
-      ap (λ text. optional_time_field 25 (32 ∷ text)) (sym (append-nil (time_text project time)))
-      ∙ optional_time_field-written time project [] rate separators h refl
+module _ (project : ListProject) (rate : project.rate ≡ 25) (separators : IsTrue (are_separators project.separators))
+  where
+    last_optional_time :
+        (time : Option ℕ) → IsTrue (is_time_of_day time)
+        → optional_time_field 25 (32 ∷ time_text project time) ≡ Ok (time, [])
+    last_optional_time time h =
+        ap (λ text. optional_time_field 25 (32 ∷ text)) (sym (append-nil (time_text project time)))
+        ∙ optional_time_field-written time project [] rate separators h refl
 
-  last_time : (t : ℕ) → t ≤ day → time_field 25 (32 ∷ time_text project (Some t)) ≡ Ok (t, project.separators, [])
-  last_time t h =
-      ap (λ text. time_field 25 (32 ∷ text)) (sym (append-nil (time_text project (Some t))) ∙ ap (λ r. text_of r t project.separators ++ []) rate)
-      ∙ time_field-written t project.separators [] h separators refl
+    last_time : (t : ℕ) → t ≤ day → time_field 25 (32 ∷ time_text project (Some t)) ≡ Ok (t, project.separators, [])
+    last_time t h =
+        ap (λ text. time_field 25 (32 ∷ text)) (sym (append-nil (time_text project (Some t)))
+        ∙ ap (λ r. text_of r t project.separators ++ []) rate)
+        ∙ time_field-written t project.separators [] h separators refl
 
-  middle_time :
-      (t : ℕ) (rest : List ℕ) → t ≤ day
-      → time_field 25 (32 ∷ (time_text project (Some t) ++ (32 ∷ rest))) ≡ Ok (t, project.separators, 32 ∷ rest)
-  middle_time t rest h =
-      ap (λ r. time_field 25 (32 ∷ (text_of r t project.separators ++ (32 ∷ rest)))) rate
-      ∙ time_field-written t project.separators (32 ∷ rest) h separators refl
+    middle_time :
+        (t : ℕ) (rest : List ℕ) → t ≤ day
+        → time_field 25 (32 ∷ (time_text project (Some t) ++ (32 ∷ rest))) ≡ Ok (t, project.separators, 32 ∷ rest)
+    middle_time t rest h =
+        ap (λ r. time_field 25 (32 ∷ (text_of r t project.separators ++ (32 ∷ rest)))) rate
+        ∙ time_field-written t project.separators (32 ∷ rest) h separators refl
 
-  pub source_fields-written :
-      (source : Source) → IsTrue (is_source source) → IsTrue (has_whole_texts source)
-      → source_fields 25 source.number (codes " (F) \"" ++ (source.url ++ (codes "\" " ++ (source.uid
-      ++ (codes " " ++ (time_text project source.start ++ (codes " " ++ time_text project source.length))))))) ≡ Ok source
-  unfolding source_fields
-  source_fields-written source h k =
-      let last = 32 ∷ time_text project source.length in
-      let times = 32 ∷ (time_text project source.start ++ last) in
-      let facts = source_facts source h k in
-      rw (
-        file_is_read (source.url ++ (codes "\" " ++ (source.uid ++ times))),
-        url_field-written source.url (32 ∷ (source.uid ++ times)) facts.quoted facts.place,
-        uid_field-written source.uid times facts.uid refl,
-        optional_time_field-written source.start project last rate separators facts.start refl,
-        last_optional_time source.length facts.length,
-        nothing_ends,
-      )
+    pub source_fields-written :
+        (source : Source) → IsTrue (is_source source) → IsTrue (has_whole_texts source)
+        → source_fields 25 source.number (codes " (F) \""
+        ++ (source.url ++ (codes "\" "
+        ++ (source.uid ++ (codes " "
+        ++ (time_text project source.start ++ (codes " " ++ time_text project source.length)))))))
+        ≡ Ok source
+    unfolding source_fields
+    source_fields-written source h k =
+        let last = 32 ∷ time_text project source.length in
+        let times = 32 ∷ (time_text project source.start ++ last) in
+        let facts = source_facts source h k in
+        rw (
+          file_is_read (source.url ++ (codes "\" " ++ (source.uid ++ times))),
+          url_field-written source.url (32 ∷ (source.uid ++ times)) facts.quoted facts.place,
+          uid_field-written source.uid times facts.uid refl,
+          optional_time_field-written source.start project last rate separators facts.start refl,
+          last_optional_time source.length facts.length,
+          nothing_ends,
+        )
 
-  -- ---- an entry
+    -- ---- an entry
 
-  channel_fields-written :
-      (event : Event) (rest : List ℕ) → EventFacts event
-      → channel_fields (32 ∷ (channels_text event.source ++ (32 ∷ (channels_text event.dest ++ (32 ∷ rest)))))
-      ≡ Ok (event.source, event.dest, 32 ∷ rest)
-  unfolding channel_fields
-  channel_fields-written event rest facts =
-      rw (
-        channels_field-written event.source (32 ∷ (channels_text event.dest ++ (32 ∷ rest))) facts.source refl,
-        channels_field-written event.dest (32 ∷ rest) facts.dest refl,
-        facts.widths,
-      )
+    channel_fields-written :
+        (event : Event) (rest : List ℕ) → EventFacts event
+        → channel_fields (32 ∷ (channels_text event.source ++ (32 ∷ (channels_text event.dest ++ (32 ∷ rest)))))
+        ≡ Ok (event.source, event.dest, 32 ∷ rest)
+    unfolding channel_fields
+    channel_fields-written event rest facts =
+        rw (
+          channels_field-written event.source (32 ∷ (channels_text event.dest ++ (32 ∷ rest))) facts.source refl,
+          channels_field-written event.dest (32 ∷ rest) facts.dest refl,
+          facts.widths,
+        )
 
-  time_fields-written :
-      (event : Event) → EventFacts event
-      → time_fields 25 (32 ∷ (time_text project (Some event.source_in) ++ (32 ∷ (time_text project (Some event.dest_in)
-      ++ (32 ∷ time_text project (Some event.dest_out))))))
-      ≡ Ok (record { source_in = event.source_in; dest_in = event.dest_in; dest_out = event.dest_out }, project.separators)
-  unfolding time_fields
-  time_fields-written event facts =
-      let last = time_text project (Some event.dest_out) in
-      rw (
-        middle_time event.source_in (time_text project (Some event.dest_in) ++ (32 ∷ last)) facts.source_in,
-        middle_time event.dest_in last facts.dest_in,
-        last_time event.dest_out facts.dest_out,
-        nothing_ends,
-      )
+    time_fields-written :
+        (event : Event) → EventFacts event
+        → time_fields 25 (32 ∷ (time_text project (Some event.source_in)
+        ++ (32 ∷ (time_text project (Some event.dest_in)
+        ++ (32 ∷ time_text project (Some event.dest_out))))))
+        ≡ Ok (
+          record { source_in = event.source_in; dest_in = event.dest_in; dest_out = event.dest_out },
+          project.separators,
+        )
+    unfolding time_fields
+    time_fields-written event facts =
+        let last = time_text project (Some event.dest_out) in
+        rw (
+          middle_time event.source_in (time_text project (Some event.dest_in) ++ (32 ∷ last)) facts.source_in,
+          middle_time event.dest_in last facts.dest_in,
+          last_time event.dest_out facts.dest_out,
+          nothing_ends,
+        )
 
-  -- an entry before its fades are told
-  pub event_fields-written :
-      (event : Event) → EventFacts event
-      → event_fields 25 event.number (codes " (Cut) I " ++ (number_text event.index
-      ++ (codes " " ++ (channels_text event.source ++ (codes " " ++ (channels_text event.dest
-      ++ (codes " " ++ (time_text project (Some event.source_in) ++ (codes " " ++ (time_text project (Some event.dest_in)
-      ++ (codes " " ++ time_text project (Some event.dest_out))))))))))))
-      ≡ Ok (record event { rise = record { length = 0 }; fall = record { length = 0 } }, project.separators)
-  unfolding event_fields
-  event_fields-written event facts =
-      let times = time_text project (Some event.source_in) ++ (32 ∷ (time_text project (Some event.dest_in)
-      ++ (32 ∷ time_text project (Some event.dest_out)))) in
-      let channels = 32 ∷ (channels_text event.source ++ (32 ∷ (channels_text event.dest ++ (32 ∷ times)))) in
-      rw (
-        cut_keyword_is_read (number_text event.index ++ channels),
-        cut_is_read (number_text event.index ++ channels),
-        number_field-written event.index channels facts.index refl,
-        channel_fields-written event times facts,
-        time_fields-written event facts,
-      )
+    -- an entry before its fades are told
+    pub event_fields-written :
+        (event : Event) → EventFacts event
+        → event_fields 25 event.number (codes " (Cut) I " ++ (number_text event.index
+        ++ (codes " " ++ (channels_text event.source ++ (codes " " ++ (channels_text event.dest
+        ++ (codes " " ++ (time_text project (Some event.source_in)
+        ++ (codes " " ++ (time_text project (Some event.dest_in)
+        ++ (codes " " ++ time_text project (Some event.dest_out))))))))))))
+        ≡ Ok (record event { rise = record { length = 0 }; fall = record { length = 0 } }, project.separators)
+    unfolding event_fields
+    event_fields-written event facts =
+        let times = time_text project (Some event.source_in) ++ (32 ∷ (time_text project (Some event.dest_in)
+        ++ (32 ∷ time_text project (Some event.dest_out)))) in
+        let channels = 32 ∷ (channels_text event.source ++ (32 ∷ (channels_text event.dest ++ (32 ∷ times)))) in
+        rw (
+          cut_keyword_is_read (number_text event.index ++ channels),
+          cut_is_read (number_text event.index ++ channels),
+          number_field-written event.index channels facts.index refl,
+          channel_fields-written event times facts,
+          time_fields-written event facts,
+        )
 
-  -- ---- a fade
+    -- ---- a fade
 
-  fade_fields-written :
-      (length : ℕ) → length ≤ day → (length == 0) ≡ false
-      → fade_fields 25 (codes " " ++ (time_text project (Some length) ++ codes " LIN _ _ _")) ≡ Ok length
-  unfolding fade_fields
-  fade_fields-written length h some =
-      rw (
-        optional_time_field-written (Some length) project (codes " LIN _ _ _") rate separators (grind (arith, nat_tests)) refl,
-        some,
-        linear_is_read,
-        curve_ends,
-      )
+    fade_fields-written :
+        (length : ℕ) → length ≤ day → (length == 0) ≡ false
+        → fade_fields 25 (codes " " ++ (time_text project (Some length) ++ codes " LIN _ _ _")) ≡ Ok length
+    unfolding fade_fields
+    fade_fields-written length h some =
+        rw (
+          optional_time_field-written (Some length) project (codes " LIN _ _ _") rate separators
+              (grind (arith, nat_tests)) refl,
+          some,
+          linear_is_read,
+          curve_ends,
+        )
 
-  pub rise_is_read :
-      (entry : OpenEntry) (length : ℕ) → length ≤ day → (length == 0) ≡ false → entry.has_rise ≡ false
-      → entry_with 25 entry (record { kind = Keyword; content = codes "Infade" }) (codes " " ++ (time_text project (Some length) ++ codes " LIN _ _ _"))
-      ≡ Ok (with_rise entry length)
-  unfolding entry_with
-  rise_is_read entry length h some new = rw (new, fade_fields-written length h some)
+    pub rise_is_read :
+        (entry : OpenEntry) (length : ℕ) → length ≤ day → (length == 0) ≡ false → entry.has_rise ≡ false
+        → entry_with 25 entry (record { kind = Keyword; content = codes "Infade" })
+        (codes " " ++ (time_text project (Some length) ++ codes " LIN _ _ _"))
+        ≡ Ok (with_rise entry length)
+    unfolding entry_with
+    rise_is_read entry length h some new = rw (new, fade_fields-written length h some)
 
-  pub fall_is_read :
-      (entry : OpenEntry) (length : ℕ) → length ≤ day → (length == 0) ≡ false → entry.has_fall ≡ false
-      → entry_with 25 entry (record { kind = Keyword; content = codes "Outfade" }) (codes " " ++ (time_text project (Some length) ++ codes " LIN _ _ _"))
-      ≡ Ok (with_fall entry length)
-  unfolding entry_with
-  fall_is_read entry length h some new = rw (new, fade_fields-written length h some)
+    pub fall_is_read :
+        (entry : OpenEntry) (length : ℕ) → length ≤ day → (length == 0) ≡ false → entry.has_fall ≡ false
+        → entry_with 25 entry (record { kind = Keyword; content = codes "Outfade" })
+        (codes " " ++ (time_text project (Some length) ++ codes " LIN _ _ _"))
+        ≡ Ok (with_fall entry length)
+    unfolding entry_with
+    fall_is_read entry length h some new = rw (new, fade_fields-written length h some)

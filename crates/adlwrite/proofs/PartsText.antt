@@ -5,36 +5,36 @@ use Rattle.std.proofs.lemmas.List.{append-nil}
 use Rattle.sound_terms.specs.declared.Event.{Event}
 use Rattle.list_terms.specs.Project.{ListProject, Source}
 use Rattle.list_terms.specs.WrittenText.{event_line, event_lines, fade_lines, line, section, source_line, text_of_project}
-use Rattle.adlwrite.specs.Parts.{body_text, curve_text, ending_text, entry_front, entry_text, entry_times, event_text, events_text, fade_text, head_text, header_text, line_end, lines_text, list_begin, list_end, name_end, numbered, opening_text, ranged, source_text, sources_text, texted, timed}
+use Rattle.adlwrite.specs.Parts.{body_text, curve_text, ending_text, entry_front, entry_text, entry_times, event_text, events_text, fade_text, head_text, header_text, line_end, lines_text, list_begin, list_end, name_end, numeral_text, opening_text, ranged, source_text, sources_text, texted, timed}
 
 source_is_its_line :
     (project : ListProject) (source : Source) → source_text project source ≡ line (source_line project source)
-unfolding source_text numbered texted timed line_end
+unfolding source_text numeral_text texted timed line_end
 source_is_its_line project source = simp append_assoc
 
 entry_is_its_line : (project : ListProject) (event : Event) → entry_text project event ≡ line (event_line project event)
-unfolding entry_text entry_front entry_times numbered ranged timed line_end
+unfolding entry_text entry_front entry_times numeral_text ranged timed line_end
 entry_is_its_line project event = simp append_assoc
 
 rise_is_its_line :
-    (project :
-    ListProject) (length : ℕ) → fade_text project (codes "(Infade) ") length ≡ flat_map line (fade_lines project (codes "(Infade)") length)
+    (project : ListProject) (length : ℕ)
+    → fade_text project (codes "(Infade) ") length ≡ flat_map line (fade_lines project (codes "(Infade)") length)
 unfolding fade_text timed curve_text
 rise_is_its_line project length = by_test (length == 0) refl where
   by_test :
-      (none :
-      Bool) → (length == 0) ≡ none → fade_text project (codes "(Infade) ") length ≡ flat_map line (fade_lines project (codes "(Infade)") length)
+      (none : Bool) → (length == 0) ≡ none
+      → fade_text project (codes "(Infade) ") length ≡ flat_map line (fade_lines project (codes "(Infade)") length)
   by_test true e = rw e refl
   by_test false e = rw e (simp (append_assoc, append-nil))
 
 fall_is_its_line :
-    (project :
-    ListProject) (length : ℕ) → fade_text project (codes "(Outfade) ") length ≡ flat_map line (fade_lines project (codes "(Outfade)") length)
+    (project : ListProject) (length : ℕ)
+    → fade_text project (codes "(Outfade) ") length ≡ flat_map line (fade_lines project (codes "(Outfade)") length)
 unfolding fade_text timed curve_text
 fall_is_its_line project length = by_test (length == 0) refl where
   by_test :
-      (none :
-      Bool) → (length == 0) ≡ none → fade_text project (codes "(Outfade) ") length ≡ flat_map line (fade_lines project (codes "(Outfade)") length)
+      (none : Bool) → (length == 0) ≡ none
+      → fade_text project (codes "(Outfade) ") length ≡ flat_map line (fade_lines project (codes "(Outfade)") length)
   by_test true e = rw e refl
   by_test false e = rw e (simp (append_assoc, append-nil))
 
@@ -50,23 +50,29 @@ event_is_its_lines project event =
       entry_is_its_line project event,
       rise_is_its_line project event.rise.length,
       fall_is_its_line project event.fall.length,
-      lines_append (fade_lines project (codes "(Infade)") event.rise.length) (fade_lines project (codes "(Outfade)") event.fall.length),
+      lines_append (fade_lines project (codes "(Infade)") event.rise.length)
+          (fade_lines project (codes "(Outfade)") event.fall.length),
     ) refl
 
 sources_are_their_lines :
-    (project :
-    ListProject) (sources : List Source) → sources_text project sources ≡ flat_map line (flat_map (λ s. source_line project s ∷ []) sources)
+    (project : ListProject) (sources : List Source)
+    → sources_text project sources ≡ flat_map line (flat_map (λ s. source_line project s ∷ []) sources)
 unfolding sources_text
 sources_are_their_lines project [] = refl
-sources_are_their_lines project (s ∷ sources) = rw (source_is_its_line project s, sources_are_their_lines project sources) refl
+sources_are_their_lines project (s ∷ sources) =
+    rw (source_is_its_line project s, sources_are_their_lines project sources) refl
 
 events_are_their_lines :
-    (project :
-    ListProject) (events : List Event) → events_text project events ≡ flat_map line (flat_map (event_lines project) events)
+    (project : ListProject) (events : List Event)
+    → events_text project events ≡ flat_map line (flat_map (event_lines project) events)
 unfolding events_text
 events_are_their_lines project [] = refl
 events_are_their_lines project (e ∷ events) =
-    rw (event_is_its_lines project e, events_are_their_lines project events, lines_append (event_lines project e) (flat_map (event_lines project) events)) refl
+    rw (
+      event_is_its_lines project e,
+      events_are_their_lines project events,
+      lines_append (event_lines project e) (flat_map (event_lines project) events),
+    ) refl
 
 opening_is_a_line : (name : List ℕ) → opening_text name ≡ line (codes "<" ++ (name ++ codes ">"))
 unfolding opening_text texted name_end
@@ -103,7 +109,11 @@ text_is_its_parts project =
       sources_are_their_lines project project.sources,
       events_are_their_lines project project.events,
     )
-    (regrouped (line (codes "<ADL>")) (section (codes "VERSION") project.header.version) (section (codes "PROJECT") project.header.project)
-    (section (codes "SYSTEM") project.header.system) (section (codes "SEQUENCE") project.header.sequence) (section (codes "TRACKLIST") project.header.track_list)
-    (line (codes "<SOURCE_INDEX>")) (flat_map line (flat_map (λ s. source_line project s ∷ []) project.sources)) (line (codes "</SOURCE_INDEX>"))
-    (line (codes "<EVENT_LIST>")) (flat_map line (flat_map (event_lines project) project.events)) (line (codes "</EVENT_LIST>")) (line (codes "</ADL>")))
+    (regrouped (line (codes "<ADL>")) (section (codes "VERSION") project.header.version)
+    (section (codes "PROJECT") project.header.project)
+    (section (codes "SYSTEM") project.header.system) (section (codes "SEQUENCE") project.header.sequence)
+    (section (codes "TRACKLIST") project.header.track_list)
+    (line (codes "<SOURCE_INDEX>")) (flat_map line (flat_map (λ s. source_line project s ∷ []) project.sources))
+    (line (codes "</SOURCE_INDEX>"))
+    (line (codes "<EVENT_LIST>")) (flat_map line (flat_map (event_lines project) project.events))
+    (line (codes "</EVENT_LIST>")) (line (codes "</ADL>")))

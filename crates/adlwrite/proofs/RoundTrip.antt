@@ -10,7 +10,7 @@ use Rattle.list_terms.specs.Text.{Entries, HeaderRead, all_events, before_list, 
 use Rattle.list_terms.specs.WholeProject.{IsProject, both_rates, lines_of_section, no_rates, told_rates, without_notices}
 use Rattle.list_terms.specs.WrittenText.{event_lines, source_line, text_of_project}
 use Rattle.adlwrite.proofs.Events.{events_are_read}
-use Rattle.adlwrite.proofs.Head.{count, version_is_read}
+use Rattle.adlwrite.proofs.Head.{count, header_is_read}
 use Rattle.adlwrite.proofs.Reading.{Gives, ending, in_head, last_line, one_line, opening, so_far, written_section}
 use Rattle.adlwrite.proofs.Sources.{sources_are_read}
 use Rattle.adlwrite.proofs.TextLines.{lines_of-text_of_project, written_lines}
@@ -42,8 +42,8 @@ list_ends known header sources entries n = refl
 
 -- SEQUENCE is there, since it tells both rates
 has_sequence :
-    (sequence :
-    Option (List (List ℕ))) → told_rates no_rates (lines_of_section sequence) ≡ Ok both_rates → is_some sequence ≡ true
+    (sequence : Option (List (List ℕ))) → told_rates no_rates (lines_of_section sequence) ≡ Ok both_rates
+    → is_some sequence ≡ true
 has_sequence None h = let e : no_rates ≡ both_rates = cc in ap (λ (r : Rates). r.sample_rate) e
 has_sequence (Some lines) h = refl
 
@@ -57,27 +57,42 @@ separators_again project (Some found) h same = same
 
 module _ (project : ListProject) (h : IsProject project) where
   abbrev header_read : HeaderRead
-  header_read = record { lines = project.header; kept = 0 + count project.header.version + count project.header.project + count project.header.system + count project.header.sequence + count project.header.track_list; rates = both_rates }
+  header_read =
+      record {
+        lines = project.header;
+        kept = 0 + count project.header.version + count project.header.project + count project.header.system + count
+            project.header.sequence + count project.header.track_list;
+        rates = both_rates;
+      }
 
   ends :
       (last : Entries) → all_events last.events last.entry ≡ project.events
       → MatchOption last.separators (project.events ≡ []) (λ f. f ≡ project.separators) → (n : ℕ)
-      → finished 25 (so_far Behind (codes "EVENT_LIST") header_read true project.sources true last) n ≡ Ok (without_notices project)
+      → finished 25 (so_far Behind (codes "EVENT_LIST") header_read true project.sources true last) n
+      ≡ Ok (without_notices project)
   unfolding finished
   ends last same found n =
-      rw (has_sequence project.header.sequence h.header.rates, same, separators_again project last.separators h found, h.rate) refl
+      rw (
+        has_sequence project.header.sequence h.header.rates,
+        same,
+        separators_again project last.separators h found,
+        h.rate,
+      ) refl
 
   events_end :
       Gives (so_far Outside (codes "SOURCE_INDEX") header_read true project.sources false no_entry)
-      (written_section (codes "EVENT_LIST") (Some (flat_map (event_lines project) project.events)) ++ (codes "</ADL>" ∷ [])) (without_notices project)
+      (written_section (codes "EVENT_LIST") (Some (flat_map (event_lines project) project.events))
+      ++ (codes "</ADL>" ∷ [])) (without_notices project)
   events_end =
       let lines = flat_map (event_lines project) project.events in
       let end = ending (codes "EVENT_LIST") in
       subst (λ more. Gives (so_far Outside (codes "SOURCE_INDEX") header_read true project.sources false no_entry)
-      (opening (codes "EVENT_LIST") ∷ more) (without_notices project)) (sym (append_assoc lines (end ∷ []) (codes "</ADL>" ∷ [])))
+      (opening (codes "EVENT_LIST") ∷ more) (without_notices project))
+      (sym (append_assoc lines (end ∷ []) (codes "</ADL>" ∷ [])))
       (one_line _ _ (opening (codes "EVENT_LIST")) (lines ++ (end ∷ codes "</ADL>" ∷ [])) (without_notices project)
       (events_begin (codes "SOURCE_INDEX") header_read project.sources) refl
-      (events_are_read project h.rate h.separators header_read project.sources no_entry [] project.events (codes "</ADL>" ∷ []) (without_notices project)
+      (events_are_read project h.rate h.separators header_read project.sources no_entry [] project.events
+      (codes "</ADL>" ∷ []) (without_notices project)
       refl refl h.events.each h.events.distinct
       (λ last same found. last_line _ _ (codes "</ADL>") (without_notices project)
       (list_ends (codes "EVENT_LIST") header_read project.sources last) refl (ends last same found))))
@@ -86,21 +101,26 @@ module _ (project : ListProject) (h : IsProject project) where
       (known : List ℕ)
       → Gives (in_head Outside known header_read)
       (written_section (codes "SOURCE_INDEX") (Some (map (source_line project) project.sources))
-      ++ (written_section (codes "EVENT_LIST") (Some (flat_map (event_lines project) project.events)) ++ (codes "</ADL>" ∷ []))) (without_notices project)
+      ++ (written_section (codes "EVENT_LIST") (Some (flat_map (event_lines project) project.events))
+      ++ (codes "</ADL>" ∷ []))) (without_notices project)
   index_and_events known =
       let lines = map (source_line project) project.sources in
       let end = ending (codes "SOURCE_INDEX") in
-      let rest = written_section (codes "EVENT_LIST") (Some (flat_map (event_lines project) project.events)) ++ (codes "</ADL>" ∷ []) in
-      subst (λ more. Gives (in_head Outside known header_read) (opening (codes "SOURCE_INDEX") ∷ more) (without_notices project))
+      let rest =
+      written_section (codes "EVENT_LIST") (Some (flat_map (event_lines project) project.events))
+      ++ (codes "</ADL>" ∷ []) in
+      subst (λ more. Gives (in_head Outside known header_read) (opening (codes "SOURCE_INDEX") ∷ more)
+      (without_notices project))
       (sym (append_assoc lines (end ∷ []) rest))
-      (one_line _ _ (opening (codes "SOURCE_INDEX")) (lines ++ (end ∷ rest)) (without_notices project) (index_begins known header_read) refl
+      (one_line _ _ (opening (codes "SOURCE_INDEX")) (lines ++ (end ∷ rest)) (without_notices project)
+      (index_begins known header_read) refl
       (sources_are_read project h.rate h.separators header_read [] project.sources rest (without_notices project)
       h.sources.numbered.each h.sources.texts h.sources.numbered.distinct events_end))
 
   list_is_read : Gives nothing_read (written_lines project) (without_notices project)
   list_is_read =
       one_line nothing_read (in_head Outside [] no_header) (codes "<ADL>") _ (without_notices project) list_begins refl
-      (version_is_read project.header h.header _ (without_notices project) [] index_and_events)
+      (header_is_read project.header h.header _ (without_notices project) index_and_events [])
 
 pub text_value-text_of_project :
     (project : ListProject) → IsProject project → text_value (text_of_project project) ≡ Ok (without_notices project)

@@ -3,12 +3,13 @@ use Rattle.std.proofs.Common.{◌≡◌, ℕ, ◌+◌, ◌/◌, ◌%◌, ◌<◌
 use Rattle.std.specs.Prelude.{decimal, nat_le, ◌==◌, ◌&&◌}
 use Rattle.std.specs.List.{before_first, list_all, position_or_len}
 use Rattle.std.proofs.lemmas.Bool.Decides.{nat_tests}
+use Rattle.facts.specs.Prefixes.{take_more}
 use Rattle.sampletime.specs.TimeCode.{are_separators, day, is_digit, is_separator, text_of, text_of_parts}
 use Rattle.sound_terms.specs.declared.Channels.{Channels}
 use Rattle.list_terms.specs.Fields.{are_digits, channels_of, channel_range, is_tilde, number_up_to}
 use Rattle.list_terms.specs.Names.{behind_byte}
 use Rattle.list_terms.specs.Tokens.{is_word_byte}
-use Rattle.list_terms.specs.TokenLaws.{is_word, take_more}
+use Rattle.list_terms.specs.TokenLaws.{is_word}
 use Rattle.list_terms.specs.WholeProject.{are_channels, is_number}
 use Rattle.list_terms.specs.WrittenText.{channels_text, number_text}
 use Rattle.adlwrite.proofs.Digits.{decimal-spells, number_text-spells, number_up_to-spelled}
@@ -59,13 +60,15 @@ without_tilde : (digits : List ℕ) → list_all is_digit digits ≡ true → be
 without_tilde [] h = refl
 without_tilde (d ∷ digits) h =
     let other : (d == 126) ≡ false = grind (arith, nat_tests) in
-    rw (other, take_more (position_or_len is_tilde digits) d digits) (ap (λ t. d ∷ t) (without_tilde digits (grind (arith, nat_tests))))
+    rw (other, take_more (position_or_len is_tilde digits) d digits)
+    (ap (λ t. d ∷ t) (without_tilde digits (grind (arith, nat_tests))))
 
 behind_tilde :
     (digits rest : List ℕ) → list_all is_digit digits ≡ true → behind_byte 126 (digits ++ (126 ∷ rest)) ≡ Some rest
 behind_tilde [] rest h = refl
 behind_tilde (d ∷ digits) rest h =
-    let other : (d == 126) ≡ false = grind (arith, nat_tests) in rw other (behind_tilde digits rest (grind (arith, nat_tests)))
+    let other : (d == 126) ≡ false = grind (arith, nat_tests) in
+    rw other (behind_tilde digits rest (grind (arith, nat_tests)))
 
 no_tilde : (digits : List ℕ) → list_all is_digit digits ≡ true → behind_byte 126 digits ≡ None
 no_tilde [] h = refl
@@ -83,7 +86,12 @@ one_is_read n low high =
     let h = decimal-spells n high in
     let digits = all_digits (decimal n) h.digits in
     let n-le : nat_le n n ≡ true = grind (arith, nat_tests) in
-    rw (no_tilde (decimal n) digits, without_tilde (decimal n) digits, number_up_to-spelled 64 n (decimal n) low high h, n-le)
+    rw (
+      no_tilde (decimal n) digits,
+      without_tilde (decimal n) digits,
+      number_up_to-spelled 64 n (decimal n) low high h,
+      n-le,
+    )
 
 two_are_read :
     (first last : ℕ) → 1 ≤ first → first ≤ last → last ≤ 64
@@ -105,7 +113,8 @@ two_are_read first last low order high =
 same_channels :
     (channels : Channels) → channels.first ≡ channels.last
     → let one : Option Channels = Some (record { first = channels.first; last = channels.first }) in one ≡ Some channels
-same_channels channels e = ap (λ (last : ℕ). let c : Channels = record { first = channels.first; last = last } in Some c) e
+same_channels channels e =
+    ap (λ (last : ℕ). let c : Channels = record { first = channels.first; last = last } in Some c) e
 
 -- channels are written as a word that is read as those channels
 pub record IsReadAs (channels : Channels) (text : List ℕ) : Type 0 where
@@ -126,13 +135,16 @@ channels_are_read channels h = by_test (channels.first == channels.last) refl wh
 
   by_test : (one : Bool) → (channels.first == channels.last) ≡ one → IsReadAs channels (channels_text channels)
   by_test true e = rw e (record {
-    word = digits_are_a_word (decimal channels.first) (decimal-spells channels.first (omega (arith, order, high))).digits;
-    value = one_is_read channels.first low (omega (arith, order, high)) ∙ same_channels channels (grind (arith, nat_tests));
+    word = digits_are_a_word (decimal channels.first)
+        (decimal-spells channels.first (omega (arith, order, high))).digits;
+    value = one_is_read channels.first low (omega (arith, order, high))
+        ∙ same_channels channels (grind (arith, nat_tests));
   })
   by_test false e = rw e (record {
     word = is_word_append (decimal channels.first) (126 ∷ decimal channels.last)
         (digits_are_a_word (decimal channels.first) (decimal-spells channels.first (omega (arith, order, high))).digits)
-        (words_from_digits (decimal channels.last) (all_digits (decimal channels.last) (decimal-spells channels.last high).digits));
+        (words_from_digits (decimal channels.last)
+        (all_digits (decimal channels.last) (decimal-spells channels.last high).digits));
     value = two_are_read channels.first channels.last low order high;
   })
 
@@ -165,8 +177,10 @@ parts_are_of_words :
     → is_word_byte b ≡ true
     → is_word_byte c ≡ true → is_word_byte d ≡ true → AreOfWords (text_of_parts h m s f r (a ∷ b ∷ c ∷ d ∷ []))
 parts_are_of_words h m s f r a b c d hh hm hs hf hr ia ib ic id =
-    with_two h hh (with_byte a ia (with_two m hm (with_byte b ib (with_two s hs (with_byte c ic (with_two f hf (with_byte d id
-    (with_digit (r / 1000) (omega arith) (with_digit (r / 100 % 10) (omega arith) (with_digit (r / 10 % 10) (omega arith)
+    with_two h hh (with_byte a ia (with_two m hm
+    (with_byte b ib (with_two s hs (with_byte c ic (with_two f hf (with_byte d id
+    (with_digit (r / 1000) (omega arith) (with_digit (r / 100 % 10) (omega arith)
+    (with_digit (r / 10 % 10) (omega arith)
     (with_digit (r % 10) (omega arith) nothing)))))))))))
 
 four_true : (a b c d : Bool) → (a && b && c && d) ≡ true → (a ≡ true) × (b ≡ true) × (c ≡ true) × (d ≡ true)
@@ -176,8 +190,8 @@ four_true true false c d h = absurd (cc)
 four_true false b c d h = absurd (cc)
 
 pub time_is_a_word :
-    (t :
-    ℕ) (separators : List ℕ) → t ≤ day → IsTrue (are_separators separators) → is_word (text_of 25 t separators) ≡ true
+    (t : ℕ) (separators : List ℕ) → t ≤ day → IsTrue (are_separators separators)
+    → is_word (text_of 25 t separators) ≡ true
 time_is_a_word t (a ∷ b ∷ c ∷ d ∷ []) h i =
     let each = four_true (is_separator a) (is_separator b) (is_separator c) (is_separator d) i in
     let ia = separator_is_of_words a each.0 in

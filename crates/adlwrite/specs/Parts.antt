@@ -10,8 +10,8 @@ unfoldable pub texted : List ℕ → List ℕ → List ℕ
 texted front text = front ++ text
 
 -- this text and a number
-unfoldable pub numbered : List ℕ → ℕ → List ℕ
-numbered front number = front ++ number_text number
+unfoldable pub numeral_text : List ℕ → ℕ → List ℕ
+numeral_text front number = front ++ number_text number
 
 -- this text and a run of channels
 unfoldable pub ranged : List ℕ → Channels → List ℕ
@@ -27,13 +27,15 @@ line_end = 13 ∷ 10 ∷ []
 
 unfoldable pub source_text : ListProject → Source → List ℕ
 source_text project source =
-    numbered (codes "(Index) ") source.number ++ (texted (codes " (F) \"") source.url ++ (texted (codes "\" ") source.uid
+    numeral_text (codes "(Index) ") source.number
+    ++ (texted (codes " (F) \"") source.url ++ (texted (codes "\" ") source.uid
     ++ (timed project (codes " ") source.start ++ (timed project (codes " ") source.length ++ line_end))))
 
 -- the numbers and the channels of an entry
 unfoldable pub entry_front : Event → List ℕ
 entry_front event =
-    numbered (codes "(Entry) ") event.number ++ (numbered (codes " (Cut) I ") event.index ++ (ranged (codes " ") event.source
+    numeral_text (codes "(Entry) ") event.number
+    ++ (numeral_text (codes " (Cut) I ") event.index ++ (ranged (codes " ") event.source
     ++ ranged (codes " ") event.dest))
 
 -- its times, and the end of its line
@@ -55,7 +57,8 @@ fade_text project keyword length = if length == 0 then [] else timed project key
 
 unfoldable pub event_text : ListProject → Event → List ℕ
 event_text project event =
-    entry_text project event ++ (fade_text project (codes "(Infade) ") event.rise.length ++ fade_text project (codes "(Outfade) ") event.fall.length)
+    entry_text project event ++ (fade_text project (codes "(Infade) ") event.rise.length
+    ++ fade_text project (codes "(Outfade) ") event.fall.length)
 
 -- what follows the name of a section
 unfoldable pub name_end : List ℕ
@@ -90,7 +93,8 @@ list_end = codes "</ADL>\r\n"
 -- the sections of the header, behind the list's first line
 unfoldable pub head_text : ListProject → List ℕ
 head_text project =
-    list_begin ++ (header_text (codes "VERSION") project.header.version ++ (header_text (codes "PROJECT") project.header.project
+    list_begin ++ (header_text (codes "VERSION") project.header.version
+    ++ (header_text (codes "PROJECT") project.header.project
     ++ (header_text (codes "SYSTEM") project.header.system ++ (header_text (codes "SEQUENCE") project.header.sequence
     ++ header_text (codes "TRACKLIST") project.header.track_list))))
 
@@ -98,4 +102,5 @@ head_text project =
 unfoldable pub body_text : ListProject → List ℕ
 body_text project =
     opening_text (codes "SOURCE_INDEX") ++ (sources_text project project.sources ++ (ending_text (codes "SOURCE_INDEX")
-    ++ (opening_text (codes "EVENT_LIST") ++ (events_text project project.events ++ (ending_text (codes "EVENT_LIST") ++ list_end)))))
+    ++ (opening_text (codes "EVENT_LIST") ++ (events_text project project.events
+    ++ (ending_text (codes "EVENT_LIST") ++ list_end)))))

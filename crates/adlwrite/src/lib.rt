@@ -1,7 +1,7 @@
 //! Writes a project as the text of an audio decision list (AES31-3).
 //!
-//! Lines end with CR LF, and one space parts tokens. The sections come in one order: those of the header that were there,
-//! with the lines that were kept, then the source index and the event list.
+//! Lines end with CR LF, and one space parts tokens. The sections come in one order: those of the header that were
+//! there, with the lines that were kept, then the source index and the event list.
 #![tactic(auto)]
 
 ghost use Rattle.std.specs.Prelude.{◌≡◌, ◌≢◌, ℕ, List, Ok, Err, IfOk, IfErr, IsErrOf, IsTrue, OnOk, length};
@@ -40,8 +40,8 @@ pub fn text_of(alloc: Global, project: &Project) -> Result<Vec<u8>, AllocError>
     Ok(out)
 }
 
-/// Adds the text of a project at the end of the file of this name, which has to be there. `Memory` comes before anything
-/// is written.
+/// Adds the text of a project at the end of the file of this name, which has to be there. `Memory` comes before
+/// anything is written.
 pub fn write<B: Bench>(
     alloc: Global,
     project: &Project,
@@ -58,7 +58,8 @@ pub fn write<B: Bench>(
         (B.may_leave bench.old) (B.may_leave bench.new) }
     ensures time { (IsErrOf result WriteFault.Memory → ⊥) → Elapses (B.moment bench.old) (B.moment bench.new)
         (B.left_since bench.old) (B.left_since bench.new) (B.may_leave bench.new) }
-    ensures only_writes { OnlyWrites B.Bench (λ n. n ≢ name.now) bench.old bench.new result is_device (λ _ failed. failed name.now) }
+    ensures only_writes { OnlyWrites B.Bench (λ n. n ≢ name.now) bench.old bench.new result is_device
+        (λ _ failed. failed name.now) }
     ensures reads_back { text_value (text_of_project project.now) ≡ Ok (without_notices project.now) }
 {
     is_read_again(project);

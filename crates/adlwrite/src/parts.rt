@@ -2,7 +2,7 @@
 ghost use Rattle.std.specs.Prelude.{◌≡◌, ◌++◌, Some, OnOk, decimal};
 ghost use Rattle.list_terms.specs.WrittenText as written;
 ghost use Rattle.adlwrite.specs.Parts as parts;
-ghost use Rattle.adlwrite.specs.Parts.{body_text, ending_text, entry_front, entry_text, entry_times, event_text, events_text, fade_text, head_text, header_text, lines_text, numbered, opening_text, ranged, source_text, sources_text, texted, timed};
+ghost use Rattle.adlwrite.specs.Parts.{body_text, ending_text, entry_front, entry_text, entry_times, event_text, events_text, fade_text, head_text, header_text, lines_text, numeral_text, opening_text, ranged, source_text, sources_text, texted, timed};
 
 use adlmodel::{Bytes, Channels, Event, KeptLines, Project, Source};
 use itoa::Buffer;
@@ -19,9 +19,9 @@ fn push_text(out: &mut Vec<u8>, front: &[u8], text: &[u8]) -> Result<(), AllocEr
 }
 
 /// This text, then the number in at least four digits.
-#[tactic(auto, unfolding(crate::specs::Parts::numbered))]
+#[tactic(auto, unfolding(crate::specs::Parts::numeral_text))]
 fn push_number(out: &mut Vec<u8>, front: &[u8], number: u32) -> Result<(), AllocError>
-    ensures { OnOk result (out.new.items ≡ out.old.items ++ numbered front.now number) }
+    ensures { OnOk result (out.new.items ≡ out.old.items ++ numeral_text front.now number) }
 {
     let mut buffer = Buffer::new();
     let digits = buffer.format(number).as_bytes();

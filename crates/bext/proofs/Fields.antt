@@ -8,13 +8,15 @@ use Rattle.sound_terms.specs.Chunks.{number_at}
 use Rattle.sound_terms.specs.Bext.{bext_of, bext_bytes}
 use Rattle.sound_terms.specs.Laws.{length-u16_bytes, length-u64_bytes, length-zeros, u64-reads_back}
 
-pub bext_again : (bext : Bext) → length bext.text ≡ 338 → bext.time_reference < 2 ^ 64 → bext_of (bext_bytes bext) ≡ Some bext
+pub bext_again : (bext : Bext) → length bext.text ≡ 338 → bext.time_reference < 2 ^ 64
+    → bext_of (bext_bytes bext) ≡ Some bext
 unfolding bext_bytes
 bext_again bext whole fits =
     let time = u64_bytes bext.time_reference in
     let last = u16_bytes 1 ++ zeros 254 in
     let bytes = bext.text ++ (time ++ last) in
-    let size : length bytes ≡ 602 = simp (length-append, length-zeros, length-u16_bytes, length-u64_bytes) (omega arith) in
+    let size : length bytes ≡ 602 =
+    simp (length-append, length-zeros, length-u16_bytes, length-u64_bytes) (omega arith) in
     let long : nat_le 346 (length bytes) ≡ true = le-leb 346 (length bytes) (omega arith) in
     let text : take 338 bytes ≡ bext.text = take_at bext.text (time ++ last) 338 whole in
     let told : number_at 8 338 bytes ≡ bext.time_reference =

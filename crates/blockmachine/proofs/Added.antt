@@ -20,7 +20,8 @@ use Rattle.blockmachine.proofs.Places.{get_or-part, kept_elsewhere, length-put, 
 pub no_channel : (reading : Reading) (stretch : Stretch) (shape : Shape) (before : ℕ → ℕ → ℤ) (i c : ℕ)
     → sums_with reading (record stretch { width = 0 }) shape before i c ≡ before i c
 no_channel reading stretch shape before i c = by_test (cases_lt c stretch.dest) where
-  by_test : (c < stretch.dest) ⊎ (stretch.dest ≤ c) → sums_with reading (record stretch { width = 0 }) shape before i c ≡ before i c
+  by_test : (c < stretch.dest) ⊎ (stretch.dest ≤ c)
+      → sums_with reading (record stretch { width = 0 }) shape before i c ≡ before i c
   by_test (inl low) = let out : nat_le stretch.dest c ≡ false = grind (arith, nat_tests) in rw out refl
   by_test (inr high) =
       let here : nat_le stretch.dest c ≡ true = grind (arith, nat_tests) in
@@ -40,7 +41,8 @@ no_sample reading stretch shape before i c =
 -- one sum more has its share
 pub added_more : (n : ℕ) (shape : Shape) (depth channels channel : ℕ) (frames old new : List ℤ) (v : ℤ) → n < length new
     → HasAddedTo n shape depth channels channel frames old new
-    → v ≡ held (get_or new n (pos 0) +ℤ share_of (full_scale depth (get_or frames (n * channels + channel) (pos 0))) (fraction_of shape n))
+    → v ≡ held (get_or new n (pos 0)
+    +ℤ share_of (full_scale depth (get_or frames (n * channels + channel) (pos 0))) (fraction_of shape n))
     → HasAddedTo (n + 1) shape depth channels channel frames old (set new n v)
 added_more n shape depth channels channel frames old new v inside has value = (here, behind) where
   share : ℕ → ℤ
@@ -50,18 +52,22 @@ added_more n shape depth channels channel frames old new v inside has value = (h
   behind i after = get_or-set_other new n i v (pos 0) (λ same. absurd (omega arith)) ∙ has.1 i (omega arith)
 
   by_place : (i : ℕ) → i < n + 1 → (i < n) ⊎ (n ≤ i) → get_or (set new n v) i (pos 0)
-      ≡ held (get_or old i (pos 0) +ℤ share_of (full_scale depth (get_or frames (i * channels + channel) (pos 0))) (fraction_of shape i))
+      ≡ held (get_or old i (pos 0) +ℤ share_of (full_scale depth (get_or frames (i * channels + channel) (pos 0)))
+      (fraction_of shape i))
   by_place i below (inl before) = get_or-set_other new n i v (pos 0) (λ same. absurd (omega arith)) ∙ has.0 i before
   by_place i below (inr after) =
       let same : n ≡ i = omega arith in
       let P : ℕ → Type 0 = λ m. get_or (set new n v) m (pos 0)
-      ≡ held (get_or old m (pos 0) +ℤ share_of (full_scale depth (get_or frames (m * channels + channel) (pos 0))) (fraction_of shape m)) in
+      ≡ held (get_or old m (pos 0) +ℤ share_of (full_scale depth (get_or frames (m * channels + channel) (pos 0)))
+      (fraction_of shape m)) in
       subst P same
       (get_or-set_same new n v (pos 0) inside ∙ value
-      ∙ ap (λ z. held (z +ℤ share_of (full_scale depth (get_or frames (n * channels + channel) (pos 0))) (fraction_of shape n))) (has.1 n (omega arith)))
+      ∙ ap (λ z. held (z +ℤ share_of (full_scale depth (get_or frames (n * channels + channel) (pos 0)))
+      (fraction_of shape n))) (has.1 n (omega arith)))
 
   here : (i : ℕ) → i < n + 1 → get_or (set new n v) i (pos 0)
-      ≡ held (get_or old i (pos 0) +ℤ share_of (full_scale depth (get_or frames (i * channels + channel) (pos 0))) (fraction_of shape i))
+      ≡ held (get_or old i (pos 0) +ℤ share_of (full_scale depth (get_or frames (i * channels + channel) (pos 0)))
+      (fraction_of shape i))
   here i below = by_place i below (cases_lt i n)
 
 -- all of a sample
@@ -96,17 +102,20 @@ module _ (reading : Reading) (stretch : Stretch) (shape : Shape) (before : ℕ �
   abbrev is_next : (j i c : ℕ) → Bool
   is_next j i c = c == stretch.dest + j && (nat_le stretch.at i && nat_lt i (stretch.at + stretch.length))
 
-  here_more : (j i c : ℕ) → is_next j i c ≡ true → first_channels (j + 1) i c ≡ held (first_channels j i c +ℤ share_at reading stretch shape i c)
+  here_more : (j i c : ℕ) → is_next j i c ≡ true
+      → first_channels (j + 1) i c ≡ held (first_channels j i c +ℤ share_at reading stretch shape i c)
   here_more j i c next =
       let is : nat_le stretch.dest c ≡ true = grind (arith, nat_tests) in
       let out : nat_lt c (stretch.dest + j) ≡ false = grind (arith, nat_tests) in
       let there : nat_lt c (stretch.dest + (j + 1)) ≡ true = grind (arith, nat_tests) in
       let inside : (nat_le stretch.at i && nat_lt i (stretch.at + stretch.length)) ≡ true = grind (arith, nat_tests) in
-      on_next (nat_le stretch.dest c) (nat_lt c (stretch.dest + j)) (nat_lt c (stretch.dest + (j + 1))) _ (share_at reading stretch shape i c) (before i c) is out there inside
+      on_next (nat_le stretch.dest c) (nat_lt c (stretch.dest + j)) (nat_lt c (stretch.dest + (j + 1))) _
+      (share_at reading stretch shape i c) (before i c) is out there inside
 
   there_more : (j i c : ℕ) → is_next j i c ≡ false → first_channels (j + 1) i c ≡ first_channels j i c
   there_more j i c next =
-      let on = same_on (nat_le stretch.dest c) (nat_lt c (stretch.dest + j)) (nat_lt c (stretch.dest + (j + 1))) (c == stretch.dest + j)
+      let on = same_on (nat_le stretch.dest c) (nat_lt c (stretch.dest + j)) (nat_lt c (stretch.dest + (j + 1)))
+      (c == stretch.dest + j)
       (nat_le stretch.at i && nat_lt i (stretch.at + stretch.length)) next (λ other. grind (arith, nat_tests)) in
       ap (λ b. if b then held (before i c +ℤ share_at reading stretch shape i c) else before i c) on
 
@@ -114,7 +123,8 @@ module _ (reading : Reading) (stretch : Stretch) (shape : Shape) (before : ℕ �
   pub channel_more : (j k depth channels : ℕ) (frames old new : List ℤ) → j < stretch.width → k ≡ stretch.length
       → IsInside stretch (length old) → Plays reading stretch channels depth frames → length new ≡ k
       → AreSums old (first_channels j)
-      → HasAdded shape depth channels (stretch.first - 1 + j) frames (take k (drop ((stretch.dest - 1 + j) * channel_room + stretch.at) old)) new
+      → HasAdded shape depth channels (stretch.first - 1 + j) frames
+      (take k (drop ((stretch.dest - 1 + j) * channel_room + stretch.at) old)) new
       → AreSums (put_mid ((stretch.dest - 1 + j) * channel_room + stretch.at) k old new) (first_channels (j + 1))
   channel_more j k depth channels frames old new below long inside plays whole are has i c room first there =
       by_place (is_next j i c) refl where
@@ -122,14 +132,20 @@ module _ (reading : Reading) (stretch : Stretch) (shape : Shape) (before : ℕ �
         fits = omega (arith, inside.samples, inside.channels, inside.dest_from_one)
 
         left : (c - 1) * channel_room + i < length old
-        left = omega (arith, there, length-put ((stretch.dest - 1 + j) * channel_room + stretch.at) k old new (pos 0) fits whole)
+        left = omega (
+          arith,
+          there,
+          length-put ((stretch.dest - 1 + j) * channel_room + stretch.at) k old new (pos 0)
+              fits whole,
+        )
 
         place : c ≡ stretch.dest + j → stretch.at ≤ i
             → (stretch.dest - 1 + j) * channel_room + stretch.at + (i - stretch.at) ≡ (c - 1) * channel_room + i
         place on begun = omega (arith, inside.dest_from_one)
 
         by_place : (b : Bool) → is_next j i c ≡ b
-            → get_or (put_mid ((stretch.dest - 1 + j) * channel_room + stretch.at) k old new) ((c - 1) * channel_room + i) (pos 0)
+            → get_or (put_mid ((stretch.dest - 1 + j) * channel_room + stretch.at) k old new)
+            ((c - 1) * channel_room + i) (pos 0)
             ≡ first_channels (j + 1) i c
         by_place true next =
             let on : c ≡ stretch.dest + j = grind (arith, nat_tests) in
@@ -139,17 +155,26 @@ module _ (reading : Reading) (stretch : Stretch) (shape : Shape) (before : ℕ �
             let there = place on begun in
             let behind : (c - 1) * channel_room + i - from ≡ i - stretch.at = omega (arith, there) in
             let channel : stretch.first + (c - stretch.dest) ≡ stretch.first + j = omega arith in
-            written_here from k old new (pos 0) fits whole ((c - 1) * channel_room + i) (omega (arith, there)) (omega (arith, there))
+            written_here from k old new (pos 0) fits whole ((c - 1) * channel_room + i) (omega (arith, there))
+            (omega (arith, there))
             ∙ ap (λ m. get_or new m (pos 0)) behind
             ∙ has (i - stretch.at) (omega arith)
-            ∙ ap (λ z. held (z +ℤ share_of (full_scale depth (get_or frames ((i - stretch.at) * channels + (stretch.first - 1 + j)) (pos 0))) (fraction_of shape (i - stretch.at))))
-            (get_or-part from k (i - stretch.at) old (pos 0) (omega arith) ∙ ap (λ m. get_or old m (pos 0)) there ∙ are i c room first left)
-            ∙ ap (λ z. held (first_channels j i c +ℤ share_of z (fraction_of shape (i - stretch.at)))) (plays (i - stretch.at) j (omega arith) below)
-            ∙ ap (λ m. held (first_channels j i c +ℤ share_of (reading stretch.file m (stretch.frame + (i - stretch.at))) (fraction_of shape (i - stretch.at)))) (sym channel)
+            ∙ ap (λ z. held (z +ℤ share_of (full_scale depth
+            (get_or frames ((i - stretch.at) * channels + (stretch.first - 1 + j)) (pos 0)))
+            (fraction_of shape (i - stretch.at))))
+            (get_or-part from k (i - stretch.at) old (pos 0) (omega arith) ∙ ap (λ m. get_or old m (pos 0)) there
+            ∙ are i c room first left)
+            ∙ ap (λ z. held (first_channels j i c +ℤ share_of z (fraction_of shape (i - stretch.at))))
+            (plays (i - stretch.at) j (omega arith) below)
+            ∙ ap (λ m. held (first_channels j i c
+            +ℤ share_of (reading stretch.file m (stretch.frame + (i - stretch.at)))
+            (fraction_of shape (i - stretch.at)))) (sym channel)
             ∙ sym (here_more j i c next)
         by_place false next =
             let from = (stretch.dest - 1 + j) * channel_room + stretch.at in
-            kept_elsewhere from k old new (pos 0) fits whole ((c - 1) * channel_room + i) (elsewhere next (cases_lt ((c - 1) * channel_room + i) from) (cases_lt ((c - 1) * channel_room + i) (from + k)))
+            kept_elsewhere from k old new (pos 0) fits whole ((c - 1) * channel_room + i)
+            (elsewhere next (cases_lt ((c - 1) * channel_room + i) from)
+            (cases_lt ((c - 1) * channel_room + i) (from + k)))
             ∙ are i c room first left ∙ sym (there_more j i c next) where
               elsewhere : is_next j i c ≡ false
                   → ((c - 1) * channel_room + i < (stretch.dest - 1 + j) * channel_room + stretch.at)

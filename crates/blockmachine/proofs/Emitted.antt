@@ -7,7 +7,8 @@ use Rattle.sound_terms.specs.Blocks.{block_samples, frame_samples}
 
 module _ (depth : ℕ) (sums : ℕ → ℕ → ℤ) where
   -- a channel more
-  pub frame_more : (i c n : ℕ) → frame_samples depth sums i c (n + 1) ≡ frame_samples depth sums i c n ++ quantized depth (sums i (c + n)) ∷ []
+  pub frame_more : (i c n : ℕ) → frame_samples depth sums i c (n + 1)
+      ≡ frame_samples depth sums i c n ++ quantized depth (sums i (c + n)) ∷ []
   frame_more i c zero = let here : c + 0 ≡ c = omega arith in rw here refl
   frame_more i c (suc n) =
       let more : suc n + 1 ≡ suc (n + 1) = omega arith in
@@ -17,7 +18,8 @@ module _ (depth : ℕ) (sums : ℕ → ℕ → ℤ) where
   -- a frame more
   pub block_more : (channels i n : ℕ) → block_samples depth sums channels i (n + 1)
       ≡ block_samples depth sums channels i n ++ frame_samples depth sums (i + n) 1 channels
-  block_more channels i zero = let here : i + 0 ≡ i = omega arith in rw here (append-nil (frame_samples depth sums i 1 channels))
+  block_more channels i zero = let here : i + 0 ≡ i = omega arith in
+      rw here (append-nil (frame_samples depth sums i 1 channels))
   block_more channels i (suc n) =
       let more : suc n + 1 ≡ suc (n + 1) = omega arith in
       let place : i + suc n ≡ suc i + n = omega arith in

@@ -36,7 +36,8 @@ module _ (depth : Depth) (sums : ℕ → ℕ → ℤ) where
       All-cons (FitsDepth (bits_of depth)) _ _ (fits_quantized depth (sums i c)) (fits_frame i (suc c) n)
 
   -- so do all of a block
-  pub fits_block : (channels i n : ℕ) → All (FitsDepth (bits_of depth)) (block_samples (bits_of depth) sums channels i n)
+  pub fits_block : (channels i n : ℕ)
+      → All (FitsDepth (bits_of depth)) (block_samples (bits_of depth) sums channels i n)
   fits_block channels i zero = All-nil (FitsDepth (bits_of depth))
   fits_block channels i (suc n) =
       All-append (FitsDepth (bits_of depth)) _ _ (fits_frame i 1 channels) (fits_block channels (suc i) n)

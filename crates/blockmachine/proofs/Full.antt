@@ -18,16 +18,22 @@ Within z = (neg_ℤ (pos (2 ^ 47)) ≤ℤ z) × (z ≤ℤ pos (2 ^ 47))
 
 -- a sample of a depth at full scale
 full16 : (z : ℤ) → FitsDepth 16 z → Within (full_scale 16 z)
-full16 (pos n) fits = subst Within (sym (pos-*ℤ-pos n (2 ^ 32))) (omega (arith, ints, fits.0), omega (arith, ints, fits.1))
-full16 (negsuc n) fits = subst Within (sym (negsuc-*ℤ-pos n (2 ^ 32))) (omega (arith, ints, fits.0), omega (arith, ints, fits.1))
+full16 (pos n) fits =
+    subst Within (sym (pos-*ℤ-pos n (2 ^ 32))) (omega (arith, ints, fits.0), omega (arith, ints, fits.1))
+full16 (negsuc n) fits =
+    subst Within (sym (negsuc-*ℤ-pos n (2 ^ 32))) (omega (arith, ints, fits.0), omega (arith, ints, fits.1))
 
 full24 : (z : ℤ) → FitsDepth 24 z → Within (full_scale 24 z)
-full24 (pos n) fits = subst Within (sym (pos-*ℤ-pos n (2 ^ 24))) (omega (arith, ints, fits.0), omega (arith, ints, fits.1))
-full24 (negsuc n) fits = subst Within (sym (negsuc-*ℤ-pos n (2 ^ 24))) (omega (arith, ints, fits.0), omega (arith, ints, fits.1))
+full24 (pos n) fits =
+    subst Within (sym (pos-*ℤ-pos n (2 ^ 24))) (omega (arith, ints, fits.0), omega (arith, ints, fits.1))
+full24 (negsuc n) fits =
+    subst Within (sym (negsuc-*ℤ-pos n (2 ^ 24))) (omega (arith, ints, fits.0), omega (arith, ints, fits.1))
 
 full32 : (z : ℤ) → FitsDepth 32 z → Within (full_scale 32 z)
-full32 (pos n) fits = subst Within (sym (pos-*ℤ-pos n (2 ^ 16))) (omega (arith, ints, fits.0), omega (arith, ints, fits.1))
-full32 (negsuc n) fits = subst Within (sym (negsuc-*ℤ-pos n (2 ^ 16))) (omega (arith, ints, fits.0), omega (arith, ints, fits.1))
+full32 (pos n) fits =
+    subst Within (sym (pos-*ℤ-pos n (2 ^ 16))) (omega (arith, ints, fits.0), omega (arith, ints, fits.1))
+full32 (negsuc n) fits =
+    subst Within (sym (negsuc-*ℤ-pos n (2 ^ 16))) (omega (arith, ints, fits.0), omega (arith, ints, fits.1))
 
 full_sample : (depth : Depth) (z : ℤ) → FitsDepth (bits_of depth) z → Within (full_scale (bits_of depth) z)
 full_sample Sixteen z fits = full16 z fits
@@ -37,7 +43,8 @@ full_sample ThirtyTwo z fits = full32 z fits
 -- frames of samples of a depth
 pub full_frames : (reading : Reading) (part : Stretch) (channels : ℕ) (depth : Depth) (frames : List ℤ)
     → All (FitsDepth (bits_of depth)) frames → Plays reading part channels (bits_of depth) frames
-    → length frames ≡ part.length * channels → 1 ≤ part.first → part.first + part.width ≤ channels + 1 → IsFull reading part
+    → length frames ≡ part.length * channels → 1 ≤ part.first → part.first + part.width ≤ channels + 1
+    → IsFull reading part
 full_frames reading part channels depth frames fit plays whole first last = λ j i on below.
     let row : (i + 1) * channels ≤ part.length * channels = grind arith in
     let k = i * channels + (part.first - 1 + j) in
@@ -55,4 +62,5 @@ full_more reading stretch done count front behind = λ j i on below. by_place j 
   by_place j i on below (inl before) = front j i on before
   by_place j i on below (inr later) =
       let frame : stretch.frame + done + (i - done) ≡ stretch.frame + i = omega arith in
-      subst (λ (f : ℕ). Within (reading stretch.file (stretch.first + j) f)) frame (behind j (i - done) on (omega arith))
+      subst (λ (f : ℕ). Within (reading stretch.file (stretch.first + j) f)) frame
+      (behind j (i - done) on (omega arith))

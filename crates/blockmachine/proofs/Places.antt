@@ -22,7 +22,8 @@ module _ {X : Type 0} (a k : ℕ) (old new : List X) (d : X) (inside : a + k ≤
 
   pub kept_elsewhere : (n : ℕ) → (n < a) ⊎ (a + k ≤ n) → get_or (put_mid a k old new) n d ≡ get_or old n d
   kept_elsewhere n (inl before) =
-      get_or_append_left (take a old) (new ++ post_of a k old) d n (omega (arith, length-front)) ∙ get_or-take a old n d before
+      get_or_append_left (take a old) (new ++ post_of a k old) d n (omega (arith, length-front))
+      ∙ get_or-take a old n d before
   kept_elsewhere n (inr behind) =
       let place : a + (k + (n - a - k)) ≡ n = omega arith in
       get_or-append_right (take a old) (new ++ post_of a k old) a n d length-front (omega arith)
@@ -32,5 +33,6 @@ module _ {X : Type 0} (a k : ℕ) (old new : List X) (d : X) (inside : a + k ≤
       ∙ ap (λ m. get_or old m d) place
 
 -- an element of a part
-pub get_or-part : {X : Type 0} (a k n : ℕ) (xs : List X) (d : X) → n < k → get_or (take k (drop a xs)) n d ≡ get_or xs (a + n) d
+pub get_or-part : {X : Type 0} (a k n : ℕ) (xs : List X) (d : X) → n < k
+    → get_or (take k (drop a xs)) n d ≡ get_or xs (a + n) d
 get_or-part a k n xs d below = get_or-take k (drop a xs) n d below ∙ get_or-drop a xs n d

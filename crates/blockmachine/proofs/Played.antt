@@ -30,18 +30,22 @@ device_of shelf.Device other = refl
 
 -- a sample of an opened file
 heard_sample : (files : Files) (sounds : List SoundFacts) (facts : SoundFacts) (n channel frame : ℕ) (file : List ℕ)
-    → slice_get sounds n ≡ Some facts → files facts.name ≡ Some file → frame < facts.frames → 1 ≤ channel → channel ≤ facts.channels
+    → slice_get sounds n ≡ Some facts → files facts.name ≡ Some file → frame < facts.frames → 1 ≤ channel
+    → channel ≤ facts.channels
     → reading_by files sounds n channel frame
-    ≡ full_scale facts.depth (sample_of facts.depth (drop (facts.place + (frame * facts.channels + (channel - 1)) * (facts.depth / 8)) file))
+    ≡ full_scale facts.depth (sample_of facts.depth
+    (drop (facts.place + (frame * facts.channels + (channel - 1)) * (facts.depth / 8)) file))
 heard_sample files sounds facts n channel frame file there stored inside first last =
     let frames : nat_lt frame facts.frames ≡ true = grind (arith, nat_tests) in
     let low : nat_le 1 channel ≡ true = grind (arith, nat_tests) in
     let high : nat_le channel facts.channels ≡ true = grind (arith, nat_tests) in
     rw (there, stored, frames, low, high) refl
 
-pub plays_sound : (files : Files) (sounds : List SoundFacts) (facts : SoundFacts) (part : Stretch) (file : List ℕ) (frames : List ℤ)
+pub plays_sound : (files : Files) (sounds : List SoundFacts) (facts : SoundFacts) (part : Stretch) (file : List ℕ)
+    (frames : List ℤ)
     → slice_get sounds part.file ≡ Some facts → files facts.name ≡ Some file
-    → AreFrames file (facts.place + part.frame * frame_length facts) facts.depth frames → length frames ≡ part.length * facts.channels
+    → AreFrames file (facts.place + part.frame * frame_length facts) facts.depth frames
+    → length frames ≡ part.length * facts.channels
     → 1 ≤ part.first → part.first + part.width ≤ facts.channels + 1 → part.frame + part.length ≤ facts.frames
     → Plays (reading_by files sounds) part facts.channels facts.depth frames
 plays_sound files sounds facts part file frames there stored are whole first last inside = λ i j below on.
@@ -52,7 +56,8 @@ plays_sound files sounds facts part file frames there stored are whole first las
     ≡ facts.place + ((part.frame + i) * facts.channels + (part.first + j - 1)) * (facts.depth / 8) =
     let channel : part.first - 1 + j ≡ part.first + j - 1 = omega arith in rw channel (omega arith) in
     ap (full_scale facts.depth) (are k within ∙ ap (λ m. sample_of facts.depth (drop m file)) place)
-    ∙ sym (heard_sample files sounds facts part.file (part.first + j) (part.frame + i) file there stored (omega arith) (omega arith) (omega arith))
+    ∙ sym (heard_sample files sounds facts part.file (part.first + j) (part.frame + i) file there stored (omega arith)
+    (omega arith) (omega arith))
 
 fraction_behind : (shape : Shape) (cut i : ℕ) → fraction_of (shape_behind cut shape) i ≡ fraction_of shape (cut + i)
 fraction_behind Flat cut i = refl
@@ -93,13 +98,17 @@ two_parts true true at done count i x y old same = by_place (cases_lt i (at + do
 
 -- a part more
 pub part_more : (reading : Reading) (stretch : Stretch) (shape : Shape) (done count : ℕ) (before : ℕ → ℕ → ℤ) (i c : ℕ)
-    → sums_with reading (part_behind stretch done count) (shape_behind done shape) (sums_with reading (front_of stretch done) shape before) i c
+    → sums_with reading (part_behind stretch done count) (shape_behind done shape)
+    (sums_with reading (front_of stretch done) shape before) i c
     ≡ sums_with reading (front_of stretch (done + count)) shape before i c
 part_more reading stretch shape done count before i c =
-    two_parts (nat_le stretch.dest c) (nat_lt c (stretch.dest + stretch.width)) stretch.at done count i _ _ (before i c) same where
+    two_parts (nat_le stretch.dest c) (nat_lt c (stretch.dest + stretch.width)) stretch.at done count i _ _ (before i c)
+    same where
       same : stretch.at + done ≤ i
-          → share_at reading (part_behind stretch done count) (shape_behind done shape) i c ≡ share_at reading stretch shape i c
+          → share_at reading (part_behind stretch done count) (shape_behind done shape) i c
+          ≡ share_at reading stretch shape i c
       same behind =
-          let frames : stretch.frame + done + (i - (stretch.at + done)) ≡ stretch.frame + (i - stretch.at) = omega arith in
+          let frames : stretch.frame + done + (i - (stretch.at + done)) ≡ stretch.frame + (i - stretch.at) =
+          omega arith in
           let samples : done + (i - (stretch.at + done)) ≡ i - stretch.at = omega arith in
           rw (frames, fraction_behind shape done (i - (stretch.at + done)), samples) refl

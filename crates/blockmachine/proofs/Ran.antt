@@ -13,7 +13,8 @@ executed_all-append reading channels [] b s = refl
 executed_all-append reading channels (i ∷ a) b s = executed_all-append reading channels a b _
 
 -- what stands between the first instruction and the last one
-pub between_ends : (program lines : List Instruction) (first last : Instruction) → program ≡ first ∷ (lines ++ last ∷ [])
+pub between_ends : (program lines : List Instruction) (first last : Instruction)
+    → program ≡ first ∷ (lines ++ last ∷ [])
     → take (length program - 1 - 1) (drop 1 program) ≡ lines
 between_ends program lines first last whole =
     let long = length-append lines (last ∷ []) in
@@ -21,7 +22,8 @@ between_ends program lines first last whole =
     rw whole (take_at lines (last ∷ []) _ count)
 
 -- what fits a shorter block fits a longer one
-pub formed_longer : (n m channels : ℕ) → n ≤ m → (line : Instruction) → IsFormed n channels line → IsFormed m channels line
+pub formed_longer : (n m channels : ℕ) → n ≤ m → (line : Instruction) → IsFormed n channels line
+    → IsFormed m channels line
 formed_longer n m channels le (Start frames) formed = tt
 formed_longer n m channels le (Add stretch shape) formed = (
   record {
@@ -42,5 +44,6 @@ pub frames_kept : (reading : Reading) (channels : ℕ) (program : List Instructi
     → (executed_all reading channels program s).frames ≡ s.frames
 frames_kept reading channels [] s all = refl
 frames_kept reading channels (Start n ∷ program) s all = absurd (All-head AddsOne (Start n) program all)
-frames_kept reading channels (Add stretch shape ∷ program) s all = frames_kept reading channels program _ (All-tail AddsOne (Add stretch shape) program all)
+frames_kept reading channels (Add stretch shape ∷ program) s all =
+    frames_kept reading channels program _ (All-tail AddsOne (Add stretch shape) program all)
 frames_kept reading channels (Emit depth ∷ program) s all = absurd (All-head AddsOne (Emit depth) program all)

@@ -11,7 +11,8 @@ pub record Extent : Type 0 where
   pub frames : ℕ
   pub channels : ℕ
 
--- from the first sum of a channel to that of the next one: a block, and a few more, since caches are made of powers of two
+-- from the first sum of a channel to that of the next one: a block, and a few more, since caches are made of powers of
+-- two
 abbrev pub channel_room : ℕ
 channel_room = 4104
 

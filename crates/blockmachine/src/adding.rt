@@ -10,11 +10,12 @@ ghost use Rattle.pcm.specs.Samples.{FitsDepth};
 ghost use Rattle.blockmachine.specs.Sums.{AreSums, HasAdded, IsInside};
 ghost use Rattle.blockmachine.specs.Playing.{Plays};
 
+use crate::slope::Slope;
 use sound_terms::{Depth, Shape, Stretch};
-use soundlaw::{contribution, widen};
+use soundlaw::{contribution_near, widen};
 
-/// From the first sum of a channel to that of the next one. A block has 4096 of them; that the channels begin in different
-/// lines of a cache takes a few more.
+/// From the first sum of a channel to that of the next one. A block has 4096 of them; that the channels begin in
+/// different lines of a cache takes a few more.
 pub const CHANNEL_ROOM: usize = 4104;
 
 /// Every sum is zero.
@@ -27,6 +28,7 @@ pub fn clear(sums: &mut [i64])
 }
 
 /// A sum and a share more.
+#[inline(always)]
 fn added(sum: i64, share: i64) -> i64
     ensures { result ≡ held (sum +ℤ share) }
 {
@@ -34,6 +36,7 @@ fn added(sum: i64, share: i64) -> i64
 }
 
 /// Sample k of these at full scale.
+#[inline(always)]
 fn full_sample(samples: &[i32], k: usize, depth: Depth) -> i64
     requires inside { k < length samples.now }
     requires fit { All (FitsDepth (bits_of depth)) samples.now }
@@ -44,6 +47,7 @@ fn full_sample(samples: &[i32], k: usize, depth: Depth) -> i64
 }
 
 /// Adds one channel, counted from 0, of frames of so many channels.
+#[inline(always)]
 fn add_flat(frames: &[i32], channels: usize, channel: usize, depth: Depth, sums: &mut [i64])
     requires whole { length frames.now ≡ length sums.old * channels }
     requires channel { channel < channels }
@@ -56,7 +60,28 @@ fn add_flat(frames: &[i32], channels: usize, channel: usize, depth: Depth, sums:
     }
 }
 
+/// The same where most files are of one or two channels: there a place is found by a constant.
+fn add_flat_by_count(
+    frames: &[i32],
+    channels: usize,
+    channel: usize,
+    depth: Depth,
+    sums: &mut [i64],
+)
+    requires whole { length frames.now ≡ length sums.old * channels }
+    requires channel { channel < channels }
+    requires fit { All (FitsDepth (bits_of depth)) frames.now }
+    ensures { HasAdded shape.Flat (bits_of depth) channels channel frames.now sums.old sums.new }
+{
+    match channels {
+        1 => add_flat(frames, 1, channel, depth, sums),
+        2 => add_flat(frames, 2, channel, depth, sums),
+        _ => add_flat(frames, channels, channel, depth, sums),
+    }
+}
+
 /// The same under a rise, of which `offset` samples lie before.
+#[inline(always)]
 fn add_rise(
     frames: &[i32],
     channels: usize,
@@ -72,14 +97,17 @@ fn add_rise(
     requires ramp { IsRamp (shape.Rise offset den) (length sums.old) }
     ensures { HasAdded (shape.Rise offset den) (bits_of depth) channels channel frames.now sums.old sums.new }
 {
+    let slope = Slope::rising(offset, den);
     for (i, sum) in sums.iter_mut().enumerate() {
         let sample = full_sample(frames, i * channels + channel, depth);
-        let share = contribution(sample, offset + i as u64, den);
+        let guess = slope.guess(sample, i as u64);
+        let share = contribution_near(sample, offset + i as u64, den, guess);
         *sum = added(*sum, share);
     }
 }
 
 /// The same under a fall.
+#[inline(always)]
 fn add_fall(
     frames: &[i32],
     channels: usize,
@@ -95,15 +123,18 @@ fn add_fall(
     requires ramp { IsRamp (shape.Fall offset den) (length sums.old) }
     ensures { HasAdded (shape.Fall offset den) (bits_of depth) channels channel frames.now sums.old sums.new }
 {
+    let slope = Slope::falling(den - offset, den);
     for (i, sum) in sums.iter_mut().enumerate() {
         let sample = full_sample(frames, i * channels + channel, depth);
-        let share = contribution(sample, den - (offset + i as u64), den);
+        let guess = slope.guess(sample, i as u64);
+        let share = contribution_near(sample, den - (offset + i as u64), den, guess);
         *sum = added(*sum, share);
     }
 }
 
 /// The same under any shape.
-fn add_channel(
+#[inline(always)]
+fn add_shaped(
     shape: Shape,
     frames: &[i32],
     channels: usize,
@@ -118,13 +149,35 @@ fn add_channel(
     ensures { HasAdded shape (bits_of depth) channels channel frames.now sums.old sums.new }
 {
     match shape {
-        Shape::Flat => add_flat(frames, channels, channel, depth, sums),
+        Shape::Flat => add_flat_by_count(frames, channels, channel, depth, sums),
         Shape::Rise { offset, den } => add_rise(
             frames, channels, channel, depth, offset, den, sums,
         ),
         Shape::Fall { offset, den } => add_fall(
             frames, channels, channel, depth, offset, den, sums,
         ),
+    }
+}
+
+/// The same. Each depth has loops of its own.
+fn add_channel(
+    shape: Shape,
+    frames: &[i32],
+    channels: usize,
+    channel: usize,
+    depth: Depth,
+    sums: &mut [i64],
+)
+    requires whole { length frames.now ≡ length sums.old * channels }
+    requires channel { channel < channels }
+    requires fit { All (FitsDepth (bits_of depth)) frames.now }
+    requires ramp { IsRamp shape (length sums.old) }
+    ensures { HasAdded shape (bits_of depth) channels channel frames.now sums.old sums.new }
+{
+    match depth {
+        Depth::Sixteen => add_shaped(shape, frames, channels, channel, Depth::Sixteen, sums),
+        Depth::TwentyFour => add_shaped(shape, frames, channels, channel, Depth::TwentyFour, sums),
+        Depth::ThirtyTwo => add_shaped(shape, frames, channels, channel, Depth::ThirtyTwo, sums),
     }
 }
 
@@ -143,7 +196,8 @@ pub fn add_frames(
     requires fit { All (FitsDepth (bits_of depth)) frames.now }
     requires ramp { IsRamp shape stretch.now.length }
     ensures { (reading : Reading) → Plays reading stretch.now channels (bits_of depth) frames.now
-        → (before : ℕ → ℕ → ℤ) → AreSums sums.old before → AreSums sums.new (sums_with reading stretch.now shape before) }
+        → (before : ℕ → ℕ → ℤ) → AreSums sums.old before
+        → AreSums sums.new (sums_with reading stretch.now shape before) }
 {
     let length = stretch.length as usize;
     for j in 0..stretch.width as usize {

@@ -6,6 +6,7 @@ mod emitting;
 mod fault;
 mod machine;
 mod playing;
+mod slope;
 
 pub use fault::MachineFault;
 pub use machine::Machine;

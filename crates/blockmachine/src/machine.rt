@@ -40,7 +40,8 @@ impl Model for Machine {
 
     ghost view = { λ machine. record { frames = 4096; channels = machine.channels } };
 
-    ghost invariant = { λ machine. (length machine.sums.items ≡ machine.channels * channel_room) × (1 ≤ machine.channels) × (machine.channels ≤ 64)
+    ghost invariant = { λ machine. (length machine.sums.items ≡ machine.channels * channel_room) × (1 ≤ machine.channels)
+        × (machine.channels ≤ 64)
         × (length machine.bytes.items ≡ 65536) × (length machine.samples.items ≡ 16384) };
 }
 
@@ -59,11 +60,14 @@ fn add_line<S: Shelf>(
     requires some_samples { 64 ≤ length samples.old }
     requires few_samples { length samples.old < 2 ^ 32 }
     requires room { length samples.old * 4 ≤ length bytes.old }
-    ensures added { IsTrue (S.honest shelf.old) → OnOk result ((channels : ℕ) (before : BlockState) → AreSums sums.old before.sums
+    ensures added { IsTrue (S.honest shelf.old)
+        → OnOk result ((channels : ℕ) (before : BlockState) → AreSums sums.old before.sums
         → AreSums sums.new (executed (reading_by (S.stored shelf.old) sounds.now) channels line.now before).sums) }
-    ensures full { IsTrue (S.honest shelf.old) → OnOk result (PlaysFull (reading_by (S.stored shelf.old) sounds.now) line.now) }
+    ensures full { IsTrue (S.honest shelf.old)
+        → OnOk result (PlaysFull (reading_by (S.stored shelf.old) sounds.now) line.now) }
     ensures source { IfErr result IsSource }
-    ensures only_reads { OnlyReads S.Shelf shelf.old shelf.new result (λ fault. IsSource fault) (λ fault failed. FailsAt sounds.now fault failed) }
+    ensures only_reads { OnlyReads S.Shelf shelf.old shelf.new result (λ fault. IsSource fault)
+        (λ fault failed. FailsAt sounds.now fault failed) }
 {
     match line {
         Instruction::Add { stretch, shape } => {
@@ -82,17 +86,21 @@ fn add_all<S: Shelf>(
     samples: &mut [i32],
     sums: &mut [i64],
 ) -> Result<(), MachineFault>
-    requires formed { (channels : ℕ) × (length sums.old ≡ channels * channel_room) × All (IsFormed 4096 channels) lines.now }
+    requires formed { (channels : ℕ) × (length sums.old ≡ channels * channel_room)
+        × All (IsFormed 4096 channels) lines.now }
     requires added { All AddsOne lines.now }
     requires inside { All (LiesInFiles sounds.now) lines.now }
     requires some_samples { 64 ≤ length samples.old }
     requires few_samples { length samples.old < 2 ^ 32 }
     requires room { length samples.old * 4 ≤ length bytes.old }
-    ensures added { IsTrue (S.honest shelf.old) → OnOk result ((channels : ℕ) (before : BlockState) → AreSums sums.old before.sums
+    ensures added { IsTrue (S.honest shelf.old)
+        → OnOk result ((channels : ℕ) (before : BlockState) → AreSums sums.old before.sums
         → AreSums sums.new (executed_all (reading_by (S.stored shelf.old) sounds.now) channels lines.now before).sums) }
-    ensures full { IsTrue (S.honest shelf.old) → OnOk result (All (PlaysFull (reading_by (S.stored shelf.old) sounds.now)) lines.now) }
+    ensures full { IsTrue (S.honest shelf.old)
+        → OnOk result (All (PlaysFull (reading_by (S.stored shelf.old) sounds.now)) lines.now) }
     ensures source { IfErr result IsSource }
-    ensures only_reads { OnlyReads S.Shelf shelf.old shelf.new result (λ fault. IsSource fault) (λ fault failed. FailsAt sounds.now fault failed) }
+    ensures only_reads { OnlyReads S.Shelf shelf.old shelf.new result (λ fault. IsSource fault)
+        (λ fault failed. FailsAt sounds.now fault failed) }
 {
     for line in lines {
         add_line(line, sounds, shelf, bytes, samples, sums)?;
@@ -132,13 +140,16 @@ fn run_lines<S: Shelf>(
     requires few_samples { length samples.old < 2 ^ 32 }
     requires room { length samples.old * 4 ≤ length bytes.old }
     requires whole { (frames : ℕ) × (frames ≤ 4096) × (length out.old ≡ frames * channels) }
-    ensures ran { IsTrue (S.honest shelf.old) → OnOk result ((frames : ℕ) (start : BlockState) → length out.old ≡ frames * channels
+    ensures ran { IsTrue (S.honest shelf.old)
+        → OnOk result ((frames : ℕ) (start : BlockState) → length out.old ≡ frames * channels
         → out.new ≡ (executed_all (reading_by (S.stored shelf.old) sounds.now) channels
         (instruction.Start frames ∷ (lines.now ++ instruction.Emit depth ∷ [])) start).out) }
     ensures fit { OnOk result (All (FitsDepth (bits_of depth)) out.new) }
-    ensures full { IsTrue (S.honest shelf.old) → OnOk result (All (PlaysFull (reading_by (S.stored shelf.old) sounds.now)) lines.now) }
+    ensures full { IsTrue (S.honest shelf.old)
+        → OnOk result (All (PlaysFull (reading_by (S.stored shelf.old) sounds.now)) lines.now) }
     ensures source { IfErr result IsSource }
-    ensures only_reads { OnlyReads S.Shelf shelf.old shelf.new result (λ fault. IsSource fault) (λ fault failed. FailsAt sounds.now fault failed) }
+    ensures only_reads { OnlyReads S.Shelf shelf.old shelf.new result (λ fault. IsSource fault)
+        (λ fault failed. FailsAt sounds.now fault failed) }
 {
     let frames = out.len() / channels;
     clear(sums);
@@ -168,9 +179,9 @@ impl Machine {
         })
     }
 
-    /// Runs the program of a block over sounds that were opened, and writes the samples that it hands out, frame by frame.
-    /// It takes no memory. `Source` where a read fails; what was written is then unspecified, and the machine as ready as
-    /// before.
+    /// Runs the program of a block over sounds that were opened, and writes the samples that it hands out, frame by
+    /// frame. It takes no memory. `Source` where a read fails; what was written is then unspecified, and the machine as
+    /// ready as before.
     pub fn run<S: Shelf>(
         &mut self,
         program: &[Instruction],
@@ -179,16 +190,21 @@ impl Machine {
         out: &mut [i32],
     ) -> Result<(), MachineFault>
         requires fits { (frames : ℕ) × (depth : declared.Depth) × (frames ≤ self.old.frames)
-            × IsBlockProgram frames self.old.channels depth program.now × (length out.old ≡ frames * self.old.channels) }
+            × IsBlockProgram frames self.old.channels depth program.now
+            × (length out.old ≡ frames * self.old.channels) }
         requires inside { All (LiesInFiles sounds.now) program.now }
         ensures ran { IsTrue (S.honest shelf.old) → OnOk result ((start : BlockState)
-            → out.new ≡ (executed_all (reading_by (S.stored shelf.old) sounds.now) self.old.channels program.now start).out) }
-        ensures fit { OnOk result ((frames : ℕ) (depth : declared.Depth) → IsBlockProgram frames self.old.channels depth program.now
+            → out.new ≡ (executed_all (reading_by (S.stored shelf.old) sounds.now)
+            self.old.channels program.now start).out) }
+        ensures fit { OnOk result ((frames : ℕ) (depth : declared.Depth)
+            → IsBlockProgram frames self.old.channels depth program.now
             → All (FitsDepth (bits_of depth)) out.new) }
-        ensures full { IsTrue (S.honest shelf.old) → OnOk result (All (PlaysFull (reading_by (S.stored shelf.old) sounds.now)) program.now) }
+        ensures full { IsTrue (S.honest shelf.old)
+            → OnOk result (All (PlaysFull (reading_by (S.stored shelf.old) sounds.now)) program.now) }
         ensures ready { self.new ≡ self.old }
         ensures source { IfErr result IsSource }
-        ensures only_reads { OnlyReads S.Shelf shelf.old shelf.new result (λ fault. IsSource fault) (λ fault failed. FailsAt sounds.now fault failed) }
+        ensures only_reads { OnlyReads S.Shelf shelf.old shelf.new result (λ fault. IsSource fault)
+            (λ fault failed. FailsAt sounds.now fault failed) }
     {
         if let Some(depth) = depth_of(program) {
             let lines = &program[1..program.len() - 1];

@@ -34,14 +34,19 @@ fn read_part<S: Shelf>(
 ) -> Result<(), MachineFault>
     requires lies { LiesInFile sounds.now part.now.file part.now.first part.now.width part.now.frame part.now.length }
     requires first { 1 ≤ part.now.first }
-    requires whole { (facts : SoundFacts) → slice_get sounds.now part.now.file ≡ Some facts → length frames.old ≡ part.now.length * facts.channels }
+    requires whole { (facts : SoundFacts) → slice_get sounds.now part.now.file ≡ Some facts
+        → length frames.old ≡ part.now.length * facts.channels }
     requires room { length frames.old * 4 ≤ length bytes.old }
-    ensures plays { IsTrue (S.honest shelf.old) → OnOk result ((facts : SoundFacts) → slice_get sounds.now part.now.file ≡ Some facts
+    ensures plays { IsTrue (S.honest shelf.old)
+        → OnOk result ((facts : SoundFacts) → slice_get sounds.now part.now.file ≡ Some facts
         → Plays (reading_by (S.stored shelf.old) sounds.now) part.now facts.channels facts.depth frames.new) }
-    ensures full { IsTrue (S.honest shelf.old) → OnOk result (IsFull (reading_by (S.stored shelf.old) sounds.now) part.now) }
-    ensures fit { OnOk result ((facts : SoundFacts) → slice_get sounds.now part.now.file ≡ Some facts → All (FitsDepth facts.depth) frames.new) }
+    ensures full { IsTrue (S.honest shelf.old)
+        → OnOk result (IsFull (reading_by (S.stored shelf.old) sounds.now) part.now) }
+    ensures fit { OnOk result ((facts : SoundFacts) → slice_get sounds.now part.now.file ≡ Some facts
+        → All (FitsDepth facts.depth) frames.new) }
     ensures source { IfErr result IsSource }
-    ensures only_reads { OnlyReads S.Shelf shelf.old shelf.new result (λ fault. IsSource fault) (λ fault failed. FailsAt sounds.now fault failed) }
+    ensures only_reads { OnlyReads S.Shelf shelf.old shelf.new result (λ fault. IsSource fault)
+        (λ fault failed. FailsAt sounds.now fault failed) }
 {
     let sound = &sounds[part.file as usize];
     let _ = (sound.channels(), sound.depth());
@@ -63,14 +68,17 @@ fn add_part<S: Shelf>(
 ) -> Result<(), MachineFault>
     requires inside { IsInside part.now (length sums.old) }
     requires lies { LiesInFile sounds.now part.now.file part.now.first part.now.width part.now.frame part.now.length }
-    requires few { (facts : SoundFacts) → slice_get sounds.now part.now.file ≡ Some facts → part.now.length * facts.channels ≤ length samples.old }
+    requires few { (facts : SoundFacts) → slice_get sounds.now part.now.file ≡ Some facts
+        → part.now.length * facts.channels ≤ length samples.old }
     requires room { length samples.old * 4 ≤ length bytes.old }
     requires ramp { IsRamp shape part.now.length }
     ensures added { IsTrue (S.honest shelf.old) → OnOk result ((before : ℕ → ℕ → ℤ) → AreSums sums.old before
         → AreSums sums.new (sums_with (reading_by (S.stored shelf.old) sounds.now) part.now shape before)) }
-    ensures full { IsTrue (S.honest shelf.old) → OnOk result (IsFull (reading_by (S.stored shelf.old) sounds.now) part.now) }
+    ensures full { IsTrue (S.honest shelf.old)
+        → OnOk result (IsFull (reading_by (S.stored shelf.old) sounds.now) part.now) }
     ensures source { IfErr result IsSource }
-    ensures only_reads { OnlyReads S.Shelf shelf.old shelf.new result (λ fault. IsSource fault) (λ fault failed. FailsAt sounds.now fault failed) }
+    ensures only_reads { OnlyReads S.Shelf shelf.old shelf.new result (λ fault. IsSource fault)
+        (λ fault failed. FailsAt sounds.now fault failed) }
 {
     let sound = &sounds[part.file as usize];
     let channels = sound.channels() as usize;
@@ -84,7 +92,11 @@ fn add_part<S: Shelf>(
 fn part_of(stretch: &Stretch, done: u32, count: u32) -> Stretch
     requires at { stretch.now.at + done < 2 ^ 32 }
     requires frame { stretch.now.frame + done < 2 ^ 64 }
-    ensures { result ≡ record stretch.now { at = stretch.now.at + done; length = count; frame = stretch.now.frame + done } }
+    ensures { result ≡ record stretch.now {
+      at = stretch.now.at + done;
+      length = count;
+      frame = stretch.now.frame + done;
+    } }
 {
     Stretch {
         at: stretch.at + done,
@@ -105,16 +117,19 @@ pub fn add_stretch<S: Shelf>(
     sums: &mut [i64],
 ) -> Result<(), MachineFault>
     requires inside { IsInside stretch.now (length sums.old) }
-    requires lies { LiesInFile sounds.now stretch.now.file stretch.now.first stretch.now.width stretch.now.frame stretch.now.length }
+    requires lies { LiesInFile sounds.now stretch.now.file stretch.now.first stretch.now.width stretch.now.frame
+        stretch.now.length }
     requires some_samples { 64 ≤ length samples.old }
     requires few_samples { length samples.old < 2 ^ 32 }
     requires room { length samples.old * 4 ≤ length bytes.old }
     requires ramp { IsRamp shape stretch.now.length }
     ensures added { IsTrue (S.honest shelf.old) → OnOk result ((before : ℕ → ℕ → ℤ) → AreSums sums.old before
         → AreSums sums.new (sums_with (reading_by (S.stored shelf.old) sounds.now) stretch.now shape before)) }
-    ensures full { IsTrue (S.honest shelf.old) → OnOk result (IsFull (reading_by (S.stored shelf.old) sounds.now) stretch.now) }
+    ensures full { IsTrue (S.honest shelf.old)
+        → OnOk result (IsFull (reading_by (S.stored shelf.old) sounds.now) stretch.now) }
     ensures source { IfErr result IsSource }
-    ensures only_reads { OnlyReads S.Shelf shelf.old shelf.new result (λ fault. IsSource fault) (λ fault failed. FailsAt sounds.now fault failed) }
+    ensures only_reads { OnlyReads S.Shelf shelf.old shelf.new result (λ fault. IsSource fault)
+        (λ fault failed. FailsAt sounds.now fault failed) }
 {
     let most = samples.len() as u32 / sounds[stretch.file as usize].channels() as u32;
     let mut done = 0;

@@ -20,11 +20,13 @@ use Rattle.rendering.specs.Rendering.{empty_fault, render_fault, size_fault}
 use Rattle.consolidate.specs.Commands.{range_refusal, render_refusal}
 
 -- nothing is due of an accepted list
-pub none_due : (text : List ℕ) (files : Files) (project : ListProject) (binding : Binding) → IsAccepted text files project binding → project_fault text files ≡ None
+pub none_due : (text : List ℕ) (files : Files) (project : ListProject) (binding : Binding)
+    → IsAccepted text files project binding → project_fault text files ≡ None
 none_due text files project binding accepted = rw (accepted.spelt, accepted.bound) accepted.checked
 
 -- a text is accepted over the files as one project with one binding
-pub one_accepted : (text : List ℕ) (files : Files) (p q : ListProject) (b d : Binding) → IsAccepted text files p b → IsAccepted text files q d → (p ≡ q) × (b ≡ d)
+pub one_accepted : (text : List ℕ) (files : Files) (p q : ListProject) (b d : Binding) → IsAccepted text files p b
+    → IsAccepted text files q d → (p ≡ q) × (b ≡ d)
 one_accepted text files p q b d one other =
     let projects : Ok p ≡ Ok q = sym one.spelt ∙ other.spelt in
     let same : p ≡ q = cc in
@@ -32,16 +34,20 @@ one_accepted text files p q b d one other =
     (same, cc)
 
 -- so what is made of it is made of that one
-pub one_work : (text : List ℕ) (files : Files) (p q : ListProject) (b d : Binding) (handle : ℕ) (work : Work) (refusal : Refusal)
-    → IsAccepted text files p b → IsAccepted text files q d → (IsWorkOf p b handle files work → IsDue refusal (work_fault b work))
+pub one_work : (text : List ℕ) (files : Files) (p q : ListProject) (b d : Binding) (handle : ℕ) (work : Work)
+    (refusal : Refusal)
+    → IsAccepted text files p b → IsAccepted text files q d
+    → (IsWorkOf p b handle files work → IsDue refusal (work_fault b work))
     → IsWorkOf q d handle files work → IsDue refusal (work_fault d work)
 one_work text files p q b d handle work refusal one other due is_work =
     let same = one_accepted text files p q b d one other in
     subst (λ (e : Binding). IsDue refusal (work_fault e work)) same.1
-    (due (subst (λ (e : Binding). IsWorkOf p e handle files work) (sym same.1) (subst (λ (r : ListProject). IsWorkOf r d handle files work) (sym same.0) is_work)))
+    (due (subst (λ (e : Binding). IsWorkOf p e handle files work) (sym same.1)
+    (subst (λ (r : ListProject). IsWorkOf r d handle files work) (sym same.0) is_work)))
 
 -- what may come where the project is opened may come in place of what comes later
-pub due_behind : (refusal : Refusal) (first later : Option Refusal) → turn_of refusal ≤ 3 → IfSome later (λ due. 3 ≤ turn_of due) → IsDue refusal first
+pub due_behind : (refusal : Refusal) (first later : Option Refusal) → turn_of refusal ≤ 3
+    → IfSome later (λ due. 3 ≤ turn_of due) → IsDue refusal first
     → IsDue refusal (first_fault first later)
 due_behind refusal (Some due) later turn late is_due = is_due
 due_behind refusal None later turn late is_due = by_excuse (is_excused refusal.number) later refl late is_due where
@@ -49,43 +55,56 @@ due_behind refusal None later turn late is_due = by_excuse (is_excused refusal.n
   in_turn None late = tt
   in_turn (Some due) late = omega arith
 
-  by_excuse : (excused : Bool) (later : Option Refusal) → is_excused refusal.number ≡ excused → IfSome later (λ (d : Refusal). 3 ≤ turn_of d)
+  by_excuse : (excused : Bool) (later : Option Refusal) → is_excused refusal.number ≡ excused
+      → IfSome later (λ (d : Refusal). 3 ≤ turn_of d)
       → IsDue refusal None → IsDue refusal later
   by_excuse true later is late due = rw is (in_turn later late)
   by_excuse false later is late due = let none = rw is at due in absurd (cc)
 
 -- ---- 58 and 61 of a rendering
 
-first_late : (first later : Option Refusal) → IfSome first (λ due. 3 ≤ turn_of due) → IfSome later (λ due. 3 ≤ turn_of due) → IfSome (first_fault first later) (λ due. 3 ≤ turn_of due)
+first_late : (first later : Option Refusal) → IfSome first (λ due. 3 ≤ turn_of due)
+    → IfSome later (λ due. 3 ≤ turn_of due) → IfSome (first_fault first later) (λ due. 3 ≤ turn_of due)
 first_late None later first_turn later_turn = later_turn
 first_late (Some due) later first_turn later_turn = first_turn
 
 empty_turn : (range : Range) → IfSome (empty_fault range) (λ due. 3 ≤ turn_of due)
 empty_turn range = by_test (nat_le range.to range.from) where
-  by_test : (empty : Bool) → IfSome (cond empty (Some (record { number = 58; place = Nowhere; late = false })) None) (λ (due : Refusal). 3 ≤ turn_of due)
+  by_test : (empty : Bool)
+      → IfSome (cond empty (Some (record { number = 58; place = Nowhere; late = false })) None)
+      (λ (due : Refusal). 3 ≤ turn_of due)
   by_test true = omega arith
   by_test false = tt
 
 size_turn : (range : Range) → IfSome (size_fault range) (λ due. 3 ≤ turn_of due)
 size_turn range = by_test (is_large (render_info range)) where
-  by_test : (large : Bool) → IfSome (cond large (Some (record { number = 61; place = Nowhere; late = false })) None) (λ (due : Refusal). 3 ≤ turn_of due)
+  by_test : (large : Bool)
+      → IfSome (cond large (Some (record { number = 61; place = Nowhere; late = false })) None)
+      (λ (due : Refusal). 3 ≤ turn_of due)
   by_test true = omega arith
   by_test false = tt
 
-range_turn : (values : OptionValues) (text : Result ListProject Refusal) → IfSome (range_refusal values text) (λ due. 3 ≤ turn_of due)
+range_turn : (values : OptionValues) (text : Result ListProject Refusal)
+    → IfSome (range_refusal values text) (λ due. 3 ≤ turn_of due)
 range_turn values (Err refusal) = tt
 range_turn values (Ok project) =
-    first_late (empty_fault (range_of project values)) (size_fault (range_of project values)) (empty_turn (range_of project values)) (size_turn (range_of project values))
+    first_late (empty_fault (range_of project values)) (size_fault (range_of project values))
+    (empty_turn (range_of project values)) (size_turn (range_of project values))
 
 -- a refusal of the opening is due of a rendering
-pub opening_due : (refusal : Refusal) (text : List ℕ) (values : OptionValues) (files : Files) → turn_of refusal ≤ 3 → IsDue refusal (project_fault text files)
+pub opening_due : (refusal : Refusal) (text : List ℕ) (values : OptionValues) (files : Files) → turn_of refusal ≤ 3
+    → IsDue refusal (project_fault text files)
     → IsDue refusal (render_refusal text values files)
-opening_due refusal text values files turn due = due_behind refusal (project_fault text files) (range_refusal values (text_value text)) turn (range_turn values (text_value text)) due
+opening_due refusal text values files turn due =
+    due_behind refusal (project_fault text files) (range_refusal values (text_value text)) turn
+    (range_turn values (text_value text)) due
 
 -- what is due of rendering an accepted list is due of its range
-pub range_due : (text : List ℕ) (values : OptionValues) (files : Files) (project : ListProject) (binding : Binding) → IsAccepted text files project binding
+pub range_due : (text : List ℕ) (values : OptionValues) (files : Files) (project : ListProject) (binding : Binding)
+    → IsAccepted text files project binding
     → render_refusal text values files ≡ render_fault project values
-range_due text values files project binding accepted = rw (none_due text files project binding accepted, accepted.spelt) refl
+range_due text values files project binding accepted =
+    rw (none_due text files project binding accepted, accepted.spelt) refl
 
 -- ---- 53, 55 and 61 of a consolidation
 
@@ -98,11 +117,16 @@ work_turn binding work =
     let many_runs = nat_lt 32767 (length work.runs) in
     let many_groups = nat_lt 32767 (length work.groups) in
     let large = list_any (λ run. is_large (run_info (sounds_of binding) (homes_of binding) run)) work.runs in
-    first_late (refused_if many_runs 53) (first_fault (refused_if many_groups 55) (refused_if large 61)) (refused_turn many_runs 53 (omega arith))
-    (first_late (refused_if many_groups 55) (refused_if large 61) (refused_turn many_groups 55 (omega arith)) (refused_turn large 61 (omega arith)))
+    first_late (refused_if many_runs 53) (first_fault (refused_if many_groups 55) (refused_if large 61))
+    (refused_turn many_runs 53 (omega arith))
+    (first_late (refused_if many_groups 55) (refused_if large 61) (refused_turn many_groups 55 (omega arith))
+    (refused_turn large 61 (omega arith)))
 
 -- a refusal of the opening is due of a consolidation
-pub opening_due_of_work : (refusal : Refusal) (text : List ℕ) (files : Files) (project : ListProject) (binding : Binding) (work : Work) → turn_of refusal ≤ 3
-    → IsAccepted text files project binding → IsDue refusal (project_fault text files) → IsDue refusal (work_fault binding work)
+pub opening_due_of_work : (refusal : Refusal) (text : List ℕ) (files : Files) (project : ListProject)
+    (binding : Binding) (work : Work) → turn_of refusal ≤ 3
+    → IsAccepted text files project binding → IsDue refusal (project_fault text files)
+    → IsDue refusal (work_fault binding work)
 opening_due_of_work refusal text files project binding work turn accepted due =
-    due_behind refusal None (work_fault binding work) turn (work_turn binding work) (rw (none_due text files project binding accepted) at due)
+    due_behind refusal None (work_fault binding work) turn (work_turn binding work)
+    (rw (none_due text files project binding accepted) at due)

@@ -27,9 +27,13 @@ use Rattle.consolidate.specs.declared.fault.OutputFile.TheVariants as file
 use Rattle.consolidate.specs.declared.rendered.Rendered.{Rendered}
 use Rattle.consolidate.specs.declared.consolidated.Written.{Written}
 
+-- the call fails by this refusal, or by one that may come in its place
+abbrev pub IsRefusedBy : {X : Type 0} → Refusal → Result X Fault → Type 0
+IsRefusedBy refusal result = IfErr result (λ fault. IsDue (refusal_of fault) (Some refusal)) × (IsOk result → ⊥)
+
 -- a text with a fault is refused, whatever the files are
 abbrev pub RefusesBadText : {X : Type 0} → List ℕ → Result X Fault → Type 0
-RefusesBadText text result = (refusal : Refusal) → text_value text ≡ Err refusal → IfErr result (λ fault. IsDue (refusal_of fault) (Some refusal)) × (IsOk result → ⊥)
+RefusesBadText text result = (refusal : Refusal) → text_value text ≡ Err refusal → IsRefusedBy refusal result
 
 -- 22 and 52: the device of a source failed
 abbrev pub IsSource : Fault → Type 0
@@ -62,7 +66,7 @@ WritesOutputs bench stays old new result = OnlyWrites bench stays old new result
 abbrev pub all_notices : ListProject → Binding → List Notice
 all_notices project binding = project.notices ++ binding.notices
 
--- The list is accepted, and its rendering is there: that of the exact sums, rounded and clipped, and it reads back as them.
+-- The list is accepted, and its rendering is there: that of the exact sums, rounded and clipped, and it reads back so.
 pub record IsRendered (text : List ℕ) (values : OptionValues) (sources written : Files) (told : Rendered) : Type 0 where
   pub project : ListProject
   pub binding : Binding
@@ -91,66 +95,82 @@ pub record IsConsolidated (text : List ℕ) (handle : ℕ) (sources old new : Fi
   pub binding : Binding
   pub spelled : Spells text project
   pub accepted : IsAccepted text sources project binding
-  pub written : consolidation.IsConsolidated project binding handle sources old new (record { media = told.media; entries = told.entries; sizes = told.sizes })
+  pub written : consolidation.IsConsolidated project binding handle sources old new
+      (record { media = told.media; entries = told.entries; sizes = told.sizes })
   pub notices : told.notices.items ≡ all_notices project binding
 
 -- a list that isn't accepted is refused by its first fault
 abbrev pub RefusesBadList : {X : Type 0} → List ℕ → Files → Result X Fault → Type 0
 RefusesBadList text files result =
-    (refusal : Refusal) → project_fault text files ≡ Some refusal → IfErr result (λ fault. IsDue (refusal_of fault) (Some refusal)) × (IsOk result → ⊥)
+    (refusal : Refusal) → project_fault text files ≡ Some refusal → IsRefusedBy refusal result
 
 -- a list that is accepted, by what is made of it
 abbrev pub RefusesByWork : {X : Type 0} → List ℕ → ℕ → Files → Result X Fault → Type 0
 RefusesByWork text handle files result = (project : ListProject) (binding : Binding) (work : Work)
-    → IsAccepted text files project binding → IsWorkOf project binding handle files work → Answers refusal_of result (work_fault binding work)
+    → IsAccepted text files project binding → IsWorkOf project binding handle files work
+    → Answers refusal_of result (work_fault binding work)
 
 module _ {S B : Type 0} (shelf : source.Ghosts S) (bench : output.Ghosts B) where
   -- the sources are as they were, the outputs too before the first write; a device's fault has its cause and its file
-  pub record KeepsStores {X : Type 0} (shelf_old shelf_new : S) (bench_old bench_new : B) (result : Result X Fault) : Type 0 where
-    pub early : IfErr result (λ fault. (refusal_of fault).late ≡ false → IsUntouched bench.stored bench.may_leave bench.moment bench.left_since bench_old bench_new)
+  pub record KeepsStores {X : Type 0} (shelf_old shelf_new : S) (bench_old bench_new : B)
+      (result : Result X Fault) : Type 0 where
+    pub early : IfErr result (λ fault. (refusal_of fault).late ≡ false
+        → IsUntouched bench.stored bench.may_leave bench.moment bench.left_since bench_old bench_new)
     pub sources : shelf.stored shelf_new ≡ shelf.stored shelf_old
     pub honest_shelf : shelf.honest shelf_new ≡ shelf.honest shelf_old
     pub honest_bench : bench.honest bench_new ≡ bench.honest bench_old
-    pub cause_at_source : HasCause (shelf.failures shelf_old) (shelf.failures shelf_new) (IfErr result (λ fault. ¬ IsSource fault)) (IsErrAnd result IsSource)
+    pub cause_at_source : HasCause (shelf.failures shelf_old) (shelf.failures shelf_new)
+        (IfErr result (λ fault. ¬ IsSource fault)) (IsErrAnd result IsSource)
     pub cause_of_62 : HasCause (bench.failures bench_old) (bench.failures bench_new)
         (IfErr result (λ fault. ¬ IsOutput fault)) (IsErrAnd result IsOutput)
     pub failed_source : IfErr result (λ fault. IsSource fault → HoldsOfSource fault (shelf.failed_at shelf_new))
     pub failed_output : IfErr result (λ fault. IsOutput fault → HoldsOfOutput fault (bench.failed_at bench_new))
 
   -- the list was rendered over these stores, with this outcome
-  pub record IsRendering (list : List ℕ) (values : OptionValues) (shelf_old shelf_new : S) (bench_old bench_new : B) (result : Result Rendered Fault) : Type 0 where
+  pub record IsRendering (list : List ℕ) (values : OptionValues) (shelf_old shelf_new : S) (bench_old bench_new : B)
+      (result : Result Rendered Fault) : Type 0 where
     pub rendered : IsTrue (shelf.honest shelf_old) → IsTrue (bench.honest bench_old)
         → IfOk result (IsRendered list values (shelf.stored shelf_old) (bench.stored bench_new))
-    pub durable : IsTrue (bench.honest bench_old) → OnOk result (IsDurable (codes "render.wav") (bench.stored bench_new) (bench.may_leave bench_new))
+    pub durable : IsTrue (bench.honest bench_old)
+        → OnOk result (IsDurable (codes "render.wav") (bench.stored bench_new) (bench.may_leave bench_new))
     pub report : IfOk result (Reports list values)
-    pub refusals : IsTrue (shelf.honest shelf_old) → Answers refusal_of result (render_refusal list values (shelf.stored shelf_old))
+    pub refusals : IsTrue (shelf.honest shelf_old)
+        → Answers refusal_of result (render_refusal list values (shelf.stored shelf_old))
     pub bad_text : RefusesBadText list result
     pub own : IfErr result (IsOfRendering list)
-    pub named : IsTrue (bench.honest bench_old) → (n : List ℕ) → n ≢ codes "render.wav" → bench.stored bench_new n ≡ bench.stored bench_old n
+    pub named : IsTrue (bench.honest bench_old) → (n : List ℕ) → n ≢ codes "render.wav"
+        → bench.stored bench_new n ≡ bench.stored bench_old n
     pub stores : KeepsStores shelf_old shelf_new bench_old bench_new result
 
   -- the list was consolidated over these stores, with this outcome
-  pub record IsConsolidation (list : List ℕ) (handle : ℕ) (shelf_old shelf_new : S) (bench_old bench_new : B) (result : Result Written Fault) : Type 0 where
-    pub same_sound : IsTrue (shelf.honest shelf_old) → IsTrue (bench.honest bench_old) → OnOk result (SoundsTheSame list (shelf.stored shelf_old) (bench.stored bench_new))
+  pub record IsConsolidation (list : List ℕ) (handle : ℕ) (shelf_old shelf_new : S) (bench_old bench_new : B)
+      (result : Result Written Fault) : Type 0 where
+    pub same_sound : IsTrue (shelf.honest shelf_old) → IsTrue (bench.honest bench_old)
+        → OnOk result (SoundsTheSame list (shelf.stored shelf_old) (bench.stored bench_new))
     pub written : IsTrue (shelf.honest shelf_old) → IsTrue (bench.honest bench_old)
-        → IfOk result (IsConsolidated list handle (shelf.stored shelf_old) (bench.stored bench_old) (bench.stored bench_new))
-    pub durable : IsTrue (bench.honest bench_old) → IfOk result (λ told. AreDurable told.media (bench.stored bench_new) (bench.may_leave bench_new))
+        → IfOk result (IsConsolidated list handle (shelf.stored shelf_old) (bench.stored bench_old)
+        (bench.stored bench_new))
+    pub durable : IsTrue (bench.honest bench_old)
+        → IfOk result (λ told. AreDurable told.media (bench.stored bench_new) (bench.may_leave bench_new))
     pub refusals : IsTrue (shelf.honest shelf_old) → RefusesByWork list handle (shelf.stored shelf_old) result
     pub bad_list : IsTrue (shelf.honest shelf_old) → RefusesBadList list (shelf.stored shelf_old) result
     pub bad_text : RefusesBadText list result
     pub own : IfErr result (IsOfConsolidation list)
-    pub named : IsTrue (bench.honest bench_old) → (n : List ℕ) → IsElsewhere 32767 n → bench.stored bench_new n ≡ bench.stored bench_old n
+    pub named : IsTrue (bench.honest bench_old) → (n : List ℕ) → IsElsewhere 32767 n
+        → bench.stored bench_new n ≡ bench.stored bench_old n
     pub list_last : IsTrue (bench.honest bench_old) → IfErr result (λ told. told ≢ fault.Output file.List
         → bench.stored bench_new (codes "consolidated.adl") ≡ bench.stored bench_old (codes "consolidated.adl"))
     pub stores : KeepsStores shelf_old shelf_new bench_old bench_new result
 
 -- the list was checked over these sources, with this outcome
-pub record IsChecking {S : Type 0} (shelf : source.Ghosts S) (list : List ℕ) (old new : S) (result : Result Accepted Fault) : Type 0 where
+pub record IsChecking {S : Type 0} (shelf : source.Ghosts S) (list : List ℕ) (old new : S)
+    (result : Result Accepted Fault) : Type 0 where
   pub refusals : IsTrue (shelf.honest old) → Answers refusal_of result (project_fault list (shelf.stored old))
   pub report : IsTrue (shelf.honest old) → IfOk result (opening.Reports list (shelf.stored old))
   pub bad_text : RefusesBadText list result
   pub own : IfErr result (IsOfProject list)
   pub sources : shelf.stored new ≡ shelf.stored old
   pub honest_shelf : shelf.honest new ≡ shelf.honest old
-  pub cause_at_source : HasCause (shelf.failures old) (shelf.failures new) (IfErr result (λ fault. ¬ IsSource fault)) (IsErrAnd result IsSource)
+  pub cause_at_source : HasCause (shelf.failures old) (shelf.failures new) (IfErr result (λ fault. ¬ IsSource fault))
+      (IsErrAnd result IsSource)
   pub failed_source : IfErr result (λ fault. IsSource fault → HoldsOfSource fault (shelf.failed_at new))

@@ -58,8 +58,10 @@ IsOpenedIn sounds _ = ⊤
 
 -- the fault names the file of this place among those opened
 abbrev pub NamesFile : bytes.List SoundFacts → ℕ → Fault → Type 0
-NamesFile sounds file (Silence name) = (facts : SoundFacts) → slice_get sounds file ≡ Some facts → string_bytes name ≡ facts.name
-NamesFile sounds file (Source name) = (facts : SoundFacts) → slice_get sounds file ≡ Some facts → string_bytes name ≡ facts.name
+NamesFile sounds file (Silence name) = (facts : SoundFacts) → slice_get sounds file ≡ Some facts
+    → string_bytes name ≡ facts.name
+NamesFile sounds file (Source name) = (facts : SoundFacts) → slice_get sounds file ≡ Some facts
+    → string_bytes name ≡ facts.name
 NamesFile sounds file _ = ⊥
 
 -- it names the file that a fault of a rendering, or of a consolidation, tells

@@ -6,8 +6,9 @@ use opening::Accepted;
 use shelf::Shelf;
 use std::alloc::Global;
 
-/// Checks a list over the sources of a shelf: its text, then the files that it uses in the order of the source index, then
-/// its entries in their order. The first fault is told; else the list's notices, and how many entries and bound indexes it has.
+/// Checks a list over the sources of a shelf: its text, then the files that it uses in the order of the source index,
+/// then its entries in their order. The first fault is told; else the list's notices, and how many entries and bound
+/// indexes it has.
 pub fn check_project<S: Shelf>(alloc: Global, list: &[u8], shelf: &mut S) -> Result<Accepted, Fault>
     ensures { IsChecking S.Shelf list.now shelf.old shelf.new result }
 {

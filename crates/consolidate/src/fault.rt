@@ -41,8 +41,8 @@ impl fmt::Display for OutputFile {
     }
 }
 
-/// Why a call is refused, in the order in which its stages come. After `BlockMemory`, `MediumMemory`, `Source` and `Output` what
-/// is written is unfinished; the others come before anything is written.
+/// Why a call is refused, in the order in which its stages come. After `BlockMemory`, `MediumMemory`, `Source` and
+/// `Output` what is written is unfinished; the others come before anything is written.
 #[derive(Debug, Drop, Error)]
 pub enum Fault {
     /// The list, a file that it names, or an entry: 1 to 18, 21 to 31, 41 to 46.

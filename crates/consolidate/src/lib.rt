@@ -1,4 +1,4 @@
-//! The calls of the product: checks an audio decision list over a folder of sound files, consolidates it, or renders it.
+//! The calls of the product: checks, consolidates or renders an audio decision list over a folder of sound files.
 #![tactic(auto)]
 
 mod checking;

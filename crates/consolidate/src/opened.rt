@@ -25,11 +25,14 @@ pub struct Opened {
 
 /// Opens the project of a list over the sources of a shelf.
 pub fn open<S: Shelf>(alloc: Global, list: &[u8], shelf: &mut S) -> Result<Opened, Fault>
-    ensures accepted { IsTrue (S.honest shelf.old) → IfOk result (λ opened. IsAccepted list.now (S.stored shelf.old) opened.checked.project opened.checked.bound) }
+    ensures accepted { IsTrue (S.honest shelf.old)
+        → IfOk result (λ opened. IsAccepted list.now (S.stored shelf.old) opened.checked.project opened.checked.bound) }
     ensures spelt { IfOk result (λ opened. text_value list.now ≡ Ok opened.checked.project) }
     ensures spelled { IfOk result (λ opened. Spells list.now opened.checked.project) }
-    ensures notices { IfOk result (λ opened. opened.notices.items ≡ all_notices opened.checked.project opened.checked.bound) }
-    ensures refusals { IsTrue (S.honest shelf.old) → Answers refusal_of result (project_fault list.now (S.stored shelf.old)) }
+    ensures notices { IfOk result
+        (λ opened. opened.notices.items ≡ all_notices opened.checked.project opened.checked.bound) }
+    ensures refusals { IsTrue (S.honest shelf.old)
+        → Answers refusal_of result (project_fault list.now (S.stored shelf.old)) }
     ensures bad_text { RefusesBadText list.now result }
     ensures own { IfErr result (IsOfProject list.now) }
     ensures early { IfErr result (λ fault. (refusal_of fault).late ≡ false) }

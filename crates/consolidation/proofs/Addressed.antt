@@ -17,16 +17,20 @@ use Rattle.consolidation.specs.Planned.{IsAddressed}
 use Rattle.consolidation.proofs.HomeFrames.{home_frames}
 use Rattle.consolidation.proofs.LeftAtHome.{one_of}
 
-module _ (binding : Binding) (is : IsBinding binding) (apart : AreHomes (homes_of binding)) (groups : List (List Piece)) (handle : ℕ)
+module _ (binding : Binding) (is : IsBinding binding) (apart : AreHomes (homes_of binding)) (groups : List (List Piece))
+    (handle : ℕ)
     (home : All (IsAtHome (sounds_of binding) (homes_of binding)) (pieces_of groups)) where
-  addressed : (run : Run) → IsMaximal (kept_of groups (homes_of binding) handle) run → IsAddressed (sounds_of binding) (homes_of binding) run
+  addressed : (run : Run) → IsMaximal (kept_of groups (homes_of binding) handle) run
+      → IsAddressed (sounds_of binding) (homes_of binding) run
   addressed run maximal =
       let last : ℕ = run.first + (run.length - 1) in
-      let kept : (nat_lt last (addressable_by (homes_of binding) run.file) && list_any (is_near handle run.file last) (pieces_of groups)) ≡ true =
+      let kept : (nat_lt last (addressable_by (homes_of binding) run.file)
+      && list_any (is_near handle run.file last) (pieces_of groups)) ≡ true =
       maximal.inside (run.length - 1) (omega (arith, maximal.some)) in
       let below : last < addressable_by (homes_of binding) run.file = grind (arith, nat_tests, kept) in
       let near : list_any (is_near handle run.file last) (pieces_of groups) ≡ true = grind (arith, nat_tests, kept) in
-      let p = one_of (is_near handle run.file last) (IsAtHome (sounds_of binding) (homes_of binding)) (pieces_of groups) near home in
+      let p = one_of (is_near handle run.file last) (IsAtHome (sounds_of binding) (homes_of binding)) (pieces_of groups)
+      near home in
       let near_p : is_near handle run.file last p.0 ≡ true = p.1 in
       let same : p.0.file ≡ run.file = grind (arith, nat_tests, near_p) in
       let there : slice_get (sounds_of binding) run.file ≡ Some p.2.of_file.facts = rw same at p.2.of_file.there in
@@ -46,8 +50,10 @@ module _ (binding : Binding) (is : IsBinding binding) (apart : AreHomes (homes_o
       }
 
   -- all of them
-  pub all_addressed : (runs : List Run) → AreRuns (kept_of groups (homes_of binding) handle) (place_by (homes_of binding)) runs
+  pub all_addressed : (runs : List Run)
+      → AreRuns (kept_of groups (homes_of binding) handle) (place_by (homes_of binding)) runs
       → All (IsAddressed (sounds_of binding) (homes_of binding)) runs
   all_addressed runs are =
-      All-weaker (IsMaximal (kept_of groups (homes_of binding) handle)) (IsAddressed (sounds_of binding) (homes_of binding)) addressed
+      All-weaker (IsMaximal (kept_of groups (homes_of binding) handle))
+      (IsAddressed (sounds_of binding) (homes_of binding)) addressed
       runs are.maximal

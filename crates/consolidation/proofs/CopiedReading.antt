@@ -27,15 +27,18 @@ read_there files sounds file channel frame facts bytes opened there below =
     rw (opened, there, within) refl
 
 -- two choices that agree where they are taken
-same_choice : (taken : Bool) (x y : ℤ) → (taken ≡ true → x ≡ y) → (if taken then x else pos 0) ≡ (if taken then y else pos 0)
+same_choice : (taken : Bool) (x y : ℤ) → (taken ≡ true → x ≡ y)
+    → (if taken then x else pos 0) ≡ (if taken then y else pos 0)
 same_choice true x y same = same refl
 same_choice false x y same = refl
 
-in_channels : (channel channels : ℕ) → (nat_le 1 channel && nat_le channel channels) ≡ true → (1 ≤ channel) × (channel ≤ channels)
+in_channels : (channel channels : ℕ) → (nat_le 1 channel && nat_le channel channels) ≡ true
+    → (1 ≤ channel) × (channel ≤ channels)
 in_channels channel channels test = (grind (arith, nat_tests), grind (arith, nat_tests))
 
 -- the facts of the medium at a place
-medium_at : (sounds : List SoundFacts) (homes : List Home) (number k : ℕ) (runs : List Run) (run : Run) → slice_get runs k ≡ Some run
+medium_at : (sounds : List SoundFacts) (homes : List Home) (number k : ℕ) (runs : List Run) (run : Run)
+    → slice_get runs k ≡ Some run
     → slice_get (map (λ (file : OpenedFile). file.facts) (numbered (opened_medium sounds homes) number runs)) k
     ≡ Some (opened_medium sounds homes (number + k) run).facts
 medium_at sounds homes number k [] run there = cc
@@ -44,7 +47,8 @@ medium_at sounds homes number zero (r ∷ runs) run there =
     rw same (ap (λ (n : ℕ). Some (opened_medium sounds homes n run).facts) counted)
 medium_at sounds homes number (suc k) (r ∷ runs) run there =
     let counted : suc number + k ≡ number + suc k = omega arith in
-    medium_at sounds homes (suc number) k runs run there ∙ ap (λ (n : ℕ). Some (opened_medium sounds homes n run).facts) counted
+    medium_at sounds homes (suc number) k runs run there
+    ∙ ap (λ (n : ℕ). Some (opened_medium sounds homes n run).facts) counted
 
 module _ (sources written : Files) (sounds : List SoundFacts) (homes : List Home) (runs : List Run) where
   -- the media of runs are a reading that copies them
@@ -54,9 +58,13 @@ module _ (sources written : Files) (sounds : List SoundFacts) (homes : List Home
   copied media = λ k channel i run there below.
       let has = media k run there in
       let facts = sound_at sounds run.file in
-      let here = read_there written (map (λ (file : OpenedFile). file.facts) (numbered (opened_medium sounds homes) 1 runs)) k channel i
-      (opened_medium sounds homes (1 + k) run).facts has.file (medium_at sounds homes 1 k runs run there) has.there below in
-      let source = read_there sources sounds run.file channel (run.first + i) facts has.source has.opened has.source_there
+      let here =
+      read_there written (map (λ (file : OpenedFile). file.facts) (numbered (opened_medium sounds homes) 1 runs))
+      k channel i
+      (opened_medium sounds homes (1 + k) run).facts has.file (medium_at sounds homes 1 k runs run there)
+      has.there below in
+      let source =
+      read_there sources sounds run.file channel (run.first + i) facts has.source has.opened has.source_there
       (omega (arith, has.inside)) in
       here ∙ same_choice (nat_le 1 channel && nat_le channel facts.channels) _ _ (λ test.
       let within = in_channels channel facts.channels test in

@@ -20,13 +20,15 @@ abbrev due_of : (runs groups large : Bool) → Option Refusal
 due_of runs groups large = first_fault (refused_if runs 53) (first_fault (refused_if groups 55) (refused_if large 61))
 
 -- no test comes before the sixth turn
-in_turn : (refusal : Refusal) (runs groups large : Bool) → turn_of refusal ≤ 6 → ComesInTurn refusal (due_of runs groups large)
+in_turn : (refusal : Refusal) (runs groups large : Bool) → turn_of refusal ≤ 6
+    → ComesInTurn refusal (due_of runs groups large)
 in_turn refusal true groups large early = early
 in_turn refusal false true large early = omega (arith, early)
 in_turn refusal false false true early = omega (arith, early)
 in_turn refusal false false false early = tt
 
-in_seventh : (refusal : Refusal) (groups large : Bool) → turn_of refusal ≤ 7 → ComesInTurn refusal (due_of false groups large)
+in_seventh : (refusal : Refusal) (groups large : Bool) → turn_of refusal ≤ 7
+    → ComesInTurn refusal (due_of false groups large)
 in_seventh refusal true large early = early
 in_seventh refusal false true early = omega (arith, early)
 in_seventh refusal false false early = tt
@@ -43,14 +45,18 @@ module _ (binding : Binding) (work : Work) where
 
   -- what comes before the runs are counted comes in turn
   pub early_in_turn : (refusal : Refusal) → turn_of refusal ≤ 6 → ComesInTurn refusal (work_fault binding work)
-  early_in_turn refusal early = in_turn refusal (nat_lt 32767 (length work.runs)) (nat_lt 32767 (length work.groups)) large early
+  early_in_turn refusal early =
+      in_turn refusal (nat_lt 32767 (length work.runs)) (nat_lt 32767 (length work.groups)) large early
 
-  pub too_many_runs : 32767 < length work.runs → work_fault binding work ≡ Some (record { number = 53; place = Nowhere; late = false })
+  pub too_many_runs : 32767 < length work.runs
+      → work_fault binding work ≡ Some (record { number = 53; place = Nowhere; late = false })
   too_many_runs many = rw (above (length work.runs) 32767 many) refl
 
   -- what comes before the groups are counted comes in turn behind the runs
-  pub next_in_turn : (refusal : Refusal) → length work.runs ≤ 32767 → turn_of refusal ≤ 7 → ComesInTurn refusal (work_fault binding work)
-  next_in_turn refusal few early = rw (below (length work.runs) 32767 few) (in_seventh refusal (nat_lt 32767 (length work.groups)) large early)
+  pub next_in_turn : (refusal : Refusal) → length work.runs ≤ 32767 → turn_of refusal ≤ 7
+      → ComesInTurn refusal (work_fault binding work)
+  next_in_turn refusal few early =
+      rw (below (length work.runs) 32767 few) (in_seventh refusal (nat_lt 32767 (length work.groups)) large early)
 
   pub too_many_groups : length work.runs ≤ 32767 → 32767 < length work.groups
       → work_fault binding work ≡ Some (record { number = 55; place = Nowhere; late = false })
@@ -64,7 +70,8 @@ module _ (binding : Binding) (work : Work) where
   not_large info fits = below _ 4294967294 fits
 
   pub nothing_due : length work.runs ≤ 32767 → length work.groups ≤ 32767
-      → All (λ run. Fits (run_info (sounds_of binding) (homes_of binding) run)) work.runs → work_fault binding work ≡ None
+      → All (λ run. Fits (run_info (sounds_of binding) (homes_of binding) run)) work.runs
+      → work_fault binding work ≡ None
   nothing_due few some fit =
       let none = list_any_none (λ run. is_large (run_info (sounds_of binding) (homes_of binding) run)) work.runs
       (All-weaker (λ run. Fits (run_info (sounds_of binding) (homes_of binding) run))

@@ -24,19 +24,23 @@ reads_pieces (group ∷ groups) file channel frame =
 all_pieces : (groups : List (List Piece)) → All (All IsPiece) groups → All IsPiece (pieces_of groups)
 all_pieces [] all = All-nil IsPiece
 all_pieces (group ∷ groups) all =
-    All-append IsPiece group (pieces_of groups) (All-head (All IsPiece) group groups all) (all_pieces groups (All-tail (All IsPiece) group groups all))
+    All-append IsPiece group (pieces_of groups) (All-head (All IsPiece) group groups all)
+    (all_pieces groups (All-tail (All IsPiece) group groups all))
 
 -- an element that passes has what holds of all
-pub one_of : {X : Type 0} (test : X → Bool) (P : X → Type 0) (xs : List X) → list_any test xs ≡ true → All P xs → (x : X) × (test x ≡ true) × P x
+pub one_of : {X : Type 0} (test : X → Bool) (P : X → Type 0) (xs : List X) → list_any test xs ≡ true → All P xs
+    → (x : X) × (test x ≡ true) × P x
 one_of test P [] some all = absurd (cc)
 one_of {X} test P (x ∷ xs) some all = by_first (test x) refl (λ rest. one_of test P xs rest (All-tail P x xs all)) where
-  by_first : (b : Bool) → test x ≡ b → (list_any test xs ≡ true → (y : X) × (test y ≡ true) × P y) → (y : X) × (test y ≡ true) × P y
+  by_first : (b : Bool) → test x ≡ b → (list_any test xs ≡ true → (y : X) × (test y ≡ true) × P y)
+      → (y : X) × (test y ≡ true) × P y
   by_first true e later = (x, e, All-head P x xs all)
   by_first false e later = later (sym (ap (λ (b : Bool). b || list_any test xs) e) ∙ some)
 
 module _ (sounds : List SoundFacts) (homes : List Home) where
   -- a piece whose last sample another reads lies where that one does
-  read_by : (p q : Piece) → IsPiece p → IsAtHome sounds homes q → is_read q p.file ((p.first + p.width) - 1) ((p.frame + p.length) - 1) ≡ true
+  read_by : (p q : Piece) → IsPiece p → IsAtHome sounds homes q
+      → is_read q p.file ((p.first + p.width) - 1) ((p.frame + p.length) - 1) ≡ true
       → IsAtHome sounds homes p
   read_by p q is home read =
       let same : q.file ≡ p.file = grind (arith, nat_tests, read) in
@@ -68,7 +72,11 @@ module _ (sounds : List SoundFacts) (homes : List Home) where
       let is : IsPiece p = All-get_or IsPiece (pieces_of new) k d below (all_pieces new pieces) in
       let channel : ℕ = (p.first + p.width) - 1 in
       let frame : ℕ = (p.frame + p.length) - 1 in
-      let read = list_any_at (λ (q : Piece). is_read q p.file channel frame) (pieces_of new) k d below (reads_own p is) in
-      let given = sym (reads_pieces old p.file channel frame) ∙ no_more p.file channel frame (reads_pieces new p.file channel frame ∙ read) in
-      let q = one_of (λ (q : Piece). is_read q p.file channel frame) (IsAtHome sounds homes) (pieces_of old) given home in
+      let read =
+      list_any_at (λ (q : Piece). is_read q p.file channel frame) (pieces_of new) k d below (reads_own p is) in
+      let given =
+      sym (reads_pieces old p.file channel frame)
+      ∙ no_more p.file channel frame (reads_pieces new p.file channel frame ∙ read) in
+      let q = one_of (λ (q : Piece). is_read q p.file channel frame) (IsAtHome sounds homes) (pieces_of old)
+      given home in
       read_by p q.0 is q.2 q.1

@@ -21,10 +21,12 @@ module _ (sounds : List SoundFacts) (homes : List Home) where
 
   narrow : (run : Run) (p : Piece) → IsAtHome sounds homes p → IsNarrow run p
   narrow run p is same =
-      let there : slice_get sounds run.file ≡ Some is.of_file.facts = ap (slice_get sounds) (sym same) ∙ is.of_file.there in
+      let there : slice_get sounds run.file ≡ Some is.of_file.facts =
+      ap (slice_get sounds) (sym same) ∙ is.of_file.there in
       rw there is.of_file.channels
 
-  pub have_channels : (pieces : List Piece) (runs : List Run) (files : List OpenedFile) → All (IsAtHome sounds homes) pieces
+  pub have_channels : (pieces : List Piece) (runs : List Run) (files : List OpenedFile)
+      → All (IsAtHome sounds homes) pieces
       → files ≡ numbered (opened_medium sounds homes) 1 runs → HaveChannels pieces runs files
   have_channels pieces runs files home opened k run there = (
     opened_medium sounds homes (1 + k) run,

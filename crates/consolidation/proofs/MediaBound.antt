@@ -19,7 +19,8 @@ use Rattle.list_terms.specs.Renewed.{media_name, numbered, run_base, run_index, 
 use Rattle.consolidation.specs.Work.{HasMedia, HasMedium, opened_medium}
 
 -- no element passes
-prefix_len-none : {X : Type 0} (p : X → Bool) (xs : List X) → All (λ x. p x ≡ false) xs → prefix_len (λ x. not (p x)) xs ≡ length xs
+prefix_len-none : {X : Type 0} (p : X → Bool) (xs : List X) → All (λ x. p x ≡ false) xs
+    → prefix_len (λ x. not (p x)) xs ≡ length xs
 prefix_len-none p [] none = refl
 prefix_len-none p (x ∷ xs) none =
     let rest = prefix_len-none p xs (All-tail (λ x. p x ≡ false) x xs none) in
@@ -33,7 +34,9 @@ position-none p xs none =
 
 -- no number from this one on names a file that is opened
 abbrev IsFresh : List OpenedFile → ℕ → Type 0
-IsFresh files number = (m : ℕ) → number ≤ m → m < 100000 → All (λ (file : OpenedFile). bytes_eq file.facts.name (media_name m) ≡ false) files
+IsFresh files number =
+    (m : ℕ) → number ≤ m → m < 100000
+    → All (λ (file : OpenedFile). bytes_eq file.facts.name (media_name m) ≡ false) files
 
 -- the binding with the medium of one more run
 abbrev with_medium : List SoundFacts → List Home → Binding → ℕ → Run → Binding
@@ -54,7 +57,8 @@ module _ (sources written : Files) (sounds : List SoundFacts) (homes : List Home
   medium_bound front number run has few counted used fresh =
       let place = media_place number few in
       let unopened : file_named (media_name number) front.files ≡ None =
-      position-none (λ (file : OpenedFile). bytes_eq file.facts.name (media_name number)) front.files (fresh number (omega arith) few) in
+      position-none (λ (file : OpenedFile). bytes_eq file.facts.name (media_name number)) front.files
+      (fresh number (omega arith) few) in
       let apart = nothing_apart (run_base homes run) in
       let whole : min run.length (day - run_base homes run) ≡ run.length = omega (arith, has.in_day) in
       rw (used, place, unopened, has.there, has.reads_back, apart, whole, counted, append-nil front.notices) refl
@@ -63,7 +67,8 @@ module _ (sources written : Files) (sounds : List SoundFacts) (homes : List Home
   still_fresh : (front : Binding) (number : ℕ) (run : Run) → number < 100000 → IsFresh front.files number
       → IsFresh (with_medium sounds homes front number run).files (suc number)
   still_fresh front number run few fresh = λ m above below.
-      All-push (λ (file : OpenedFile). bytes_eq file.facts.name (media_name m) ≡ false) front.files (opened_medium sounds homes number run)
+      All-push (λ (file : OpenedFile). bytes_eq file.facts.name (media_name m) ≡ false) front.files
+      (opened_medium sounds homes number run)
       (fresh m (omega arith) below) (other_media_name number m few below (λ same. omega (arith, same)))
 
   -- the media of runs behind this front
@@ -78,7 +83,8 @@ module _ (sources written : Files) (sounds : List SoundFacts) (homes : List Home
       → with_media (with_medium sounds homes front number run) (suc number) runs ≡ with_media front number (run ∷ runs)
   one_more front number run runs =
       rw (
-        append_assoc front.files (opened_medium sounds homes number run ∷ []) (numbered (opened_medium sounds homes) (suc number) runs),
+        append_assoc front.files (opened_medium sounds homes number run ∷ [])
+            (numbered (opened_medium sounds homes) (suc number) runs),
         append_assoc front.indexes (run_index homes number run ∷ []) (numbered (run_index homes) (suc number) runs),
       ) refl
 
@@ -95,14 +101,19 @@ module _ (sources written : Files) (sounds : List SoundFacts) (homes : List Home
   media_bound_behind front number [] few counted some media used fresh = ap Ok (no_media front number)
   media_bound_behind front number (run ∷ runs) few counted some media used fresh =
       let same : number + 0 ≡ number = omega arith in
-      let here : HasMedium sources written sounds homes number run = subst (λ (n : ℕ). HasMedium sources written sounds homes n run) same (media 0 run refl) in
-      let used_here : is_used events number ≡ true = subst (λ (n : ℕ). is_used events n ≡ true) same (used 0 (omega arith)) in
+      let here : HasMedium sources written sounds homes number run =
+      subst (λ (n : ℕ). HasMedium sources written sounds homes n run) same (media 0 run refl) in
+      let used_here : is_used events number ≡ true =
+      subst (λ (n : ℕ). is_used events n ≡ true) same (used 0 (omega arith)) in
       let step = medium_bound front number run here (omega arith) counted used_here fresh in
       let longer : length (with_medium sounds homes front number run).files ≡ suc number - 1 =
       length-append front.files (opened_medium sounds homes number run ∷ []) ∙ omega (arith, counted, some) in
       let later : (k : ℕ) → number + suc k ≡ suc number + k = λ k. omega arith in
-      let rest = media_bound_behind (with_medium sounds homes front number run) (suc number) runs (omega arith) longer (omega arith)
-      (λ k other there. subst (λ (n : ℕ). HasMedium sources written sounds homes n other) (later k) (media (suc k) other there))
+      let rest =
+      media_bound_behind (with_medium sounds homes front number run) (suc number) runs (omega arith) longer
+      (omega arith)
+      (λ k other there. subst (λ (n : ℕ). HasMedium sources written sounds homes n other) (later k)
+      (media (suc k) other there))
       (λ k below. subst (λ (n : ℕ). is_used events n ≡ true) (later k) (used (suc k) (omega arith)))
       (still_fresh front number run (omega arith) fresh) in
       ap (λ b. b >>= (λ next. with_sources written events next (numbered (run_source homes) (suc number) runs))) step
@@ -111,7 +122,8 @@ module _ (sources written : Files) (sounds : List SoundFacts) (homes : List Home
   -- the list over the media is bound to them
   pub media_bound : (runs : List Run) → length runs ≤ 32767 → HasMedia sources written sounds homes runs
       → ((k : ℕ) → k < length runs → is_used events (1 + k) ≡ true)
-      → with_sources written events nothing_bound (numbered (run_source homes) 1 runs) ≡ Ok (with_media nothing_bound 1 runs)
+      → with_sources written events nothing_bound (numbered (run_source homes) 1 runs)
+      ≡ Ok (with_media nothing_bound 1 runs)
   media_bound runs few media used =
       media_bound_behind nothing_bound 1 runs (omega arith) refl (omega arith) media used
       (λ m above below. All-nil (λ (file : OpenedFile). bytes_eq file.facts.name (media_name m) ≡ false))

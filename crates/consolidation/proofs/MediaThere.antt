@@ -18,7 +18,8 @@ use Rattle.consolidation.specs.Work.{HasMedia, HasMedium}
 use Rattle.consolidation.proofs.Places.{holds_at}
 
 module _ (sources written : Files) (sounds : List SoundFacts) (homes : List Home) where
-  has_medium : (number : ℕ) (run : Run) → IsMediumRun sounds homes run → IsFilled sounds homes sources written number run
+  has_medium : (number : ℕ) (run : Run) → IsMediumRun sounds homes run
+      → IsFilled sounds homes sources written number run
       → HasMedium sources written sounds homes number run
   has_medium number run is filled =
       let of_file = is.addressed.of_file in
@@ -35,17 +36,21 @@ module _ (sources written : Files) (sounds : List SoundFacts) (homes : List Home
         samples = filled.medium.samples;
       }
 
-  pub has_media : (runs : List Run) → All (IsMediumRun sounds homes) runs → HoldAll (IsFilled sounds homes sources written) runs
+  pub has_media : (runs : List Run) → All (IsMediumRun sounds homes) runs
+      → HoldAll (IsFilled sounds homes sources written) runs
       → HasMedia sources written sounds homes runs
   has_media runs are filled k run there =
       has_medium (1 + k) run (holds_at (IsMediumRun sounds homes) runs k run are there) (filled k run there)
 
 -- byte for byte
-pub holds_medium : (binding : Binding) (sources written : Files) (number : ℕ) (run : Run) → IsMediumRun (sounds_of binding) (homes_of binding) run
-    → IsFilled (sounds_of binding) (homes_of binding) sources written number run → HoldsMedium binding sources written number run
+pub holds_medium : (binding : Binding) (sources written : Files) (number : ℕ) (run : Run)
+    → IsMediumRun (sounds_of binding) (homes_of binding) run
+    → IsFilled (sounds_of binding) (homes_of binding) sources written number run
+    → HoldsMedium binding sources written number run
 holds_medium binding sources written number run is filled =
     let of_file = is.addressed.of_file in
-    let same : of_file.facts ≡ sound_at (sounds_of binding) run.file = sym (ap (λ o. unwrap_or o no_sound) of_file.there) in
+    let same : of_file.facts ≡ sound_at (sounds_of binding) run.file =
+    sym (ap (λ o. unwrap_or o no_sound) of_file.there) in
     record {
       facts = sound_at (sounds_of binding) run.file;
       opened = of_file.there ∙ ap Some same;

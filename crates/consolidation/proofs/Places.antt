@@ -28,8 +28,10 @@ numbered_at f number (suc k) (first ∷ xs) x there =
 -- the file and its home as they are read at their places
 pub sound_read : (sounds : List SoundFacts) (file : ℕ) (facts d : SoundFacts) → slice_get sounds file ≡ Some facts
     → get_or sounds file d ≡ sound_at sounds file
-sound_read sounds file facts d there = get_or_from_slice_get sounds file facts d there ∙ sym (ap (λ o. unwrap_or o no_sound) there)
+sound_read sounds file facts d there =
+    get_or_from_slice_get sounds file facts d there ∙ sym (ap (λ o. unwrap_or o no_sound) there)
 
 pub base_read : (homes : List Home) (file : ℕ) (home d : Home) → slice_get homes file ≡ Some home
     → (get_or homes file d).base ≡ base_by homes file
-base_read homes file home d there = ap (λ (h : Home). h.base) (get_or_from_slice_get homes file home d there) ∙ sym (rw there refl)
+base_read homes file home d there =
+    ap (λ (h : Home). h.base) (get_or_from_slice_get homes file home d there) ∙ sym (rw there refl)

@@ -9,7 +9,8 @@ use Rattle.consolidation.specs.Work.{IsRenewed, SoundsTheSame, run_events}
 use Rattle.consolidation.proofs.CopiedReading.{copied}
 use Rattle.consolidation.proofs.MediaBound.{media_bound, with_media}
 
-pub sounds_the_same : (text : List ℕ) (sources written : Files) → IsRenewed text sources written → SoundsTheSame text sources written
+pub sounds_the_same : (text : List ℕ) (sources written : Files) → IsRenewed text sources written
+    → SoundsTheSame text sources written
 sounds_the_same text sources written is =
     let sounds = sounds_of is.binding in
     let renewed = consolidated_project is.project is.homes is.groups is.runs in
@@ -25,8 +26,10 @@ sounds_the_same text sources written is =
       accepted_again = record {
         spelt = is.linked.reads_back;
         bound = media_bound sources written sounds is.homes events is.runs is.few is.media is.linked.all_used;
-        checked = is.linked.no_fault (with_media sources written sounds is.homes events nothing_bound 1 is.runs) refl refl;
+        checked =
+            is.linked.no_fault (with_media sources written sounds is.homes events nothing_bound 1 is.runs) refl refl;
       };
       same = λ channel time.
-          is.linked.relinked (reading_of sources is.binding) _ (copied sources written sounds is.homes is.runs is.media) channel time ∙ is.same_mix channel time;
+          is.linked.relinked (reading_of sources is.binding) _ (copied sources written sounds is.homes is.runs is.media)
+          channel time ∙ is.same_mix channel time;
     }

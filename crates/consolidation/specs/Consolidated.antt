@@ -31,11 +31,14 @@ pub record Work : Type 0 where
   pub runs : List Run
 
 -- what the standard passes leave of a bound project, and the runs round it, with handles of so many frames
-pub record IsWorkOf (project : ListProject) (binding : Binding) (handle : ℕ) (sources : Files) (work : Work) : Type 0 where
-  pub groups : work.groups ≡ standard_groups (reading_of sources binding) (groups_of_entries binding.indexes project.events)
+pub record IsWorkOf (project : ListProject) (binding : Binding) (handle : ℕ) (sources : Files)
+    (work : Work) : Type 0 where
+  pub groups : work.groups ≡ standard_groups (reading_of sources binding)
+      (groups_of_entries binding.indexes project.events)
   pub runs : AreRuns (kept_of work.groups (homes_of binding) handle) (place_by (homes_of binding)) work.runs
 
--- 53: more runs than a list has indexes; 55: more groups than it has entries; 61: the medium of a run is too long for RIFF
+-- 53: more runs than a list has indexes; 55: more groups than it has entries; 61: the medium of a run is too long for
+-- RIFF
 abbrev pub refused_if : Bool → ℕ → Option Refusal
 refused_if faulty number = if faulty then Some (record { number = number; place = Nowhere; late = false }) else None
 
@@ -63,7 +66,8 @@ abbrev pub list_of : ListProject → Binding → Work → List ℕ
 list_of project binding work = text_of_project (consolidated_project project (homes_of binding) work.groups work.runs)
 
 -- The media of the runs are written and the list over them, and no other file has changed.
-pub record IsConsolidated (project : ListProject) (binding : Binding) (handle : ℕ) (sources old new : Files) (told : Written) : Type 0 where
+pub record IsConsolidated (project : ListProject) (binding : Binding) (handle : ℕ) (sources old new : Files)
+    (told : Written) : Type 0 where
   pub work : Work
   pub is_work : IsWorkOf project binding handle sources work
   pub list : new (codes "consolidated.adl") ≡ Some (list_of project binding work)
@@ -71,7 +75,8 @@ pub record IsConsolidated (project : ListProject) (binding : Binding) (handle : 
   pub others : (name : List ℕ) → IsElsewhere (length work.runs) name → new name ≡ old name
   pub media_count : told.media ≡ length work.runs
   pub entry_count : told.entries ≡ length work.groups
-  pub sizes : told.sizes ≡ sizes_of (sounds_of binding) (homes_of binding) work.runs (length (list_of project binding work))
+  pub sizes : told.sizes ≡ sizes_of (sounds_of binding) (homes_of binding) work.runs
+      (length (list_of project binding work))
 
 -- a crash leaves the list and so many media as they are read
 pub record AreDurable (media : ℕ) (stored : Files) (may_leave : Files → Type 0) : Type 0 where

@@ -25,7 +25,8 @@ IsLaidOut sounds homes written number run = written (media_name number) ≡ Some
 -- it has the frames of its source
 abbrev pub IsFilled : List SoundFacts → List Home → (sources written : Files) → ℕ → Run → Type 0
 IsFilled sounds homes sources written number run =
-    IsCopied (sound_at sounds run.file) (sources (sound_at sounds run.file).name) (base_by homes run.file) run (written (media_name number))
+    IsCopied (sound_at sounds run.file) (sources (sound_at sounds run.file).name) (base_by homes run.file) run
+    (written (media_name number))
 
 -- a crash leaves it so
 abbrev pub IsSafe : Files → (Files → Type 0) → ℕ → Run → Type 0

@@ -30,9 +30,11 @@ pub record AreLeft (binding : Binding) (groups : List (List Piece)) : Type 0 whe
   pub at_home : All (IsAtHome (sounds_of binding) (homes_of binding)) (pieces_of groups)
 
 -- these groups are what the standard passes leave of a project, and they sound as it does
-pub record SoundsAsGiven (project : ListProject) (binding : Binding) (sources : Files) (groups : List (List Piece)) : Type 0 where
+pub record SoundsAsGiven (project : ListProject) (binding : Binding) (sources : Files)
+    (groups : List (List Piece)) : Type 0 where
   pub gives : groups ≡ standard_groups (reading_of sources binding) (groups_of_entries binding.indexes project.events)
-  pub same_mix : (channel time : ℕ) → mix_of (reading_of sources binding) groups channel time ≡ project_mix sources project binding channel time
+  pub same_mix : (channel time : ℕ)
+      → mix_of (reading_of sources binding) groups channel time ≡ project_mix sources project binding channel time
 
 -- a run of an opened file with a home, that ends before the day does
 pub record IsAddressed (sounds : List SoundFacts) (homes : List Home) (run : Run) : Type 0 where
@@ -46,8 +48,10 @@ pub record IsMediumRun (sounds : List SoundFacts) (homes : List Home) (run : Run
   pub addressed : IsAddressed sounds homes run
   pub fits : Fits (run_info sounds homes run)
 
--- the runs of kept frames round these groups, each of which can become a medium, and the text of the list over these media
-pub record IsPlanned (project : ListProject) (binding : Binding) (handle : ℕ) (groups : List (List Piece)) (plan : Plan) : Type 0 where
+-- the runs of kept frames round these groups, each of which can become a medium, and the text of the list over these
+-- media
+pub record IsPlanned (project : ListProject) (binding : Binding) (handle : ℕ) (groups : List (List Piece))
+    (plan : Plan) : Type 0 where
   pub homes : plan.homes.items ≡ homes_of binding
   pub few : length plan.runs.items ≤ 32767
   pub kept : AreRuns (kept_of groups (homes_of binding) handle) (place_by (homes_of binding)) plan.runs.items
@@ -57,7 +61,8 @@ pub record IsPlanned (project : ListProject) (binding : Binding) (handle : ℕ) 
   pub linked : IsLinked project (sounds_of binding) (homes_of binding) groups plan.runs.items
 
 -- planned round the groups that are left of the project
-pub record IsPlanOf (project : ListProject) (binding : Binding) (handle : ℕ) (honest : Bool) (sources : Files) (plan : Plan) : Type 0 where
+pub record IsPlanOf (project : ListProject) (binding : Binding) (handle : ℕ) (honest : Bool) (sources : Files)
+    (plan : Plan) : Type 0 where
   pub groups : List (List Piece)
   pub planned : IsPlanned project binding handle groups plan
   pub left : IsTrue honest → SoundsAsGiven project binding sources groups

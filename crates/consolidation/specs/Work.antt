@@ -30,7 +30,8 @@ abbrev pub run_info : List SoundFacts → List Home → Run → SoundInfo
 run_info sounds homes run = medium_info (sound_at sounds run.file) (base_by homes run.file) run
 
 -- the medium of a run is there under its number, reads back, and has the samples of its source
-pub record HasMedium (sources written : Files) (sounds : List SoundFacts) (homes : List Home) (number : ℕ) (run : Run) : Type 0 where
+pub record HasMedium (sources written : Files) (sounds : List SoundFacts) (homes : List Home) (number : ℕ)
+    (run : Run) : Type 0 where
   pub opened : slice_get sounds run.file ≡ Some (sound_at sounds run.file)
   pub source : List ℕ
   pub source_there : sources (sound_at sounds run.file).name ≡ Some source
@@ -43,24 +44,30 @@ pub record HasMedium (sources written : Files) (sounds : List SoundFacts) (homes
 
 -- the medium of a run as a file that is opened
 abbrev pub opened_medium : List SoundFacts → List Home → ℕ → Run → OpenedFile
-opened_medium sounds homes number run = record { path = media_name number; facts = facts_of (media_name number) (run_info sounds homes run) }
+opened_medium sounds homes number run =
+    record { path = media_name number; facts = facts_of (media_name number) (run_info sounds homes run) }
 
 -- the entries of groups over the media of runs
 abbrev pub run_events : List Home → List Run → List (List Piece) → List Event
 run_events homes runs groups = numbered (run_event homes runs) 1 (placed_of groups)
 
 -- the media of all runs are there
-abbrev pub HasMedia : (sources written : Files) (sounds : List SoundFacts) (homes : List Home) (runs : List Run) → Type 0
+abbrev pub HasMedia : (sources written : Files) (sounds : List SoundFacts) (homes : List Home) (runs : List Run)
+    → Type 0
 HasMedia sources written sounds homes runs = HoldAll (HasMedium sources written sounds homes) runs
 
 -- The list over the media of runs is read back and accepted over these media, and its entries sound as the groups.
-pub record IsLinked (project : ListProject) (sounds : List SoundFacts) (homes : List Home) (groups : List (List Piece)) (runs : List Run) : Type 0 where
-  pub reads_back : text_value (text_of_project (consolidated_project project homes groups runs)) ≡ Ok (consolidated_project project homes groups runs)
+pub record IsLinked (project : ListProject) (sounds : List SoundFacts) (homes : List Home) (groups : List (List Piece))
+    (runs : List Run) : Type 0 where
+  pub reads_back : text_value (text_of_project (consolidated_project project homes groups runs))
+      ≡ Ok (consolidated_project project homes groups runs)
   pub all_used : (k : ℕ) → k < length runs → is_used (run_events homes runs groups) (1 + k) ≡ true
   pub no_fault : (renewed : Binding) → renewed.indexes ≡ run_indexes homes runs
-      → renewed.files ≡ numbered (opened_medium sounds homes) 1 runs → event_fault renewed (run_events homes runs groups) ≡ None
+      → renewed.files ≡ numbered (opened_medium sounds homes) 1 runs
+      → event_fault renewed (run_events homes runs groups) ≡ None
   pub relinked : (given copied : Reading) → CopiesRuns given runs copied → (channel time : ℕ)
-      → mix_at copied (run_indexes homes runs) (run_events homes runs groups) channel time ≡ mix_of given groups channel time
+      → mix_at copied (run_indexes homes runs) (run_events homes runs groups) channel time
+      ≡ mix_of given groups channel time
 
 -- The written list is accepted over the written media, and each channel has the same sum at each sample.
 pub record SoundsTheSame (text : List ℕ) (sources written : Files) : Type 0 where
@@ -72,7 +79,8 @@ pub record SoundsTheSame (text : List ℕ) (sources written : Files) : Type 0 wh
   pub renewed : ListProject
   pub renewed_binding : Binding
   pub accepted_again : IsAccepted list written renewed renewed_binding
-  pub same : (channel time : ℕ) → project_mix written renewed renewed_binding channel time ≡ project_mix sources given given_binding channel time
+  pub same : (channel time : ℕ) → project_mix written renewed renewed_binding channel time
+      ≡ project_mix sources given given_binding channel time
 
 -- A list over the media of runs stands beside these media, and its groups sound as the given list.
 pub record IsRenewed (text : List ℕ) (sources written : Files) : Type 0 where
@@ -83,7 +91,9 @@ pub record IsRenewed (text : List ℕ) (sources written : Files) : Type 0 where
   pub groups : List (List Piece)
   pub runs : List Run
   pub few : length runs ≤ 32767
-  pub list : written (codes "consolidated.adl") ≡ Some (text_of_project (consolidated_project project homes groups runs))
+  pub list : written (codes "consolidated.adl")
+      ≡ Some (text_of_project (consolidated_project project homes groups runs))
   pub linked : IsLinked project (sounds_of binding) homes groups runs
   pub media : HasMedia sources written (sounds_of binding) homes runs
-  pub same_mix : (channel time : ℕ) → mix_of (reading_of sources binding) groups channel time ≡ project_mix sources project binding channel time
+  pub same_mix : (channel time : ℕ)
+      → mix_of (reading_of sources binding) groups channel time ≡ project_mix sources project binding channel time

@@ -8,8 +8,8 @@ use passes::PassFault;
 use relink::RelinkFault;
 use thiserror::Error;
 
-/// Why a project isn't consolidated. After `Source`, `Medium`, `List` and `MediumMemory` what is written is unfinished; the
-/// others come before anything is written.
+/// Why a project isn't consolidated. After `Source`, `Medium`, `List` and `MediumMemory` what is written is unfinished;
+/// the others come before anything is written.
 #[derive(Clone, Copy, Debug, PartialEq, Eq, Error)]
 pub enum ConsolidationFault {
     /// 47: no memory was left for the pieces of the entries.

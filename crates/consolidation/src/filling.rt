@@ -13,13 +13,13 @@ use crate::ConsolidationFault;
 use crate::laying::lay_out_all;
 use crate::medium::medium_for;
 use mediacopy::{CopyFault, copy_run};
-use shelf::{Bench, Shelf};
+use shelf::{Bench, Progress, Shelf};
 use sound_terms::{Home, Run};
 use std::alloc::Global;
 use wavread::Sound;
 
 /// The bytes that are copied at a time.
-const BLOCK: usize = 65_536;
+const BLOCK: usize = 262_144;
 
 /// The fault of the medium of this number, whose source is the file of this place.
 fn told_of(fault: CopyFault, number: u32, file: u32) -> ConsolidationFault
@@ -45,9 +45,11 @@ fn fill_run<S: Shelf, B: Bench>(
 ) -> Result<(), ConsolidationFault>
     requires run { IsMediumRun sounds.now homes.now run.now }
     requires room { (256 ≤ length buffer.old) × (length buffer.old < 2 ^ 32) }
-    ensures filled { IsTrue (S.honest shelf.old) → IsTrue (B.honest bench.old) → IsLaidOut sounds.now homes.now (B.stored bench.old) number run.now
+    ensures filled { IsTrue (S.honest shelf.old) → IsTrue (B.honest bench.old)
+        → IsLaidOut sounds.now homes.now (B.stored bench.old) number run.now
         → OnOk result (IsFilled sounds.now homes.now (S.stored shelf.old) (B.stored bench.new) number run.now) }
-    ensures durable { IsTrue (B.honest bench.old) → OnOk result (IsSafe (B.stored bench.new) (B.may_leave bench.new) number run.now) }
+    ensures durable { IsTrue (B.honest bench.old)
+        → OnOk result (IsSafe (B.stored bench.new) (B.may_leave bench.new) number run.now) }
     ensures own { IfErr result IsOfMedia }
     ensures only_reads { OnlyReads S.Shelf shelf.old shelf.new result IsSource (FailsAt sounds.now) }
     ensures only_writes { OnlyWrites B.Bench (λ n. n ≢ media_name number) bench.old bench.new result IsOutput FailsIn }
@@ -65,8 +67,14 @@ fn fill_run<S: Shelf, B: Bench>(
     }
 }
 
-/// Fills the laid out media of all runs, and syncs each.
-fn fill_all<S: Shelf, B: Bench>(
+/// The frames of all runs.
+fn frames_of(runs: &[Run]) -> u64 {
+    runs.iter()
+        .fold(0, |sum: u64, run| sum.saturating_add(run.length))
+}
+
+/// Fills the laid out media of all runs, and syncs each. The progress is told the frames of those that are filled.
+fn fill_all<S: Shelf, B: Bench, P: Progress>(
     alloc: Global,
     sounds: &[Sound],
     homes: &[Home],
@@ -74,17 +82,23 @@ fn fill_all<S: Shelf, B: Bench>(
     shelf: &mut S,
     bench: &mut B,
     buffer: &mut [u8],
+    progress: &mut P,
 ) -> Result<(), ConsolidationFault>
     requires few { length runs.now ≤ 32767 }
     requires runs { All (IsMediumRun sounds.now homes.now) runs.now }
     requires room { (256 ≤ length buffer.old) × (length buffer.old < 2 ^ 32) }
-    ensures filled { IsTrue (S.honest shelf.old) → IsTrue (B.honest bench.old) → HoldAll (IsLaidOut sounds.now homes.now (B.stored bench.old)) runs.now
+    ensures filled { IsTrue (S.honest shelf.old) → IsTrue (B.honest bench.old)
+        → HoldAll (IsLaidOut sounds.now homes.now (B.stored bench.old)) runs.now
         → OnOk result (HoldAll (IsFilled sounds.now homes.now (S.stored shelf.old) (B.stored bench.new)) runs.now) }
-    ensures durable { IsTrue (B.honest bench.old) → OnOk result (HoldAll (IsSafe (B.stored bench.new) (B.may_leave bench.new)) runs.now) }
+    ensures durable { IsTrue (B.honest bench.old)
+        → OnOk result (HoldAll (IsSafe (B.stored bench.new) (B.may_leave bench.new)) runs.now) }
     ensures own { IfErr result IsOfMedia }
     ensures only_reads { OnlyReads S.Shelf shelf.old shelf.new result IsSource (FailsAt sounds.now) }
-    ensures only_writes { OnlyWrites B.Bench (IsNoMedium (length runs.now)) bench.old bench.new result IsOutput FailsIn }
+    ensures only_writes { OnlyWrites B.Bench (IsNoMedium (length runs.now))
+        bench.old bench.new result IsOutput FailsIn }
 {
+    let whole = frames_of(runs);
+    let mut done: u64 = 0;
     for (place, run) in runs.iter().enumerate() {
         fill_run(
             alloc,
@@ -96,27 +110,32 @@ fn fill_all<S: Shelf, B: Bench>(
             bench,
             buffer,
         )?;
+        done = done.saturating_add(run.length);
+        progress.reached(done, whole);
     }
     Ok(())
 }
 
 /// Writes the media of all runs, under their numbers from 1 on: all are laid out, then each is filled and synced.
-pub fn write_media<S: Shelf, B: Bench>(
+pub fn write_media<S: Shelf, B: Bench, P: Progress>(
     alloc: Global,
     sounds: &[Sound],
     homes: &[Home],
     runs: &[Run],
     shelf: &mut S,
     bench: &mut B,
+    progress: &mut P,
 ) -> Result<(), ConsolidationFault>
     requires few { length runs.now ≤ 32767 }
     requires runs { All (IsMediumRun sounds.now homes.now) runs.now }
     ensures filled { IsTrue (S.honest shelf.old) → IsTrue (B.honest bench.old)
         → OnOk result (HoldAll (IsFilled sounds.now homes.now (S.stored shelf.old) (B.stored bench.new)) runs.now) }
-    ensures durable { IsTrue (B.honest bench.old) → OnOk result (HoldAll (IsSafe (B.stored bench.new) (B.may_leave bench.new)) runs.now) }
+    ensures durable { IsTrue (B.honest bench.old)
+        → OnOk result (HoldAll (IsSafe (B.stored bench.new) (B.may_leave bench.new)) runs.now) }
     ensures own { IfErr result IsOfMedia }
     ensures only_reads { OnlyReads S.Shelf shelf.old shelf.new result IsSource (FailsAt sounds.now) }
-    ensures only_writes { OnlyWrites B.Bench (IsNoMedium (length runs.now)) bench.old bench.new result IsOutput FailsIn }
+    ensures only_writes { OnlyWrites B.Bench (IsNoMedium (length runs.now))
+        bench.old bench.new result IsOutput FailsIn }
 {
     lay_out_all(alloc, sounds, homes, runs, bench)?;
     let Ok(mut buffer) = vec![in alloc; 0; BLOCK] else {
@@ -130,5 +149,6 @@ pub fn write_media<S: Shelf, B: Bench>(
         shelf,
         bench,
         buffer.as_mut_slice(),
+        progress,
     )
 }

@@ -21,7 +21,8 @@ pub fn groups_left<S: Shelf>(
     shelf: &mut S,
 ) -> Result<Intervals, ConsolidationFault>
     ensures left { IfOk result (AreLeft checked.now.bound) }
-    ensures given { IsTrue (S.honest shelf.old) → IfOk result (SoundsAsGiven checked.now.project checked.now.bound (S.stored shelf.old)) }
+    ensures given { IsTrue (S.honest shelf.old)
+        → IfOk result (SoundsAsGiven checked.now.project checked.now.bound (S.stored shelf.old)) }
     ensures own { IfErr result IsOfGroups }
     ensures only_reads { OnlyReads S.Shelf shelf.old shelf.new result IsSource (FailsAt (sounds_of checked.now.bound)) }
 {

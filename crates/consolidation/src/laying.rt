@@ -26,7 +26,8 @@ fn lay_out_run<B: Bench>(
     bench: &mut B,
 ) -> Result<(), ConsolidationFault>
     requires run { IsMediumRun sounds.now homes.now run.now }
-    ensures laid { IsTrue (B.honest bench.old) → OnOk result (IsLaidOut sounds.now homes.now (B.stored bench.new) number run.now) }
+    ensures laid { IsTrue (B.honest bench.old)
+        → OnOk result (IsLaidOut sounds.now homes.now (B.stored bench.new) number run.now) }
     ensures own { IfErr result IsOfLaying }
     ensures only_writes { OnlyWrites B.Bench (λ n. n ≢ media_name number) bench.old bench.new result IsOutput FailsIn }
 {
@@ -48,9 +49,11 @@ pub fn lay_out_all<B: Bench>(
 ) -> Result<(), ConsolidationFault>
     requires few { length runs.now ≤ 32767 }
     requires runs { All (IsMediumRun sounds.now homes.now) runs.now }
-    ensures laid { IsTrue (B.honest bench.old) → OnOk result (HoldAll (IsLaidOut sounds.now homes.now (B.stored bench.new)) runs.now) }
+    ensures laid { IsTrue (B.honest bench.old)
+        → OnOk result (HoldAll (IsLaidOut sounds.now homes.now (B.stored bench.new)) runs.now) }
     ensures own { IfErr result IsOfLaying }
-    ensures only_writes { OnlyWrites B.Bench (IsNoMedium (length runs.now)) bench.old bench.new result IsOutput FailsIn }
+    ensures only_writes { OnlyWrites B.Bench (IsNoMedium (length runs.now))
+        bench.old bench.new result IsOutput FailsIn }
 {
     for (place, run) in runs.iter().enumerate() {
         lay_out_run(alloc, sounds, homes, run, place as u32 + 1, bench)?;

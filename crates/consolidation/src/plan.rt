@@ -53,8 +53,10 @@ fn fits_at(sounds: &[Sound], run: &Run) -> bool
 /// Whether they can tell those of all runs.
 fn all_fit(sounds: &[Sound], runs: &[Run]) -> bool
     requires { All (IsRunOf sounds.now) runs.now }
-    ensures fit { (homes : List spec.Home) → IsTrue result → All (λ run. Fits (run_info sounds.now homes run)) runs.now }
-    ensures large { (homes : List spec.Home) → result ≡ false → list_any (λ run. is_large (run_info sounds.now homes run)) runs.now ≡ true }
+    ensures fit { (homes : List spec.Home) → IsTrue result
+        → All (λ run. Fits (run_info sounds.now homes run)) runs.now }
+    ensures large { (homes : List spec.Home) → result ≡ false
+        → list_any (λ run. is_large (run_info sounds.now homes run)) runs.now ≡ true }
 {
     for run in runs {
         if !fits_at(sounds, run) {
@@ -64,24 +66,27 @@ fn all_fit(sounds: &[Sound], runs: &[Run]) -> bool
     true
 }
 
-/// The text of the list over the media of these runs.
+/// The text of the list over the media of these runs. The groups are let go before it is written.
 fn text_over(
     alloc: Global,
     checked: &Checked,
-    intervals: &Intervals,
+    intervals: Intervals,
     runs: &[Run],
     homes: &[Home],
 ) -> Result<Vec<u8>, ConsolidationFault>
-    requires left { AreLeft checked.now.bound intervals.now }
+    requires left { AreLeft checked.now.bound intervals }
     requires few { length runs.now ≤ 32767 }
     requires homes { (homes.now ≡ homes_of checked.now.bound) × AreHomes homes.now }
-    requires kept { (handle : ℕ) × AreRuns (kept_of intervals.now homes.now handle) (place_by homes.now) runs.now }
-    ensures text { IfOk result (λ text. text.items ≡ text_of_project (consolidated_project checked.now.project homes.now intervals.now runs.now)) }
-    ensures linked { OnOk result (IsLinked checked.now.project (sounds_of checked.now.bound) (homes_of checked.now.bound) intervals.now runs.now) }
-    ensures few_entries { OnOk result (length intervals.now ≤ 32767) }
-    ensures own { IfErr result (IsOfLinking (length intervals.now)) }
+    requires kept { (handle : ℕ) × AreRuns (kept_of intervals homes.now handle) (place_by homes.now) runs.now }
+    ensures text { IfOk result (λ text. text.items
+        ≡ text_of_project (consolidated_project checked.now.project homes.now intervals runs.now)) }
+    ensures linked { OnOk result (IsLinked checked.now.project (sounds_of checked.now.bound)
+        (homes_of checked.now.bound) intervals runs.now) }
+    ensures few_entries { OnOk result (length intervals ≤ 32767) }
+    ensures own { IfErr result (IsOfLinking (length intervals)) }
 {
-    let renewed = relink(alloc, intervals, runs, homes, checked.project())?;
+    let renewed = relink(alloc, &intervals, runs, homes, checked.project())?;
+    drop(intervals);
     let Ok(text) = text_of(alloc, &renewed) else {
         return Err(ConsolidationFault::Relink(RelinkFault::Memory));
     };
@@ -93,12 +98,13 @@ fn plan_of(
     alloc: Global,
     checked: &Checked,
     handle: u64,
-    intervals: &Intervals,
+    intervals: Intervals,
 ) -> Result<Plan, ConsolidationFault>
-    requires left { AreLeft checked.now.bound intervals.now }
-    ensures planned { IfOk result (IsPlanned checked.now.project checked.now.bound handle intervals.now) }
-    ensures refusals { (work : Work) → work.groups ≡ intervals.now
-        → AreRuns (kept_of work.groups (homes_of checked.now.bound) handle) (place_by (homes_of checked.now.bound)) work.runs
+    requires left { AreLeft checked.now.bound intervals }
+    ensures planned { IfOk result (IsPlanned checked.now.project checked.now.bound handle intervals) }
+    ensures refusals { (work : Work) → work.groups ≡ intervals
+        → AreRuns (kept_of work.groups (homes_of checked.now.bound) handle) (place_by (homes_of checked.now.bound))
+        work.runs
         → Answers (refusal_of (sounds_of checked.now.bound)) result (work_fault checked.now.bound work) }
     ensures own { IfErr result IsOfPlan }
 {
@@ -106,7 +112,8 @@ fn plan_of(
     let Ok(homes) = bound.homes(alloc) else {
         return Err(ConsolidationFault::Runs(RunFault::Memory));
     };
-    let runs = runs(alloc, intervals, &homes, handle)?;
+    let runs = runs(alloc, &intervals, &homes, handle)?;
+    let entries = intervals.groups().len();
     let text = text_over(alloc, checked, intervals, &runs, &homes)?;
     if !all_fit(bound.sounds(), &runs) {
         return Err(ConsolidationFault::TooLong);
@@ -115,7 +122,7 @@ fn plan_of(
         homes,
         runs,
         text,
-        entries: intervals.groups().len() as u32,
+        entries: entries as u32,
     })
 }
 
@@ -126,12 +133,14 @@ pub fn plan_project<S: Shelf>(
     handle: u64,
     shelf: &mut S,
 ) -> Result<Plan, ConsolidationFault>
-    ensures planned { IfOk result (IsPlanOf checked.now.project checked.now.bound handle (S.honest shelf.old) (S.stored shelf.old)) }
-    ensures refusals { IsTrue (S.honest shelf.old) → (work : Work) → IsWorkOf checked.now.project checked.now.bound handle (S.stored shelf.old) work
+    ensures planned { IfOk result (IsPlanOf checked.now.project checked.now.bound handle (S.honest shelf.old)
+        (S.stored shelf.old)) }
+    ensures refusals { IsTrue (S.honest shelf.old) → (work : Work)
+        → IsWorkOf checked.now.project checked.now.bound handle (S.stored shelf.old) work
         → Answers (refusal_of (sounds_of checked.now.bound)) result (work_fault checked.now.bound work) }
     ensures early { IfErr result (λ f. is_late f ≡ false) }
     ensures only_reads { OnlyReads S.Shelf shelf.old shelf.new result IsSource (FailsAt (sounds_of checked.now.bound)) }
 {
     let intervals = groups_left(alloc, checked, shelf)?;
-    plan_of(alloc, checked, handle, &intervals)
+    plan_of(alloc, checked, handle, intervals)
 }

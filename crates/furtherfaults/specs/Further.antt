@@ -26,7 +26,8 @@ fault_beside binding told event =
 abbrev pub faults_beside : Binding → ℕ → List Event → List Refusal
 faults_beside binding told = filter_map (fault_beside binding told)
 
--- the fault of the file of a source: what its file is refused for, where the device didn't fail, or that it has another path
+-- the fault of the file of a source: what its file is refused for, where the device didn't fail, or that it has another
+-- path
 abbrev pub IsOfSource : Files → Source → Fault → Type 0
 IsOfSource files source (fault.SameName index) = index ≡ source.number
 IsOfSource files source (fault.Media named fault) =
@@ -47,7 +48,8 @@ AreOfFiles project files = All (IsOfFiles project files)
 -- the faults of all entries of a bound project but of the one of this number
 abbrev pub AreOfEntries : ListProject → Files → ℕ → List Fault → Type 0
 AreOfEntries project files told faults =
-    (binding : Binding) × (binding_of project files ≡ Ok binding) × (map refusal_of faults ≡ faults_beside binding told project.events)
+    (binding : Binding) × (binding_of project files ≡ Ok binding)
+    × (map refusal_of faults ≡ faults_beside binding told project.events)
 
 -- this holds of the project whose text this is
 abbrev pub OfText : List ℕ → (ListProject → Type 0) → Type 0

@@ -5,10 +5,10 @@ ghost use Rattle.list_terms.specs.Names.{place_of_url};
 ghost use Rattle.furtherfaults.specs.Further.{AreOfFiles, IsOfSource, WasRead};
 
 use crate::paths::{Naming, Paths};
-use crate::used_numbers::UsedNumbers;
 use adlmodel::{Place, Project, Source, place_of};
 use opening::Fault;
 use shelf::Shelf;
+use sourceindex::UsedNumbers;
 use std::alloc::{AllocError, Global};
 use wavread::{MediaFault, open};
 
@@ -20,7 +20,8 @@ fn file_fault<S: Shelf>(
     shelf: &mut S,
 ) -> Result<Option<Fault>, AllocError>
     requires { place_of_url source.now.url ≡ Some place.now }
-    ensures of_source { IsTrue (S.honest shelf.old) → IfOk result (λ told. IfSome told (IsOfSource (S.stored shelf.old) source.now)) }
+    ensures of_source { IsTrue (S.honest shelf.old)
+        → IfOk result (λ told. IfSome told (IsOfSource (S.stored shelf.old) source.now)) }
     ensures only_read { WasRead S.Shelf shelf.old shelf.new }
 {
     match open(alloc, shelf, place.name()) {
@@ -33,8 +34,8 @@ fn file_fault<S: Shelf>(
     }
 }
 
-/// Notes the file that this source names. Behind the fault that is told, what is wrong with it is given, where no index before
-/// named it.
+/// Notes the file that this source names. Behind the fault that is told, what is wrong with it is given, where no index
+/// before named it.
 fn source_fault<S: Shelf>(
     alloc: Global,
     source: &Source,
@@ -42,7 +43,8 @@ fn source_fault<S: Shelf>(
     paths: &mut Paths,
     shelf: &mut S,
 ) -> Result<Option<Fault>, AllocError>
-    ensures of_source { IsTrue (S.honest shelf.old) → IfOk result (λ told. IfSome told (IsOfSource (S.stored shelf.old) source.now)) }
+    ensures of_source { IsTrue (S.honest shelf.old)
+        → IfOk result (λ told. IfSome told (IsOfSource (S.stored shelf.old) source.now)) }
     ensures only_read { WasRead S.Shelf shelf.old shelf.new }
 {
     let Some(place) = place_of(alloc, source.url())? else {
@@ -57,17 +59,19 @@ fn source_fault<S: Shelf>(
     }
 }
 
-/// What is wrong with the files that used indexes behind this one name, each file once, in the order of the source index.
+/// What is wrong with the files that used indexes behind this one name, each file once, in the order of the source
+/// index.
 pub fn file_faults<S: Shelf>(
     alloc: Global,
     project: &Project,
     told: u32,
     shelf: &mut S,
 ) -> Result<Vec<Fault>, AllocError>
-    ensures of_files { IsTrue (S.honest shelf.old) → IfOk result (λ faults. AreOfFiles project.now (S.stored shelf.old) faults.items) }
+    ensures of_files { IsTrue (S.honest shelf.old)
+        → IfOk result (λ faults. AreOfFiles project.now (S.stored shelf.old) faults.items) }
     ensures only_read { WasRead S.Shelf shelf.old shelf.new }
 {
-    let used = UsedNumbers::new(alloc, project.events())?;
+    let used = UsedNumbers::new(alloc, project.events());
     let mut paths = Paths::new(alloc);
     let mut faults = Vec::new(alloc);
     let mut is_behind = false;

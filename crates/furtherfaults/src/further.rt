@@ -46,9 +46,9 @@ impl Further {
     }
 }
 
-/// What else is at fault in a list that is refused over these sources, by its first fault. Behind a fault of the text there is
-/// nothing. Behind that of a file, the files that later used indexes name are opened, each by itself and once. Beside that of an
-/// entry, each other entry is looked at by itself.
+/// What else is at fault in a list that is refused over these sources, by its first fault. Behind a fault of the text
+/// there is nothing. Behind that of a file, the files that later used indexes name are opened, each by itself and once.
+/// Beside that of an entry, each other entry is looked at by itself.
 pub fn further_faults<S: Shelf>(
     alloc: Global,
     list: &[u8],
@@ -70,7 +70,8 @@ fn all_faults<S: Shelf>(
     shelf: &mut S,
     first: &Fault,
 ) -> Result<Vec<Fault>, Untold>
-    ensures all { IsTrue (S.honest shelf.old) → IfOk result (λ all. AreAll list.now (S.stored shelf.old) first.now all.items) }
+    ensures all { IsTrue (S.honest shelf.old)
+        → IfOk result (λ all. AreAll list.now (S.stored shelf.old) first.now all.items) }
     ensures only_read { WasRead S.Shelf shelf.old shelf.new }
 {
     match first {
@@ -115,7 +116,8 @@ fn beside_entry<S: Shelf>(
     shelf: &mut S,
 ) -> Result<Vec<Fault>, Untold>
     ensures of_entries { IsTrue (S.honest shelf.old)
-        → IfOk result (λ faults. OfText list.now (λ project. AreOfEntries project (S.stored shelf.old) entry faults.items)) }
+        → IfOk result (λ faults. OfText list.now (λ project.
+        AreOfEntries project (S.stored shelf.old) entry faults.items)) }
     ensures only_read { WasRead S.Shelf shelf.old shelf.new }
 {
     let project = read_again(alloc, list)?;

@@ -5,6 +5,5 @@ mod entries;
 mod files;
 mod further;
 mod paths;
-mod used_numbers;
 
 pub use further::{Further, Untold, further_faults};

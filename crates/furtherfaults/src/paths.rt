@@ -1,4 +1,8 @@
 // By which paths files are named.
+ghost use Rattle.std.specs.Prelude.{◌≡◌, ℕ, List, None, IfOk};
+ghost use Rattle.std.specs.BTreeMap.{get_by_text};
+ghost use Rattle.furtherfaults.specs.Paths.{naming_of};
+
 use adlmodel::{Bytes, Place};
 use std::alloc::{AllocError, Global};
 use std::collections::BTreeMap;
@@ -19,14 +23,19 @@ pub struct Paths {
 
 impl Paths {
     /// No file was named.
-    pub fn new(alloc: Global) -> Self {
+    pub fn new(alloc: Global) -> Self
+        ensures { (name : List ℕ) → get_by_text result.paths name ≡ None }
+    {
         Paths {
             paths: BTreeMap::new(alloc),
         }
     }
 
-    /// Notes that the file at this place is named.
-    pub fn note(&mut self, alloc: Global, place: &Place) -> Result<Naming, AllocError> {
+    /// Notes that the file at this place is named, and tells whether it was named before, and by this path.
+    pub fn note(&mut self, alloc: Global, place: &Place) -> Result<Naming, AllocError>
+        ensures naming { IfOk result (λ naming. naming
+            ≡ naming_of (get_by_text self.old.paths place.now.name) place.now.path) }
+    {
         if let Some(path) = self.paths.get(place.name()) {
             let is_same = path.as_slice() == place.path();
             return Ok(if is_same {

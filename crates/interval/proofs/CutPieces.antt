@@ -39,7 +39,8 @@ next_start p q follows = grind (arith, nat_tests)
 -- a piece before a time is one
 before_is_piece : (time : ℕ) (p : Piece) → IsPiece p → All IsPiece (piece_before time p)
 before_is_piece time p ok = by_ends (nat_le time p.start) (nat_le (p.start + p.length) time) refl refl where
-  by_ends : (none whole : Bool) → nat_le time p.start ≡ none → nat_le (p.start + p.length) time ≡ whole → All IsPiece (piece_before time p)
+  by_ends : (none whole : Bool) → nat_le time p.start ≡ none → nat_le (p.start + p.length) time ≡ whole
+      → All IsPiece (piece_before time p)
   by_ends true whole e f = rw e no_pieces
   by_ends false true e f = rw (e, f) (All-cons IsPiece p [] ok no_pieces)
   by_ends false false e f =
@@ -59,7 +60,8 @@ before_is_piece time p ok = by_ends (nat_le time p.start) (nat_le (p.start + p.l
 
 behind_is_piece : (time : ℕ) (p : Piece) → IsPiece p → All IsPiece (piece_behind time p)
 behind_is_piece time p ok = by_ends (nat_le time p.start) (nat_le (p.start + p.length) time) refl refl where
-  by_ends : (whole none : Bool) → nat_le time p.start ≡ whole → nat_le (p.start + p.length) time ≡ none → All IsPiece (piece_behind time p)
+  by_ends : (whole none : Bool) → nat_le time p.start ≡ whole → nat_le (p.start + p.length) time ≡ none
+      → All IsPiece (piece_behind time p)
   by_ends true none e f = rw e (All-cons IsPiece p [] ok no_pieces)
   by_ends false true e f = rw (e, f) no_pieces
   by_ends false false e f =
@@ -83,12 +85,14 @@ first_is_piece p ps all = all 0 p (omega arith)
 pub front_pieces : (time : ℕ) (group : List Piece) → All IsPiece group → All IsPiece (front time group)
 front_pieces time [] all = no_pieces
 front_pieces time (p ∷ ps) all =
-    All-append IsPiece _ _ (before_is_piece time p (first_is_piece p ps all)) (front_pieces time ps (All-tail IsPiece p ps all))
+    All-append IsPiece _ _ (before_is_piece time p (first_is_piece p ps all))
+    (front_pieces time ps (All-tail IsPiece p ps all))
 
 pub back_pieces : (time : ℕ) (group : List Piece) → All IsPiece group → All IsPiece (back time group)
 back_pieces time [] all = no_pieces
 back_pieces time (p ∷ ps) all =
-    All-append IsPiece _ _ (behind_is_piece time p (first_is_piece p ps all)) (back_pieces time ps (All-tail IsPiece p ps all))
+    All-append IsPiece _ _ (behind_is_piece time p (first_is_piece p ps all))
+    (back_pieces time ps (All-tail IsPiece p ps all))
 
 -- nothing lies before the time where a group begins no earlier
 none_before : (time : ℕ) (p : Piece) (ps : List Piece) → IsGroup (p ∷ ps) → time ≤ p.start → front time (p ∷ ps) ≡ []
@@ -110,22 +114,25 @@ all_behind time p (q ∷ qs) group le =
 -- the front of the next pieces may follow
 front_follows : (time : ℕ) (p q : Piece) (qs : List Piece) → IsTrue (may_follow p q) → IsGroup (q ∷ qs)
     → (front time (q ∷ qs) ≢ [] → IsGroup (front time (q ∷ qs))) → IsGroup (p ∷ front time (q ∷ qs))
-front_follows time p q qs follows group behind = by_ends (nat_le time q.start) (nat_le (q.start + q.length) time) refl refl where
-  by_ends : (none whole : Bool) → nat_le time q.start ≡ none → nat_le (q.start + q.length) time ≡ whole → IsGroup (p ∷ front time (q ∷ qs))
-  by_ends true whole e f =
-      let nothing = none_before time q qs group (grind (arith, nat_tests)) in
-      rw nothing tt
-  by_ends false true e f =
-      let is : front time (q ∷ qs) ≡ q ∷ front time qs = rw (e, f) refl in
-      rw is (follows, rw is at (behind (λ none. cc)))
-  by_ends false false e f =
-      let is : front time (q ∷ qs) ≡ record q { length = time - q.start } ∷ front time qs = rw (e, f) refl in
-      rw is (follows, rw is at (behind (λ none. cc)))
+front_follows time p q qs follows group behind =
+    by_ends (nat_le time q.start) (nat_le (q.start + q.length) time) refl refl where
+      by_ends : (none whole : Bool) → nat_le time q.start ≡ none → nat_le (q.start + q.length) time ≡ whole
+          → IsGroup (p ∷ front time (q ∷ qs))
+      by_ends true whole e f =
+          let nothing = none_before time q qs group (grind (arith, nat_tests)) in
+          rw nothing tt
+      by_ends false true e f =
+          let is : front time (q ∷ qs) ≡ q ∷ front time qs = rw (e, f) refl in
+          rw is (follows, rw is at (behind (λ none. cc)))
+      by_ends false false e f =
+          let is : front time (q ∷ qs) ≡ record q { length = time - q.start } ∷ front time qs = rw (e, f) refl in
+          rw is (follows, rw is at (behind (λ none. cc)))
 
 pub front_group : (time : ℕ) (group : List Piece) → IsGroup group → front time group ≢ [] → IsGroup (front time group)
 front_group time [] group some = absurd group
 front_group time (p ∷ []) group some = by_ends (nat_le time p.start) (nat_le (p.start + p.length) time) refl refl where
-  by_ends : (none whole : Bool) → nat_le time p.start ≡ none → nat_le (p.start + p.length) time ≡ whole → IsGroup (front time (p ∷ []))
+  by_ends : (none whole : Bool) → nat_le time p.start ≡ none → nat_le (p.start + p.length) time ≡ whole
+      → IsGroup (front time (p ∷ []))
   by_ends true whole e f = let nothing : front time (p ∷ []) ≡ [] = rw e refl in absurd (some nothing)
   by_ends false true e f = rw (e, f) tt
   by_ends false false e f = rw (e, f) tt
@@ -160,7 +167,8 @@ cut_goes_on time p q low high follows =
 pub back_group : (time : ℕ) (group : List Piece) → IsGroup group → back time group ≢ [] → IsGroup (back time group)
 back_group time [] group some = absurd group
 back_group time (p ∷ []) group some = by_ends (nat_le time p.start) (nat_le (p.start + p.length) time) refl refl where
-  by_ends : (whole none : Bool) → nat_le time p.start ≡ whole → nat_le (p.start + p.length) time ≡ none → IsGroup (back time (p ∷ []))
+  by_ends : (whole none : Bool) → nat_le time p.start ≡ whole → nat_le (p.start + p.length) time ≡ none
+      → IsGroup (back time (p ∷ []))
   by_ends true none e f = rw e tt
   by_ends false true e f = let nothing : back time (p ∷ []) ≡ [] = rw (e, f) refl in absurd (some nothing)
   by_ends false false e f = rw (e, f) tt
@@ -180,30 +188,38 @@ back_group time (p ∷ q ∷ qs) group some =
           rw (e, f) (rw rest (cut_goes_on time p q low high group.0, group.1))
 
 -- both sides of each group are groups of pieces
-sides_are : (front back : List Piece) → (front ≢ [] → IsGroup front) → (back ≢ [] → IsGroup back) → All IsGroup (as_group front ++ as_group back)
+sides_are : (front back : List Piece) → (front ≢ [] → IsGroup front) → (back ≢ [] → IsGroup back)
+    → All IsGroup (as_group front ++ as_group back)
 sides_are [] [] first second = λ k d below. absurd (omega arith)
 sides_are [] (q ∷ qs) first second = All-cons IsGroup _ [] (second (λ none. cc)) (λ k d below. absurd (omega arith))
 sides_are (p ∷ ps) [] first second = All-cons IsGroup _ [] (first (λ none. cc)) (λ k d below. absurd (omega arith))
 sides_are (p ∷ ps) (q ∷ qs) first second =
-    All-cons IsGroup (p ∷ ps) ((q ∷ qs) ∷ []) (first (λ none. cc)) (All-cons IsGroup (q ∷ qs) [] (second (λ none. cc)) (λ k d below. absurd (omega arith)))
+    All-cons IsGroup (p ∷ ps) ((q ∷ qs) ∷ []) (first (λ none. cc))
+    (All-cons IsGroup (q ∷ qs) [] (second (λ none. cc)) (λ k d below. absurd (omega arith)))
 
-sides_hold : (front back : List Piece) → All IsPiece front → All IsPiece back → All (All IsPiece) (as_group front ++ as_group back)
+sides_hold : (front back : List Piece) → All IsPiece front → All IsPiece back
+    → All (All IsPiece) (as_group front ++ as_group back)
 sides_hold [] [] first second = λ k d below. absurd (omega arith)
 sides_hold [] (q ∷ qs) first second = All-cons (All IsPiece) _ [] second (λ k d below. absurd (omega arith))
 sides_hold (p ∷ ps) [] first second = All-cons (All IsPiece) _ [] first (λ k d below. absurd (omega arith))
 sides_hold (p ∷ ps) (q ∷ qs) first second =
-    All-cons (All IsPiece) (p ∷ ps) ((q ∷ qs) ∷ []) first (All-cons (All IsPiece) (q ∷ qs) [] second (λ k d below. absurd (omega arith)))
+    All-cons (All IsPiece) (p ∷ ps) ((q ∷ qs) ∷ []) first
+    (All-cons (All IsPiece) (q ∷ qs) [] second (λ k d below. absurd (omega arith)))
 
-pub cut_are_groups : (time : ℕ) (groups : List (List Piece)) → All IsGroup groups → All IsGroup (flat_map (cut_group time) groups)
+pub cut_are_groups : (time : ℕ) (groups : List (List Piece)) → All IsGroup groups
+    → All IsGroup (flat_map (cut_group time) groups)
 cut_are_groups time [] all = λ k d below. absurd (omega arith)
 cut_are_groups time (group ∷ groups) all =
     let first : IsGroup group = all 0 group (omega arith) in
-    All-append IsGroup _ _ (sides_are (front time group) (back time group) (front_group time group first) (back_group time group first))
+    All-append IsGroup _ _ (sides_are (front time group) (back time group) (front_group time group first)
+    (back_group time group first))
     (cut_are_groups time groups (All-tail IsGroup group groups all))
 
-pub cut_hold_pieces : (time : ℕ) (groups : List (List Piece)) → All (All IsPiece) groups → All (All IsPiece) (flat_map (cut_group time) groups)
+pub cut_hold_pieces : (time : ℕ) (groups : List (List Piece)) → All (All IsPiece) groups
+    → All (All IsPiece) (flat_map (cut_group time) groups)
 cut_hold_pieces time [] all = λ k d below. absurd (omega arith)
 cut_hold_pieces time (group ∷ groups) all =
     let first : All IsPiece group = all 0 group (omega arith) in
-    All-append (All IsPiece) _ _ (sides_hold (front time group) (back time group) (front_pieces time group first) (back_pieces time group first))
+    All-append (All IsPiece) _ _ (sides_hold (front time group) (back time group) (front_pieces time group first)
+    (back_pieces time group first))
     (cut_hold_pieces time groups (All-tail (All IsPiece) group groups all))

@@ -86,7 +86,8 @@ module _ (s n m k q out t : ℕ) (x y z w : ℤ) (middle : q ≡ n + m) (ends : 
   three_parts = by_start (cases_lt t s)
 
 -- nothing lies in a stretch without a sample
-nothing_in : (a b : Bool) (s n t : ℕ) (x : ℤ) → nat_lt 0 n ≡ false → (if a && (b && (nat_le s t && nat_lt t (s + n))) then x else pos 0) ≡ pos 0
+nothing_in : (a b : Bool) (s n t : ℕ) (x : ℤ) → nat_lt 0 n ≡ false
+    → (if a && (b && (nat_le s t && nat_lt t (s + n))) then x else pos 0) ≡ pos 0
 nothing_in false b s n t x none = refl
 nothing_in true false s n t x none = refl
 nothing_in true true s n t x none = by_start (cases_lt t s) where
@@ -100,15 +101,19 @@ nothing_in true true s n t x none = by_start (cases_lt t s) where
 -- what a stretch of an event adds, also where it has no sample
 module _ (r : Reading) (index : BoundIndex) (event : Event) (i n : ℕ) (shape : Shape) (channel time : ℕ) where
   abbrev added : ℤ
-  added = if nat_le event.dest.first channel && (nat_lt channel (event.dest.first + ((event.dest.last + 1) - event.dest.first))
+  added = if nat_le event.dest.first channel
+      && (nat_lt channel (event.dest.first + ((event.dest.last + 1) - event.dest.first))
       && (nat_le (event.dest_in + i) time && nat_lt time (event.dest_in + i + n)))
-      then share_of (r index.file (event.source.first + (channel - event.dest.first)) ((event.source_in - index.base) + i + (time - (event.dest_in + i))))
+      then share_of (r index.file (event.source.first + (channel - event.dest.first))
+      ((event.source_in - index.base) + i + (time - (event.dest_in + i))))
       (fraction_of shape (time - (event.dest_in + i)))
       else pos 0
 
   by_length : (b : Bool) → nat_lt 0 n ≡ b → sum_of r (stretch_of index event i n shape) channel time ≡ added
   by_length true e = rw e (omega (arith, ints))
-  by_length false e = rw e (sym (nothing_in (nat_le event.dest.first channel) (nat_lt channel (event.dest.first + ((event.dest.last + 1) - event.dest.first)))
+  by_length false e =
+      rw e (sym (nothing_in (nat_le event.dest.first channel)
+      (nat_lt channel (event.dest.first + ((event.dest.last + 1) - event.dest.first)))
       (event.dest_in + i) n time _ e))
 
   stretch_sum : sum_of r (stretch_of index event i n shape) channel time ≡ added
@@ -116,8 +121,10 @@ module _ (r : Reading) (index : BoundIndex) (event : Event) (i n : ℕ) (shape :
 
 -- on a channel that the event sounds on, and on others
 under_channel : (a b : Bool) (c1 c2 c3 c : Bool) (x y z w : ℤ)
-    → (a ≡ true → b ≡ true → (if c1 then x else pos 0) +ℤ ((if c2 then y else pos 0) +ℤ (if c3 then z else pos 0)) ≡ (if c then w else pos 0))
-    → (if a && (b && c1) then x else pos 0) +ℤ ((if a && (b && c2) then y else pos 0) +ℤ (if a && (b && c3) then z else pos 0))
+    → (a ≡ true → b ≡ true → (if c1 then x else pos 0) +ℤ ((if c2 then y else pos 0) +ℤ (if c3 then z else pos 0))
+    ≡ (if c then w else pos 0))
+    → (if a && (b && c1) then x else pos 0)
+    +ℤ ((if a && (b && c2) then y else pos 0) +ℤ (if a && (b && c3) then z else pos 0))
     ≡ (if a && (b && c) then w else pos 0)
 under_channel false b c1 c2 c3 c x y z w same = refl
 under_channel true false c1 c2 c3 c x y z w same = refl
@@ -156,7 +163,8 @@ module _ (r : Reading) (index : BoundIndex) (event : Event) (channel time : ℕ)
   channels some = grind (arith, nat_tests)
 
   in_fade : start ≤ time → time < start + rise
-      → share_of (r index.file source (first_frame + 0 + (time - (start + 0)))) (fraction_of (Rise 0 rise) (time - (start + 0))) ≡ share
+      → share_of (r index.file source (first_frame + 0 + (time - (start + 0))))
+      (fraction_of (Rise 0 rise) (time - (start + 0))) ≡ share
   in_fade begun before =
       let fades : nat_lt (time - start) rise ≡ true = grind (arith, nat_tests) in
       let frames : first_frame + 0 + (time - (start + 0)) ≡ first_frame + (time - start) = omega arith in
@@ -164,7 +172,8 @@ module _ (r : Reading) (index : BoundIndex) (event : Event) (channel time : ℕ)
       rw (fades, frames, samples) refl
 
   in_middle : start + rise ≤ time → time < start + rise + between
-      → share_of (r index.file source (first_frame + rise + (time - (start + rise)))) (fraction_of Flat (time - (start + rise))) ≡ share
+      → share_of (r index.file source (first_frame + rise + (time - (start + rise))))
+      (fraction_of Flat (time - (start + rise))) ≡ share
   in_middle begun before =
       let risen : nat_lt (time - start) rise ≡ false = grind (arith, nat_tests) in
       let holds : nat_le (whole - fall) (time - start) ≡ false = grind (arith, nat_tests) in
@@ -172,7 +181,8 @@ module _ (r : Reading) (index : BoundIndex) (event : Event) (channel time : ℕ)
       rw (risen, holds, frames) refl
 
   in_out_fade : rise + fall ≤ whole → start + last ≤ time
-      → share_of (r index.file source (first_frame + last + (time - (start + last)))) (fraction_of (Fall 0 fall) (time - (start + last))) ≡ share
+      → share_of (r index.file source (first_frame + last + (time - (start + last))))
+      (fraction_of (Fall 0 fall) (time - (start + last))) ≡ share
   in_out_fade fades begun =
       let risen : nat_lt (time - start) rise ≡ false = grind (arith, nat_tests) in
       let falls : nat_le (whole - fall) (time - start) ≡ true = grind (arith, nat_tests) in
@@ -180,13 +190,16 @@ module _ (r : Reading) (index : BoundIndex) (event : Event) (channel time : ℕ)
       let samples : fall - (0 + (time - (start + last))) ≡ whole - (time - start) = omega arith in
       rw (risen, falls, frames, samples) refl
 
-  pub parts_add : IsPlayable index event → sum_of r (parts_of index event) channel time ≡ contribution_at r (Some index) event channel time
+  pub parts_add : IsPlayable index event
+      → sum_of r (parts_of index event) channel time ≡ contribution_at r (Some index) event channel time
   parts_add playable =
       let fades : rise + fall ≤ whole = playable.fades in
       let order : start ≤ event.dest_out = playable.in_order in
       let all = sum_of-append r (stretch_of index event 0 rise (Rise 0 rise))
       (stretch_of index event rise between Flat ++ stretch_of index event last fall (Fall 0 fall)) channel time in
-      let behind = sum_of-append r (stretch_of index event rise between Flat) (stretch_of index event last fall (Fall 0 fall)) channel time in
+      let behind =
+      sum_of-append r (stretch_of index event rise between Flat) (stretch_of index event last fall (Fall 0 fall))
+      channel time in
       let first = stretch_sum r index event 0 rise (Rise 0 rise) channel time in
       let second = stretch_sum r index event rise between Flat channel time in
       let third = stretch_sum r index event last fall (Fall 0 fall) channel time in
@@ -209,8 +222,10 @@ parts_are_whole index event =
     let whole : ℕ = event.dest_out - event.dest_in in
     rw (
       list_all-append is_whole (stretch_of index event 0 rise (Rise 0 rise))
-          (stretch_of index event rise ((whole - fall) - rise) Flat ++ stretch_of index event (whole - fall) fall (Fall 0 fall)),
-      list_all-append is_whole (stretch_of index event rise ((whole - fall) - rise) Flat) (stretch_of index event (whole - fall) fall (Fall 0 fall)),
+          (stretch_of index event rise ((whole - fall) - rise) Flat
+          ++ stretch_of index event (whole - fall) fall (Fall 0 fall)),
+      list_all-append is_whole (stretch_of index event rise ((whole - fall) - rise) Flat)
+          (stretch_of index event (whole - fall) fall (Fall 0 fall)),
       stretch_is_whole index event 0 rise (Rise 0 rise) (eq-eqb rise rise refl),
       stretch_is_whole index event rise ((whole - fall) - rise) Flat refl,
       stretch_is_whole index event (whole - fall) fall (Fall 0 fall) (eq-eqb fall fall refl),

@@ -45,9 +45,11 @@ falling_in-le p = by_shape p.shape p.length where
 pub rise-le : (group : List Piece) → sum_by rising_in group ≤ length_of_group group
 rise-le [] = omega arith
 rise-le (p ∷ ps) =
-    rw (sum_by-cons rising_in p ps, sum_by-cons (λ (q : Piece). q.length) p ps) (omega (arith, rising_in-le p, rise-le ps))
+    rw (sum_by-cons rising_in p ps, sum_by-cons (λ (q : Piece). q.length) p ps)
+    (omega (arith, rising_in-le p, rise-le ps))
 
 pub fall-le : (group : List Piece) → sum_by falling_in group ≤ length_of_group group
 fall-le [] = omega arith
 fall-le (p ∷ ps) =
-    rw (sum_by-cons falling_in p ps, sum_by-cons (λ (q : Piece). q.length) p ps) (omega (arith, falling_in-le p, fall-le ps))
+    rw (sum_by-cons falling_in p ps, sum_by-cons (λ (q : Piece). q.length) p ps)
+    (omega (arith, falling_in-le p, fall-le ps))

@@ -35,13 +35,15 @@ stretch_is_piece index event i n shape playable inside ramp = by_length (nat_lt 
       }) no_pieces)
   by_length false e = rw e no_pieces
 
-pub parts_are_pieces : (index : BoundIndex) (event : Event) → IsPlayable index event → All IsPiece (parts_of index event)
+pub parts_are_pieces : (index : BoundIndex) (event : Event) → IsPlayable index event
+    → All IsPiece (parts_of index event)
 parts_are_pieces index event playable =
     let rise : ℕ = event.rise.length in
     let fall : ℕ = event.fall.length in
     let whole : ℕ = event.dest_out - event.dest_in in
     let fades : rise + fall ≤ whole = playable.fades in
     let in_day : event.dest_out ≤ day = playable.in_day in
-    All-append IsPiece _ _ (stretch_is_piece index event 0 rise (Rise 0 rise) playable (omega arith) (omega arith, omega arith))
+    All-append IsPiece _ _ (stretch_is_piece index event 0 rise (Rise 0 rise) playable (omega arith)
+    (omega arith, omega arith))
     (All-append IsPiece _ _ (stretch_is_piece index event rise ((whole - fall) - rise) Flat playable (omega arith) tt)
     (stretch_is_piece index event (whole - fall) fall (Fall 0 fall) playable (omega arith) (omega arith, omega arith)))

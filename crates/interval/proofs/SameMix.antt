@@ -20,17 +20,18 @@ sum_of-append r (p ∷ ps) b channel time = omega (arith, ints, sum_of-append r 
 mix_put : (r : Reading) (own : List Piece) (groups : List (List Piece)) (channel time : ℕ)
     → mix_of r (put_by_start own groups) channel time ≡ mix_of r (own ∷ groups) channel time
 mix_put r own [] channel time = refl
-mix_put r own (group ∷ groups) channel time = put_before (nat_le (start_of own) (start_of group)) refl (mix_put r own groups channel time) where
-  put_before : (b : Bool) → nat_le (start_of own) (start_of group) ≡ b
-      → mix_of r (put_by_start own groups) channel time ≡ mix_of r (own ∷ groups) channel time
-      → mix_of r (put_by_start own (group ∷ groups)) channel time ≡ mix_of r (own ∷ group ∷ groups) channel time
-  put_before true before same = rw before refl
-  put_before false before same =
-      let front = sum_of-append r group (pieces_of (put_by_start own groups)) channel time in
-      let whole = sum_of-append r own (group ++ pieces_of groups) channel time in
-      let rest = sum_of-append r group (pieces_of groups) channel time in
-      let put = sum_of-append r own (pieces_of groups) channel time in
-      rw before (omega (arith, ints, front, whole, rest, put, same))
+mix_put r own (group ∷ groups) channel time =
+    put_before (nat_le (start_of own) (start_of group)) refl (mix_put r own groups channel time) where
+      put_before : (b : Bool) → nat_le (start_of own) (start_of group) ≡ b
+          → mix_of r (put_by_start own groups) channel time ≡ mix_of r (own ∷ groups) channel time
+          → mix_of r (put_by_start own (group ∷ groups)) channel time ≡ mix_of r (own ∷ group ∷ groups) channel time
+      put_before true before same = rw before refl
+      put_before false before same =
+          let front = sum_of-append r group (pieces_of (put_by_start own groups)) channel time in
+          let whole = sum_of-append r own (group ++ pieces_of groups) channel time in
+          let rest = sum_of-append r group (pieces_of groups) channel time in
+          let put = sum_of-append r own (pieces_of groups) channel time in
+          rw before (omega (arith, ints, front, whole, rest, put, same))
 
 pub mix_in_order : (r : Reading) (groups : List (List Piece)) (channel time : ℕ)
     → mix_of r (in_start_order groups) channel time ≡ mix_of r groups channel time
@@ -59,7 +60,8 @@ back_of cut p = record p {
 }
 
 -- of a stretch that is cut one part holds a time, and adds what the whole adds there
-two_parts : (a b : Bool) (start cut length time : ℕ) (x y : ℤ) → start < cut → cut < start + length → (cut ≤ time → y ≡ x)
+two_parts : (a b : Bool) (start cut length time : ℕ) (x y : ℤ) → start < cut → cut < start + length
+    → (cut ≤ time → y ≡ x)
     → (if a && (b && (nat_le start time && nat_lt time (start + (cut - start)))) then x else pos 0)
     +ℤ (if a && (b && (nat_le cut time && nat_lt time (cut + (length - (cut - start))))) then y else pos 0)
     ≡ (if a && (b && (nat_le start time && nat_lt time (start + length))) then x else pos 0)
@@ -86,10 +88,12 @@ two_parts true true start cut length time x y low high same = by_time (cases_lt 
 part_cut : (r : Reading) (cut : ℕ) (p : Piece) (channel time : ℕ) → p.start < cut → cut < p.start + p.length
     → part_of r (front_of cut p) channel time +ℤ part_of r (back_of cut p) channel time ≡ part_of r p channel time
 part_cut r cut p channel time low high =
-    two_parts (nat_le p.dest channel) (nat_lt channel (p.dest + p.width)) p.start cut p.length time _ _ low high same where
+    two_parts (nat_le p.dest channel) (nat_lt channel (p.dest + p.width))
+    p.start cut p.length time _ _ low high same where
       same : cut ≤ time → share_of (r p.file (p.first + (channel - p.dest)) (p.frame + (cut - p.start) + (time - cut)))
           (fraction_of (shape_behind (cut - p.start) p.shape) (time - cut))
-          ≡ share_of (r p.file (p.first + (channel - p.dest)) (p.frame + (time - p.start))) (fraction_of p.shape (time - p.start))
+          ≡ share_of (r p.file (p.first + (channel - p.dest)) (p.frame + (time - p.start)))
+          (fraction_of p.shape (time - p.start))
       same behind =
           let frames : p.frame + (cut - p.start) + (time - cut) ≡ p.frame + (time - p.start) = omega arith in
           let samples : (cut - p.start) + (time - cut) ≡ time - p.start = omega arith in
@@ -97,10 +101,12 @@ part_cut r cut p channel time low high =
 
 -- both sides of a piece add what it adds
 piece_cut : (r : Reading) (cut : ℕ) (p : Piece) (channel time : ℕ)
-    → sum_of r (piece_before cut p) channel time +ℤ sum_of r (piece_behind cut p) channel time ≡ part_of r p channel time
+    → sum_of r (piece_before cut p) channel time +ℤ sum_of r (piece_behind cut p) channel time
+    ≡ part_of r p channel time
 piece_cut r cut p channel time = by_ends (nat_le cut p.start) (nat_le (p.start + p.length) cut) refl refl where
   by_ends : (a b : Bool) → nat_le cut p.start ≡ a → nat_le (p.start + p.length) cut ≡ b
-      → sum_of r (piece_before cut p) channel time +ℤ sum_of r (piece_behind cut p) channel time ≡ part_of r p channel time
+      → sum_of r (piece_before cut p) channel time +ℤ sum_of r (piece_behind cut p) channel time
+      ≡ part_of r p channel time
   by_ends true b e f = rw e (omega (arith, ints))
   by_ends false true e f = rw (e, f) (omega (arith, ints))
   by_ends false false e f =
@@ -108,13 +114,15 @@ piece_cut r cut p channel time = by_ends (nat_le cut p.start) (nat_le (p.start +
       let high : cut < p.start + p.length = grind (arith, nat_tests) in
       rw (e, f) (omega (arith, ints, part_cut r cut p channel time low high))
 
-sum_as_group : (r : Reading) (pieces : List Piece) (channel time : ℕ) → mix_of r (as_group pieces) channel time ≡ sum_of r pieces channel time
+sum_as_group : (r : Reading) (pieces : List Piece) (channel time : ℕ)
+    → mix_of r (as_group pieces) channel time ≡ sum_of r pieces channel time
 sum_as_group r [] channel time = refl
 sum_as_group r (p ∷ ps) channel time =
     let e = sum_of-append r (p ∷ ps) [] channel time in omega (arith, ints, e)
 
 sides_cut : (r : Reading) (cut : ℕ) (pieces : List Piece) (channel time : ℕ)
-    → sum_of r (flat_map (piece_before cut) pieces) channel time +ℤ sum_of r (flat_map (piece_behind cut) pieces) channel time
+    → sum_of r (flat_map (piece_before cut) pieces) channel time
+    +ℤ sum_of r (flat_map (piece_behind cut) pieces) channel time
     ≡ sum_of r pieces channel time
 sides_cut r cut [] channel time = refl
 sides_cut r cut (p ∷ ps) channel time =
@@ -141,8 +149,19 @@ sum_cut r cut (group ∷ groups) channel time =
     let first = sum_as_group r front channel time in
     let second = sum_as_group r back channel time in
     let given = sum_of-append r group (pieces_of groups) channel time in
-    omega (arith, ints, all, both, first, second, given, sides_cut r cut group channel time, sum_cut r cut groups channel time)
+    omega (
+      arith,
+      ints,
+      all,
+      both,
+      first,
+      second,
+      given,
+      sides_cut r cut group channel time,
+      sum_cut r cut groups channel time,
+    )
 
 pub mix_cut : (r : Reading) (cut : ℕ) (groups : List (List Piece)) (channel time : ℕ)
     → mix_of r (cut_groups cut groups) channel time ≡ mix_of r groups channel time
-mix_cut r cut groups channel time = mix_in_order r (flat_map (cut_group cut) groups) channel time ∙ sum_cut r cut groups channel time
+mix_cut r cut groups channel time =
+    mix_in_order r (flat_map (cut_group cut) groups) channel time ∙ sum_cut r cut groups channel time

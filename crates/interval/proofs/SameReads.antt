@@ -22,11 +22,13 @@ reads_put own (group ∷ groups) file channel frame =
     put_before (nat_le (start_of own) (start_of group)) refl (reads_put own groups file channel frame) where
       put_before : (b : Bool) → nat_le (start_of own) (start_of group) ≡ b
           → reads (put_by_start own groups) file channel frame ≡ reads (own ∷ groups) file channel frame
-          → reads (put_by_start own (group ∷ groups)) file channel frame ≡ reads (own ∷ group ∷ groups) file channel frame
+          → reads (put_by_start own (group ∷ groups)) file channel frame
+          ≡ reads (own ∷ group ∷ groups) file channel frame
       put_before true before same = rw before refl
       put_before false before same = rw before
           (ap (λ rest. list_any (λ p. is_read p file channel frame) group || rest) same
-          ∙ either_first (list_any (λ p. is_read p file channel frame) group) (list_any (λ p. is_read p file channel frame) own) (reads groups file channel frame))
+          ∙ either_first (list_any (λ p. is_read p file channel frame) group)
+          (list_any (λ p. is_read p file channel frame) own) (reads groups file channel frame))
 
 pub reads_in_order : (groups : List (List Piece)) (file channel frame : ℕ)
     → reads (in_start_order groups) file channel frame ≡ reads groups file channel frame
@@ -49,7 +51,8 @@ two_parts true false c first n length frame le = refl
 two_parts true true false first n length frame le = refl
 two_parts true true true first n length frame le = by_frame (cases_lt frame (first + n)) where
   by_frame : (frame < first + n) ⊎ (first + n ≤ frame)
-      → ((nat_le first frame && nat_lt frame (first + n)) || (nat_le (first + n) frame && nat_lt frame (first + n + (length - n))))
+      → ((nat_le first frame && nat_lt frame (first + n))
+      || (nat_le (first + n) frame && nat_lt frame (first + n + (length - n))))
       ≡ (nat_le first frame && nat_lt frame (first + length))
   by_frame (inl before) =
       let here : nat_lt frame (first + n) ≡ true = grind (arith, nat_tests) in
@@ -67,7 +70,8 @@ module _ (file channel frame : ℕ) where
   abbrev read_by : List Piece → Bool
   read_by pieces = list_any (λ p. is_read p file channel frame) pieces
 
-  piece_cut : (cut : ℕ) (p : Piece) → (read_by (piece_before cut p) || read_by (piece_behind cut p)) ≡ is_read p file channel frame
+  piece_cut : (cut : ℕ) (p : Piece)
+      → (read_by (piece_before cut p) || read_by (piece_behind cut p)) ≡ is_read p file channel frame
   piece_cut cut p = by_ends (nat_le cut p.start) (nat_le (p.start + p.length) cut) refl refl where
     by_ends : (a b : Bool) → nat_le cut p.start ≡ a → nat_le (p.start + p.length) cut ≡ b
         → (read_by (piece_before cut p) || read_by (piece_behind cut p)) ≡ is_read p file channel frame
@@ -75,7 +79,9 @@ module _ (file channel frame : ℕ) where
     by_ends false true e f = rw (e, f) (or_nothing _ ∙ or_nothing (is_read p file channel frame))
     by_ends false false e f =
         let short : cut - p.start ≤ p.length = grind (arith, nat_tests) in
-        let both = two_parts (p.file == file) (nat_le p.first channel) (nat_lt channel (p.first + p.width)) p.frame (cut - p.start) p.length frame short in
+        let both =
+        two_parts (p.file == file) (nat_le p.first channel) (nat_lt channel (p.first + p.width)) p.frame
+        (cut - p.start) p.length frame short in
         rw (e, f) (rw (or_nothing, or_nothing) both)
 
   exchanged : (a b c d : Bool) → ((a || b) || (c || d)) ≡ ((a || c) || (b || d))
@@ -91,20 +97,28 @@ module _ (file channel frame : ℕ) where
   sides_cut cut [] = refl
   sides_cut cut (p ∷ ps) =
       let test = λ (q : Piece). is_read q file channel frame in
-      rw (list_any-append test (piece_before cut p) (flat_map (piece_before cut) ps), list_any-append test (piece_behind cut p) (flat_map (piece_behind cut) ps))
-      (exchanged (read_by (piece_before cut p)) (read_by (flat_map (piece_before cut) ps)) (read_by (piece_behind cut p)) (read_by (flat_map (piece_behind cut) ps))
+      rw (
+        list_any-append test (piece_before cut p) (flat_map (piece_before cut) ps),
+        list_any-append test (piece_behind cut p) (flat_map (piece_behind cut) ps),
+      )
+      (exchanged (read_by (piece_before cut p)) (read_by (flat_map (piece_before cut) ps))
+      (read_by (piece_behind cut p)) (read_by (flat_map (piece_behind cut) ps))
       ∙ rw (piece_cut cut p, sides_cut cut ps) refl)
 
   read_as_group : (pieces : List Piece) → reads (as_group pieces) file channel frame ≡ read_by pieces
   read_as_group [] = refl
   read_as_group (p ∷ ps) = or_nothing (read_by (p ∷ ps))
 
-  groups_cut : (cut : ℕ) (groups : List (List Piece)) → reads (flat_map (cut_group cut) groups) file channel frame ≡ reads groups file channel frame
+  groups_cut : (cut : ℕ) (groups : List (List Piece))
+      → reads (flat_map (cut_group cut) groups) file channel frame ≡ reads groups file channel frame
   groups_cut cut [] = refl
   groups_cut cut (group ∷ groups) =
       let front = flat_map (piece_before cut) group in
       let back = flat_map (piece_behind cut) group in
-      rw (list_any-append read_by (cut_group cut group) (flat_map (cut_group cut) groups), list_any-append read_by (as_group front) (as_group back))
+      rw (
+        list_any-append read_by (cut_group cut group) (flat_map (cut_group cut) groups),
+        list_any-append read_by (as_group front) (as_group back),
+      )
       (rw (read_as_group front, read_as_group back, sides_cut cut group, groups_cut cut groups) refl)
 
 pub reads_cut : (cut : ℕ) (groups : List (List Piece)) (file channel frame : ℕ)

@@ -6,9 +6,9 @@ ghost use Rattle.sound_terms.specs.Groups.{IsGroup, IsPiece, mix_of, reads};
 ghost use Rattle.interval.specs.Apart.{IsApart};
 ghost use Rattle.sound_terms.specs.Passes.{as_group, cut_group, cut_groups, piece_before, piece_behind};
 
+use crate::group::Pieces;
 use crate::{Group, IntervalFault, Intervals, Piece};
 use sampletime::SampleTime;
-use smallvec::SmallVec;
 use std::alloc::AllocError;
 
 /// What of a piece lies before this time.
@@ -50,7 +50,7 @@ fn behind(piece: &Piece, time: u64) -> Option<Piece>
 }
 
 /// Adds these pieces as a group, where there are any.
-fn push_some(groups: &mut Vec<Group>, pieces: SmallVec<Piece, 3>) -> Result<(), AllocError>
+fn push_some(groups: &mut Vec<Group>, pieces: Pieces) -> Result<(), AllocError>
     requires group { pieces.items ≢ [] → IsGroup pieces.items }
     requires sound { All IsPiece pieces.items }
     ensures { OnOk result (groups.new.items ≡ groups.old.items ++ as_group pieces.items) }
@@ -63,10 +63,10 @@ fn push_some(groups: &mut Vec<Group>, pieces: SmallVec<Piece, 3>) -> Result<(), 
 
 impl Group {
     /// The pieces that lie before this time.
-    fn pieces_before(&self, time: u64) -> Result<SmallVec<Piece, 3>, AllocError>
+    fn pieces_before(&self, time: u64) -> Result<Pieces, AllocError>
         ensures { IfOk result (λ pieces. pieces.items ≡ flat_map (piece_before time) self.now) }
     {
-        let mut pieces = SmallVec::new(self.allocator());
+        let mut pieces = Pieces::new(self.allocator());
         for piece in self.pieces() {
             if let Some(piece) = before(piece, time) {
                 pieces.push(piece)?;
@@ -76,10 +76,10 @@ impl Group {
     }
 
     /// The pieces that lie from this time on.
-    fn pieces_behind(&self, time: u64) -> Result<SmallVec<Piece, 3>, AllocError>
+    fn pieces_behind(&self, time: u64) -> Result<Pieces, AllocError>
         ensures { IfOk result (λ pieces. pieces.items ≡ flat_map (piece_behind time) self.now) }
     {
-        let mut pieces = SmallVec::new(self.allocator());
+        let mut pieces = Pieces::new(self.allocator());
         for piece in self.pieces() {
             if let Some(piece) = behind(piece, time) {
                 pieces.push(piece)?;
@@ -113,9 +113,11 @@ impl Intervals {
     /// Cuts every group that lies on both sides of a time in two. A ramp that is cut goes on where it was.
     pub fn cut_at(self, time: SampleTime) -> Result<Intervals, IntervalFault>
         ensures cut { IfOk result (λ intervals. intervals ≡ cut_groups time self) }
-        ensures same_mix { (reading : Reading) (channel time : ℕ) → IfOk result (λ intervals. mix_of reading intervals channel time ≡ mix_of reading self channel time) }
+        ensures same_mix { (reading : Reading) (channel time : ℕ)
+            → IfOk result (λ intervals. mix_of reading intervals channel time ≡ mix_of reading self channel time) }
         ensures apart { IfOk result (λ intervals. All (IsApart time) intervals) }
-        ensures same_reads { (file channel frame : ℕ) → IfOk result (λ intervals. reads intervals file channel frame ≡ reads self file channel frame) }
+        ensures same_reads { (file channel frame : ℕ)
+            → IfOk result (λ intervals. reads intervals file channel frame ≡ reads self file channel frame) }
     {
         let _ = self.groups();
         Ok(Intervals::ordered(self.sides(time.get())?)?)

@@ -9,11 +9,14 @@ use sound_terms::Piece;
 use std::alloc::{AllocError, Global};
 use std::marker::Model;
 
-/// One to three pieces that continue one another in destination and source: a rise, a flat part and a fall, each at most
-/// once. A clause sees the list of its pieces.
+/// The pieces of a group. Most groups have one, which needs no memory of its own.
+pub(crate) type Pieces = SmallVec<Piece, 1>;
+
+/// One to three pieces that continue one another in destination and source: a rise, a flat part and a fall, each at
+/// most once. A clause sees the list of its pieces.
 #[derive(Debug, Drop)]
 pub struct Group {
-    pieces: SmallVec<Piece, 3>,
+    pieces: Pieces,
 }
 
 impl Model for Group {
@@ -41,7 +44,7 @@ impl Group {
     }
 
     /// These pieces as a group; `None` where there is none.
-    pub(crate) fn of(pieces: SmallVec<Piece, 3>) -> Option<Self>
+    pub(crate) fn of(pieces: Pieces) -> Option<Self>
         requires group { pieces.items ≢ [] → IsGroup pieces.items }
         requires sound { All IsPiece pieces.items }
         ensures pieces { MatchOption result (pieces.items ≡ []) (λ group. group ≡ pieces.items) }

@@ -41,8 +41,11 @@ impl Intervals {
         requires groups { All IsGroup groups.items }
         requires pieces { All (All IsPiece) groups.items }
         ensures order { IfOk result (λ intervals. intervals ≡ in_start_order groups.items) }
-        ensures same_mix { (reading : Reading) (channel time : ℕ) → IfOk result (λ intervals. mix_of reading intervals channel time ≡ mix_of reading groups.items channel time) }
-        ensures same_reads { (file channel frame : ℕ) → IfOk result (λ intervals. reads intervals file channel frame ≡ reads groups.items file channel frame) }
+        ensures same_mix { (reading : Reading) (channel time : ℕ)
+            → IfOk result (λ intervals. mix_of reading intervals channel time
+            ≡ mix_of reading groups.items channel time) }
+        ensures same_reads { (file channel frame : ℕ)
+            → IfOk result (λ intervals. reads intervals file channel frame ≡ reads groups.items file channel frame) }
         ensures same_whole { IfOk result (λ intervals. are_whole intervals ≡ are_whole groups.items) }
     {
         groups.sort_by_key(|group| group.start())?;

@@ -47,7 +47,9 @@ notice_if told kind at = if told then record { kind = kind; at = at } ∷ [] els
 -- 6: some chunks, 7: the end of its CodingHistory aren't carried
 abbrev pub notices_of : Bool → Source → SoundFacts → List Notice
 notices_of is_new source facts =
-    notice_if (nat_lt 0 (unwrap_or (option_map (λ reference. (reference - base_of source facts) + (base_of source facts - reference)) facts.time_reference) 0)) 4 source.number
+    notice_if (nat_lt 0 (unwrap_or (option_map
+    (λ reference. (reference - base_of source facts) + (base_of source facts - reference)) facts.time_reference) 0))
+    4 source.number
     ++ (notice_if (is_new && facts.short_bext) 5 source.number
     ++ (notice_if (is_new && facts.others) 6 source.number
     ++ notice_if (is_new && facts.history_cut) 7 source.number))

@@ -24,17 +24,20 @@ file_refusal source place number = record { number = number; place = IndexFile s
 abbrev pub bound_to_new : Files → Binding → Source → Place → Result Binding Refusal
 bound_to_new files binding source place =
     err_map (file_refusal source place) (sound_under place.name (files place.name)) >>= (λ facts.
-    Ok (with_index binding source (length binding.files) facts true (binding.files ++ record { path = place.path; facts = facts } ∷ [])))
+    Ok (with_index binding source (length binding.files) facts true
+    (binding.files ++ record { path = place.path; facts = facts } ∷ [])))
 
 -- the index bound to the file of this name among those opened, or to a new one; 30 where another path names it
 abbrev pub bound_by : Files → Binding → Source → Place → Option ℕ → Result Binding Refusal
 bound_by files binding source place None = bound_to_new files binding source place
-bound_by files binding source place (Some file) = with_known_file binding source place file (slice_get binding.files file)
+bound_by files binding source place (Some file) =
+    with_known_file binding source place file (slice_get binding.files file)
 
 -- one more used index; every URL of a list names a place
 abbrev pub bound_source : Files → Binding → Source → Option Place → Result Binding Refusal
 bound_source files binding source None = Ok binding
-bound_source files binding source (Some place) = bound_by files binding source place (file_named place.name binding.files)
+bound_source files binding source (Some place) =
+    bound_by files binding source place (file_named place.name binding.files)
 
 -- one more index: notice 3 tells that no entry names it
 abbrev pub with_source : Files → List Event → Binding → Source → Result Binding Refusal

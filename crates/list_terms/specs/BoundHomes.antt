@@ -38,7 +38,8 @@ earlier_home home (Some later) = if nat_le home.base later.base then home else l
 abbrev pub home_from : ℕ → List BoundIndex → ℕ → Option Home
 home_from place [] file = None
 home_from place (index ∷ indexes) file =
-    if index.file == file then Some (earlier_home (home_at place index) (home_from (place + 1) indexes file)) else home_from (place + 1) indexes file
+    if index.file == file then Some (earlier_home (home_at place index) (home_from (place + 1) indexes file))
+    else home_from (place + 1) indexes file
 
 -- of a file without an index, which no binding has
 abbrev pub no_home : Home
@@ -47,7 +48,8 @@ no_home = record { base = 0; addressable = 0; place = 0 }
 -- the homes of these files, which stand from this one on
 abbrev pub homes_from : List BoundIndex → ℕ → List OpenedFile → List Home
 homes_from indexes file [] = []
-homes_from indexes file (opened ∷ files) = unwrap_or (home_from 0 indexes file) no_home ∷ homes_from indexes (file + 1) files
+homes_from indexes file (opened ∷ files) =
+    unwrap_or (home_from 0 indexes file) no_home ∷ homes_from indexes (file + 1) files
 
 -- the home of each file
 abbrev pub homes_of : Binding → List Home

@@ -101,10 +101,12 @@ fade_fields rate line = do
 
 -- the entry with a fade that is told
 abbrev pub with_rise : OpenEntry → ℕ → OpenEntry
-with_rise entry length = record entry { event = record entry.event { rise = record { length = length } }; has_rise = true }
+with_rise entry length =
+    record entry { event = record entry.event { rise = record { length = length } }; has_rise = true }
 
 abbrev pub with_fall : OpenEntry → ℕ → OpenEntry
-with_fall entry length = record entry { event = record entry.event { fall = record { length = length } }; has_fall = true }
+with_fall entry length =
+    record entry { event = record entry.event { fall = record { length = length } }; has_fall = true }
 
 -- a fade is told once
 abbrev pub told_rise : ℕ → OpenEntry → List ℕ → Result OpenEntry TextFault
@@ -121,7 +123,8 @@ entry_with rate entry token line =
     if is_keyword (codes "Infade") token then told_rise rate entry line
     else if is_keyword (codes "Outfade") token then told_fall rate entry line
     else if is_keyword (codes "Rem") token then end_line line >>= (λ _. Ok entry)
-    else if is_keyword (codes "Gain") token then all_tokens (λ t. is_zero t.content) (length line) line >>= (λ _. Ok entry)
+    else if is_keyword (codes "Gain") token then all_tokens (λ t. is_zero t.content) (length line) line >>= (λ _.
+    Ok entry)
     else Err Unsupported
 
 -- before the first entry remarks alone may stand
@@ -144,8 +147,10 @@ rate_field is_known line = do
 
 abbrev pub sequence_of : Rates → TokenText → List ℕ → Result Rates TextFault
 sequence_of rates token line =
-    if is_keyword (codes "SEQ_SAMPLE_RATE") token then rate_field is_48000 line >>= (λ _. Ok (record rates { sample_rate = true }))
-    else if is_keyword (codes "SEQ_FRAME_RATE") token then rate_field is_25 line >>= (λ _. Ok (record rates { frame_rate = true }))
+    if is_keyword (codes "SEQ_SAMPLE_RATE") token
+    then rate_field is_48000 line >>= (λ _. Ok (record rates { sample_rate = true }))
+    else if is_keyword (codes "SEQ_FRAME_RATE") token
+    then rate_field is_25 line >>= (λ _. Ok (record rates { frame_rate = true }))
     else end_line line >>= (λ _. Ok rates)
 
 -- 48000 samples and 25 frames a second are told; other lines aren't interpreted

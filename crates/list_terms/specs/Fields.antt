@@ -40,7 +40,8 @@ number_up_to limit text =
 abbrev pub channel_range : Option ℕ → Option ℕ → Option Channels
 channel_range None last = None
 channel_range (Some first) None = None
-channel_range (Some first) (Some last) = if nat_le first last then Some (record { first = first; last = last }) else None
+channel_range (Some first) (Some last) =
+    if nat_le first last then Some (record { first = first; last = last }) else None
 
 abbrev pub is_tilde : ℕ → Bool
 is_tilde byte = byte == 126
@@ -48,7 +49,8 @@ is_tilde byte = byte == 126
 -- `n` for one channel, `a~b` for those from a to b
 unfoldable pub channels_of : List ℕ → Option Channels
 channels_of text =
-    channel_range (number_up_to 64 (before_first is_tilde text)) (number_up_to 64 (unwrap_or (behind_byte 126 text) text))
+    channel_range (number_up_to 64 (before_first is_tilde text))
+    (number_up_to 64 (unwrap_or (behind_byte 126 text) text))
 
 -- `_`, which stands for nothing
 abbrev pub is_missing : List ℕ → Bool

@@ -34,7 +34,8 @@ reading_of files binding = reading_by files (sounds_of binding)
 
 -- what a bound project sounds like on a channel at a time
 abbrev pub project_mix : Files → ListProject → Binding → ℕ → ℕ → ℤ
-project_mix files project binding channel time = mix_at (reading_of files binding) binding.indexes project.events channel time
+project_mix files project binding channel time =
+    mix_at (reading_of files binding) binding.indexes project.events channel time
 
 -- the list over the files has no fault
 pub record IsAccepted (text : List ℕ) (files : Files) (project : ListProject) (binding : Binding) : Type 0 where

@@ -4,6 +4,7 @@ pub mod Bound
 pub mod BoundHomes
 pub mod EntryLines
 pub mod Fields
+pub mod HeaderLaws
 pub mod Heard
 pub mod Lines
 pub mod MediaNames

@@ -1,12 +1,12 @@
--- Laws of the names of media: different numbers have different names, none is that of the list, their URLs name them, and
--- they are printed so.
+-- Laws of the names of media: different numbers have different names, none is that of the list, their URLs name them,
+-- and they are printed so.
 use Rattle.std.proofs.Common.{◌≡◌, ◌≢◌, ℕ, ◌+◌, ◌/◌, ◌%◌, ◌-◌, ◌^◌, ◌<◌, ◌≤◌, Bool, true, false, not, List, [], ◌∷◌, ◌++◌, length, drop, All, Some, refl, sym, ap, ◌∙◌, ⊎_elim, arith, bytes_eq}
 use Rattle.std.specs.Prelude.{codes, decimal, ◌||◌, ◌&&◌, ◌==◌, nat_le, nat_lt}
 use Rattle.std.specs.Fmt.{char_count, format_spec, padded_integral}
 use Rattle.std.specs.List.{suffix_len, after_last}
 use Rattle.std.proofs.lemmas.Bool.{cases_lt}
 use Rattle.std.proofs.lemmas.Bool.Decides.{nat_tests}
-use Rattle.std.proofs.lemmas.Fmt.{decimal_digit, decimal_step}
+use Rattle.std.proofs.lemmas.Fmt.{decimal_digit}
 use Rattle.std.proofs.lemmas.List.{append-nil, append_assoc}
 use Rattle.std.proofs.lemmas.List.Elements.{All-head, All-tail, All-weaker, All-get_or, All-nil, All-cons}
 use Rattle.std.proofs.lemmas.List.Folds.{list_any_none}
@@ -15,34 +15,18 @@ use Rattle.std.proofs.lemmas.Slice.Eq.{bytes_eq-Decides}
 use Rattle.std.proofs.lemmas.Str.{IsUtf8-from_ascii, is_utf8-from_IsUtf8}
 use Rattle.std.proofs.lemmas.Str.Ascii.{IsAscii-from_all}
 use native.Mathlib.Numerals.{unary_clauses}
+use Rattle.facts.specs.Digits.{decimal_five, decimal_four, decimal_three, decimal_two}
 use Rattle.percent_encoding.specs.Percent.{percent_decode}
 use Rattle.percent_encoding.proofs.PercentLemmas.{percent_decode-nil, percent_decode_not_percent}
 use Rattle.list_terms.specs.Names.{is_media_name, place_of_path, place_of_url}
 use Rattle.list_terms.specs.Renewed.{media_name}
 
-decimal_two : (n : ℕ) → 10 ≤ n → n < 100 → decimal n ≡ (48 + n / 10) ∷ (48 + n % 10) ∷ []
-decimal_two n low high =
-    decimal_step n low (omega arith) ∙ ap (λ ds. ds ++ ((48 + n % 10) ∷ [])) (decimal_digit (n / 10) (omega arith))
-
-decimal_three : (n : ℕ) → 100 ≤ n → n < 1000 → decimal n ≡ (48 + n / 10 / 10) ∷ (48 + n / 10 % 10) ∷ (48 + n % 10) ∷ []
-decimal_three n low high =
-    decimal_step n (omega arith) (omega arith) ∙ ap (λ ds. ds ++ ((48 + n % 10) ∷ [])) (decimal_two (n / 10) (omega arith) (omega arith))
-
-decimal_four : (n : ℕ) → 1000 ≤ n → n < 10000
-    → decimal n ≡ (48 + n / 10 / 10 / 10) ∷ (48 + n / 10 / 10 % 10) ∷ (48 + n / 10 % 10) ∷ (48 + n % 10) ∷ []
-decimal_four n low high =
-    decimal_step n (omega arith) (omega arith) ∙ ap (λ ds. ds ++ ((48 + n % 10) ∷ [])) (decimal_three (n / 10) (omega arith) (omega arith))
-
-decimal_five : (n : ℕ) → 10000 ≤ n → n < 100000
-    → decimal n ≡ (48 + n / 10 / 10 / 10 / 10) ∷ (48 + n / 10 / 10 / 10 % 10) ∷ (48 + n / 10 / 10 % 10) ∷ (48 + n / 10 % 10) ∷ (48 + n % 10) ∷ []
-decimal_five n low high =
-    decimal_step n (omega arith) (omega arith) ∙ ap (λ ds. ds ++ ((48 + n % 10) ∷ [])) (decimal_four (n / 10) (omega arith) (omega arith))
-
 -- the name by five digits
 abbrev five_digits : (a b c d e : ℕ) → List ℕ
 five_digits a b c d e = 77 ∷ a ∷ b ∷ c ∷ d ∷ e ∷ 46 ∷ 119 ∷ 97 ∷ 118 ∷ []
 
-same_five : (a b c d e a' b' c' d' e' : ℕ) → a ≡ a' → b ≡ b' → c ≡ c' → d ≡ d' → e ≡ e' → five_digits a b c d e ≡ five_digits a' b' c' d' e'
+same_five : (a b c d e a' b' c' d' e' : ℕ) → a ≡ a' → b ≡ b' → c ≡ c' → d ≡ d' → e ≡ e'
+    → five_digits a b c d e ≡ five_digits a' b' c' d' e'
 same_five a b c d e a' b' c' d' e' ea eb ec ed ee = cc
 
 abbrev name_of : ℕ → List ℕ
@@ -53,21 +37,27 @@ media_name-five : (n : ℕ) → n < 100000 → media_name n ≡ name_of n
 unfolding media_name
 media_name-five n h =
     ⊎_elim
-    (λ one. rw (decimal_digit n one) (same_five _ _ _ _ _ _ _ _ _ _ (omega arith) (omega arith) (omega arith) (omega arith) (omega arith)))
+    (λ one. rw (decimal_digit n one) (same_five _ _ _ _ _ _ _ _ _ _ (omega arith) (omega arith) (omega arith)
+    (omega arith) (omega arith)))
     (λ two. ⊎_elim
-    (λ low. rw (decimal_two n two low) (same_five _ _ _ _ _ _ _ _ _ _ (omega arith) (omega arith) (omega arith) (omega arith) (omega arith)))
+    (λ low. rw (decimal_two n two low) (same_five _ _ _ _ _ _ _ _ _ _ (omega arith) (omega arith) (omega arith)
+    (omega arith) (omega arith)))
     (λ three. ⊎_elim
-    (λ low. rw (decimal_three n three low) (same_five _ _ _ _ _ _ _ _ _ _ (omega arith) (omega arith) (omega arith) (omega arith) (omega arith)))
+    (λ low. rw (decimal_three n three low) (same_five _ _ _ _ _ _ _ _ _ _ (omega arith) (omega arith) (omega arith)
+    (omega arith) (omega arith)))
     (λ four. ⊎_elim
-    (λ low. rw (decimal_four n four low) (same_five _ _ _ _ _ _ _ _ _ _ (omega arith) (omega arith) (omega arith) (omega arith) (omega arith)))
-    (λ five. rw (decimal_five n five h) (same_five _ _ _ _ _ _ _ _ _ _ (omega arith) (omega arith) (omega arith) (omega arith) (omega arith)))
+    (λ low. rw (decimal_four n four low) (same_five _ _ _ _ _ _ _ _ _ _ (omega arith) (omega arith) (omega arith)
+    (omega arith) (omega arith)))
+    (λ five. rw (decimal_five n five h) (same_five _ _ _ _ _ _ _ _ _ _ (omega arith) (omega arith) (omega arith)
+    (omega arith) (omega arith)))
     (cases_lt n 10000))
     (cases_lt n 1000))
     (cases_lt n 100))
     (cases_lt n 10)
 
 -- equal names have equal digits
-same_digits : (a b c d e a' b' c' d' e' : ℕ) → five_digits a b c d e ≡ five_digits a' b' c' d' e' → (a ≡ a') × (b ≡ b') × (c ≡ c') × (d ≡ d') × (e ≡ e')
+same_digits : (a b c d e a' b' c' d' e' : ℕ) → five_digits a b c d e ≡ five_digits a' b' c' d' e'
+    → (a ≡ a') × (b ≡ b') × (c ≡ c') × (d ≡ d') × (e ≡ e')
 same_digits a b c d e a' b' c' d' e' same = (cc, cc, cc, cc, cc)
 
 -- a name tells its number
@@ -80,7 +70,8 @@ media_name-injective m n few many same =
 pub other_media_name : (m n : ℕ) → m < 100000 → n < 100000 → m ≢ n → bytes_eq (media_name m) (media_name n) ≡ false
 other_media_name m n few many other = by_test (bytes_eq (media_name m) (media_name n)) refl where
   by_test : (same : Bool) → bytes_eq (media_name m) (media_name n) ≡ same → same ≡ false
-  by_test true same = absurd (other (media_name-injective m n few many ((bytes_eq-Decides (media_name m) (media_name n)).0 same)))
+  by_test true same =
+      absurd (other (media_name-injective m n few many ((bytes_eq-Decides (media_name m) (media_name n)).0 same)))
   by_test false same = refl
 
 -- none is that of the list
@@ -158,19 +149,22 @@ is_media_name-of_number n h =
     (All-weaker IsPlainByte (λ b. ((b == 47) || (b == 0)) ≡ false) (λ b is. is.no_slash_nor_nul) (name_of n) all) in
     rw (text, none) refl
 
-place_of_path-of_number : (n : ℕ) → n < 100000 → place_of_path (name_of n) ≡ Some (record { path = name_of n; name = name_of n })
+place_of_path-of_number : (n : ℕ) → n < 100000
+    → place_of_path (name_of n) ≡ Some (record { path = name_of n; name = name_of n })
 place_of_path-of_number n h =
     let all = plain_name n h in
     rw (after_last-plain (name_of n) all, percent_decode-plain (name_of n) all, is_media_name-of_number n h) refl
 
 -- the URL of a medium names it
 pub media_place : (n : ℕ) → n < 100000
-    → place_of_url (codes "URL:file://localhost/" ++ media_name n) ≡ Some (record { path = media_name n; name = media_name n })
+    → place_of_url (codes "URL:file://localhost/" ++ media_name n)
+    ≡ Some (record { path = media_name n; name = media_name n })
 media_place n h = rw (media_name-five n h) (place_of_path-of_number n h)
 
 -- ---- how they are printed
 
 -- five digits, by zeros in front, between the letter and the ending
-pub name_printed : (n : ℕ) → codes "M" ++ (padded_integral (format_spec 32 0 4 5 (2 ^ 64 - 1)) false [] (decimal n) ++ codes ".wav") ≡ media_name n
+pub name_printed : (n : ℕ) → codes "M" ++ (padded_integral (format_spec 32 0 4 5 (2 ^ 64 - 1)) false [] (decimal n)
+    ++ codes ".wav") ≡ media_name n
 unfolding media_name padded_integral char_count
 name_printed n = simp (append-nil, unary_clauses, append_assoc) refl

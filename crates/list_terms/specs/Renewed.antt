@@ -27,7 +27,8 @@ is_in_run file frame run = run.file == file && (nat_le run.first frame && nat_lt
 -- the number of the first run that has this frame, where the first of these has the number `number`
 abbrev pub run_number : ℕ → List Run → (file frame : ℕ) → ℕ
 run_number number [] file frame = number
-run_number number (run ∷ runs) file frame = if is_in_run file frame run then number else run_number (suc number) runs file frame
+run_number number (run ∷ runs) file frame =
+    if is_in_run file frame run then number else run_number (suc number) runs file frame
 
 -- the time of a run's first frame
 abbrev pub run_base : List Home → Run → ℕ
@@ -59,7 +60,8 @@ run_event homes runs number placed = record {
 
 -- what the new indexes are bound to
 abbrev pub run_index : List Home → ℕ → Run → BoundIndex
-run_index homes number run = record { number = number; file = number - 1; base = run_base homes run; addressable = run.length }
+run_index homes number run =
+    record { number = number; file = number - 1; base = run_base homes run; addressable = run.length }
 
 abbrev pub run_indexes : List Home → List Run → List BoundIndex
 run_indexes homes runs = numbered (run_index homes) 1 runs

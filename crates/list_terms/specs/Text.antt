@@ -44,7 +44,8 @@ pub record HeaderRead : Type 0 where
   pub kept : ℕ
   pub rates : Rates
 
--- the event list so far: the events whose lines are all read, the last entry, and the separators of the first one's destination in
+-- the event list so far: the events whose lines are all read, the last entry, and the separators of the first one's
+-- destination in
 pub record Entries : Type 0 where
   pub events : List Event
   pub entry : Option OpenEntry
@@ -256,7 +257,8 @@ rates_with rate section.Unsupported rates text = Ok rates
 
 unfoldable pub in_header : ℕ → Context → ℕ → List ℕ → Section → Result Context LocatedFault
 in_header rate c line text section = err_map (at_line line)
-    (ok_map (λ header. record c { header = header }) (kept_line c.header section text (rates_with rate section c.header.rates text)))
+    (ok_map (λ header. record c { header = header })
+    (kept_line c.header section text (rates_with rate section c.header.rates text)))
 
 -- the source of this number, where no other has it
 unfoldable pub source_with : ℕ → List Source → ℕ → List ℕ → Result (List Source) TextFault
@@ -267,7 +269,8 @@ source_with rate sources number text =
 -- an `(Index)` line, behind this keyword
 unfoldable pub index_line : ℕ → Context → ℕ → List ℕ → Result Context LocatedFault
 index_line rate c line text = err_map (at_line line) (number_field text) >>= (λ (number, rest).
-    err_map (at_index line number) (ok_map (λ sources. record c { sources = sources }) (source_with rate c.sources number rest)))
+    err_map (at_index line number) (ok_map (λ sources. record c { sources = sources })
+    (source_with rate c.sources number rest)))
 
 -- another line of the source index is dropped, with notice 2
 unfoldable pub dropped_line : Context → ℕ → List ℕ → Result Context LocatedFault
@@ -277,7 +280,8 @@ unfoldable pub in_source_index : ℕ → Context → ℕ → List ℕ → Result
 in_source_index rate c line text = err_map (at_line line) (untagged text (token_at text)) >>= of_token where
   of_token : Option (TokenText × List ℕ) → Result Context LocatedFault
   of_token None = Ok c
-  of_token (Some (token, rest)) = if is_keyword (codes "Index") token then index_line rate c line rest else dropped_line c line rest
+  of_token (Some (token, rest)) =
+      if is_keyword (codes "Index") token then index_line rate c line rest else dropped_line c line rest
 
 -- the events by now, the last entry's among them
 abbrev pub all_events : List Event → Option OpenEntry → List Event
@@ -299,13 +303,15 @@ with_event entries event separators = record {
 -- the entry of this number, where no other has it
 unfoldable pub entry_of : ℕ → Entries → ℕ → List ℕ → Result Entries TextFault
 entry_of rate entries number text =
-    if list_any (λ other. other.number == number) (all_events entries.events entries.entry) then Err fault.DuplicateNumber
+    if list_any (λ other. other.number == number) (all_events entries.events entries.entry)
+    then Err fault.DuplicateNumber
     else event_fields rate number text >>= (λ (event, separators). Ok (with_event entries event separators))
 
 -- an `(Entry)` line, behind this keyword
 unfoldable pub entry_line : ℕ → Context → ℕ → List ℕ → Result Context LocatedFault
 entry_line rate c line text = err_map (at_line line) (number_field text) >>= (λ (number, rest).
-    err_map (at_entry line number) (ok_map (λ entries. record c { entries = entries }) (entry_of rate c.entries number rest)))
+    err_map (at_entry line number) (ok_map (λ entries. record c { entries = entries })
+    (entry_of rate c.entries number rest)))
 
 -- another line of the event list belongs to the entry before it
 unfoldable pub further_line : ℕ → Entries → TokenText → List ℕ → Result Entries TextFault
@@ -329,7 +335,8 @@ in_event_list rate c line text =
       of_token : Option (TokenText × List ℕ) → Result Context LocatedFault
       of_token None = Ok c
       of_token (Some (token, rest)) = if is_keyword (codes "Entry") token then entry_line rate c line rest
-          else err_map (at_open line c.entries.entry) (ok_map (λ entries. record c { entries = entries }) (further_line rate c.entries token rest))
+          else err_map (at_open line c.entries.entry)
+          (ok_map (λ entries. record c { entries = entries }) (further_line rate c.entries token rest))
 
 -- a section that may hold blank lines alone
 unfoldable pub in_unsupported : Context → ℕ → List ℕ → Result Context LocatedFault
@@ -353,7 +360,8 @@ with_line rate c line text = at_stage c.stage where
   at_stage stage.Before = before_list c line (trimmed text)
   at_stage stage.Outside = outside c line (trimmed text)
   at_stage (stage.Inside section) =
-      if is_end c.name (trimmed text) then Ok (record c { stage = stage.Outside }) else in_section rate c line text section
+      if is_end c.name (trimmed text) then Ok (record c { stage = stage.Outside })
+      else in_section rate c line text section
   at_stage stage.Behind = Ok c
 
 -- ---- the whole list

@@ -15,8 +15,10 @@ use Rattle.list_terms.specs.Accepted.{span_fault, range_of, OptionValues}
 use Rattle.list_terms.specs.Heard.{read_fault}
 
 pub names : map (λ url. option_map (λ place. place.name) (place_of_url url))
-    (codes "URL:file://localhost/A.wav" ∷ codes "file:///x/A%20b.wav" ∷ codes "url:FILE://host/x/y%2Fz/B.wav" ∷ codes "file://a/50%.wav"
-    ∷ codes "http://a/A.wav" ∷ codes "file://localhost" ∷ codes "file://a/x/" ∷ codes "file://a/.." ∷ codes "file://a/x%2FA.wav" ∷ [])
+    (codes "URL:file://localhost/A.wav" ∷ codes "file:///x/A%20b.wav" ∷ codes "url:FILE://host/x/y%2Fz/B.wav"
+    ∷ codes "file://a/50%.wav"
+    ∷ codes "http://a/A.wav" ∷ codes "file://localhost" ∷ codes "file://a/x/" ∷ codes "file://a/.."
+    ∷ codes "file://a/x%2FA.wav" ∷ [])
     ≡ Some (codes "A.wav") ∷ Some (codes "A b.wav") ∷ Some (codes "B.wav") ∷ Some (codes "50%.wav")
     ∷ None ∷ None ∷ None ∷ None ∷ None ∷ []
 unfolding is_utf8 chars encode percent_decode
@@ -42,14 +44,16 @@ abbrev source : ℕ → List ℕ → Option ℕ → Source
 source number url start = record { number = number; url = url; uid = codes "_"; start = start; length = None }
 
 -- the index's own in decides, then the TimeReference, then midnight
-pub bases : map (λ start. base_of (source 1 [] start) (facts 10 (Some 172800000))) (None ∷ Some 0 ∷ []) ≡ 172800000 ∷ 0 ∷ []
+pub bases : map (λ start. base_of (source 1 [] start) (facts 10 (Some 172800000))) (None ∷ Some 0 ∷ [])
+    ≡ 172800000 ∷ 0 ∷ []
 bases = refl
 
 pub no_reference : base_of (source 1 [] None) (facts 10 None) ≡ 0
 no_reference = refl
 
 -- two frames before midnight, and none from then on
-pub up_to_midnight : map (λ base. addressable_from base (facts 10 None)) (4147199998 ∷ 4147200000 ∷ 4147199000 ∷ []) ≡ 2 ∷ 0 ∷ 10 ∷ []
+pub up_to_midnight : map (λ base. addressable_from base (facts 10 None)) (4147199998 ∷ 4147200000 ∷ 4147199000 ∷ [])
+    ≡ 2 ∷ 0 ∷ 10 ∷ []
 up_to_midnight = refl
 
 -- an event on the first channel: index, source in, source channel, destination in and out, fades
@@ -71,15 +75,18 @@ from_hundred = record { number = 1; file = 0; base = 100; addressable = 20 }
 
 -- fades as long as the event or longer; spans to the end and past it, before the base, and empty ones anywhere
 pub spans : map (span_fault from_hundred (facts 20 None))
-    (event 1 100 1 0 10 6 4 ∷ event 1 100 1 0 10 6 5 ∷ event 1 100 1 0 20 0 0 ∷ event 1 100 1 0 21 0 0 ∷ event 1 99 1 0 1 0 0
-    ∷ event 1 5 1 8 8 0 0 ∷ event 1 100 1 9 8 0 0 ∷ event 1 100 2 0 1 0 0 ∷ event 1 100 2 8 8 0 0 ∷ event 1 100 2 8 8 1 0 ∷ [])
+    (event 1 100 1 0 10 6 4 ∷ event 1 100 1 0 10 6 5 ∷ event 1 100 1 0 20 0 0 ∷ event 1 100 1 0 21 0 0
+    ∷ event 1 99 1 0 1 0 0
+    ∷ event 1 5 1 8 8 0 0 ∷ event 1 100 1 9 8 0 0 ∷ event 1 100 2 0 1 0 0 ∷ event 1 100 2 8 8 0 0
+    ∷ event 1 100 2 8 8 1 0 ∷ [])
     ≡ None ∷ Some 43 ∷ None ∷ Some 46 ∷ Some 46 ∷ None ∷ Some 42 ∷ Some 44 ∷ Some 44 ∷ Some 43 ∷ []
 spans = refl
 
 -- a mono file of 16 bits with four frames
 abbrev wave : List ℕ
 wave = codes "RIFF" ++ (44 ∷ 0 ∷ 0 ∷ 0 ∷ []) ++ codes "WAVEfmt " ++ (16 ∷ 0 ∷ 0 ∷ 0 ∷ [])
-    ++ (1 ∷ 0 ∷ 1 ∷ 0 ∷ 128 ∷ 187 ∷ 0 ∷ 0 ∷ 0 ∷ 119 ∷ 1 ∷ 0 ∷ 2 ∷ 0 ∷ 16 ∷ 0 ∷ []) ++ codes "data" ++ (8 ∷ 0 ∷ 0 ∷ 0 ∷ []) ++ replicate 8 7
+    ++ (1 ∷ 0 ∷ 1 ∷ 0 ∷ 128 ∷ 187 ∷ 0 ∷ 0 ∷ 0 ∷ 119 ∷ 1 ∷ 0 ∷ 2 ∷ 0 ∷ 16 ∷ 0 ∷ []) ++ codes "data"
+    ++ (8 ∷ 0 ∷ 0 ∷ 0 ∷ []) ++ replicate 8 7
 
 abbrev folder : Files
 folder name = if bytes_eq name (codes "A.wav") then Some wave else None
@@ -129,13 +136,15 @@ pub default_ranges : map (λ events. range_of (project (here 1 ∷ []) events) o
 default_ranges = refl
 
 -- a file that isn't there is refused where an entry uses it, before any entry
-pub missing_file : fault (here 1 ∷ source 2 (codes "file:///B.wav") None ∷ []) (event 3 0 1 0 4 0 0 ∷ event 2 0 1 0 4 0 0 ∷ [])
+pub missing_file : fault (here 1 ∷ source 2 (codes "file:///B.wav") None ∷ [])
+    (event 3 0 1 0 4 0 0 ∷ event 2 0 1 0 4 0 0 ∷ [])
     ≡ Some (record { number = 21; place = IndexFile 2 (codes "B.wav"); late = false })
 unfolding is_utf8 chars encode percent_decode
 missing_file = refl
 
 -- one name by two paths is refused at the second index, where both are used
-pub two_paths : map (λ events. fault (source 1 (codes "file:///x/A.wav") None ∷ source 2 (codes "file:///y/A.wav") None ∷ []) events)
+pub two_paths : map (λ events. fault (source 1 (codes "file:///x/A.wav") None ∷ source 2 (codes "file:///y/A.wav") None
+    ∷ []) events)
     ((event 1 0 1 0 4 0 0 ∷ event 2 0 1 0 4 0 0 ∷ []) ∷ (event 1 0 1 0 4 0 0 ∷ []) ∷ [])
     ≡ Some (record { number = 30; place = Index 2; late = false }) ∷ None ∷ []
 unfolding is_utf8 chars encode percent_decode

@@ -80,7 +80,8 @@ is_one_token text = of_cut (token_at text) where
 
 -- the URL can be quoted in a line, and the identifier is one token of a line
 abbrev pub has_whole_texts : Source → Bool
-has_whole_texts source = list_all is_quotable source.url && (list_all is_line_byte source.uid && is_one_token source.uid)
+has_whole_texts source =
+    list_all is_quotable source.url && (list_all is_line_byte source.uid && is_one_token source.uid)
 
 -- the lines of a source index
 pub record AreSources (sources : List Source) : Type 0 where
@@ -107,7 +108,8 @@ are_kept name lines = list_all (is_kept name) (lines_of_section lines)
 -- how many lines a header has
 abbrev pub line_count : Header → ℕ
 line_count header = length (lines_of_section header.version) + (length (lines_of_section header.project)
-    + (length (lines_of_section header.system) + (length (lines_of_section header.sequence) + length (lines_of_section header.track_list))))
+    + (length (lines_of_section header.system) +
+    (length (lines_of_section header.sequence) + length (lines_of_section header.track_list))))
 
 abbrev pub no_rates : Rates
 no_rates = record { sample_rate = false; frame_rate = false }

@@ -25,11 +25,14 @@ channels_text channels = if channels.first == channels.last then decimal channel
 -- a section of these lines, where it is there
 abbrev pub section : List ℕ → Option (List (List ℕ)) → List ℕ
 section name None = []
-section name (Some lines) = line (codes "<" ++ (name ++ codes ">")) ++ (flat_map line lines ++ line (codes "</" ++ (name ++ codes ">")))
+section name (Some lines) =
+    line (codes "<" ++ (name ++ codes ">")) ++ (flat_map line lines ++ line (codes "</" ++ (name ++ codes ">")))
 
 abbrev pub source_line : ListProject → Source → List ℕ
 source_line project source =
-    codes "(Index) " ++ (number_text source.number ++ (codes " (F) \"" ++ (source.url ++ (codes "\" " ++ (source.uid
+    codes "(Index) " ++ (number_text source.number
+    ++ (codes " (F) \"" ++ (source.url
+    ++ (codes "\" " ++ (source.uid
     ++ (codes " " ++ (time_text project source.start ++ (codes " " ++ time_text project source.length))))))))
 
 abbrev pub event_line : ListProject → Event → List ℕ
@@ -46,13 +49,16 @@ fade_lines project keyword length =
 
 abbrev pub event_lines : ListProject → Event → List (List ℕ)
 event_lines project event =
-    event_line project event ∷ (fade_lines project (codes "(Infade)") event.rise.length ++ fade_lines project (codes "(Outfade)") event.fall.length)
+    event_line project event ∷ (fade_lines project (codes "(Infade)") event.rise.length
+    ++ fade_lines project (codes "(Outfade)") event.fall.length)
 
 -- the whole list, its sections in this order
 unfoldable pub text_of_project : ListProject → List ℕ
 text_of_project project =
-    line (codes "<ADL>") ++ (section (codes "VERSION") project.header.version ++ (section (codes "PROJECT") project.header.project
+    line (codes "<ADL>") ++ (section (codes "VERSION") project.header.version
+    ++ (section (codes "PROJECT") project.header.project
     ++ (section (codes "SYSTEM") project.header.system ++ (section (codes "SEQUENCE") project.header.sequence
     ++ (section (codes "TRACKLIST") project.header.track_list
     ++ (section (codes "SOURCE_INDEX") (Some (flat_map (λ source. source_line project source ∷ []) project.sources))
-    ++ (section (codes "EVENT_LIST") (Some (flat_map (event_lines project) project.events)) ++ line (codes "</ADL>"))))))))
+    ++ (section (codes "EVENT_LIST") (Some (flat_map (event_lines project) project.events))
+    ++ line (codes "</ADL>"))))))))

@@ -16,14 +16,16 @@ use Rattle.mediacopy.specs.Copied.{HasSamplesOf, IsCopied}
 use Rattle.mediacopy.proofs.Zeros.{more_zeros, same_file}
 
 -- behind a head, `done` bytes of the source from `at` on, and zeros up to `total`
-pub record IsFilled (source : Option (List ℕ)) (at : ℕ) (head : List ℕ) (done total : ℕ) (now : Option (List ℕ)) : Type 0 where
+pub record IsFilled (source : Option (List ℕ)) (at : ℕ) (head : List ℕ) (done total : ℕ)
+    (now : Option (List ℕ)) : Type 0 where
   pub bytes : List ℕ
   pub counted : length bytes ≡ done
   pub range : 0 < done → IsRange source at bytes
   pub there : now ≡ Some (head ++ (bytes ++ zeros (total - done)))
 
 -- nothing is filled yet
-pub not_filled : (source : Option (List ℕ)) (at : ℕ) (head : List ℕ) (total : ℕ) (now : Option (List ℕ)) → now ≡ Some (head ++ zeros total)
+pub not_filled : (source : Option (List ℕ)) (at : ℕ) (head : List ℕ) (total : ℕ) (now : Option (List ℕ))
+    → now ≡ Some (head ++ zeros total)
     → IsFilled source at head 0 total now
 not_filled source at head total now there = record {
   bytes = [];
@@ -71,19 +73,23 @@ written_behind head bytes more left few =
     ∙ ap (drop (length more)) (drop-append_seam front (zeros left) ∙ split)
     ∙ ap (λ (n : ℕ). drop n (zeros (length more) ++ zeros (left - length more))) (sym (length-zeros (length more)))
     ∙ drop-append_seam (zeros (length more)) (zeros (left - length more)) in
-    ap (λ (file : List ℕ). take (length head + length bytes) file ++ (more ++ drop (length head + length bytes + length more) file)) whole
+    ap (λ (file : List ℕ). take (length head + length bytes) file
+    ++ (more ++ drop (length head + length bytes + length more) file)) whole
     ∙ ap (λ (t : List ℕ). t ++ (more ++ drop (length head + length bytes + length more) (front ++ zeros left))) taken
     ∙ ap (λ (d : List ℕ). front ++ (more ++ d)) dropped
     ∙ append_assoc head bytes (more ++ zeros (left - length more))
     ∙ ap (λ (rest : List ℕ). head ++ rest) (sym (append_assoc bytes more (zeros (left - length more))))
 
 -- one piece more
-pub filled_more : (source : Option (List ℕ)) (at : ℕ) (head : List ℕ) (done total place : ℕ) (more : List ℕ) (now new : Option (List ℕ))
-    → IsFilled source at head done total now → IsRange source (at + done) more → place ≡ length head + done → done + length more ≤ total
+pub filled_more : (source : Option (List ℕ)) (at : ℕ) (head : List ℕ) (done total place : ℕ) (more : List ℕ)
+    (now new : Option (List ℕ))
+    → IsFilled source at head done total now → IsRange source (at + done) more → place ≡ length head + done
+    → done + length more ≤ total
     → IsWritten place more now new → IsFilled source at head (done + length more) total new
 filled_more source at head done total place more now new is range counted few written =
     let bytes = is.bytes in
-    let old : written.file ≡ head ++ (bytes ++ zeros (total - done)) = same_file written.file _ now written.there is.there in
+    let old : written.file ≡ head ++ (bytes ++ zeros (total - done)) =
+    same_file written.file _ now written.there is.there in
     let spot : place ≡ length head + length bytes = omega (arith, counted, is.counted) in
     let left : length more ≤ total - done = omega (arith, few) in
     record {
@@ -92,34 +98,43 @@ filled_more source at head done total place more now new is range counted few wr
       range = λ some. by_front done is.counted is.range range;
       there = written.written
           ∙ ap (λ (file : List ℕ). Some (take place file ++ (more ++ drop (place + length more) file))) old
-          ∙ ap (λ (n : ℕ). Some (take n (head ++ (bytes ++ zeros (total - done))) ++ (more ++ drop (n + length more) (head ++ (bytes ++ zeros (total - done)))))) spot
+          ∙ ap (λ (n : ℕ). Some (take n (head ++ (bytes ++ zeros (total - done)))
+          ++ (more ++ drop (n + length more) (head ++ (bytes ++ zeros (total - done)))))) spot
           ∙ ap Some (written_behind head bytes more (total - done) left)
           ∙ ap (λ (n : ℕ). Some (head ++ ((bytes ++ more) ++ zeros n))) (omega arith);
     }
   where
-    by_front : (n : ℕ) → length is.bytes ≡ n → (0 < n → IsRange source at is.bytes) → IsRange source (at + n) more → IsRange source at (is.bytes ++ more)
+    by_front : (n : ℕ) → length is.bytes ≡ n → (0 < n → IsRange source at is.bytes) → IsRange source (at + n) more
+        → IsRange source at (is.bytes ++ more)
     by_front zero none first next = by_bytes is.bytes none where
       by_bytes : (front : List ℕ) → length front ≡ 0 → IsRange source at (front ++ more)
       by_bytes [] empty = subst (λ (n : ℕ). IsRange source n more) (omega arith) next
       by_bytes (b ∷ front) empty = absurd (omega (arith, empty))
     by_front (suc n) some first next =
-        range_more source at is.bytes more (first (omega arith)) (subst (λ (k : ℕ). IsRange source (at + k) more) (sym some) next)
+        range_more source at is.bytes more (first (omega arith))
+        (subst (λ (k : ℕ). IsRange source (at + k) more) (sym some) next)
 
 -- all of it is filled: the medium
-pub is_medium : (facts : SoundFacts) (source : Option (List ℕ)) (base : ℕ) (run : Run) (now : Option (List ℕ)) → (info : SoundInfo) → info ≡ medium_info facts base run
+pub is_medium : (facts : SoundFacts) (source : Option (List ℕ)) (base : ℕ) (run : Run) (now : Option (List ℕ))
+    → (info : SoundInfo) → info ≡ medium_info facts base run
     → 0 < data_size info
-    → ((name «data» : List ℕ) → length «data» ≡ data_size info → sound_of name (file_of info «data») ≡ Ok (facts_of name info))
-    → ((«data» : List ℕ) → length «data» ≡ data_size info → take (data_size info) (drop (data_place info) (file_of info «data»)) ≡ «data»)
-    → IsFilled source (facts.place + run.first * frame_length facts) (header_of info) (data_size info) (data_size info + data_size info % 2) now
+    → ((name «data» : List ℕ) → length «data» ≡ data_size info
+    → sound_of name (file_of info «data») ≡ Ok (facts_of name info))
+    → ((«data» : List ℕ) → length «data» ≡ data_size info
+    → take (data_size info) (drop (data_place info) (file_of info «data»)) ≡ «data»)
+    → IsFilled source (facts.place + run.first * frame_length facts) (header_of info) (data_size info)
+    (data_size info + data_size info % 2) now
     → IsCopied facts source base run now
 unfolding file_of
 is_medium facts source base run now info same some reads stands is =
     let range = is.range some in
     let bytes = is.bytes in
     let frames : bytes ≡ frames_in facts range.file run.first run.length =
-    range.same ∙ ap (λ (n : ℕ). take n (drop (facts.place + run.first * frame_length facts) range.file)) (is.counted ∙ ap data_size same) in
+    range.same ∙ ap (λ (n : ℕ). take n (drop (facts.place + run.first * frame_length facts) range.file))
+    (is.counted ∙ ap data_size same) in
     let pad : data_size info + data_size info % 2 - data_size info ≡ length bytes % 2 = omega (arith, is.counted) in
-    let whole : now ≡ Some (file_of info bytes) = is.there ∙ ap (λ (n : ℕ). Some (header_of info ++ (bytes ++ zeros n))) pad in
+    let whole : now ≡ Some (file_of info bytes) =
+    is.there ∙ ap (λ (n : ℕ). Some (header_of info ++ (bytes ++ zeros n))) pad in
     let file = file_of info bytes in
     record {
       bytes = range.file;
@@ -127,16 +142,20 @@ is_medium facts source base run now info same some reads stands is =
       file = file;
       there = whole;
       medium = record {
-        bytes = ap (λ (b : List ℕ). file_of info b) frames ∙ ap (λ (i : SoundInfo). file_of i (frames_in facts range.file run.first run.length)) same;
+        bytes = ap (λ (b : List ℕ). file_of info b) frames
+            ∙ ap (λ (i : SoundInfo). file_of i (frames_in facts range.file run.first run.length)) same;
         whole = sym (ap length frames) ∙ is.counted ∙ ap data_size same;
         reads_back = λ name. reads name bytes is.counted ∙ ap (λ (i : SoundInfo). Ok (facts_of name i)) same;
-        samples = subst (λ (i : SoundInfo). HasSamplesOf facts range.file run file (data_place i)) same (same_samples range.file bytes file frames
+        samples =
+            subst (λ (i : SoundInfo). HasSamplesOf facts range.file run file (data_place i)) same
+            (same_samples range.file bytes file frames
             (sym (stands bytes is.counted)));
       };
     }
   where
     same_samples : (given bytes file : List ℕ) → bytes ≡ frames_in facts given run.first run.length
-        → bytes ≡ take (data_size info) (drop (data_place info) file) → HasSamplesOf facts given run file (data_place info)
+        → bytes ≡ take (data_size info) (drop (data_place info) file)
+        → HasSamplesOf facts given run file (data_place info)
     same_samples given bytes file frames stands = λ i channel below first last.
         let width = facts.depth / 8 in
         let n = run.length * facts.channels in
@@ -145,11 +164,14 @@ is_medium facts source base run now info same some reads stands is =
         let inside : i * facts.channels + (channel - 1) < n = grind (arith, below, first, last) in
         let here = get_or-samples_in_frames facts.depth n i channel facts.channels (data_place info) file bytes (pos 0)
         (stands ∙ ap (λ (k : ℕ). take k (drop (data_place info) file)) size) inside in
-        let there = get_or-samples_in_frames facts.depth n i channel facts.channels (facts.place + run.first * frame_length facts) given bytes (pos 0)
+        let there =
+        get_or-samples_in_frames facts.depth n i channel facts.channels
+        (facts.place + run.first * frame_length facts) given bytes (pos 0)
         (frames ∙ ap (λ (k : ℕ). take k (drop (facts.place + run.first * frame_length facts) given)) counted) inside in
         sym here ∙ there ∙ moved i channel
       where
-        moved : (i channel : ℕ) → sample_at given (facts.place + run.first * frame_length facts) facts.channels facts.depth i channel
+        moved : (i channel : ℕ) → sample_at given (facts.place + run.first * frame_length facts)
+            facts.channels facts.depth i channel
             ≡ sample_at given facts.place facts.channels facts.depth (run.first + i) channel
         moved i channel = ap (λ (place : ℕ). sample_of facts.depth (drop place given)) (omega arith)
 
@@ -159,20 +181,25 @@ whole_pieces room frame count some few = grind (arith, few, some)
 
 -- frames have bytes
 pub some_frames : (n frame size : ℕ) → 0 < n → 1 ≤ frame → size ≡ n * frame → 0 < size
-some_frames n frame size some wide same = let more : 0 < n * frame = grind (arith, some, wide) in omega (arith, more, same)
+some_frames n frame size some wide same = let more : 0 < n * frame = grind (arith, some, wide) in
+    omega (arith, more, same)
 
 times_more : (a b width : ℕ) → a ≤ b → a * width ≤ b * width
 times_more a b width few = grind (arith, few)
 
 -- so many frames more of a run
-pub next_frames : (facts : SoundFacts) (run : Run) (source : Option (List ℕ)) (head : List ℕ) (size pad done count from place : ℕ) (bytes : List ℕ)
+pub next_frames : (facts : SoundFacts) (run : Run) (source : Option (List ℕ)) (head : List ℕ)
+    (size pad done count from place : ℕ) (bytes : List ℕ)
     (now new : Option (List ℕ))
     → IsFilled source (facts.place + run.first * frame_length facts) head (done * frame_length facts) (size + pad) now
-    → IsRange source from bytes → from ≡ facts.place + (run.first + done) * frame_length facts → place ≡ length head + done * frame_length facts
+    → IsRange source from bytes → from ≡ facts.place + (run.first + done) * frame_length facts
+    → place ≡ length head + done * frame_length facts
     → length bytes ≡ count * frame_length facts → size ≡ run.length * frame_length facts → done + count ≤ run.length
     → IsWritten place bytes now new
-    → IsFilled source (facts.place + run.first * frame_length facts) head ((done + count) * frame_length facts) (size + pad) new
-next_frames facts run source head size pad done count from place bytes now new so_far range spot there read whole more written =
+    → IsFilled source (facts.place + run.first * frame_length facts) head ((done + count) * frame_length facts)
+    (size + pad) new
+next_frames facts run source head size pad done count from place bytes now new so_far range spot there read whole more
+    written =
     let width = frame_length facts in
     let at = facts.place + run.first * width in
     let begins : from ≡ at + done * width = spot ∙ omega arith in

@@ -30,20 +30,25 @@ pub same_file : (x y : List ℕ) (file : Option (List ℕ)) → file ≡ Some x 
 same_file x y file one other = ap (λ (f : Option (List ℕ)). unwrap_or f []) (sym one ∙ other)
 
 -- these bytes behind those that were there
-pub appended_to : (old new : Option (List ℕ)) (front more all : List ℕ) → IsAppended more old new → old ≡ Some front → front ++ more ≡ all → new ≡ Some all
+pub appended_to : (old new : Option (List ℕ)) (front more all : List ℕ) → IsAppended more old new → old ≡ Some front
+    → front ++ more ≡ all → new ≡ Some all
 appended_to old new front more all is there whole =
-    is.appended ∙ ap (λ (file : List ℕ). Some (file ++ more)) (same_file is.file front old is.there there) ∙ ap Some whole
+    is.appended ∙ ap (λ (file : List ℕ). Some (file ++ more)) (same_file is.file front old is.there there)
+    ∙ ap Some whole
 
 -- one block of zeros more
-pub zeros_step : (file bytes : List ℕ) (done more : ℕ) → bytes ≡ zeros more → (file ++ zeros done) ++ bytes ≡ file ++ zeros (done + more)
+pub zeros_step : (file bytes : List ℕ) (done more : ℕ) → bytes ≡ zeros more
+    → (file ++ zeros done) ++ bytes ≡ file ++ zeros (done + more)
 zeros_step file bytes done more same =
     append_assoc file (zeros done) bytes
     ∙ ap (λ (rest : List ℕ). file ++ rest) (ap (λ (b : List ℕ). zeros done ++ b) same ∙ more_zeros done more)
 
 -- the header, its zeros and the pad
-pub laid : (info : SoundInfo) (head : List ℕ) → head ≡ header_of info → head ++ zeros (data_size info + data_size info % 2) ≡ laid_out info
+pub laid : (info : SoundInfo) (head : List ℕ) → head ≡ header_of info
+    → head ++ zeros (data_size info + data_size info % 2) ≡ laid_out info
 unfolding file_of
 laid info head same =
     ap (λ (h : List ℕ). h ++ zeros (data_size info + data_size info % 2)) same
     ∙ ap (λ (rest : List ℕ). header_of info ++ rest)
-    (sym (ap (λ (n : ℕ). zeros (data_size info) ++ zeros (n % 2)) (length-zeros (data_size info)) ∙ more_zeros (data_size info) (data_size info % 2)))
+    (sym (ap (λ (n : ℕ). zeros (data_size info) ++ zeros (n % 2)) (length-zeros (data_size info))
+    ∙ more_zeros (data_size info) (data_size info % 2)))

@@ -14,7 +14,8 @@ laid_out info = file_of info (zeros (data_size info))
 -- the samples of a file from this place on are those of a run of a source
 abbrev pub HasSamplesOf : SoundFacts → List ℕ → Run → (file : List ℕ) (place : ℕ) → Type 0
 HasSamplesOf facts source run file place = (i channel : ℕ) → i < run.length → 1 ≤ channel → channel ≤ facts.channels
-    → sample_at file place facts.channels facts.depth i channel ≡ sample_at source facts.place facts.channels facts.depth (run.first + i) channel
+    → sample_at file place facts.channels facts.depth i channel
+    ≡ sample_at source facts.place facts.channels facts.depth (run.first + i) channel
 
 -- the file is the medium of a run of a source with these bytes: it reads back, and has the samples of the run
 pub record IsMedium (facts : SoundFacts) (source : List ℕ) (base : ℕ) (run : Run) (file : List ℕ) : Type 0 where
@@ -24,7 +25,8 @@ pub record IsMedium (facts : SoundFacts) (source : List ℕ) (base : ℕ) (run :
   pub samples : HasSamplesOf facts source run file (data_place (medium_info facts base run))
 
 -- the source and the output are there, and the output is the medium of a run of the source
-pub record IsCopied (facts : SoundFacts) (source : Option (List ℕ)) (base : ℕ) (run : Run) (output : Option (List ℕ)) : Type 0 where
+pub record IsCopied (facts : SoundFacts) (source : Option (List ℕ)) (base : ℕ) (run : Run)
+    (output : Option (List ℕ)) : Type 0 where
   pub bytes : List ℕ
   pub source_there : source ≡ Some bytes
   pub file : List ℕ

@@ -11,8 +11,8 @@ use sound_terms::Run;
 use wavread::Sound;
 use wavwrite::{SoundInfo, place_of};
 
-/// Fills the laid out medium of a run with the frames of its source, in pieces of a buffer of at least one frame. `Source`
-/// where the source's device failed, `Output` where the medium's did.
+/// Fills the laid out medium of a run with the frames of its source, in pieces of a buffer of at least one frame.
+/// `Source` where the source's device failed, `Output` where the medium's did.
 pub fn copy_run<S: Shelf, B: Bench>(
     shelf: &mut S,
     sound: &Sound,
@@ -28,10 +28,14 @@ pub fn copy_run<S: Shelf, B: Bench>(
     requires some { 0 < run.now.length }
     requires inside { run.now.first + run.now.length ≤ sound.now.frames }
     requires room { (frame_length sound.now ≤ length buffer.old) × (length buffer.old < 2 ^ 32) }
-    ensures copied { IsTrue (S.honest shelf.old) → IsTrue (B.honest bench.old) → B.stored bench.old name.now ≡ Some (laid_out info.now)
-        → OnOk result (IsCopied sound.now (S.stored shelf.old sound.now.name) base run.now (B.stored bench.new name.now)) }
-    ensures only_reads { OnlyReads S.Shelf shelf.old shelf.new result (λ fault. fault ≡ CopyFault.Source) (λ _ failed. failed sound.now.name) }
-    ensures only_writes { OnlyWrites B.Bench (λ n. n ≢ name.now) bench.old bench.new result (λ fault. fault ≡ CopyFault.Output) (λ _ failed. failed name.now) }
+    ensures copied { IsTrue (S.honest shelf.old) → IsTrue (B.honest bench.old)
+        → B.stored bench.old name.now ≡ Some (laid_out info.now)
+        → OnOk result (IsCopied sound.now (S.stored shelf.old sound.now.name) base run.now
+        (B.stored bench.new name.now)) }
+    ensures only_reads { OnlyReads S.Shelf shelf.old shelf.new result (λ fault. fault ≡ CopyFault.Source)
+        (λ _ failed. failed sound.now.name) }
+    ensures only_writes { OnlyWrites B.Bench (λ n. n ≢ name.now) bench.old bench.new result
+        (λ fault. fault ≡ CopyFault.Output) (λ _ failed. failed name.now) }
 {
     let frame = frame_of(sound);
     let most = buffer.len() as u64 / frame;

@@ -28,8 +28,8 @@ fn bext_at(bext: &Option<Bext>, time_reference: u64) -> Bext
     }
 }
 
-/// What the medium of a run tells of itself: the channels, the depth, the texts and the CodingHistory of its source, and
-/// the time of the run's first frame, where the source's first frame stands at `base`.
+/// What the medium of a run tells of itself: the channels, the depth, the texts and the CodingHistory of its source,
+/// and the time of the run's first frame, where the source's first frame stands at `base`.
 pub fn info_of(alloc: Global, sound: &Sound, base: u64, run: &Run) -> Result<SoundInfo, CopyFault>
     requires { base + run.now.first < 2 ^ 64 }
     ensures info { IfOk result (λ info. info ≡ medium_info sound.now base run.now) }

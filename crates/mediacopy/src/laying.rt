@@ -14,7 +14,8 @@ use wavwrite::{SoundInfo, data_length, header};
 fn append_zeros<B: Bench>(bench: &mut B, name: &str, count: u64) -> Result<(), DeviceFault>
     ensures appended { IsTrue (B.honest bench.old) → (file : List ℕ) → B.stored bench.old name.now ≡ Some file
         → OnOk result (B.stored bench.new name.now ≡ Some (file ++ zeros count)) }
-    ensures only_writes { OnlyWrites B.Bench (λ n. n ≢ name.now) bench.old bench.new result (λ _. ⊤) (λ _ failed. failed name.now) }
+    ensures only_writes { OnlyWrites B.Bench (λ n. n ≢ name.now) bench.old bench.new result (λ _. ⊤)
+        (λ _ failed. failed name.now) }
 {
     let block = [0; 65536];
     let mut left = count;
@@ -36,7 +37,8 @@ pub fn lay_out<B: Bench>(
 ) -> Result<(), CopyFault>
     requires { Fits info.now }
     ensures laid { IsTrue (B.honest bench.old) → OnOk result (B.stored bench.new name.now ≡ Some (laid_out info.now)) }
-    ensures only_writes { OnlyWrites B.Bench (λ n. n ≢ name.now) bench.old bench.new result (λ fault. fault ≡ CopyFault.Output) (λ _ failed. failed name.now) }
+    ensures only_writes { OnlyWrites B.Bench (λ n. n ≢ name.now) bench.old bench.new result
+        (λ fault. fault ≡ CopyFault.Output) (λ _ failed. failed name.now) }
 {
     let Ok(head) = header(alloc, info) else {
         return Err(CopyFault::Memory);

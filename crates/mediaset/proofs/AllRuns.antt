@@ -26,13 +26,16 @@ rises s (t ∷ spans) order = (
 pub open_spans : (homes : List Home) (spans : List Span) → All (IsSpan homes) spans → All IsOpen spans
 open_spans homes spans all = All-weaker (IsSpan homes) IsOpen (λ s is. is.some) spans all
 
-pub sorted_spans : (homes : List Home) (handle : ℕ) (groups : List (List Piece)) (spans sorted : List Span) → AreHomes homes
-    → spans ≡ flat_map (span_of homes handle) (pieces_of groups) → IsPermutation spans sorted → All (IsSpan homes) sorted
+pub sorted_spans : (homes : List Home) (handle : ℕ) (groups : List (List Piece)) (spans sorted : List Span)
+    → AreHomes homes
+    → spans ≡ flat_map (span_of homes handle) (pieces_of groups) → IsPermutation spans sorted
+    → All (IsSpan homes) sorted
 sorted_spans homes handle groups spans sorted are same moved =
     All-permutation (IsSpan homes) spans sorted moved (rw same (all_spans homes are handle (pieces_of groups)))
 
 pub all_runs : (homes : List Home) (handle : ℕ) (groups : List (List Piece)) (spans sorted : List Span) → AreHomes homes
-    → spans ≡ flat_map (span_of homes handle) (pieces_of groups) → IsPermutation spans sorted → IsNonDecreasingBy (λ (t : Span). t.key) sorted
+    → spans ≡ flat_map (span_of homes handle) (pieces_of groups) → IsPermutation spans sorted
+    → IsNonDecreasingBy (λ (t : Span). t.key) sorted
     → AreRuns (kept_of groups homes handle) (place_by homes) (merged_all sorted)
 all_runs homes handle groups spans sorted are same moved order =
     runs_alike (any_has sorted) (kept_of groups homes handle) (place_by homes) (merged_all sorted)
@@ -40,6 +43,9 @@ all_runs homes handle groups spans sorted are same moved order =
     ∙ ap (λ (ss : List Span). any_has ss file frame) same ∙ pieces_kept homes handle (pieces_of groups) file frame)
     (by_list sorted (sorted_spans homes handle groups spans sorted are same moved) order)
   where
-    by_list : (ss : List Span) → All (IsSpan homes) ss → IsNonDecreasingBy (λ (t : Span). t.key) ss → AreRuns (any_has ss) (place_by homes) (merged_all ss)
+    by_list : (ss : List Span) → All (IsSpan homes) ss → IsNonDecreasingBy (λ (t : Span). t.key) ss
+        → AreRuns (any_has ss) (place_by homes) (merged_all ss)
     by_list [] all order = no_runs (place_by homes)
-    by_list (s ∷ ss) all order = merged_runs homes are s ss (All-head (IsSpan homes) s ss all) (All-tail (IsSpan homes) s ss all) (rises s ss order)
+    by_list (s ∷ ss) all order =
+        merged_runs homes are s ss (All-head (IsSpan homes) s ss all) (All-tail (IsSpan homes) s ss all)
+        (rises s ss order)

@@ -18,7 +18,8 @@ with_run run kept file frame = is_in run file frame || kept file frame
 -- every kept frame comes behind the run, and one frame at least lies between
 abbrev pub StandsBefore : (ℕ → ℕ) → Run → (ℕ → ℕ → Bool) → Type 0
 StandsBefore home run kept =
-    (file frame : ℕ) → kept file frame ≡ true → (home run.file < home file) ⊎ ((run.file ≡ file) × (run.first + run.length < frame))
+    (file frame : ℕ) → kept file frame ≡ true
+    → (home run.file < home file) ⊎ ((run.file ≡ file) × (run.first + run.length < frame))
 
 -- nothing is kept
 pub no_runs : (home : ℕ → ℕ) → AreRuns (λ file frame. false) home []
@@ -29,7 +30,8 @@ no_runs home = record {
 }
 
 -- the same frames are kept
-maximal_alike : (kept other : ℕ → ℕ → Bool) → ((file frame : ℕ) → kept file frame ≡ other file frame) → (run : Run) → IsMaximal kept run → IsMaximal other run
+maximal_alike : (kept other : ℕ → ℕ → Bool) → ((file frame : ℕ) → kept file frame ≡ other file frame) → (run : Run)
+    → IsMaximal kept run → IsMaximal other run
 maximal_alike kept other same run is = record {
   some = is.some;
   inside = λ i below. sym (same run.file (run.first + i)) ∙ is.inside i below;
@@ -37,7 +39,8 @@ maximal_alike kept other same run is = record {
   behind = sym (same run.file (run.first + run.length)) ∙ is.behind;
 }
 
-pub runs_alike : (kept other : ℕ → ℕ → Bool) (home : ℕ → ℕ) (runs : List Run) → ((file frame : ℕ) → kept file frame ≡ other file frame)
+pub runs_alike : (kept other : ℕ → ℕ → Bool) (home : ℕ → ℕ) (runs : List Run)
+    → ((file frame : ℕ) → kept file frame ≡ other file frame)
     → AreRuns kept home runs → AreRuns other home runs
 runs_alike kept other home runs same are = record {
   maximal = All-weaker (IsMaximal kept) (IsMaximal other) (maximal_alike kept other same) runs are.maximal;
@@ -76,80 +79,91 @@ has_frame_of run file frame is = record {
   to = grind (arith, nat_tests, is);
 }
 
-module _ (home : ℕ → ℕ) (run : Run) (kept : ℕ → ℕ → Bool) (stands : StandsBefore home run kept) (some : 0 < run.length) where
-  -- no frame of its file up to its end is kept otherwise
-  none_before : (frame : ℕ) → frame ≤ run.first + run.length → kept run.file frame ≡ false
-  none_before frame few = not_kept (kept run.file frame) (λ is. ⊎_elim
-      (λ later. omega (arith, later))
-      (λ behind. omega (arith, behind.1, few))
-      (stands run.file frame is))
+module _ (home : ℕ → ℕ) (run : Run) (kept : ℕ → ℕ → Bool) (stands : StandsBefore home run kept) (some : 0 < run.length)
+  where
+    -- no frame of its file up to its end is kept otherwise
+    none_before : (frame : ℕ) → frame ≤ run.first + run.length → kept run.file frame ≡ false
+    none_before frame few = not_kept (kept run.file frame) (λ is. ⊎_elim
+        (λ later. omega (arith, later))
+        (λ behind. omega (arith, behind.1, few))
+        (stands run.file frame is))
 
-  own_maximal : IsMaximal (with_run run kept) run
-  own_maximal = record {
-    some = some;
-    inside = λ i below. rw (is_in_self run i below) refl;
-    before = λ first. or_false _ _ (not_in_before run run.file (run.first - 1) (omega (arith, first))) (none_before (run.first - 1) (omega arith));
-    behind = or_false _ _ (not_in_behind run run.file (run.first + run.length) (omega arith)) (none_before (run.first + run.length) (omega arith));
-  }
+    own_maximal : IsMaximal (with_run run kept) run
+    own_maximal = record {
+      some = some;
+      inside = λ i below. rw (is_in_self run i below) refl;
+      before = λ first. or_false _ _ (not_in_before run run.file (run.first - 1) (omega (arith, first)))
+          (none_before (run.first - 1) (omega arith));
+      behind = or_false _ _ (not_in_behind run run.file (run.first + run.length) (omega arith))
+          (none_before (run.first + run.length) (omega arith));
+    }
 
-  -- a later run comes behind
-  later_run : (other : Run) → IsMaximal kept other → (home run.file < home other.file) ⊎ ((run.file ≡ other.file) × (run.first + run.length < other.first))
-  later_run other is =
-      let here = is.inside 0 is.some in
-      let at : other.first + 0 ≡ other.first = omega arith in
-      stands other.file other.first (subst (λ (n : ℕ). kept other.file n ≡ true) at here)
+    -- a later run comes behind
+    later_run : (other : Run) → IsMaximal kept other
+        → (home run.file < home other.file) ⊎ ((run.file ≡ other.file) × (run.first + run.length < other.first))
+    later_run other is =
+        let here = is.inside 0 is.some in
+        let at : other.first + 0 ≡ other.first = omega arith in
+        stands other.file other.first (subst (λ (n : ℕ). kept other.file n ≡ true) at here)
 
-  still_maximal : (other : Run) → IsMaximal kept other → IsMaximal (with_run run kept) other
-  still_maximal other is = record {
-    some = is.some;
-    inside = λ i below. rw (is.inside i below) (or_true (is_in run other.file (other.first + i)));
-    before = λ first. or_false _ _ (⊎_elim
-        (λ later. not_in_other run other.file (other.first - 1) (other_file home run.file other.file later))
-        (λ behind. not_in_behind run other.file (other.first - 1) (omega (arith, behind.1)))
-        (later_run other is)) (is.before first);
-    behind = or_false _ _ (⊎_elim
-        (λ later. not_in_other run other.file (other.first + other.length) (other_file home run.file other.file later))
-        (λ behind. not_in_behind run other.file (other.first + other.length) (omega (arith, behind.1)))
-        (later_run other is)) is.behind;
-  }
-    where
-      or_true : (b : Bool) → (b || true) ≡ true
-      or_true true = refl
-      or_true false = refl
+    still_maximal : (other : Run) → IsMaximal kept other → IsMaximal (with_run run kept) other
+    still_maximal other is = record {
+      some = is.some;
+      inside = λ i below. rw (is.inside i below) (or_true (is_in run other.file (other.first + i)));
+      before = λ first. or_false _ _ (⊎_elim
+          (λ later. not_in_other run other.file (other.first - 1) (other_file home run.file other.file later))
+          (λ behind. not_in_behind run other.file (other.first - 1) (omega (arith, behind.1)))
+          (later_run other is)) (is.before first);
+      behind = or_false _ _ (⊎_elim
+          (λ later. not_in_other run other.file (other.first + other.length)
+          (other_file home run.file other.file later))
+          (λ behind. not_in_behind run other.file (other.first + other.length) (omega (arith, behind.1)))
+          (later_run other is)) is.behind;
+    }
+      where
+        or_true : (b : Bool) → (b || true) ≡ true
+        or_true true = refl
+        or_true false = refl
 
-  before_later : (other : Run) → IsMaximal kept other → comes_before home run other ≡ true
-  before_later other is = ⊎_elim
-      (λ later. grind (arith, nat_tests, later))
-      (λ behind. let same : home run.file ≡ home other.file = ap home behind.0 in let far = behind.1 in grind (arith, nat_tests, same, far))
-      (later_run other is)
+    before_later : (other : Run) → IsMaximal kept other → comes_before home run other ≡ true
+    before_later other is = ⊎_elim
+        (λ later. grind (arith, nat_tests, later))
+        (λ behind. let same : home run.file ≡ home other.file = ap home behind.0 in let far = behind.1 in
+        grind (arith, nat_tests, same, far))
+        (later_run other is)
 
-  maximal_at : (runs : List Run) (k : ℕ) (other : Run) → All (IsMaximal kept) runs → slice_get runs k ≡ Some other → IsMaximal kept other
-  maximal_at [] k other all there = absurd (cc)
-  maximal_at (r ∷ runs) zero other all there = let e : r ≡ other = cc in subst (IsMaximal kept) e (All-head (IsMaximal kept) r runs all)
-  maximal_at (r ∷ runs) (suc k) other all there = maximal_at runs k other (All-tail (IsMaximal kept) r runs all) there
+    maximal_at : (runs : List Run) (k : ℕ) (other : Run) → All (IsMaximal kept) runs → slice_get runs k ≡ Some other
+        → IsMaximal kept other
+    maximal_at [] k other all there = absurd (cc)
+    maximal_at (r ∷ runs) zero other all there = let e : r ≡ other = cc in
+        subst (IsMaximal kept) e (All-head (IsMaximal kept) r runs all)
+    maximal_at (r ∷ runs) (suc k) other all there = maximal_at runs k other (All-tail (IsMaximal kept) r runs all) there
 
-  pub one_more : (runs : List Run) → AreRuns kept home runs → AreRuns (with_run run kept) home (run ∷ runs)
-  one_more runs are = record {
-    maximal = All-cons (IsMaximal (with_run run kept)) run runs own_maximal
-        (All-weaker (IsMaximal kept) (IsMaximal (with_run run kept)) still_maximal runs are.maximal);
-    all = λ file frame is. by_test file frame (is_in run file frame) refl is;
-    order = in_order;
-  }
-    where
-      behind : (r : Run) → Contains runs r → Contains (run ∷ runs) r
-      behind r is = (suc is.0, omega (arith, is.1), is.2)
+    pub one_more : (runs : List Run) → AreRuns kept home runs → AreRuns (with_run run kept) home (run ∷ runs)
+    one_more runs are = record {
+      maximal = All-cons (IsMaximal (with_run run kept)) run runs own_maximal
+          (All-weaker (IsMaximal kept) (IsMaximal (with_run run kept)) still_maximal runs are.maximal);
+      all = λ file frame is. by_test file frame (is_in run file frame) refl is;
+      order = in_order;
+    }
+      where
+        behind : (r : Run) → Contains runs r → Contains (run ∷ runs) r
+        behind r is = (suc is.0, omega (arith, is.1), is.2)
 
-      by_test : (file frame : ℕ) (here : Bool) → is_in run file frame ≡ here → (is_in run file frame || kept file frame) ≡ true
-          → (r : Run) × Contains (run ∷ runs) r × HasFrame file frame r
-      by_test file frame true here is = (run, (0, omega arith, refl), has_frame_of run file frame here)
-      by_test file frame false here is =
-          let later : kept file frame ≡ true = rw here at is in
-          let found = are.all file frame later in
-          (found.0, behind found.0 found.1, found.2)
+        by_test : (file frame : ℕ) (here : Bool) → is_in run file frame ≡ here
+            → (is_in run file frame || kept file frame) ≡ true
+            → (r : Run) × Contains (run ∷ runs) r × HasFrame file frame r
+        by_test file frame true here is = (run, (0, omega arith, refl), has_frame_of run file frame here)
+        by_test file frame false here is =
+            let later : kept file frame ≡ true = rw here at is in
+            let found = are.all file frame later in
+            (found.0, behind found.0 found.1, found.2)
 
-      in_order : (i j : ℕ) (a b : Run) → i < j → slice_get (run ∷ runs) i ≡ Some a → slice_get (run ∷ runs) j ≡ Some b → comes_before home a b ≡ true
-      in_order i zero a b below first second = absurd (omega (arith, below))
-      in_order zero (suc j) a b below first second =
-          let e : run ≡ a = cc in
-          subst (λ (r : Run). comes_before home r b ≡ true) e (before_later b (maximal_at runs j b are.maximal second))
-      in_order (suc i) (suc j) a b below first second = are.order i j a b (omega (arith, below)) first second
+        in_order : (i j : ℕ) (a b : Run) → i < j → slice_get (run ∷ runs) i ≡ Some a → slice_get (run ∷ runs) j ≡ Some b
+            → comes_before home a b ≡ true
+        in_order i zero a b below first second = absurd (omega (arith, below))
+        in_order zero (suc j) a b below first second =
+            let e : run ≡ a = cc in
+            subst (λ (r : Run). comes_before home r b ≡ true) e
+            (before_later b (maximal_at runs j b are.maximal second))
+        in_order (suc i) (suc j) a b below first second = are.order i j a b (omega (arith, below)) first second

@@ -31,9 +31,11 @@ small homes s is = omega (arith, is.some, is.in_day)
 
 -- a span that begins no earlier stands by the place of its file's home, then by its first frame
 in_order : (homes : List Home) (s later : Span) → IsSpan homes s → IsSpan homes later → s.key ≤ later.key
-    → (place_by homes s.file < place_by homes later.file) ⊎ ((place_by homes s.file ≡ place_by homes later.file) × (s.first ≤ later.first))
+    → (place_by homes s.file < place_by homes later.file)
+    ⊎ ((place_by homes s.file ≡ place_by homes later.file) × (s.first ≤ later.first))
 in_order homes s later is other rises =
-    keys_in_order (place_by homes s.file) s.first (place_by homes later.file) later.first (small homes s is) (small homes later other)
+    keys_in_order (place_by homes s.file) s.first (place_by homes later.file) later.first (small homes s is)
+    (small homes later other)
     (omega (arith, is.key, other.key, rises))
 
 -- two files of one place are one
@@ -48,12 +50,14 @@ same_file homes are s later is other same = by_test (s.file == later.file) refl 
       let two : place_by homes later.file ≡ other.home.place = rw (other.there) refl in
       absurd (are.apart s.file later.file is.home other.home apart is.there other.there (sym one ∙ same ∙ two))
 
-any_first : {X : Type 0} (p : X → Bool) (Q : X → Type 0) (x : X) (test rest : Bool) → p x ≡ test → Q x → (test || rest) ≡ true
+any_first : {X : Type 0} (p : X → Bool) (Q : X → Type 0) (x : X) (test rest : Bool) → p x ≡ test → Q x
+    → (test || rest) ≡ true
     → (rest ≡ true → (y : X) × Q y × (p y ≡ true)) → (y : X) × Q y × (p y ≡ true)
 any_first p Q x true rest here is any later = (x, is, here)
 any_first p Q x false rest here is any later = later any
 
-any_all : {X : Type 0} (p : X → Bool) (Q : X → Type 0) (xs : List X) → All Q xs → list_any p xs ≡ true → (x : X) × Q x × (p x ≡ true)
+any_all : {X : Type 0} (p : X → Bool) (Q : X → Type 0) (xs : List X) → All Q xs → list_any p xs ≡ true
+    → (x : X) × Q x × (p x ≡ true)
 any_all p Q [] all any = cc
 any_all p Q (x ∷ xs) all any =
     any_first p Q x (p x) (list_any p xs) refl (All-head Q x xs all) any (any_all p Q xs (All-tail Q x xs all))
@@ -70,17 +74,22 @@ or_empty false = refl
 
 module _ (homes : List Home) (are : AreHomes homes) where
   -- what is kept behind a span that the next one doesn't touch
-  stands_before : (s later : Span) (spans : List Span) → IsSpan homes s → All (IsSpan homes) (later ∷ spans) → Rises s.key (later ∷ spans)
+  stands_before : (s later : Span) (spans : List Span) → IsSpan homes s → All (IsSpan homes) (later ∷ spans)
+      → Rises s.key (later ∷ spans)
       → touches s later ≡ false → StandsBefore (place_by homes) (run_of s) (any_has (later ∷ spans))
   stands_before s later spans is all rises apart file frame kept =
-      let found = any_all (has_frame file frame) (λ t. IsSpan homes t × (later.key ≤ t.key)) (later ∷ spans) (with_keys (later ∷ spans) later.key all (omega arith, rises.1)) kept in
+      let found =
+      any_all (has_frame file frame) (λ t. IsSpan homes t × (later.key ≤ t.key)) (later ∷ spans)
+      (with_keys (later ∷ spans) later.key all (omega arith, rises.1)) kept in
       by_order found.0 found.1.0 found.1.1 found.2
     where
-      with_keys : (ts : List Span) (low : ℕ) → All (IsSpan homes) ts → Rises low ts → All (λ t. IsSpan homes t × (low ≤ t.key)) ts
+      with_keys : (ts : List Span) (low : ℕ) → All (IsSpan homes) ts → Rises low ts
+          → All (λ t. IsSpan homes t × (low ≤ t.key)) ts
       with_keys [] low all rises = All-nil (λ t. IsSpan homes t × (low ≤ t.key))
       with_keys (t ∷ ts) low all rises =
           All-cons (λ t. IsSpan homes t × (low ≤ t.key)) t ts (All-head (IsSpan homes) t ts all, rises.0)
-          (All-weaker (λ u. IsSpan homes u × (t.key ≤ u.key)) (λ u. IsSpan homes u × (low ≤ u.key)) (λ u h. (h.0, omega (arith, h.1, rises.0))) ts
+          (All-weaker (λ u. IsSpan homes u × (t.key ≤ u.key)) (λ u. IsSpan homes u × (low ≤ u.key))
+          (λ u h. (h.0, omega (arith, h.1, rises.0))) ts
           (with_keys ts t.key (All-tail (IsSpan homes) t ts all) rises.1))
 
       by_order : (t : Span) → IsSpan homes t → later.key ≤ t.key → has_frame file frame t ≡ true
@@ -102,11 +111,14 @@ module _ (homes : List Home) (are : AreHomes homes) where
           (in_order homes later t next h above))
           (in_order homes s later is next rises.0)
         where
-          place_rises : (a b : Span) → IsSpan homes a → IsSpan homes b → a.key ≤ b.key → place_by homes a.file ≤ place_by homes b.file
-          place_rises a b one two rises = ⊎_elim (λ l. omega (arith, l)) (λ e. omega (arith, e.0)) (in_order homes a b one two rises)
+          place_rises : (a b : Span) → IsSpan homes a → IsSpan homes b → a.key ≤ b.key
+              → place_by homes a.file ≤ place_by homes b.file
+          place_rises a b one two rises =
+              ⊎_elim (λ l. omega (arith, l)) (λ e. omega (arith, e.0)) (in_order homes a b one two rises)
 
   -- two spans that touch have together the frames of both
-  joined_has : (s later : Span) → IsSpan homes s → IsSpan homes later → s.key ≤ later.key → touches s later ≡ true → (file frame : ℕ)
+  joined_has : (s later : Span) → IsSpan homes s → IsSpan homes later → s.key ≤ later.key → touches s later ≡ true
+      → (file frame : ℕ)
       → has_frame file frame (joined s later) ≡ (has_frame file frame s || has_frame file frame later)
   joined_has s later is other rises touch file frame =
       let same : s.file ≡ later.file = grind (arith, nat_tests, touch) in
@@ -120,7 +132,8 @@ module _ (homes : List Home) (are : AreHomes homes) where
       ∙ sym (ap (λ (n : ℕ). has_frame file frame (record s { file = n }) || has_frame file frame later) same)
     where
       both_have : (here : Bool) (a b c d frame : ℕ) → a ≤ c → c ≤ b → a < b → c < d
-          → (here && (nat_le a frame && nat_lt frame (max b d))) ≡ ((here && (nat_le a frame && nat_lt frame b)) || (here && (nat_le c frame && nat_lt frame d)))
+          → (here && (nat_le a frame && nat_lt frame (max b d)))
+          ≡ ((here && (nat_le a frame && nat_lt frame b)) || (here && (nat_le c frame && nat_lt frame d)))
       both_have true a b c d frame from reach some more = grind (arith, nat_tests, from, reach, some, more)
       both_have false a b c d frame from reach some more = refl
 
@@ -143,10 +156,12 @@ module _ (homes : List Home) (are : AreHomes homes) where
   merged_runs s [] is all rises =
       runs_alike (with_run (run_of s) (λ file frame. false)) (any_has (s ∷ [])) (place_by homes) (run_of s ∷ [])
       (λ file frame. ap (λ (b : Bool). b || false) (run_has s file frame is.some))
-      (one_more (place_by homes) (run_of s) (λ file frame. false) (λ file frame none. absurd (cc)) (omega (arith, is.some)) [] (no_runs (place_by homes)))
+      (one_more (place_by homes) (run_of s) (λ file frame. false) (λ file frame none. absurd (cc))
+      (omega (arith, is.some)) [] (no_runs (place_by homes)))
   merged_runs s (later ∷ spans) is all rises =
       by_touch (touches s later) refl
-      (λ touch. merged_runs (joined s later) spans (joined_span s later is next) rest (above s.key rises.0 spans rises.1))
+      (λ touch. merged_runs (joined s later) spans (joined_span s later is next) rest
+      (above s.key rises.0 spans rises.1))
       (merged_runs later spans next rest rises.1)
     where
       next : IsSpan homes later
@@ -164,10 +179,13 @@ module _ (homes : List Home) (are : AreHomes homes) where
           → AreRuns (any_has (later ∷ spans)) (place_by homes) (merged later spans)
           → AreRuns (any_has (s ∷ later ∷ spans)) (place_by homes) (merged s (later ∷ spans))
       by_touch true touch together apart =
-          rw touch (runs_alike (any_has (joined s later ∷ spans)) (any_has (s ∷ later ∷ spans)) (place_by homes) (merged (joined s later) spans)
+          rw touch (runs_alike (any_has (joined s later ∷ spans)) (any_has (s ∷ later ∷ spans)) (place_by homes)
+          (merged (joined s later) spans)
           (λ file frame. or_assoc _ _ _ _ (joined_has s later is next rises.0 touch file frame)) (together refl))
       by_touch false touch together apart =
-          rw touch (runs_alike (with_run (run_of s) (any_has (later ∷ spans))) (any_has (s ∷ later ∷ spans)) (place_by homes) (run_of s ∷ merged later spans)
+          rw touch (runs_alike (with_run (run_of s) (any_has (later ∷ spans))) (any_has (s ∷ later ∷ spans))
+          (place_by homes) (run_of s ∷ merged later spans)
           (λ file frame. ap (λ (b : Bool). b || any_has (later ∷ spans) file frame) (run_has s file frame is.some))
-          (one_more (place_by homes) (run_of s) (any_has (later ∷ spans)) (stands_before s later spans is all rises touch) (omega (arith, is.some))
+          (one_more (place_by homes) (run_of s) (any_has (later ∷ spans))
+          (stands_before s later spans is all rises touch) (omega (arith, is.some))
           (merged later spans) apart))

@@ -12,7 +12,8 @@ built file first length = record { file = file; first = first; length = length }
 
 same_run : (a b : Run) → a.file ≡ b.file → a.first ≡ b.first → a.length ≡ b.length → a ≡ b
 same_run a b file first length =
-    ap (λ (n : ℕ). built n a.first a.length) file ∙ ap (λ (n : ℕ). built b.file n a.length) first ∙ ap (built b.file b.first) length
+    ap (λ (n : ℕ). built n a.first a.length) file ∙ ap (λ (n : ℕ). built b.file n a.length) first
+    ∙ ap (built b.file b.first) length
 
 -- two maximal runs that share a frame are one
 overlap : (kept : ℕ → ℕ → Bool) (a b : Run) → IsMaximal kept a → IsMaximal kept b → a.file ≡ b.file
@@ -25,17 +26,21 @@ overlap kept a b is other file from to = same_run a b file begins long where
         let more : b.first < a.first = grind (arith, nat_tests, test) in
         let at : b.first + (a.first - 1 - b.first) ≡ a.first - 1 = omega (arith, more) in
         let inside = other.inside (a.first - 1 - b.first) (omega (arith, more, to)) in
-        let here : kept a.file (a.first - 1) ≡ true = subst (λ (f : ℕ). kept f (a.first - 1) ≡ true) (sym file) (subst (λ (n : ℕ). kept b.file n ≡ true) at inside) in
+        let here : kept a.file (a.first - 1) ≡ true =
+        subst (λ (f : ℕ). kept f (a.first - 1) ≡ true) (sym file)
+        (subst (λ (n : ℕ). kept b.file n ≡ true) at inside) in
         let none = is.before (omega (arith, more)) in
         let clash : true ≡ false = sym here ∙ none in cc
     by_test false test = let least : a.first ≤ b.first = grind (arith, nat_tests, test) in omega (arith, least, from)
 
   -- where one run ends, no longer one of the same beginning is maximal
-  no_longer : (c d : Run) → IsMaximal kept c → IsMaximal kept d → c.file ≡ d.file → c.first ≡ d.first → c.length < d.length → ⊥
+  no_longer : (c d : Run) → IsMaximal kept c → IsMaximal kept d → c.file ≡ d.file → c.first ≡ d.first
+      → c.length < d.length → ⊥
   no_longer c d one two same start less =
       let inside = two.inside c.length less in
       let here : kept c.file (c.first + c.length) ≡ true =
-      subst (λ (f : ℕ). kept f (c.first + c.length) ≡ true) (sym same) (subst (λ (n : ℕ). kept d.file (n + c.length) ≡ true) (sym start) inside) in
+      subst (λ (f : ℕ). kept f (c.first + c.length) ≡ true) (sym same)
+      (subst (λ (n : ℕ). kept d.file (n + c.length) ≡ true) (sym start) inside) in
       let clash : true ≡ false = sym here ∙ one.behind in cc
 
   long : a.length ≡ b.length
@@ -52,7 +57,8 @@ overlap kept a b is other file from to = same_run a b file begins long where
 
 module _ (kept : ℕ → ℕ → Bool) (home : ℕ → ℕ) where
   -- a run of the one list is a run of the other
-  is_among : (runs others : List Run) → All (IsMaximal kept) runs → AreRuns kept home others → (run : Run) → Contains runs run → Contains others run
+  is_among : (runs others : List Run) → All (IsMaximal kept) runs → AreRuns kept home others → (run : Run)
+      → Contains runs run → Contains others run
   is_among runs others all are run among =
       let is = All-contains (IsMaximal kept) runs run all among in
       let at : run.first + 0 ≡ run.first = omega arith in
@@ -75,12 +81,15 @@ module _ (kept : ℕ → ℕ → Bool) (home : ℕ → ℕ) where
   there (r ∷ runs) run (suc k, below, same) = there runs run (k, omega (arith, below), same)
 
   record InOrder (runs : List Run) : Type 0 where
-    order : (i j : ℕ) (a b : Run) → i < j → slice_get runs i ≡ Some a → slice_get runs j ≡ Some b → comes_before home a b ≡ true
+    order : (i j : ℕ) (a b : Run) → i < j → slice_get runs i ≡ Some a → slice_get runs j ≡ Some b
+        → comes_before home a b ≡ true
 
   tail_order : (r : Run) (runs : List Run) → InOrder (r ∷ runs) → InOrder runs
-  tail_order r runs is = record { order = λ i j a b below first second. is.order (suc i) (suc j) a b (omega (arith, below)) first second }
+  tail_order r runs is =
+      record { order = λ i j a b below first second. is.order (suc i) (suc j) a b (omega (arith, below)) first second }
 
-  head_before : (r : Run) (runs : List Run) → InOrder (r ∷ runs) → (run : Run) → Contains runs run → comes_before home r run ≡ true
+  head_before : (r : Run) (runs : List Run) → InOrder (r ∷ runs) → (run : Run) → Contains runs run
+      → comes_before home r run ≡ true
   head_before r runs is run among = is.order 0 (suc among.0) r run (omega arith) refl (there runs run among)
 
   behind : (r : Run) (runs : List Run) (run : Run) → Contains runs run → Contains (r ∷ runs) run
@@ -93,7 +102,8 @@ module _ (kept : ℕ → ℕ → Bool) (home : ℕ → ℕ) where
 
   -- two lists in order with the same elements are one
   same_lists : (runs others : List Run) → InOrder runs → InOrder others
-      → ((run : Run) → Contains runs run → Contains others run) → ((run : Run) → Contains others run → Contains runs run) → runs ≡ others
+      → ((run : Run) → Contains runs run → Contains others run)
+      → ((run : Run) → Contains others run → Contains runs run) → runs ≡ others
   same_lists [] [] one two into back = refl
   same_lists [] (o ∷ others) one two into back = let e = back o (0, omega arith, refl) in absurd (omega (arith, e.1))
   same_lists (r ∷ runs) [] one two into back = let e = into r (0, omega arith, refl) in absurd (omega (arith, e.1))
@@ -101,10 +111,12 @@ module _ (kept : ℕ → ℕ → Bool) (home : ℕ → ℕ) where
       let heads : r ≡ o = same_heads in
       let tails : runs ≡ others = same_lists runs others (tail_order r runs one) (tail_order o others two)
       (λ run among. ⊎_elim
-      (λ same. absurd (no_self run (subst (λ (x : Run). comes_before home x run ≡ true) (heads ∙ same) (head_before r runs one run among))))
+      (λ same. absurd (no_self run (subst (λ (x : Run). comes_before home x run ≡ true) (heads ∙ same)
+      (head_before r runs one run among))))
       (λ is. is) (first_or_behind o others run (into run (behind r runs run among))))
       (λ run among. ⊎_elim
-      (λ same. absurd (no_self run (subst (λ (x : Run). comes_before home x run ≡ true) (sym heads ∙ same) (head_before o others two run among))))
+      (λ same. absurd (no_self run (subst (λ (x : Run). comes_before home x run ≡ true) (sym heads ∙ same)
+      (head_before o others two run among))))
       (λ is. is) (first_or_behind r runs run (back run (behind o others run among)))) in
       rw (heads, tails) refl
     where

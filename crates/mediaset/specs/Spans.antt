@@ -13,7 +13,9 @@ abbrev pub span_of : List Home → ℕ → Piece → List Span
 span_of homes handle p =
     let first = p.frame - handle in
     let end = min (p.frame + p.length + handle) (addressable_by homes p.file) in
-    if nat_lt first end && nat_lt 0 p.length then record { key = place_by homes p.file * 4294967296 + first; file = p.file; first = first; end = end } ∷ [] else []
+    if nat_lt first end && nat_lt 0 p.length
+    then record { key = place_by homes p.file * 4294967296 + first; file = p.file; first = first; end = end } ∷ []
+    else []
 
 -- the span has this frame of this file
 abbrev pub has_frame : ℕ → ℕ → Span → Bool

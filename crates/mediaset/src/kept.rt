@@ -24,7 +24,8 @@ fn all_runs(
     handle: u64,
 ) -> Result<Vec<Run>, AllocError>
     requires homes { AreHomes homes.now }
-    ensures kept { IfOk result (λ runs. AreRuns (kept_of intervals.now homes.now handle) (place_by homes.now) runs.items) }
+    ensures kept { IfOk result (λ runs. AreRuns (kept_of intervals.now homes.now handle) (place_by
+        homes.now) runs.items) }
 {
     let mut spans = spans_of(alloc, intervals, homes, handle)?;
     spans.sort_by_key(|span| span.key)?;
@@ -32,8 +33,8 @@ fn all_runs(
     Ok(runs)
 }
 
-/// The runs of the frames that groups play and of those at most `handle` away, as far as they can be addressed by the home
-/// index of their file: in order of the home indexes, then of the frames.
+/// The runs of the frames that groups play and of those at most `handle` away, as far as they can be addressed by the
+/// home index of their file: in order of the home indexes, then of the frames.
 ///
 /// `TooManyRuns` where there are more than 32,767, `Memory` where no memory was left.
 pub fn runs(
@@ -43,12 +44,15 @@ pub fn runs(
     handle: u64,
 ) -> Result<Vec<Run>, RunFault>
     requires homes { AreHomes homes.now }
-    ensures kept { IfOk result (λ runs. AreRuns (kept_of intervals.now homes.now handle) (place_by homes.now) runs.items) }
+    ensures kept { IfOk result (λ runs. AreRuns (kept_of intervals.now homes.now handle) (place_by
+        homes.now) runs.items) }
     ensures covers { IfOk result (λ runs. All (LiesAtHome homes.now) (pieces_of intervals.now)
         → (file channel frame : ℕ) → reads intervals.now file channel frame ≡ true → IsInRun runs.items file frame) }
     ensures few { IfOk result (λ runs. length runs.items ≤ 32767) }
-    ensures one { IfOk result (λ found. (runs : List Run) → AreRuns (kept_of intervals.now homes.now handle) (place_by homes.now) runs → runs ≡ found.items) }
-    ensures too_many { IsErrOf result RunFault.TooManyRuns → (runs : List Run) → AreRuns (kept_of intervals.now homes.now handle) (place_by homes.now) runs → 32767 < length runs }
+    ensures one { IfOk result (λ found. (runs : List Run)
+        → AreRuns (kept_of intervals.now homes.now handle) (place_by homes.now) runs → runs ≡ found.items) }
+    ensures too_many { IsErrOf result RunFault.TooManyRuns → (runs : List Run)
+        → AreRuns (kept_of intervals.now homes.now handle) (place_by homes.now) runs → 32767 < length runs }
 {
     let runs = all_runs(alloc, intervals, homes, handle)?;
     if runs.len() > MOST_RUNS {

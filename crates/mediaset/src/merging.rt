@@ -33,7 +33,8 @@ fn take(held: Span, next: &Span, runs: &mut Vec<Run>) -> Result<Span, AllocError
     requires held { IsOpen held }
     requires next { IsOpen next.now }
     ensures open { IfOk result IsOpen }
-    ensures taken { (spans : List Span) → IfOk result (λ span. runs.new.items ++ merged span spans ≡ runs.old.items ++ merged held (next.now ∷ spans)) }
+    ensures taken { (spans : List Span)
+        → IfOk result (λ span. runs.new.items ++ merged span spans ≡ runs.old.items ++ merged held (next.now ∷ spans)) }
 {
     if touches(&held, next) {
         return Ok(Span {

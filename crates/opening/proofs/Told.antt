@@ -13,17 +13,23 @@ use Rattle.opening.specs.declared.fault.Fault.{Fault}
 use Rattle.opening.specs.declared.fault.Fault.TheVariants as fault
 
 pub told_source : (project : ListProject) (place index : ℕ) (source : Source) (media : MediaFault)
-    → IsSourceAt project place index × ((is_used project.events index ≡ true) ⊎ (media ≡ Memory)) → slice_get project.sources place ≡ Some source
+    → IsSourceAt project place index × ((is_used project.events index ≡ true) ⊎ (media ≡ Memory))
+    → slice_get project.sources place ≡ Some source
     → Contains project.sources source × ((is_used project.events source.number ≡ true) ⊎ (media ≡ Memory))
 told_source project place index source media is there =
     let one : Some is.0.source ≡ Some source = sym is.0.there ∙ there in
     let same : is.0.source ≡ source = cc in
     let number : index ≡ source.number = sym is.0.number_is ∙ ap (λ (s : Source). s.number) same in (
-      (place, slice_get_within project.sources place source there, get_or_from_slice_get project.sources place source source there),
+      (
+        place,
+        slice_get_within project.sources place source there,
+        get_or_from_slice_get project.sources place source source there,
+      ),
       ⊎_elim (λ used. inl (sym (ap (is_used project.events) number) ∙ used)) (λ memory. inr memory) is.1,
     )
 
-pub opening_own : (text : List ℕ) (project : ListProject) (told : Fault) → text_value text ≡ Ok project → IsOfBinding project told → IsOfOpening text told
+pub opening_own : (text : List ℕ) (project : ListProject) (told : Fault) → text_value text ≡ Ok project
+    → IsOfBinding project told → IsOfOpening text told
 opening_own text project (fault.List list) spelt of = tt
 opening_own text project (fault.Entry entry) spelt of = tt
 opening_own text project (fault.SameName index) spelt of = (project, spelt, of)

@@ -22,13 +22,17 @@ HoldsOfFile P _ = ⊥
 -- a call that only reads sources: 22 tells that their device failed, at the file that is named
 abbrev pub ReadsSources : {S X : Type 0} → source.Ghosts S → S → S → Result X Fault → Type 0
 ReadsSources shelf old new result =
-    OnlyReads shelf old new result (λ fault. (refusal_of fault).number ≡ 22) (λ fault failed. HoldsOfFile failed (refusal_of fault).place)
+    OnlyReads shelf old new result (λ fault. (refusal_of fault).number ≡ 22)
+    (λ fault failed. HoldsOfFile failed (refusal_of fault).place)
 
 -- a text with a fault is refused, whatever the files are
 abbrev pub RefusesBadText : {X : Type 0} → List ℕ → Result X Fault → Type 0
-RefusesBadText text result = (refusal : Refusal) → text_value text ≡ Err refusal → IfErr result (λ fault. IsDue (refusal_of fault) (Some refusal)) × (IsOk result → ⊥)
+RefusesBadText text result =
+    (refusal : Refusal) → text_value text ≡ Err refusal
+    → IfErr result (λ fault. IsDue (refusal_of fault) (Some refusal)) × (IsOk result → ⊥)
 
--- what is told of an accepted list: its notices and then those of its files, and how many entries and bound indexes it has
+-- what is told of an accepted list: its notices and then those of its files, and how many entries and bound indexes it
+-- has
 pub record Reports (text : List ℕ) (files : Files) (told : declared.Accepted) : Type 0 where
   pub project : ListProject
   pub binding : Binding

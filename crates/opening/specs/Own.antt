@@ -24,4 +24,5 @@ IsOfOpening text (fault.List fault) = Unit {0}
 IsOfOpening text (fault.Entry fault) = Unit {0}
 IsOfOpening text (fault.SameName index) = OfText text (λ project. is_used project.events index ≡ true)
 IsOfOpening text (fault.Media source fault) =
-    OfText text (λ project. Contains project.sources source × ((is_used project.events source.number ≡ true) ⊎ (fault ≡ Memory)))
+    OfText text (λ project. Contains project.sources source
+    × ((is_used project.events source.number ≡ true) ⊎ (fault ≡ Memory)))

@@ -31,10 +31,11 @@ pub fn notices_of(alloc: Global, checked: &Checked) -> Result<Vec<Notice>, Alloc
     Ok(notices)
 }
 
-/// Checks a list over the sources of a shelf. Its refusals are those of `open_project`, and 18 where no memory was left for
-/// the notices.
+/// Checks a list over the sources of a shelf. Its refusals are those of `open_project`, and 18 where no memory was left
+/// for the notices.
 pub fn check_project<S: Shelf>(alloc: Global, list: &[u8], shelf: &mut S) -> Result<Accepted, Fault>
-    ensures refusals { IsTrue (S.honest shelf.old) → Answers refusal_of result (project_fault list.now (S.stored shelf.old)) }
+    ensures refusals { IsTrue (S.honest shelf.old)
+        → Answers refusal_of result (project_fault list.now (S.stored shelf.old)) }
     ensures report { IsTrue (S.honest shelf.old) → IfOk result (Reports list.now (S.stored shelf.old)) }
     ensures bad_text { RefusesBadText list.now result }
     ensures own { IfErr result (IsOfOpening list.now) }

@@ -23,7 +23,8 @@ use std::alloc::Global;
 fn read_list(alloc: Global, list: &[u8]) -> Result<Project, Fault>
     ensures spelt { IfOk result (λ project. text_value list.now ≡ Ok project) }
     ensures spelled { IfOk result (Spells list.now) }
-    ensures refused { IfErr result (λ fault. MatchBool (is_excused (refusal_of fault).number) ⊤ (text_value list.now ≡ Err (refusal_of fault))) }
+    ensures refused { IfErr result (λ fault.
+        MatchBool (is_excused (refusal_of fault).number) ⊤ (text_value list.now ≡ Err (refusal_of fault))) }
     ensures first { IfErr result (λ fault. (refusal_of fault).number ≤ 18) }
     ensures early { IfErr result (λ fault. (refusal_of fault).late ≡ false) }
     ensures own { IfErr result (IsOfOpening list.now) }
@@ -60,9 +61,11 @@ fn bind_project<S: Shelf>(
     shelf: &mut S,
 ) -> Result<(Project, Bound), Fault>
     ensures same { IfOk result (λ bound. bound.0 ≡ project) }
-    ensures bound { IsTrue (S.honest shelf.old) → IfOk result (λ bound. binding_of project (S.stored shelf.old) ≡ Ok bound.1) }
+    ensures bound { IsTrue (S.honest shelf.old)
+        → IfOk result (λ bound. binding_of project (S.stored shelf.old) ≡ Ok bound.1) }
     ensures refused { IsTrue (S.honest shelf.old)
-        → IfErr result (λ fault. MatchBool (is_excused (refusal_of fault).number) ⊤ (binding_of project (S.stored shelf.old) ≡ Err (refusal_of fault))) }
+        → IfErr result (λ fault. MatchBool (is_excused (refusal_of fault).number) ⊤
+        (binding_of project (S.stored shelf.old) ≡ Err (refusal_of fault))) }
     ensures second { IfErr result (λ fault. turn_of (refusal_of fault) ≡ 2) }
     ensures own { IfErr result (IsOfBinding project) }
     ensures only_reads { ReadsSources S.Shelf shelf.old shelf.new result }
@@ -73,13 +76,15 @@ fn bind_project<S: Shelf>(
     }
 }
 
-/// Reads the list, binds its used indexes, and checks its entries: the first fault of the text, then of a file in the order
-/// of the source index, then of an entry in the order of the list.
+/// Reads the list, binds its used indexes, and checks its entries: the first fault of the text, then of a file in the
+/// order of the source index, then of an entry in the order of the list.
 pub fn open_project<S: Shelf>(alloc: Global, list: &[u8], shelf: &mut S) -> Result<Checked, Fault>
-    ensures accepted { IsTrue (S.honest shelf.old) → IfOk result (λ checked. IsAccepted list.now (S.stored shelf.old) checked.project checked.bound) }
+    ensures accepted { IsTrue (S.honest shelf.old)
+        → IfOk result (λ checked. IsAccepted list.now (S.stored shelf.old) checked.project checked.bound) }
     ensures spelt { IfOk result (λ checked. text_value list.now ≡ Ok checked.project) }
     ensures spelled { IfOk result (λ checked. Spells list.now checked.project) }
-    ensures refusals { IsTrue (S.honest shelf.old) → Answers refusal_of result (project_fault list.now (S.stored shelf.old)) }
+    ensures refusals { IsTrue (S.honest shelf.old)
+        → Answers refusal_of result (project_fault list.now (S.stored shelf.old)) }
     ensures bad_text { RefusesBadText list.now result }
     ensures own { IfErr result (IsOfOpening list.now) }
     ensures only_reads { ReadsSources S.Shelf shelf.old shelf.new result }

@@ -16,7 +16,8 @@ silences-append r (p ∷ ps) b = ap (λ (rest : List Bool). is_silent_in r p ∷
 pub all_silences : (r : Reading) (groups : List (List Piece)) → flat_map (silences_of r) groups ≡ silences r groups
 all_silences r [] = refl
 all_silences r (group ∷ groups) =
-    ap (λ (rest : List Bool). silences_of r group ++ rest) (all_silences r groups) ∙ sym (silences-append r group (pieces_of groups))
+    ap (λ (rest : List Bool). silences_of r group ++ rest) (all_silences r groups)
+    ∙ sym (silences-append r group (pieces_of groups))
 
 -- the reading agrees with what it calls silent
 agrees_with : (r : Reading) (pieces : List Piece) → Agrees r pieces (silences_of r pieces)

@@ -16,10 +16,10 @@ use Rattle.passes.specs.Ends.{IsFirst, IsIndexOf, end_cmp, holds_at, is_end, is_
 
 end_total : IsTotalOrder end_cmp
 end_total =
-    then_total (on_total (λ (e : End). e.rank) nat_cmp_total)
-    (then_total (on_total (λ (e : End). e.start) nat_cmp_total)
+    then_total (on_total (λ (e : End). e.start) nat_cmp_total)
     (then_total (on_total (λ (e : End). e.frame) nat_cmp_total)
     (then_total (on_total (λ (e : End). e.file) nat_cmp_total)
+    (then_total (on_total (λ (e : End). e.rank) nat_cmp_total)
     (then_total (on_total (λ (e : End). e.first) nat_cmp_total)
     (then_total (on_total (λ (e : End). e.dest) nat_cmp_total)
     (on_total (λ (e : End). e.width) nat_cmp_total))))))
@@ -32,9 +32,28 @@ then_equal Greater p = refl
 equal_numbers : (x y : ℕ) → is_eq (nat_cmp x y) ≡ (x == y)
 equal_numbers x y = grind (arith, nat_tests)
 
+-- the same, in the order of the fields
+abbrev is_alike : End → End → Bool
+is_alike a b =
+    a.start == b.start && (a.frame == b.frame && (a.file == b.file && (a.rank == b.rank
+    && (a.first == b.first && (a.dest == b.dest && a.width == b.width)))))
+
+rank_in_front : (rank start frame file rest : Bool)
+    → (start && (frame && (file && (rank && rest)))) ≡ (rank && (start && (frame && (file && rest))))
+rank_in_front true start frame file rest = refl
+rank_in_front false false frame file rest = refl
+rank_in_front false true false file rest = refl
+rank_in_front false true true false rest = refl
+rank_in_front false true true true rest = refl
+
+alike_is_same : (a b : End) → is_alike a b ≡ is_same a b
+alike_is_same a b = rank_in_front (a.rank == b.rank) (a.start == b.start) (a.frame == b.frame) (a.file == b.file) _
+
 -- ends that tie are the same
 tie_is_same : (a b : End) → is_eq (end_cmp a b) ≡ is_same a b
-tie_is_same a b = simp (then_equal, equal_numbers)
+tie_is_same a b =
+    let alike : is_eq (end_cmp a b) ≡ is_alike a b = simp (then_equal, equal_numbers) in
+    alike ∙ alike_is_same a b
 
 same_back : (a b : End) → is_same a b ≡ is_same b a
 same_back a b =
@@ -206,25 +225,27 @@ module _ (marks : List (Option End)) (s : BTreeSet (End × ℕ)) (end : End) (fo
     least k there = rw first at (behind.2 (end, k) (at_or_behind end k, tt) there)
 
     -- the first place behind it is one of another end
-    pub found_other : is_same other end ≡ false → IsFirst (is_end end) marks None
-    found_other differs k = by_test (holds_at (is_end end) marks k) (index end k) where
+    pub found_other : is_alike other end ≡ false → IsFirst (is_end end) marks None
+    found_other unlike k = by_test (holds_at (is_end end) marks k) (index end k) where
       by_test : (b : Bool) → contains place_cmp s (end, k) ≡ b → b ≡ false
       by_test false there = refl
       by_test true there =
           let tie = between (end_cmp other end) (end_cmp end other) 0 i k (end_total.antisymm other end) lies.0
           (least k there) in
-          let same = tie_is_same other end in cc
+          let same = tie_is_same other end in
+          let differs = sym (alike_is_same other end) ∙ unlike in cc
 
     -- it is the end's first place
-    pub found_first : is_same other end ≡ true → IsFirst (is_end end) marks (Some i)
-    found_first same =
-        let is = same_is other end same in
+    pub found_first : is_alike other end ≡ true → IsFirst (is_end end) marks (Some i)
+    found_first alike =
+        let is = same_is other end (sym (alike_is_same other end) ∙ alike) in
         let here : holds_at (is_end end) marks i ≡ true = sym (index end i) ∙ rw is at lies.1 in
         (here, λ k below. by_test k below (holds_at (is_end end) marks k) (index end k)) where
           by_test : (k : ℕ) → k < i → (b : Bool) → contains place_cmp s (end, k) ≡ b → b ≡ false
           by_test k below false there = refl
           by_test k below true there =
-              let low = no_later end i k (rw (same_is other end same) at (least k there)) in absurd (omega arith)
+              let is = same_is other end (sym (alike_is_same other end) ∙ alike) in
+              let low = no_later end i k (rw is at (least k there)) in absurd (omega arith)
 
 pub last_of_push : {X : Type 0} (xs : List X) (x : X) (n : ℕ) → length xs ≡ n → slice_get (xs ++ x ∷ []) n ≡ Some x
 last_of_push [] x n ends = rw (← ends) refl

@@ -30,9 +30,11 @@ abbrev AllSilent : Reading → List Piece → Type 0
 AllSilent r [] = ⊤
 AllSilent r (p ∷ ps) = IsSilent r p × AllSilent r ps
 
-silent_sum : (r : Reading) (pieces : List Piece) (channel time : ℕ) → AllSilent r pieces → sum_of r pieces channel time ≡ pos 0
+silent_sum : (r : Reading) (pieces : List Piece) (channel time : ℕ) → AllSilent r pieces
+    → sum_of r pieces channel time ≡ pos 0
 silent_sum r [] channel time silent = refl
-silent_sum r (p ∷ ps) channel time silent = rw (silent_part r p channel time silent.0, silent_sum r ps channel time silent.1) refl
+silent_sum r (p ∷ ps) channel time silent =
+    rw (silent_part r p channel time silent.0, silent_sum r ps channel time silent.1) refl
 
 both_true : (a b : Bool) → (a && b) ≡ true → (a ≡ true) × (b ≡ true)
 both_true true true e = (refl, refl)
@@ -40,19 +42,23 @@ both_true true false e = cc
 both_true false b e = cc
 
 -- pieces that are called silent are so, where the reading agrees
-called_silent : (r : Reading) (group rest : List Piece) (silent : List Bool) → Agrees r (group ++ rest) silent → is_called (length group) silent ≡ true → AllSilent r group
+called_silent : (r : Reading) (group rest : List Piece) (silent : List Bool) → Agrees r (group ++ rest) silent
+    → is_called (length group) silent ≡ true → AllSilent r group
 called_silent r [] rest silent agrees called = tt
 called_silent r (p ∷ ps) rest [] agrees called =
     let short : nat_le (length (p ∷ ps)) 0 ≡ false = grind (arith, nat_tests) in
     let parts = both_true (nat_le (length (p ∷ ps)) 0) _ called in cc
 called_silent r (p ∷ ps) rest (b ∷ silent) agrees called =
-    let parts = both_true (nat_le (length (p ∷ ps)) (length (b ∷ silent))) (list_all (λ x. x) (take (length (p ∷ ps)) (b ∷ silent))) called in
+    let parts =
+    both_true (nat_le (length (p ∷ ps)) (length (b ∷ silent)))
+    (list_all (λ x. x) (take (length (p ∷ ps)) (b ∷ silent))) called in
     let calls = both_true b (list_all (λ x. x) (take (length ps) silent)) parts.1 in
     let enough : nat_le (length ps) (length silent) ≡ true = grind (arith, nat_tests) in
     let rest_called : is_called (length ps) silent ≡ true = rw enough calls.1 in
     (agrees.0 calls.0, called_silent r ps rest silent agrees.1 rest_called)
 
-agrees_behind : (r : Reading) (group rest : List Piece) (silent : List Bool) → Agrees r (group ++ rest) silent → Agrees r rest (drop (length group) silent)
+agrees_behind : (r : Reading) (group rest : List Piece) (silent : List Bool) → Agrees r (group ++ rest) silent
+    → Agrees r rest (drop (length group) silent)
 agrees_behind r [] rest silent agrees = agrees
 agrees_behind r (p ∷ ps) [] [] agrees = tt
 agrees_behind r (p ∷ ps) (q ∷ qs) [] agrees = tt
@@ -68,7 +74,8 @@ pub same_mix : (groups : List (List Piece)) (silent : List Bool) → SameMix gro
 same_mix [] silent r agrees channel time = refl
 same_mix (group ∷ groups) silent r agrees channel time =
     by_call (is_called (length group) silent) refl
-    (same_mix groups (drop (length group) silent) r (agrees_behind r group (pieces_of groups) silent agrees) channel time) where
+    (same_mix groups (drop (length group) silent) r (agrees_behind r group (pieces_of groups) silent agrees)
+    channel time) where
       by_call : (b : Bool) → is_called (length group) silent ≡ b
           → mix_of r (without_silent groups (drop (length group) silent)) channel time ≡ mix_of r groups channel time
           → mix_of r (without_silent (group ∷ groups) silent) channel time ≡ mix_of r (group ∷ groups) channel time
@@ -78,7 +85,8 @@ same_mix (group ∷ groups) silent r agrees channel time =
           rw e (omega (arith, ints, all, nothing, rest))
       by_call false e rest =
           let all = sum_of-append r group (pieces_of groups) channel time in
-          let left = sum_of-append r group (pieces_of (without_silent groups (drop (length group) silent))) channel time in
+          let left =
+          sum_of-append r group (pieces_of (without_silent groups (drop (length group) silent))) channel time in
           rw e (omega (arith, ints, all, left, rest))
 
 or_right : (a b : Bool) → b ≡ true → (a || b) ≡ true
@@ -98,16 +106,20 @@ pub reads_no_more : (groups : List (List Piece)) (silent : List Bool) (file chan
     → IsTrue (reads (without_silent groups silent) file channel frame) → IsTrue (reads groups file channel frame)
 reads_no_more [] silent file channel frame read = read
 reads_no_more (group ∷ groups) silent file channel frame read =
-    by_call (is_called (length group) silent) refl (reads_no_more groups (drop (length group) silent) file channel frame) where
+    by_call (is_called (length group) silent) refl
+    (reads_no_more groups (drop (length group) silent) file channel frame) where
       by_call : (b : Bool) → is_called (length group) silent ≡ b
-          → (IsTrue (reads (without_silent groups (drop (length group) silent)) file channel frame) → IsTrue (reads groups file channel frame))
+          → (IsTrue (reads (without_silent groups (drop (length group) silent)) file channel frame)
+          → IsTrue (reads groups file channel frame))
           → IsTrue (reads (group ∷ groups) file channel frame)
       by_call true e rest =
-          let there : reads (without_silent groups (drop (length group) silent)) file channel frame ≡ true = rw e at read in
+          let there : reads (without_silent groups (drop (length group) silent)) file channel frame ≡ true =
+          rw e at read in
           or_right _ (reads groups file channel frame) (rest there)
       by_call false e rest = or_more _ _ (reads groups file channel frame) rest (rw e at read)
 
-pub keeps_whole : (groups : List (List Piece)) (silent : List Bool) → IsTrue (are_whole groups) → IsTrue (are_whole (without_silent groups silent))
+pub keeps_whole : (groups : List (List Piece)) (silent : List Bool) → IsTrue (are_whole groups)
+    → IsTrue (are_whole (without_silent groups silent))
 keeps_whole [] silent whole = whole
 keeps_whole (group ∷ groups) silent whole =
     by_call (is_called (length group) silent) refl (keeps_whole groups (drop (length group) silent)) where
@@ -117,11 +129,14 @@ keeps_whole (group ∷ groups) silent whole =
       by_call true e rest = rw e (rest (both_true (list_all is_whole group) (are_whole groups) whole).1)
       by_call false e rest = rw e (and_more (list_all is_whole group) (are_whole groups) _ rest whole)
 
-all_left : (P : List Piece → Type 0) (groups : List (List Piece)) (silent : List Bool) → All P groups → All P (without_silent groups silent)
+all_left : (P : List Piece → Type 0) (groups : List (List Piece)) (silent : List Bool) → All P groups
+    → All P (without_silent groups silent)
 all_left P [] silent all = all
 all_left P (group ∷ groups) silent all =
-    by_call (is_called (length group) silent) refl (all_left P groups (drop (length group) silent) (All-tail P group groups all)) where
-      by_call : (b : Bool) → is_called (length group) silent ≡ b → All P (without_silent groups (drop (length group) silent))
+    by_call (is_called (length group) silent) refl
+    (all_left P groups (drop (length group) silent) (All-tail P group groups all)) where
+      by_call : (b : Bool) → is_called (length group) silent ≡ b
+          → All P (without_silent groups (drop (length group) silent))
           → All P (without_silent (group ∷ groups) silent)
       by_call true e rest = rw e rest
       by_call false e rest = rw e (All-cons P group _ (all 0 group (omega arith)) rest)
@@ -130,16 +145,20 @@ rise_more : (low high : ℕ) (groups : List (List Piece)) → low ≤ high → R
 rise_more low high [] le rise = tt
 rise_more low high (group ∷ groups) le rise = (omega arith, rise.1)
 
-rise_left : (low : ℕ) (groups : List (List Piece)) (silent : List Bool) → RiseFrom low groups → RiseFrom low (without_silent groups silent)
+rise_left : (low : ℕ) (groups : List (List Piece)) (silent : List Bool) → RiseFrom low groups
+    → RiseFrom low (without_silent groups silent)
 rise_left low [] silent rise = tt
 rise_left low (group ∷ groups) silent rise =
-    by_call (is_called (length group) silent) refl (rise_left (start_of group) groups (drop (length group) silent) rise.1) where
-      by_call : (b : Bool) → is_called (length group) silent ≡ b → RiseFrom (start_of group) (without_silent groups (drop (length group) silent))
+    by_call (is_called (length group) silent) refl
+    (rise_left (start_of group) groups (drop (length group) silent) rise.1) where
+      by_call : (b : Bool) → is_called (length group) silent ≡ b
+          → RiseFrom (start_of group) (without_silent groups (drop (length group) silent))
           → RiseFrom low (without_silent (group ∷ groups) silent)
       by_call true e rest = rw e (rise_more low (start_of group) _ rise.0 rest)
       by_call false e rest = rw e (rise.0, rest)
 
-pub are_groups : (groups : List (List Piece)) (silent : List Bool) → AreGroups groups → AreGroups (without_silent groups silent)
+pub are_groups : (groups : List (List Piece)) (silent : List Bool) → AreGroups groups
+    → AreGroups (without_silent groups silent)
 are_groups groups silent are = record {
   groups_ok = all_left IsGroup groups silent are.groups_ok;
   pieces_ok = all_left (All IsPiece) groups silent are.pieces_ok;

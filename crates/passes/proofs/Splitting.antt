@@ -17,9 +17,11 @@ alone-append (p ∷ ps) b = ap (λ rest. (p ∷ []) ∷ rest) (alone-append ps b
 -- the groups of all pieces
 pub all_alone : (groups : List (List Piece)) → flat_map each_alone groups ≡ each_alone (pieces_of groups)
 all_alone [] = refl
-all_alone (group ∷ groups) = ap (λ rest. each_alone group ++ rest) (all_alone groups) ∙ sym (alone-append group (pieces_of groups))
+all_alone (group ∷ groups) =
+    ap (λ rest. each_alone group ++ rest) (all_alone groups) ∙ sym (alone-append group (pieces_of groups))
 
-mix_alone : (r : Reading) (pieces : List Piece) (channel time : ℕ) → mix_of r (each_alone pieces) channel time ≡ sum_of r pieces channel time
+mix_alone : (r : Reading) (pieces : List Piece) (channel time : ℕ)
+    → mix_of r (each_alone pieces) channel time ≡ sum_of r pieces channel time
 mix_alone r [] channel time = refl
 mix_alone r (p ∷ ps) channel time = omega (arith, ints, mix_alone r ps channel time)
 
@@ -35,16 +37,19 @@ and_nothing : (a : Bool) → (a && true) ≡ a
 and_nothing true = refl
 and_nothing false = refl
 
-reads_alone : (file channel frame : ℕ) (pieces : List Piece) → reads (each_alone pieces) file channel frame ≡ list_any (λ p. is_read p file channel frame) pieces
+reads_alone : (file channel frame : ℕ) (pieces : List Piece)
+    → reads (each_alone pieces) file channel frame ≡ list_any (λ p. is_read p file channel frame) pieces
 reads_alone file channel frame [] = refl
-reads_alone file channel frame (p ∷ ps) = rw (or_nothing (is_read p file channel frame), reads_alone file channel frame ps) refl
+reads_alone file channel frame (p ∷ ps) =
+    rw (or_nothing (is_read p file channel frame), reads_alone file channel frame ps) refl
 
 pub reads_split : (groups : List (List Piece)) (file channel frame : ℕ)
     → reads (flat_map each_alone groups) file channel frame ≡ reads groups file channel frame
 reads_split [] file channel frame = refl
 reads_split (group ∷ groups) file channel frame =
     rw (
-      list_any-append (λ (g : List Piece). list_any (λ p. is_read p file channel frame) g) (each_alone group) (flat_map each_alone groups),
+      list_any-append (λ (g : List Piece). list_any (λ p. is_read p file channel frame) g) (each_alone group)
+          (flat_map each_alone groups),
       reads_alone file channel frame group,
       reads_split groups file channel frame,
     ) refl
@@ -56,7 +61,11 @@ whole_alone (p ∷ ps) = rw (and_nothing (is_whole p), whole_alone ps) refl
 pub whole_split : (groups : List (List Piece)) → are_whole (flat_map each_alone groups) ≡ are_whole groups
 whole_split [] = refl
 whole_split (group ∷ groups) =
-    rw (list_all-append (λ (g : List Piece). list_all is_whole g) (each_alone group) (flat_map each_alone groups), whole_alone group, whole_split groups) refl
+    rw (
+      list_all-append (λ (g : List Piece). list_all is_whole g) (each_alone group) (flat_map each_alone groups),
+      whole_alone group,
+      whole_split groups,
+    ) refl
 
 nothing : {X : Type 0} (P : X → Type 0) → All P []
 nothing P k d below = absurd (omega arith)
@@ -68,13 +77,16 @@ alone_are (p ∷ ps) = All-cons IsGroup (p ∷ []) (each_alone ps) tt (alone_are
 alone_hold : (pieces : List Piece) → All IsPiece pieces → All (All IsPiece) (each_alone pieces)
 alone_hold [] all = nothing (All IsPiece)
 alone_hold (p ∷ ps) all =
-    All-cons (All IsPiece) (p ∷ []) (each_alone ps) (All-cons IsPiece p [] (all 0 p (omega arith)) (nothing IsPiece)) (alone_hold ps (All-tail IsPiece p ps all))
+    All-cons (All IsPiece) (p ∷ []) (each_alone ps) (All-cons IsPiece p [] (all 0 p (omega arith)) (nothing IsPiece))
+    (alone_hold ps (All-tail IsPiece p ps all))
 
 pub split_are : (groups : List (List Piece)) → All IsGroup (flat_map each_alone groups)
 split_are [] = nothing IsGroup
 split_are (group ∷ groups) = All-append IsGroup _ _ (alone_are group) (split_are groups)
 
-pub split_hold : (groups : List (List Piece)) → All (All IsPiece) groups → All (All IsPiece) (flat_map each_alone groups)
+pub split_hold : (groups : List (List Piece)) → All (All IsPiece) groups
+    → All (All IsPiece) (flat_map each_alone groups)
 split_hold [] all = nothing (All IsPiece)
 split_hold (group ∷ groups) all =
-    All-append (All IsPiece) _ _ (alone_hold group (all 0 group (omega arith))) (split_hold groups (All-tail (All IsPiece) group groups all))
+    All-append (All IsPiece) _ _ (alone_hold group (all 0 group (omega arith)))
+    (split_hold groups (All-tail (All IsPiece) group groups all))

@@ -90,12 +90,12 @@ earlier None other = other
 earlier (Some one) None = Some one
 earlier (Some one) (Some other) = if nat_lt other one then Some other else Some one
 
--- by rank, then start, and so on
+-- by start, then frame, and so on
 abbrev pub end_cmp : End → End → Ordering
 end_cmp a b =
-    ordering_then (nat_cmp a.rank b.rank) (ordering_then (nat_cmp a.start b.start)
-    (ordering_then (nat_cmp a.frame b.frame)
-    (ordering_then (nat_cmp a.file b.file) (ordering_then (nat_cmp a.first b.first)
+    ordering_then (nat_cmp a.start b.start) (ordering_then (nat_cmp a.frame b.frame)
+    (ordering_then (nat_cmp a.file b.file)
+    (ordering_then (nat_cmp a.rank b.rank) (ordering_then (nat_cmp a.first b.first)
     (ordering_then (nat_cmp a.dest b.dest) (nat_cmp a.width b.width))))))
 
 abbrev pub place_cmp : End × ℕ → End × ℕ → Ordering

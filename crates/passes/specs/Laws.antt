@@ -56,7 +56,8 @@ called_channel r file channel frame (suc n) each =
           let there : suc frame + i ≡ frame + suc i = omega arith in rw there (each (suc i) (omega arith))
 
 called_channels : (r : Reading) (file channel width frame n : ℕ)
-    → ((j i : ℕ) → j < width → i < n → r file (channel + j) (frame + i) ≡ pos 0) → are_zero r file channel width frame n ≡ true
+    → ((j i : ℕ) → j < width → i < n → r file (channel + j) (frame + i) ≡ pos 0)
+    → are_zero r file channel width frame n ≡ true
 called_channels r file channel zero frame n each = refl
 called_channels r file channel (suc width) frame n each =
     rw (called_channel r file channel frame n first) (called_channels r file (suc channel) width frame n later) where

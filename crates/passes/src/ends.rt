@@ -16,13 +16,13 @@ pub(crate) const FLAT: u8 = 1;
 const FALL: u8 = 2;
 
 /// The end of a piece: the rank of its shape, and the place from which another piece goes on in destination and source,
-/// on the same channels of the same file.
+/// on the same channels of the same file. The small fields stand side by side, so that an end takes 24 bytes.
 #[derive(Clone, Copy, Debug, PartialEq, Eq, PartialOrd, Ord)]
 pub(crate) struct End {
-    rank: u8,
     start: u64,
     frame: u64,
     file: u32,
+    rank: u8,
     first: u8,
     dest: u8,
     width: u8,

@@ -36,9 +36,11 @@ fn pieces_alone(intervals: &Intervals) -> Result<Vec<Group>, AllocError>
 /// Makes each piece a group of its own, in order of start, so that a fade can be dealt with apart from what it fades.
 pub fn split_fades(intervals: Intervals) -> Result<Intervals, PassFault>
     ensures gives { IfOk result (λ new. new ≡ spec.split_fades intervals) }
-    ensures keeps_mix { (reading : Reading) (channel time : ℕ) → IfOk result (λ new. mix_of reading new channel time ≡ mix_of reading intervals channel time) }
+    ensures keeps_mix { (reading : Reading) (channel time : ℕ)
+        → IfOk result (λ new. mix_of reading new channel time ≡ mix_of reading intervals channel time) }
     ensures keeps_whole { IfOk result (λ new. are_whole new ≡ are_whole intervals) }
-    ensures same_reads { (file channel frame : ℕ) → IfOk result (λ new. reads new file channel frame ≡ reads intervals file channel frame) }
+    ensures same_reads { (file channel frame : ℕ)
+        → IfOk result (λ new. reads new file channel frame ≡ reads intervals file channel frame) }
     ensures memory { IfErr result (λ fault. fault ≡ Memory) }
 {
     let _ = intervals.groups();

@@ -11,6 +11,7 @@ use crate::PassFault;
 use crate::ends::{End, FLAT, RISE};
 use crate::marks::Marks;
 use crate::output::Output;
+use crate::waiting::Waiting;
 use interval::{Group, Intervals, Piece, Shape};
 use std::alloc::AllocError;
 
@@ -92,20 +93,23 @@ fn put_grouped(output: &mut Output, group: Group) -> Result<(), AllocError>
 fn grouped(intervals: Intervals) -> Result<Vec<Group>, AllocError>
     ensures { IfOk result (λ groups. groups.items ≡ spec.regroup intervals) }
 {
-    let mut output = Output::new(intervals.allocator());
-    for group in intervals.into_groups() {
+    let mut output = Output::new(intervals.allocator(), intervals.groups().len())?;
+    let mut waiting = Waiting::of(intervals.into_groups());
+    while let Some(group) = waiting.next() {
         put_grouped(&mut output, group)?;
     }
     Ok(output.groups)
 }
 
-/// Puts a rise, a flat part and a fall that continue one another into one group again: each group is added to the end of
-/// the first one that it may follow, so that a file is written for all of them together.
+/// Puts a rise, a flat part and a fall that continue one another into one group again: each group is added to the end
+/// of the first one that it may follow, so that a file is written for all of them together.
 pub fn regroup(intervals: Intervals) -> Result<Intervals, PassFault>
     ensures gives { IfOk result (λ new. new ≡ spec.regroup intervals) }
-    ensures keeps_mix { (reading : Reading) (channel time : ℕ) → IfOk result (λ new. mix_of reading new channel time ≡ mix_of reading intervals channel time) }
+    ensures keeps_mix { (reading : Reading) (channel time : ℕ)
+        → IfOk result (λ new. mix_of reading new channel time ≡ mix_of reading intervals channel time) }
     ensures keeps_whole { IfOk result (λ new. are_whole new ≡ are_whole intervals) }
-    ensures same_reads { (file channel frame : ℕ) → IfOk result (λ new. reads new file channel frame ≡ reads intervals file channel frame) }
+    ensures same_reads { (file channel frame : ℕ)
+        → IfOk result (λ new. reads new file channel frame ≡ reads intervals file channel frame) }
     ensures memory { IfErr result (λ fault. fault ≡ Memory) }
 {
     let _ = intervals.groups();

@@ -12,6 +12,7 @@ ghost use Rattle.passes.specs.declared.fault.PassFault.TheVariants.{Memory};
 use crate::PassFault;
 use crate::ends::{End, FLAT};
 use crate::output::Output;
+use crate::waiting::Waiting;
 use interval::{Group, Intervals, Piece, Shape};
 use std::alloc::AllocError;
 
@@ -32,7 +33,8 @@ fn lengthen(output: &mut Output, place: usize, piece: Piece) -> Result<(), Alloc
     requires ends { output.old.ends ≡ map flat_end output.old.groups.items }
     requires first { IsFirst (is_end (end_before 1 piece)) output.old.ends (Some place) }
     ensures ends { OnOk result (output.new.ends ≡ map flat_end output.new.groups.items) }
-    ensures put { OnOk result (output.new.groups.items ≡ put_to_first (lengthened piece) (piece ∷ []) output.old.groups.items) }
+    ensures put { OnOk result (output.new.groups.items
+        ≡ put_to_first (lengthened piece) (piece ∷ []) output.old.groups.items) }
 {
     output.groups[place].lengthen(piece);
     output.ends.set(place, Some(End::of(&piece)))
@@ -44,7 +46,8 @@ fn put_flat(output: &mut Output, piece: Piece) -> Result<(), AllocError>
     requires sound { IsPiece piece }
     requires ends { output.old.ends ≡ map flat_end output.old.groups.items }
     ensures ends { OnOk result (output.new.ends ≡ map flat_end output.new.groups.items) }
-    ensures put { OnOk result (output.new.groups.items ≡ put_to_first (lengthened piece) (piece ∷ []) output.old.groups.items) }
+    ensures put { OnOk result (output.new.groups.items
+        ≡ put_to_first (lengthened piece) (piece ∷ []) output.old.groups.items) }
 {
     match output.ends.first(End::before(&piece, FLAT)) {
         Some(place) => lengthen(output, place, piece),
@@ -72,21 +75,24 @@ fn put_joined(output: &mut Output, group: Group) -> Result<(), AllocError>
 fn joined(intervals: Intervals) -> Result<Vec<Group>, AllocError>
     ensures { IfOk result (λ groups. groups.items ≡ spec.join_cuts intervals) }
 {
-    let mut output = Output::new(intervals.allocator());
-    for group in intervals.into_groups() {
+    let mut output = Output::new(intervals.allocator(), intervals.groups().len())?;
+    let mut waiting = Waiting::of(intervals.into_groups());
+    while let Some(group) = waiting.next() {
         put_joined(&mut output, group)?;
     }
     Ok(output.groups)
 }
 
-/// Joins flat pieces that go on without a gap, in destination and source, on the same channels of one file: a group of one
-/// flat piece lengthens the first such group that it goes on from, and every other group stays as it is. A cut that isn't
-/// heard is gone then.
+/// Joins flat pieces that go on without a gap, in destination and source, on the same channels of one file: a group of
+/// one flat piece lengthens the first such group that it goes on from, and every other group stays as it is. A cut that
+/// isn't heard is gone then.
 pub fn join_cuts(intervals: Intervals) -> Result<Intervals, PassFault>
     ensures gives { IfOk result (λ new. new ≡ spec.join_cuts intervals) }
-    ensures keeps_mix { (reading : Reading) (channel time : ℕ) → IfOk result (λ new. mix_of reading new channel time ≡ mix_of reading intervals channel time) }
+    ensures keeps_mix { (reading : Reading) (channel time : ℕ)
+        → IfOk result (λ new. mix_of reading new channel time ≡ mix_of reading intervals channel time) }
     ensures keeps_whole { IfOk result (λ new. are_whole new ≡ are_whole intervals) }
-    ensures same_reads { (file channel frame : ℕ) → IfOk result (λ new. reads new file channel frame ≡ reads intervals file channel frame) }
+    ensures same_reads { (file channel frame : ℕ)
+        → IfOk result (λ new. reads new file channel frame ≡ reads intervals file channel frame) }
     ensures memory { IfErr result (λ fault. fault ≡ Memory) }
 {
     let _ = intervals.groups();

@@ -12,6 +12,7 @@ mod marks;
 mod output;
 mod samples;
 mod silence;
+mod waiting;
 
 pub use fades::split_fades;
 pub use fault::PassFault;

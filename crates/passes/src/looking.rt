@@ -11,7 +11,8 @@ use std::alloc::Global;
 
 /// Whether all samples that the piece reads are zero.
 fn is_silent<P: Samples>(piece: &Piece, samples: &mut P) -> Result<bool, PassFault>
-    ensures answer { IsTrue (P.honest samples.old) → IfOk result (λ silent. silent ≡ is_silent_in (P.reading samples.old) piece.now) }
+    ensures answer { IsTrue (P.honest samples.old)
+        → IfOk result (λ silent. silent ≡ is_silent_in (P.reading samples.old) piece.now) }
     ensures looks { AsksFor P.Samples samples.old samples.new result }
 {
     match samples.all_zero(
@@ -62,15 +63,17 @@ fn ask_groups<P: Samples>(
     Ok(silent)
 }
 
-/// For each piece of the groups, in order, whether all samples that it reads are zero, on all its channels. Each piece is
-/// asked for once.
+/// For each piece of the groups, in order, whether all samples that it reads are zero, on all its channels. Each piece
+/// is asked for once.
 pub fn silent_of<P: Samples>(
     alloc: Global,
     intervals: &Intervals,
     samples: &mut P,
 ) -> Result<Vec<bool>, PassFault>
-    ensures answers { IsTrue (P.honest samples.old) → IfOk result (λ silent. silent.items ≡ silences (P.reading samples.old) intervals.now) }
-    ensures agrees { IsTrue (P.honest samples.old) → IfOk result (λ silent. Agrees (P.reading samples.old) (pieces_of intervals.now) silent.items) }
+    ensures answers { IsTrue (P.honest samples.old)
+        → IfOk result (λ silent. silent.items ≡ silences (P.reading samples.old) intervals.now) }
+    ensures agrees { IsTrue (P.honest samples.old)
+        → IfOk result (λ silent. Agrees (P.reading samples.old) (pieces_of intervals.now) silent.items) }
     ensures looks { AsksFor P.Samples samples.old samples.new result }
 {
     let silent = ask_groups(alloc, intervals, samples)?;

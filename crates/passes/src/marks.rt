@@ -1,5 +1,5 @@
 // Marks in a list, each found at its first place by an ordered index.
-ghost use Rattle.std.specs.Prelude.{◌≡◌, ◌++◌, ◌∷◌, [], ◌<◌, length, None, Some, slice_get, slice_set, OnOk};
+ghost use Rattle.std.specs.Prelude.{◌≡◌, ◌++◌, ◌∷◌, [], ◌<◌, length, None, Some, slice_get, slice_set, IfOk, OnOk};
 ghost use Rattle.passes.specs.Ends.{IsFirst, is_end};
 
 use crate::ends::End;
@@ -7,8 +7,8 @@ use std::alloc::{AllocError, Global};
 use std::collections::BTreeSet;
 use std::marker::Model;
 
-/// A list of marks, some of them none, in which the first place of a mark is found without a search of all. A clause sees
-/// the list.
+/// A list of marks, some of them none, in which the first place of a mark is found without a search of all. A clause
+/// sees the list.
 #[derive(Drop)]
 pub(crate) struct Marks {
     marks: Vec<Option<End>>,
@@ -28,14 +28,14 @@ impl Model for Marks {
 }
 
 impl Marks {
-    /// No marks.
-    pub(crate) fn new(alloc: Global) -> Self
-        ensures { result ≡ [] }
+    /// No marks, and room for so many.
+    pub(crate) fn new(alloc: Global, count: usize) -> Result<Self, AllocError>
+        ensures { IfOk result (λ marks. marks ≡ []) }
     {
-        Marks {
-            marks: Vec::new(alloc),
+        Ok(Marks {
+            marks: Vec::with_capacity(alloc, count)?,
             places: BTreeSet::new(alloc),
-        }
+        })
     }
 
     /// The first place of this mark.

@@ -1,5 +1,5 @@
 // The groups that a pass puts out.
-ghost use Rattle.std.specs.Prelude.{◌≡◌, ◌++◌, ◌∷◌, [], OnOk};
+ghost use Rattle.std.specs.Prelude.{◌≡◌, ◌++◌, ◌∷◌, [], IfOk, OnOk};
 
 use crate::ends::End;
 use crate::marks::Marks;
@@ -14,15 +14,15 @@ pub(crate) struct Output {
 }
 
 impl Output {
-    /// No groups.
-    pub(crate) fn new(alloc: Global) -> Self
-        ensures groups { result.groups.items ≡ [] }
-        ensures ends { result.ends ≡ [] }
+    /// No groups, and room for so many.
+    pub(crate) fn new(alloc: Global, count: usize) -> Result<Self, AllocError>
+        ensures groups { IfOk result (λ output. output.groups.items ≡ []) }
+        ensures ends { IfOk result (λ output. output.ends ≡ []) }
     {
-        Output {
-            groups: Vec::new(alloc),
-            ends: Marks::new(alloc),
-        }
+        Ok(Output {
+            groups: Vec::with_capacity(alloc, count)?,
+            ends: Marks::new(alloc, count)?,
+        })
     }
 
     /// Puts a group behind the others.

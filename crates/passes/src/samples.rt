@@ -30,7 +30,9 @@ pub trait Samples {
         from: u64,
         length: u64,
     ) -> Result<bool, ShelfFault>
-        ensures answer { IsTrue (honest self.old) → IfOk result (λ zero. zero ≡ are_zero (reading self.old) file first width from length) }
+        ensures answer { IsTrue (honest self.old)
+            → IfOk result (λ zero. zero ≡ are_zero (reading self.old) file first width from length) }
         ensures not_missing { IsErrOf result ShelfFault.NotFound → ⊥ }
-        ensures looks { LooksTo reading honest failures failed_at self.old self.new result (λ fault. fault ≡ ShelfFault.Device) (λ _ failed. failed file) };
+        ensures looks { LooksTo reading honest failures failed_at self.old self.new result
+            (λ fault. fault ≡ ShelfFault.Device) (λ _ failed. failed file) };
 }

@@ -46,7 +46,8 @@ pub fn drop_silent(intervals: Intervals, silent: &[bool]) -> Result<Intervals, P
     ensures gives { IfOk result (λ new. new ≡ without_silent intervals silent.now) }
     ensures keeps_mix { IfOk result (λ new. SameMix intervals silent.now new) }
     ensures keeps_whole { IfOk result (λ new. IsTrue (are_whole intervals) → IsTrue (are_whole new)) }
-    ensures reads_no_more { (file channel frame : ℕ) → IfOk result (λ new. IsTrue (reads new file channel frame) → IsTrue (reads intervals file channel frame)) }
+    ensures reads_no_more { (file channel frame : ℕ)
+        → IfOk result (λ new. IsTrue (reads new file channel frame) → IsTrue (reads intervals file channel frame)) }
     ensures memory { IfErr result (λ fault. fault ≡ Memory) }
 {
     let _ = intervals.groups();

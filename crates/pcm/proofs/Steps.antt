@@ -5,7 +5,7 @@ use Rattle.std.specs.Int.{w16, w32, cast_signed, cast_unsigned}
 use Rattle.std.specs.List.{flat_map}
 use Rattle.std.proofs.lemmas.Bool.Decides.{nat_tests}
 use Rattle.std.proofs.lemmas.Int.{ints}
-use Rattle.std.proofs.lemmas.List.{append_assoc, append-nil, length-take-le, take_at, take_more, take_more_set}
+use Rattle.std.proofs.lemmas.List.{append_assoc, append-nil, length-drop, length-take-le, take_at, take_more, take_more_set}
 use Rattle.std.proofs.lemmas.List.Concat.{flat_map-append}
 use borrow.Rule.Slice.PartMut.{post_of, put_mid}
 use Rattle.byteorder.specs.Endian.{low_bytes, twos_complement}
@@ -34,7 +34,8 @@ pub one_written : (depth i k : ℕ) (samples : List ℤ) (bytes new behind : Lis
     → i * (depth / 8) ≤ length bytes
     → new ≡ sample_bytes depth (get_or samples i (pos 0)) ++ behind
     → take (i * (depth / 8)) bytes ≡ flat_map (sample_bytes depth) (take i samples)
-    → take ((i + 1) * (depth / 8)) (put_mid (i * (depth / 8)) k bytes new) ≡ flat_map (sample_bytes depth) (take (i + 1) samples)
+    → take ((i + 1) * (depth / 8)) (put_mid (i * (depth / 8)) k bytes new)
+    ≡ flat_map (sample_bytes depth) (take (i + 1) samples)
 one_written depth i k samples bytes new behind below room written before =
     let front = take (i * (depth / 8)) bytes in
     let word = sample_bytes depth (get_or samples i (pos 0)) in
@@ -44,5 +45,25 @@ one_written depth i k samples bytes new behind below room written before =
     ∙ ap (λ (l : List ℕ). front ++ l) (append_assoc word behind rest)
     ∙ sym (append_assoc front word (behind ++ rest)) in
     let whole : length (front ++ word) ≡ (i + 1) * (depth / 8) =
-    length-append front word ∙ rw (length-take-le (i * (depth / 8)) bytes room, length-sample_bytes depth (get_or samples i (pos 0))) (omega arith) in
-    rw (regroup, take_at (front ++ word) (behind ++ rest) ((i + 1) * (depth / 8)) whole, before, take_more samples i (pos 0) below, flat_map-append, append-nil) refl
+    length-append front word
+    ∙ rw (length-take-le (i * (depth / 8)) bytes room, length-sample_bytes depth (get_or samples i (pos 0)))
+    (omega arith) in
+    rw (
+      regroup,
+      take_at (front ++ word) (behind ++ rest) ((i + 1) * (depth / 8)) whole,
+      before,
+      take_more samples i (pos 0) below,
+      flat_map-append,
+      append-nil,
+    ) refl
+
+-- a part that keeps its length keeps that of the whole
+pub length-put_mid : {X : Type 0} (a k : ℕ) (old new : List X) → a + k ≤ length old → length new ≡ k
+    → length (put_mid a k old new) ≡ length old
+length-put_mid a k old new inside whole =
+    let front = length-append (take a old) (new ++ post_of a k old) in
+    let back = length-append new (post_of a k old) in
+    let first = length-take-le a old (omega arith) in
+    let rest = length-drop k (drop a old) in
+    let behind = length-drop a old in
+    omega (arith, front, back, first, rest, behind)

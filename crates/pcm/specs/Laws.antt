@@ -24,7 +24,8 @@ length-samples_in depth (suc n) bytes = ap suc (length-samples_in depth n (drop 
 pub get_or-samples_in : (depth n i : ℕ) (bytes : List ℕ) (d : ℤ) → i < n
     → get_or (samples_in depth n bytes) i d ≡ sample_of depth (drop (i * (depth / 8)) bytes)
 get_or-samples_in depth zero i bytes d below = absurd (omega arith)
-get_or-samples_in depth (suc n) zero bytes d below = let start : 0 ≡ zero * (depth / 8) = omega arith in ap (λ k. sample_of depth (drop k bytes)) start
+get_or-samples_in depth (suc n) zero bytes d below = let start : 0 ≡ zero * (depth / 8) = omega arith in
+    ap (λ k. sample_of depth (drop k bytes)) start
 get_or-samples_in depth (suc n) (suc i) bytes d below =
     let further : depth / 8 + i * (depth / 8) ≡ suc i * (depth / 8) = omega arith in
     get_or-samples_in depth n i (drop (depth / 8) bytes) d (omega arith)
@@ -52,7 +53,8 @@ sample_of-take depth n bytes room =
     ap (twos_complement (depth / 8)) (little_from-take 0 (depth / 8) n bytes (omega arith))
 
 -- the samples of a stretch of a file, at their places in the file
-pub get_or-samples_in_file : (depth n i place : ℕ) (file bytes : List ℕ) (d : ℤ) → bytes ≡ take (n * (depth / 8)) (drop place file) → i < n
+pub get_or-samples_in_file : (depth n i place : ℕ) (file bytes : List ℕ) (d : ℤ)
+    → bytes ≡ take (n * (depth / 8)) (drop place file) → i < n
     → get_or (samples_in depth n bytes) i d ≡ sample_of depth (drop (place + i * (depth / 8)) file)
 get_or-samples_in_file depth n i place file bytes d stretch below =
     let w = depth / 8 in
@@ -61,19 +63,22 @@ get_or-samples_in_file depth n i place file bytes d stretch below =
     let room : w ≤ (n - i) * w = grind (arith, left) in
     get_or-samples_in depth n i bytes d below
     ∙ ap (λ (l : List ℕ). sample_of depth (drop (i * w) l)) stretch
-    ∙ ap (sample_of depth) (ap (λ k. drop (i * w) (take k (drop place file))) left ∙ drop-take (i * w) ((n - i) * w) (drop place file))
+    ∙ ap (sample_of depth) (ap (λ k. drop (i * w) (take k (drop place file))) left
+    ∙ drop-take (i * w) ((n - i) * w) (drop place file))
     ∙ sample_of-take depth ((n - i) * w) (drop (i * w) (drop place file)) room
     ∙ ap (sample_of depth) (drop-drop (i * w) place file)
 
 -- the same, of whole frames: by frame and channel
 pub get_or-samples_in_frames : (depth n frame channel channels place : ℕ) (file bytes : List ℕ) (d : ℤ)
     → bytes ≡ take (n * (depth / 8)) (drop place file) → frame * channels + (channel - 1) < n
-    → get_or (samples_in depth n bytes) (frame * channels + (channel - 1)) d ≡ sample_at file place channels depth frame channel
+    → get_or (samples_in depth n bytes) (frame * channels + (channel - 1)) d
+    ≡ sample_at file place channels depth frame channel
 get_or-samples_in_frames depth n frame channel channels place file bytes d stretch below =
     get_or-samples_in_file depth n (frame * channels + (channel - 1)) place file bytes d stretch below
 
 -- the same, of a file with one channel
-pub get_or-samples_in_mono : (depth n frame place : ℕ) (file bytes : List ℕ) (d : ℤ) → bytes ≡ take (n * (depth / 8)) (drop place file) → frame < n
+pub get_or-samples_in_mono : (depth n frame place : ℕ) (file bytes : List ℕ) (d : ℤ)
+    → bytes ≡ take (n * (depth / 8)) (drop place file) → frame < n
     → get_or (samples_in depth n bytes) frame d ≡ sample_at file place 1 depth frame 1
 get_or-samples_in_mono depth n frame place file bytes d stretch below =
     let same : frame ≡ frame * 1 + (1 - 1) = omega arith in
@@ -85,7 +90,8 @@ pub get_or-samples_in_mono_from : (depth n from frame place : ℕ) (file bytes :
     → bytes ≡ take (n * (depth / 8)) (drop (place + from * (depth / 8)) file) → frame < n
     → get_or (samples_in depth n bytes) frame d ≡ sample_at file place 1 depth (from + frame) 1
 get_or-samples_in_mono_from depth n from frame place file bytes d stretch below =
-    let same : place + from * (depth / 8) + frame * (depth / 8) ≡ place + ((from + frame) * 1 + (1 - 1)) * (depth / 8) = omega arith in
+    let same : place + from * (depth / 8) + frame * (depth / 8) ≡ place + ((from + frame) * 1 + (1 - 1)) * (depth / 8) =
+    omega arith in
     get_or-samples_in_file depth n frame (place + from * (depth / 8)) file bytes d stretch below
     ∙ ap (λ k. sample_of depth (drop k file)) same
 
@@ -96,7 +102,8 @@ abbrev pub AreBytes : List ℕ → Type 0
 AreBytes bytes = (place : ℕ) → slice_index bytes place < 256
 
 pub AreBytes-drop : (n : ℕ) (bytes : List ℕ) → AreBytes bytes → AreBytes (drop n bytes)
-AreBytes-drop n bytes small place = let e = get_or-drop n bytes place 0 in let h = small (n + place) in omega (arith, e, h)
+AreBytes-drop n bytes small place = let e = get_or-drop n bytes place 0 in let h = small (n + place) in
+    omega (arith, e, h)
 
 -- as many bytes as the depth asks for
 pub length-sample_bytes : (depth : ℕ) (sample : ℤ) → length (sample_bytes depth sample) ≡ depth / 8
@@ -134,7 +141,8 @@ fits-twos32 : (x : ℕ) → x < 256 ^ 4 → FitsDepth 32 (twos_complement 4 x)
 fits-twos32 x below = grind (arith, ints, nat_tests)
 
 -- a sample that was read fits its depth
-pub fits_sample_of : (depth : Depth) (bytes : List ℕ) → AreBytes bytes → FitsDepth (bits_of depth) (sample_of (bits_of depth) bytes)
+pub fits_sample_of : (depth : Depth) (bytes : List ℕ) → AreBytes bytes
+    → FitsDepth (bits_of depth) (sample_of (bits_of depth) bytes)
 fits_sample_of Sixteen bytes small = fits-twos16 (little_number 2 bytes) (little_from-lt 0 2 bytes small)
 fits_sample_of TwentyFour bytes small = fits-twos24 (little_number 3 bytes) (little_from-lt 0 3 bytes small)
 fits_sample_of ThirtyTwo bytes small = fits-twos32 (little_number 4 bytes) (little_from-lt 0 4 bytes small)
@@ -143,14 +151,18 @@ fits_sample_of ThirtyTwo bytes small = fits-twos32 (little_number 4 bytes) (litt
 pub sample_of-sample_bytes : (depth : Depth) (sample : ℤ) (rest : List ℕ) → FitsDepth (bits_of depth) sample
     → sample_of (bits_of depth) (sample_bytes (bits_of depth) sample ++ rest) ≡ sample
 sample_of-sample_bytes Sixteen sample rest fits =
-    ap (twos_complement 2) (little_number-reads_back 2 (low_bytes w32 2 sample) rest (omega arith)) ∙ twos-low16 sample fits
+    ap (twos_complement 2) (little_number-reads_back 2 (low_bytes w32 2 sample) rest (omega arith))
+    ∙ twos-low16 sample fits
 sample_of-sample_bytes TwentyFour sample rest fits =
-    ap (twos_complement 3) (little_number-reads_back 3 (low_bytes w32 3 sample) rest (omega arith)) ∙ twos-low24 sample fits
+    ap (twos_complement 3) (little_number-reads_back 3 (low_bytes w32 3 sample) rest (omega arith))
+    ∙ twos-low24 sample fits
 sample_of-sample_bytes ThirtyTwo sample rest fits =
-    ap (twos_complement 4) (little_number-reads_back 4 (low_bytes w32 4 sample) rest (omega arith)) ∙ twos-low32 sample fits
+    ap (twos_complement 4) (little_number-reads_back 4 (low_bytes w32 4 sample) rest (omega arith))
+    ∙ twos-low32 sample fits
 
 -- the bytes of a number that was read
-bytes_again2 : (bytes : List ℕ) → AreBytes bytes → 2 ≤ length bytes → little_bytes 2 (little_number 2 bytes) ≡ take 2 bytes
+bytes_again2 : (bytes : List ℕ) → AreBytes bytes → 2 ≤ length bytes
+    → little_bytes 2 (little_number 2 bytes) ≡ take 2 bytes
 bytes_again2 (a ∷ b ∷ rest) small room =
     let first = small 0 in
     let second = small 1 in
@@ -159,7 +171,8 @@ bytes_again2 (a ∷ b ∷ rest) small room =
     rw (low, high) refl
 bytes_again2 bytes small room = absurd (omega arith)
 
-bytes_again3 : (bytes : List ℕ) → AreBytes bytes → 3 ≤ length bytes → little_bytes 3 (little_number 3 bytes) ≡ take 3 bytes
+bytes_again3 : (bytes : List ℕ) → AreBytes bytes → 3 ≤ length bytes
+    → little_bytes 3 (little_number 3 bytes) ≡ take 3 bytes
 bytes_again3 (a ∷ b ∷ c ∷ rest) small room =
     let first = small 0 in
     let second = small 1 in
@@ -170,7 +183,8 @@ bytes_again3 (a ∷ b ∷ c ∷ rest) small room =
     rw (low, middle, high) refl
 bytes_again3 bytes small room = absurd (omega arith)
 
-bytes_again4 : (bytes : List ℕ) → AreBytes bytes → 4 ≤ length bytes → little_bytes 4 (little_number 4 bytes) ≡ take 4 bytes
+bytes_again4 : (bytes : List ℕ) → AreBytes bytes → 4 ≤ length bytes
+    → little_bytes 4 (little_number 4 bytes) ≡ take 4 bytes
 bytes_again4 (a ∷ b ∷ c ∷ d ∷ rest) small room =
     let first = small 0 in
     let second = small 1 in
@@ -187,14 +201,18 @@ bytes_again4 bytes small room = absurd (omega arith)
 pub sample_bytes-sample_of : (depth : Depth) (bytes : List ℕ) → AreBytes bytes → bits_of depth / 8 ≤ length bytes
     → sample_bytes (bits_of depth) (sample_of (bits_of depth) bytes) ≡ take (bits_of depth / 8) bytes
 sample_bytes-sample_of Sixteen bytes small room =
-    ap (little_bytes 2) (low-twos16 (little_number 2 bytes) (little_from-lt 0 2 bytes small)) ∙ bytes_again2 bytes small room
+    ap (little_bytes 2) (low-twos16 (little_number 2 bytes) (little_from-lt 0 2 bytes small))
+    ∙ bytes_again2 bytes small room
 sample_bytes-sample_of TwentyFour bytes small room =
-    ap (little_bytes 3) (low-twos24 (little_number 3 bytes) (little_from-lt 0 3 bytes small)) ∙ bytes_again3 bytes small room
+    ap (little_bytes 3) (low-twos24 (little_number 3 bytes) (little_from-lt 0 3 bytes small))
+    ∙ bytes_again3 bytes small room
 sample_bytes-sample_of ThirtyTwo bytes small room =
-    ap (little_bytes 4) (low-twos32 (little_number 4 bytes) (little_from-lt 0 4 bytes small)) ∙ bytes_again4 bytes small room
+    ap (little_bytes 4) (low-twos32 (little_number 4 bytes) (little_from-lt 0 4 bytes small))
+    ∙ bytes_again4 bytes small room
 
 -- samples that were read fit their depth
-pub all_fit : (depth : Depth) (n : ℕ) (bytes : List ℕ) → AreBytes bytes → All (FitsDepth (bits_of depth)) (samples_in (bits_of depth) n bytes)
+pub all_fit : (depth : Depth) (n : ℕ) (bytes : List ℕ) → AreBytes bytes
+    → All (FitsDepth (bits_of depth)) (samples_in (bits_of depth) n bytes)
 all_fit depth n bytes small k d below =
     let inside : k < n = rw (length-samples_in (bits_of depth) n bytes) at below in
     rw (get_or-samples_in (bits_of depth) n k bytes d inside)
@@ -220,21 +238,26 @@ samples_again depth (sample ∷ samples) rest fit =
     let bits = bits_of depth in
     let first = sample_bytes bits sample in
     let others = flat_map (sample_bytes bits) samples ++ rest in
-    let join : (first ++ flat_map (sample_bytes bits) samples) ++ rest ≡ first ++ others = append_assoc first (flat_map (sample_bytes bits) samples) rest in
-    let past : drop (bits / 8) (first ++ others) ≡ others = drop_at first others (bits / 8) (length-sample_bytes bits sample) in
+    let join : (first ++ flat_map (sample_bytes bits) samples) ++ rest ≡ first ++ others =
+    append_assoc first (flat_map (sample_bytes bits) samples) rest in
+    let past : drop (bits / 8) (first ++ others) ≡ others =
+    drop_at first others (bits / 8) (length-sample_bytes bits sample) in
     rw (join, sample_of-sample_bytes depth sample others (fit 0 sample (omega arith)), past)
     (ap (λ (l : List ℤ). sample ∷ l) (samples_again depth samples rest (λ k d below. fit (suc k) d (omega arith))))
 
 -- the sample at a place of bytes that were written, between others
-pub sample_of-written : (depth : Depth) (samples : List ℤ) (front rest : List ℕ) (i : ℕ) (d : ℤ) → All (FitsDepth (bits_of depth)) samples
+pub sample_of-written : (depth : Depth) (samples : List ℤ) (front rest : List ℕ) (i : ℕ) (d : ℤ)
+    → All (FitsDepth (bits_of depth)) samples
     → i < length samples
-    → sample_of (bits_of depth) (drop (length front + i * (bits_of depth / 8)) (front ++ (flat_map (sample_bytes (bits_of depth)) samples ++ rest)))
+    → sample_of (bits_of depth) (drop (length front + i * (bits_of depth / 8))
+    (front ++ (flat_map (sample_bytes (bits_of depth)) samples ++ rest)))
     ≡ get_or samples i d
 sample_of-written depth samples front rest i d fit below =
     let bits = bits_of depth in
     let written = flat_map (sample_bytes bits) samples ++ rest in
     let place : drop (length front + i * (bits / 8)) (front ++ written) ≡ drop (i * (bits / 8)) written =
-    sym (drop-drop (i * (bits / 8)) (length front) (front ++ written)) ∙ ap (drop (i * (bits / 8))) (drop_at front written (length front) refl) in
+    sym (drop-drop (i * (bits / 8)) (length front) (front ++ written))
+    ∙ ap (drop (i * (bits / 8))) (drop_at front written (length front) refl) in
     ap (sample_of bits) place
     ∙ sym (get_or-samples_in bits (length samples) i written d below)
     ∙ ap (λ (l : List ℤ). get_or l i d) (samples_again depth samples rest fit)

@@ -11,7 +11,7 @@ ghost use Rattle.pcm.specs.Samples.{FitsDepth, samples_in};
 
 pub use sound_terms::Depth;
 use word::{
-    read_sixteen, read_thirty_two, read_twenty_four, write_sixteen, write_thirty_two,
+    read_sixteen, read_thirty_two, twenty_four_at, write_ahead, write_sixteen, write_thirty_two,
     write_twenty_four,
 };
 
@@ -70,7 +70,7 @@ fn unpack_twenty_four(bytes: &[u8], samples: &mut [i32])
     ensures again { flat_map (sample_bytes 24) samples.new ≡ bytes.now }
 {
     for (i, sample) in samples.iter_mut().enumerate() {
-        *sample = read_twenty_four(&bytes[i * 3..]);
+        *sample = twenty_four_at(bytes, i);
     }
 }
 
@@ -102,8 +102,12 @@ fn pack_twenty_four(samples: &[i32], bytes: &mut [u8])
     ensures bytes { bytes.new ≡ flat_map (sample_bytes 24) samples.now }
     ensures again { samples_in 24 (length samples.now) bytes.new ≡ samples.now }
 {
-    for (i, sample) in samples.iter().enumerate() {
-        write_twenty_four(&mut bytes[i * 3..], *sample);
+    let last = samples.len().saturating_sub(1);
+    for i in 0..last {
+        write_ahead(&mut bytes[i * 3..], samples[i]);
+    }
+    if last < samples.len() {
+        write_twenty_four(&mut bytes[last * 3..], samples[last]);
     }
 }
 

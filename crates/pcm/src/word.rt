@@ -1,5 +1,5 @@
 // One sample at the front of bytes, at each depth.
-ghost use Rattle.std.specs.Prelude.{◌≡◌, ◌≤◌, ◌++◌, length, drop};
+ghost use Rattle.std.specs.Prelude.{◌≡◌, ◌+◌, ◌*◌, ◌≤◌, ◌++◌, length, take, drop};
 ghost use Rattle.sound_terms.specs.Waves.{sample_bytes, sample_of};
 ghost use Rattle.pcm.specs.Samples.{FitsDepth};
 
@@ -16,11 +16,33 @@ pub fn read_sixteen(bytes: &[u8]) -> i32
 
 /// The sample of 24 bits that the bytes begin with.
 #[inline(always)]
-pub fn read_twenty_four(bytes: &[u8]) -> i32
+fn read_twenty_four(bytes: &[u8]) -> i32
     requires { 3 ≤ length bytes.now }
     ensures { result ≡ sample_of 24 bytes.now }
 {
     LittleEndian::read_i24(bytes)
+}
+
+/// The sample of 24 bits that stands behind the first byte: four bytes are read at once, and the first is shifted out.
+#[inline(always)]
+fn read_behind(bytes: &[u8]) -> i32
+    requires { 4 ≤ length bytes.now }
+    ensures { result ≡ sample_of 24 (drop 1 bytes.now) }
+{
+    LittleEndian::read_i32(bytes) >> 8
+}
+
+/// Sample i of these of 24 bits.
+#[inline(always)]
+pub fn twenty_four_at(bytes: &[u8], i: usize) -> i32
+    requires { (i + 1) * 3 ≤ length bytes.now }
+    ensures { result ≡ sample_of 24 (drop (i * 3) bytes.now) }
+{
+    if i == 0 {
+        read_twenty_four(bytes)
+    } else {
+        read_behind(&bytes[i * 3 - 1..])
+    }
 }
 
 /// The sample of 32 bits that the bytes begin with.
@@ -50,6 +72,15 @@ pub fn write_twenty_four(bytes: &mut [u8], sample: i32)
     ensures { bytes.new ≡ sample_bytes 24 sample ++ drop 3 bytes.old }
 {
     LittleEndian::write_i24(bytes, sample);
+}
+
+/// Puts a sample of 24 bits over the first three bytes, and something over the fourth, in one step.
+#[inline(always)]
+pub fn write_ahead(bytes: &mut [u8], sample: i32)
+    requires { 4 ≤ length bytes.old }
+    ensures { take 3 bytes.new ≡ sample_bytes 24 sample }
+{
+    LittleEndian::write_i32(bytes, sample);
 }
 
 /// Puts a sample of 32 bits over the first bytes.

@@ -13,21 +13,28 @@ use Rattle.list_terms.specs.Accepted.{entry_fault, entry_refusal, event_fault, f
 use Rattle.list_terms.specs.WholeProject.{is_event}
 
 -- no entry of a project without a fault has one
-pub no_entry_fault : (binding : Binding) (events : List Event) (i : ℕ) (event : Event) → event_fault binding events ≡ None → slice_get events i ≡ Some event
+pub no_entry_fault : (binding : Binding) (events : List Event) (i : ℕ) (event : Event)
+    → event_fault binding events ≡ None → slice_get events i ≡ Some event
     → entry_fault binding event ≡ None
 no_entry_fault binding [] i event none there = cc
 no_entry_fault binding (first ∷ events) i event none there =
     by_first (λ k. no_entry_fault binding events k event) (entry_fault binding first) refl i there where
-      by_first : ((k : ℕ) → event_fault binding events ≡ None → slice_get events k ≡ Some event → entry_fault binding event ≡ None)
-          → (o : Option ℕ) → entry_fault binding first ≡ o → (i : ℕ) → slice_get (first ∷ events) i ≡ Some event → entry_fault binding event ≡ None
+      by_first : ((k : ℕ) → event_fault binding events ≡ None → slice_get events k ≡ Some event
+          → entry_fault binding event ≡ None)
+          → (o : Option ℕ) → entry_fault binding first ≡ o → (i : ℕ) → slice_get (first ∷ events) i ≡ Some event
+          → entry_fault binding event ≡ None
       by_first later None e zero there = let same : first ≡ event = cc in ap (entry_fault binding) (sym same) ∙ e
       by_first later None e (suc i) there =
-          later i (ap (λ o. first_fault (option_map (entry_refusal first) o) (event_fault binding events)) (sym e) ∙ none) there
+          later i (ap (λ o. first_fault (option_map (entry_refusal first) o) (event_fault binding events)) (sym e)
+          ∙ none) there
       by_first later (Some number) e i there =
-          let h : Some (entry_refusal first number) ≡ None = ap (λ o. first_fault (option_map (entry_refusal first) o) (event_fault binding events)) (sym e) ∙ none in cc
+          let h : Some (entry_refusal first number) ≡ None =
+          ap (λ o. first_fault (option_map (entry_refusal first) o) (event_fault binding events)) (sym e) ∙ none in
+          cc
 
 -- the fault of an entry whose index is bound to this file
-pub span_is : (binding : Binding) (event : Event) (index : BoundIndex) (file : OpenedFile) → index_of binding.indexes event.index ≡ Some index
+pub span_is : (binding : Binding) (event : Event) (index : BoundIndex) (file : OpenedFile)
+    → index_of binding.indexes event.index ≡ Some index
     → slice_get binding.files index.file ≡ Some file → entry_fault binding event ≡ span_fault index file.facts event
 span_is binding event index file found there = rw (found, there) refl
 
@@ -36,9 +43,11 @@ pub record Plays (index : BoundIndex) (facts : SoundFacts) (event : Event) : Typ
   pub in_order : event.dest_in ≤ event.dest_out
   pub fades : event.rise.length + event.fall.length ≤ event.dest_out - event.dest_in
   pub channels : event.source.last ≤ facts.channels
-  pub frames : event.dest_in < event.dest_out → (event.source_in - index.base) + (event.dest_out - event.dest_in) ≤ index.addressable
+  pub frames : event.dest_in < event.dest_out
+      → (event.source_in - index.base) + (event.dest_out - event.dest_in) ≤ index.addressable
 
-pub plays : (index : BoundIndex) (facts : SoundFacts) (event : Event) → span_fault index facts event ≡ None → Plays index facts event
+pub plays : (index : BoundIndex) (facts : SoundFacts) (event : Event) → span_fault index facts event ≡ None
+    → Plays index facts event
 plays index facts event faultless = record {
   in_order = grind (arith, nat_tests, faultless);
   fades = grind (arith, nat_tests, faultless);
@@ -71,10 +80,12 @@ has_numbers event is = record {
   widths = grind (arith, nat_tests, is);
 }
 
-source_ends : (from base length addressable frames : ℕ) → from ≤ day → addressable ≡ min frames (day - base) → (0 < length → (from - base) + length ≤ addressable)
+source_ends : (from base length addressable frames : ℕ) → from ≤ day → addressable ≡ min frames (day - base)
+    → (0 < length → (from - base) + length ≤ addressable)
     → (from - base) + length ≤ day
 source_ends from base zero addressable frames early is inside = omega (arith, early)
-source_ends from base (suc n) addressable frames early is inside = let within = inside (omega arith) in omega (arith, is, within)
+source_ends from base (suc n) addressable frames early is inside = let within = inside (omega arith) in
+    omega (arith, is, within)
 
 pub is_playable : (index : BoundIndex) (facts : SoundFacts) (event : Event) → Plays index facts event → HasNumbers event
     → index.addressable ≡ addressable_from index.base facts → IsPlayable index event
@@ -87,6 +98,8 @@ is_playable index facts event plays has addressable = record {
   some = has.dest_order;
   dest_to_64 = has.dest_to_64;
   source_to_64 = omega (arith, has.widths, has.source_order, has.source_to_64);
-  source_in_day = source_ends event.source_in index.base (event.dest_out - event.dest_in) index.addressable facts.frames has.source_in addressable
+  source_in_day =
+      source_ends event.source_in index.base (event.dest_out - event.dest_in)
+      index.addressable facts.frames has.source_in addressable
       (λ some. plays.frames (omega (arith, some)));
 }

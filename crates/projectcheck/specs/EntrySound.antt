@@ -13,7 +13,8 @@ use Rattle.projectcheck.specs.AtHome.{IsAtHome}
 
 -- they add what the entry adds, with whole ramps, inside its file, one at each time
 pub record SoundsAs (binding : Binding) (event : Event) (parts : List Piece) : Type 0 where
-  pub mix : (reading : Reading) (channel time : ℕ) → sum_of reading parts channel time ≡ contribution_of reading binding.indexes event channel time
+  pub mix : (reading : Reading) (channel time : ℕ)
+      → sum_of reading parts channel time ≡ contribution_of reading binding.indexes event channel time
   pub whole : list_all is_whole parts ≡ true
   pub lies : All (IsAtHome (sounds_of binding) (homes_of binding)) parts
   pub once : (time : ℕ) → holding time parts ≤ 1
@@ -26,7 +27,8 @@ pub record AreFormed (groups : List (List Piece)) : Type 0 where
 -- all of these entries
 pub record SoundAs (binding : Binding) (events : List Event) (groups : List (List Piece)) : Type 0 where
   pub turn : groups ≡ groups_in_turn binding.indexes events
-  pub mix : (reading : Reading) (channel time : ℕ) → mix_of reading groups channel time ≡ mix_at reading binding.indexes events channel time
+  pub mix : (reading : Reading) (channel time : ℕ)
+      → mix_of reading groups channel time ≡ mix_at reading binding.indexes events channel time
   pub whole : are_whole groups ≡ true
   pub lie : All (IsAtHome (sounds_of binding) (homes_of binding)) (pieces_of groups)
   pub few : (time : ℕ) → holding time (pieces_of groups) ≤ length events

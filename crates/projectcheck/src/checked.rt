@@ -31,7 +31,8 @@ impl Checked {
     /// Hands out the name of a file, by its place among those opened.
     pub fn into_name(self, file: u32) -> String
         requires there { IsSome (slice_get (sounds_of self.bound) file) }
-        ensures { (facts : SoundFacts) → slice_get (sounds_of self.bound) file ≡ Some facts → string_bytes result ≡ facts.name }
+        ensures { (facts : SoundFacts) → slice_get (sounds_of self.bound) file ≡ Some facts
+            → string_bytes result ≡ facts.name }
     {
         self.bound.into_name(file)
     }

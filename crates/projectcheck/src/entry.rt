@@ -8,9 +8,9 @@ use sound_terms::{BoundIndex, Event};
 use sourceindex::Bound;
 use wavread::Sound;
 
-/// What is wrong with an entry: its index isn't bound, it ends before it starts, its fades are longer than it is, its file
-/// has no such channel, or not all frames that it plays can be addressed. The first of these is told; `None` where it has
-/// no fault.
+/// What is wrong with an entry: its index isn't bound, it ends before it starts, its fades are longer than it is, its
+/// file has no such channel, or not all frames that it plays can be addressed. The first of these is told; `None` where
+/// it has no fault.
 pub fn fault_of(bound: &Bound, event: &Event) -> Option<EntryFault>
     ensures { option_map number_of result ≡ list.entry_fault bound.now event.now }
 {

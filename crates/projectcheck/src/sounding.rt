@@ -28,10 +28,12 @@ fn push_group(
     requires { IsPlayable index.now event.now }
     ensures pushed { OnOk result (groups.new.items ≡ groups.old.items ++ as_group (parts_of index.now event.now)) }
     ensures formed { AreFormed groups.old.items → OnOk result (AreFormed groups.new.items) }
-    ensures mix { (reading : Reading) (channel time : ℕ) → sum_of reading (parts_of index.now event.now) channel time ≡ contribution_at reading (Some index.now) event.now channel time }
+    ensures mix { (reading : Reading) (channel time : ℕ)
+        → sum_of reading (parts_of index.now event.now) channel time
+        ≡ contribution_at reading (Some index.now) event.now channel time }
     ensures whole { IsTrue (list_all is_whole (parts_of index.now event.now)) }
 {
-    if let Some(group) = group_of(alloc, index, event) {
+    if let Some(group) = group_of(alloc, index, event)? {
         groups.push(group)?;
     }
     Ok(())
@@ -46,7 +48,8 @@ fn push_entry(
 ) -> Result<(), AllocError>
     requires whole { is_event event.now ≡ true }
     requires faultless { entry_fault bound.now event.now ≡ None }
-    ensures pushed { OnOk result (groups.new.items ≡ groups.old.items ++ as_group (parts_by (index_of bound.now.indexes event.now.index) event.now)) }
+    ensures pushed { OnOk result (groups.new.items
+        ≡ groups.old.items ++ as_group (parts_by (index_of bound.now.indexes event.now.index) event.now)) }
     ensures formed { AreFormed groups.old.items → OnOk result (AreFormed groups.new.items) }
     ensures sound { SoundsAs bound.now event.now (parts_by (index_of bound.now.indexes event.now.index) event.now) }
 {
@@ -73,10 +76,13 @@ fn groups_of(alloc: Global, checked: &Checked) -> Result<Vec<Group>, AllocError>
 /// The entries as groups of pieces, by their starts and of equal starts in their order: the in-fade, the middle and the
 /// out-fade of each that has a sample.
 pub fn from_checked(alloc: Global, checked: &Checked) -> Result<Intervals, IntervalFault>
-    ensures parts { IfOk result (λ intervals. intervals ≡ groups_of_entries checked.now.bound.indexes checked.now.project.events) }
+    ensures parts { IfOk result (λ intervals. intervals
+        ≡ groups_of_entries checked.now.bound.indexes checked.now.project.events) }
     ensures same_mix { (reading : Reading) (channel time : ℕ) → IfOk result (λ intervals.
-        mix_of reading intervals channel time ≡ mix_at reading checked.now.bound.indexes checked.now.project.events channel time) }
-    ensures at_home { IfOk result (λ intervals. All (IsAtHome (sounds_of checked.now.bound) (homes_of checked.now.bound)) (pieces_of intervals)) }
+        mix_of reading intervals channel time
+        ≡ mix_at reading checked.now.bound.indexes checked.now.project.events channel time) }
+    ensures at_home { IfOk result (λ intervals.
+        All (IsAtHome (sounds_of checked.now.bound) (homes_of checked.now.bound)) (pieces_of intervals)) }
     ensures bounded { IfOk result (λ intervals. IsBounded 32767 (pieces_of intervals)) }
     ensures whole { IfOk result (λ intervals. IsTrue (are_whole intervals)) }
 {

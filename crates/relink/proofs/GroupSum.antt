@@ -35,7 +35,8 @@ no_rise_of p (Fall offset den) above = refl
 no_rise : (p : Piece) (ps : List Piece) → IsGroup (p ∷ ps) → 1 ≤ rank_of p.shape → rising (p ∷ ps) ≡ 0
 no_rise p [] is above = rising_more p [] ∙ omega (arith, no_rise_of p p.shape above)
 no_rise p (q ∷ qs) is above =
-    rising_more p (q ∷ qs) ∙ omega (arith, no_rise_of p p.shape above, no_rise q qs is.1 (omega (arith, (goes_on p q is.0).later)))
+    rising_more p (q ∷ qs)
+    ∙ omega (arith, no_rise_of p p.shape above, no_rise q qs is.1 (omega (arith, (goes_on p q is.0).later)))
 
 fall_of : (q : Piece) (shape : Shape) → 2 ≤ rank_of shape → falling_in (record q { shape = shape }) ≡ q.length
 fall_of q Flat above = absurd (omega (arith, above))
@@ -47,7 +48,12 @@ all_fall : (p : Piece) (ps : List Piece) → IsGroup (p ∷ ps) → 1 ≤ rank_o
 all_fall p [] is above = refl
 all_fall p (q ∷ qs) is above =
     let later = (goes_on p q is.0).later in
-    falling_more q qs ∙ omega (arith, fall_of q q.shape (omega (arith, above, later)), all_fall q qs is.1 (omega (arith, above, later)), length_more q qs)
+    falling_more q qs ∙ omega (
+      arith,
+      fall_of q q.shape (omega (arith, above, later)),
+      all_fall q qs is.1 (omega (arith, above, later)),
+      length_more q qs,
+    )
 
 -- nothing stands behind a fall
 no_more : (p : Piece) (ps : List Piece) → IsGroup (p ∷ ps) → 2 ≤ rank_of p.shape → ps ≡ []
@@ -68,11 +74,13 @@ pair : (a b c d : ℕ) → a ≡ c → b ≡ d → ◌≡◌ {A = ℕ × ℕ} (a
 pair a b c d first second = cc
 
 -- the share of a piece is that of its event
-fits : (rise fall whole at j : ℕ) (p : Piece) (ps : List Piece) → IsGroup (p ∷ ps) → IsTrue (is_whole p) → Stands rise fall whole at p ps → j < p.length
+fits : (rise fall whole at j : ℕ) (p : Piece) (ps : List Piece) → IsGroup (p ∷ ps) → IsTrue (is_whole p)
+    → Stands rise fall whole at p ps → j < p.length
     → fraction_of p.shape j ≡ fade_fraction rise fall whole (at + j)
 fits rise fall whole at j p ps is ramp stands below = by_shape p.shape is ramp stands where
   by_shape : (shape : Shape) → IsGroup (record p { shape = shape } ∷ ps) → IsTrue (is_whole_shape shape p.length)
-      → Stands rise fall whole at (record p { shape = shape }) ps → fraction_of shape j ≡ fade_fraction rise fall whole (at + j)
+      → Stands rise fall whole at (record p { shape = shape }) ps
+      → fraction_of shape j ≡ fade_fraction rise fall whole (at + j)
   by_shape Flat is ramp stands =
       let own : Piece = record p { shape = Flat } in
       let risen : rise ≤ at = stands.rises.1 (omega arith) in
@@ -90,15 +98,18 @@ fits rise fall whole at j p ps is ramp stands below = by_shape p.shape is ramp s
       let begins : offset ≡ 0 = grind (arith, nat_tests) in
       let long : den ≡ p.length = grind (arith, nat_tests) in
       let inside : nat_lt (at + j) rise ≡ true = grind (arith, nat_tests) in
-      rw inside (pair (offset + j) den (at + j) rise (omega (arith, first.0, begins)) (omega (arith, long, risen))) where
-        none_rises : (ps : List Piece) → IsGroup (record p { shape = Rise offset den } ∷ ps) → rising ps ≡ 0
-        none_rises [] is = refl
-        none_rises (q ∷ qs) is = no_rise q qs is.1 (omega (arith, (goes_on (record p { shape = Rise offset den }) q is.0).later))
+      rw inside (pair (offset + j) den (at + j) rise (omega (arith, first.0, begins)) (omega (arith, long, risen)))
+    where
+      none_rises : (ps : List Piece) → IsGroup (record p { shape = Rise offset den } ∷ ps) → rising ps ≡ 0
+      none_rises [] is = refl
+      none_rises (q ∷ qs) is =
+          no_rise q qs is.1 (omega (arith, (goes_on (record p { shape = Rise offset den }) q is.0).later))
   by_shape (Fall offset den) is ramp stands =
       let own : Piece = record p { shape = Fall offset den } in
       let risen : rise ≤ at = stands.rises.1 (omega arith) in
       let last : ps ≡ [] = no_more own ps is (omega arith) in
-      let fallen : fall ≡ p.length + 0 = stands.falls ∙ falling_more own ps ∙ ap (λ (rest : List Piece). p.length + falling rest) last in
+      let fallen : fall ≡ p.length + 0 =
+      stands.falls ∙ falling_more own ps ∙ ap (λ (rest : List Piece). p.length + falling rest) last in
       let ends : whole ≡ at + (p.length + 0) = stands.ends ∙ ap (λ (n : ℕ). at + n) (length_more own ps)
       ∙ ap (λ (rest : List Piece). at + (p.length + length_of_group rest)) last in
       let begins : offset ≡ 0 = grind (arith, nat_tests) in
@@ -108,17 +119,22 @@ fits rise fall whole at j p ps is ramp stands below = by_shape p.shape is ramp s
       rw (past, within) (pair (den - (offset + j)) den (whole - (at + j)) fall (omega arith) (omega arith))
 
 -- the next piece stands behind
-stands_next : (rise fall whole at : ℕ) (p q : Piece) (qs : List Piece) → IsGroup (p ∷ q ∷ qs) → Stands rise fall whole at p (q ∷ qs)
+stands_next : (rise fall whole at : ℕ) (p q : Piece) (qs : List Piece) → IsGroup (p ∷ q ∷ qs)
+    → Stands rise fall whole at p (q ∷ qs)
     → Stands rise fall whole (at + p.length) q qs
 stands_next rise fall whole at p q qs is stands = by_shape p.shape is stands where
-  by_shape : (shape : Shape) → IsGroup (record p { shape = shape } ∷ q ∷ qs) → Stands rise fall whole at (record p { shape = shape }) (q ∷ qs)
+  by_shape : (shape : Shape) → IsGroup (record p { shape = shape } ∷ q ∷ qs)
+      → Stands rise fall whole at (record p { shape = shape }) (q ∷ qs)
       → Stands rise fall whole (at + p.length) q qs
   by_shape Flat is stands =
       let own : Piece = record p { shape = Flat } in
       let later = (goes_on own q is.0).later in
       let ends = stands.ends ∙ ap (λ (n : ℕ). at + n) (length_more own (q ∷ qs)) in
       record {
-        rises = ((λ (zero_rank : _). absurd (omega (arith, later, zero_rank))), (λ above. omega (arith, stands.rises.1 (omega arith))));
+        rises = (
+          (λ (zero_rank : _). absurd (omega (arith, later, zero_rank))),
+          (λ above. omega (arith, stands.rises.1 (omega arith))),
+        );
         falls = stands.falls ∙ falling_more own (q ∷ qs) ∙ omega arith;
         ends = omega (arith, ends);
       }
@@ -126,7 +142,9 @@ stands_next rise fall whole at p q qs is stands = by_shape p.shape is stands whe
       let own : Piece = record p { shape = Rise offset den } in
       let later = (goes_on own q is.0).later in
       let ends = stands.ends ∙ ap (λ (n : ℕ). at + n) (length_more own (q ∷ qs)) in
-      let risen = (stands.rises.0 refl).1 ∙ rising_more own (q ∷ qs) ∙ ap (λ (n : ℕ). p.length + n) (no_rise q qs is.1 (omega (arith, later))) in
+      let risen =
+      (stands.rises.0 refl).1 ∙ rising_more own (q ∷ qs)
+      ∙ ap (λ (n : ℕ). p.length + n) (no_rise q qs is.1 (omega (arith, later))) in
       record {
         rises = ((λ (zero_rank : _). absurd (omega (arith, later, zero_rank))), (λ above. omega (arith, risen)));
         falls = stands.falls ∙ falling_more own (q ∷ qs) ∙ omega arith;
@@ -136,43 +154,47 @@ stands_next rise fall whole at p q qs is stands = by_shape p.shape is stands whe
       let none : (q ∷ qs) ≡ [] = no_more (record p { shape = Fall offset den }) (q ∷ qs) is (omega arith) in cc
 
 -- two stretches joined
-module _ (s n m t : ℕ) (x y w : ℤ) (first : s ≤ t → t < s + n → x ≡ w) (second : s + n ≤ t → t < s + n + m → y ≡ w) where
-  joined : (a b : Bool)
-      → (if a && (b && (nat_le s t && nat_lt t (s + n))) then x else pos 0) +ℤ (if a && (b && (nat_le (s + n) t && nat_lt t (s + n + m))) then y else pos 0)
-      ≡ (if a && (b && (nat_le s t && nat_lt t (s + (n + m)))) then w else pos 0)
-  joined false b = refl
-  joined true false = refl
-  joined true true = by_time (cases_lt t s) (cases_lt t (s + n)) (cases_lt t (s + n + m)) where
-    by_time : (t < s) ⊎ (s ≤ t) → (t < s + n) ⊎ (s + n ≤ t) → (t < s + n + m) ⊎ (s + n + m ≤ t)
-        → (if nat_le s t && nat_lt t (s + n) then x else pos 0) +ℤ (if nat_le (s + n) t && nat_lt t (s + n + m) then y else pos 0)
-        ≡ (if nat_le s t && nat_lt t (s + (n + m)) then w else pos 0)
-    by_time (inl before) other last =
-        let a : nat_le s t ≡ false = grind (arith, nat_tests) in
-        let b : nat_le (s + n) t ≡ false = grind (arith, nat_tests) in
-        rw (a, b) refl
-    by_time (inr begun) (inl inside) last =
-        let a : nat_le s t ≡ true = grind (arith, nat_tests) in
-        let b : nat_lt t (s + n) ≡ true = grind (arith, nat_tests) in
-        let c : nat_le (s + n) t ≡ false = grind (arith, nat_tests) in
-        let d : nat_lt t (s + (n + m)) ≡ true = grind (arith, nat_tests) in
-        rw (a, b, c, d, first begun inside) (omega (arith, ints))
-    by_time (inr begun) (inr past) (inl inside) =
-        let a : nat_le s t ≡ true = grind (arith, nat_tests) in
-        let b : nat_lt t (s + n) ≡ false = grind (arith, nat_tests) in
-        let c : nat_le (s + n) t ≡ true = grind (arith, nat_tests) in
-        let d : nat_lt t (s + (n + m)) ≡ true = grind (arith, nat_tests) in
-        let e : nat_lt t (s + n + m) ≡ true = grind (arith, nat_tests) in
-        rw (a, b, c, d, e, second past inside) (omega (arith, ints))
-    by_time (inr begun) (inr past) (inr behind) =
-        let a : nat_le s t ≡ true = grind (arith, nat_tests) in
-        let b : nat_lt t (s + n) ≡ false = grind (arith, nat_tests) in
-        let c : nat_le (s + n) t ≡ true = grind (arith, nat_tests) in
-        let d : nat_lt t (s + (n + m)) ≡ false = grind (arith, nat_tests) in
-        let e : nat_lt t (s + n + m) ≡ false = grind (arith, nat_tests) in
-        rw (a, b, c, d, e) refl
+module _ (s n m t : ℕ) (x y w : ℤ) (first : s ≤ t → t < s + n → x ≡ w) (second : s + n ≤ t → t < s + n + m → y ≡ w)
+  where
+    joined : (a b : Bool)
+        → (if a && (b && (nat_le s t && nat_lt t (s + n))) then x else pos 0)
+        +ℤ (if a && (b && (nat_le (s + n) t && nat_lt t (s + n + m))) then y else pos 0)
+        ≡ (if a && (b && (nat_le s t && nat_lt t (s + (n + m)))) then w else pos 0)
+    joined false b = refl
+    joined true false = refl
+    joined true true = by_time (cases_lt t s) (cases_lt t (s + n)) (cases_lt t (s + n + m)) where
+      by_time : (t < s) ⊎ (s ≤ t) → (t < s + n) ⊎ (s + n ≤ t) → (t < s + n + m) ⊎ (s + n + m ≤ t)
+          → (if nat_le s t && nat_lt t (s + n) then x else pos 0)
+          +ℤ (if nat_le (s + n) t && nat_lt t (s + n + m) then y else pos 0)
+          ≡ (if nat_le s t && nat_lt t (s + (n + m)) then w else pos 0)
+      by_time (inl before) other last =
+          let a : nat_le s t ≡ false = grind (arith, nat_tests) in
+          let b : nat_le (s + n) t ≡ false = grind (arith, nat_tests) in
+          rw (a, b) refl
+      by_time (inr begun) (inl inside) last =
+          let a : nat_le s t ≡ true = grind (arith, nat_tests) in
+          let b : nat_lt t (s + n) ≡ true = grind (arith, nat_tests) in
+          let c : nat_le (s + n) t ≡ false = grind (arith, nat_tests) in
+          let d : nat_lt t (s + (n + m)) ≡ true = grind (arith, nat_tests) in
+          rw (a, b, c, d, first begun inside) (omega (arith, ints))
+      by_time (inr begun) (inr past) (inl inside) =
+          let a : nat_le s t ≡ true = grind (arith, nat_tests) in
+          let b : nat_lt t (s + n) ≡ false = grind (arith, nat_tests) in
+          let c : nat_le (s + n) t ≡ true = grind (arith, nat_tests) in
+          let d : nat_lt t (s + (n + m)) ≡ true = grind (arith, nat_tests) in
+          let e : nat_lt t (s + n + m) ≡ true = grind (arith, nat_tests) in
+          rw (a, b, c, d, e, second past inside) (omega (arith, ints))
+      by_time (inr begun) (inr past) (inr behind) =
+          let a : nat_le s t ≡ true = grind (arith, nat_tests) in
+          let b : nat_lt t (s + n) ≡ false = grind (arith, nat_tests) in
+          let c : nat_le (s + n) t ≡ true = grind (arith, nat_tests) in
+          let d : nat_lt t (s + (n + m)) ≡ false = grind (arith, nat_tests) in
+          let e : nat_lt t (s + n + m) ≡ false = grind (arith, nat_tests) in
+          rw (a, b, c, d, e) refl
 
 pub same_under : (a b : Bool) (s n t : ℕ) (x w : ℤ) → (s ≤ t → t < s + n → x ≡ w)
-    → (if a && (b && (nat_le s t && nat_lt t (s + n))) then x else pos 0) ≡ (if a && (b && (nat_le s t && nat_lt t (s + n))) then w else pos 0)
+    → (if a && (b && (nat_le s t && nat_lt t (s + n))) then x else pos 0)
+    ≡ (if a && (b && (nat_le s t && nat_lt t (s + n))) then w else pos 0)
 same_under false b s n t x w same = refl
 same_under true false s n t x w same = refl
 same_under true true s n t x w same = by_tests (nat_le s t) (nat_lt t (s + n)) refl refl where
@@ -192,10 +214,12 @@ module _ (r : Reading) (rise fall whole channel time : ℕ) where
   abbrev value : (file first dest width start frame long at : ℕ) → ℤ
   value file first dest width start frame long at =
       if nat_le dest channel && (nat_lt channel (dest + width) && (nat_le start time && nat_lt time (start + long)))
-      then share_of (r file (first + (channel - dest)) (frame + (time - start))) (fade_fraction rise fall whole (at + (time - start)))
+      then share_of (r file (first + (channel - dest)) (frame + (time - start)))
+      (fade_fraction rise fall whole (at + (time - start)))
       else pos 0
 
-  own_value : (at : ℕ) (p : Piece) (ps : List Piece) → IsGroup (p ∷ ps) → IsTrue (is_whole p) → Stands rise fall whole at p ps
+  own_value : (at : ℕ) (p : Piece) (ps : List Piece) → IsGroup (p ∷ ps) → IsTrue (is_whole p)
+      → Stands rise fall whole at p ps
       → part_of r p channel time ≡ value p.file p.first p.dest p.width p.start p.frame p.length at
   own_value at p ps is ramp stands =
       same_under (nat_le p.dest channel) (nat_lt channel (p.dest + p.width)) p.start p.length time _ _
@@ -203,7 +227,8 @@ module _ (r : Reading) (rise fall whole channel time : ℕ) where
       (fits rise fall whole at (time - p.start) p ps is ramp stands (omega arith)))
 
   next_value : (p q : Piece) (long at : ℕ) → GoesOn p q
-      → value q.file q.first q.dest q.width q.start q.frame long at ≡ value p.file p.first p.dest p.width (p.start + p.length) (p.frame + p.length) long at
+      → value q.file q.first q.dest q.width q.start q.frame long at
+      ≡ value p.file p.first p.dest p.width (p.start + p.length) (p.frame + p.length) long at
   next_value p q long at next = rw (next.file, next.first, next.dest, next.width, next.start, next.frame) refl
 
   joined_value : (p : Piece) (more at : ℕ) → value p.file p.first p.dest p.width p.start p.frame p.length at
@@ -217,8 +242,10 @@ module _ (r : Reading) (rise fall whole channel time : ℕ) where
       rw (frames, samples) refl)
       (nat_le p.dest channel) (nat_lt channel (p.dest + p.width))
 
-  tail_sum : (at : ℕ) (p : Piece) (ps : List Piece) → IsGroup (p ∷ ps) → IsTrue (list_all is_whole (p ∷ ps)) → Stands rise fall whole at p ps
-      → sum_of r (p ∷ ps) channel time ≡ value p.file p.first p.dest p.width p.start p.frame (length_of_group (p ∷ ps)) at
+  tail_sum : (at : ℕ) (p : Piece) (ps : List Piece) → IsGroup (p ∷ ps) → IsTrue (list_all is_whole (p ∷ ps))
+      → Stands rise fall whole at p ps
+      → sum_of r (p ∷ ps) channel time
+      ≡ value p.file p.first p.dest p.width p.start p.frame (length_of_group (p ∷ ps)) at
   tail_sum at p [] is ramps stands =
       let own = own_value at p [] is (both (is_whole p) true ramps).0 stands in
       let long : length_of_group (p ∷ []) ≡ p.length = length_more p [] ∙ omega arith in
@@ -232,7 +259,8 @@ module _ (r : Reading) (rise fall whole channel time : ℕ) where
       rw (length_more p (q ∷ qs), own, rest) whole_sum
 
 -- a group adds what its event adds
-pub group_sum : (r : Reading) (p : Piece) (ps : List Piece) (channel time : ℕ) → IsGroup (p ∷ ps) → IsTrue (list_all is_whole (p ∷ ps))
+pub group_sum : (r : Reading) (p : Piece) (ps : List Piece) (channel time : ℕ) → IsGroup (p ∷ ps)
+    → IsTrue (list_all is_whole (p ∷ ps))
     → placed_part r (placed_by p (p ∷ ps)) channel time ≡ sum_of r (p ∷ ps) channel time
 group_sum r p ps channel time is ramps =
     let at_first : Stands (rising (p ∷ ps)) (falling (p ∷ ps)) (length_of_group (p ∷ ps)) 0 p ps = record {
@@ -241,5 +269,6 @@ group_sum r p ps channel time is ramps =
       ends = omega arith;
     } in
     let sample : 0 + (time - p.start) ≡ time - p.start = omega arith in
-    sym (tail_sum r (rising (p ∷ ps)) (falling (p ∷ ps)) (length_of_group (p ∷ ps)) channel time 0 p ps is ramps at_first
+    sym (tail_sum r (rising (p ∷ ps)) (falling (p ∷ ps)) (length_of_group (p ∷ ps))
+    channel time 0 p ps is ramps at_first
     ∙ (rw sample refl))

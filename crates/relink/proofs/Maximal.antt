@@ -20,14 +20,17 @@ holds_at P xs i x all there =
     subst P (get_or_from_slice_get xs i x x there) (All-get_or P xs i x (slice_get_within xs i x there) all)
 
 -- a file that has a frame has a home
-home_of : (homes : List Home) (file frame : ℕ) → frame < addressable_by homes file → (home : Home) × (slice_get homes file ≡ Some home)
+home_of : (homes : List Home) (file frame : ℕ) → frame < addressable_by homes file
+    → (home : Home) × (slice_get homes file ≡ Some home)
 home_of homes file frame below = by_option (slice_get homes file) refl below where
-  by_option : (o : Option Home) → slice_get homes file ≡ o → frame < addressable_by homes file → (home : Home) × (slice_get homes file ≡ Some home)
+  by_option : (o : Option Home) → slice_get homes file ≡ o → frame < addressable_by homes file
+      → (home : Home) × (slice_get homes file ≡ Some home)
   by_option None e below = let nothing : frame < 0 = rw e at below in absurd (omega (arith, nothing))
   by_option (Some home) e below = (home, e)
 
 -- two files have two places
-same_file : (homes : List Home) → AreHomes homes → (i j m n : ℕ) → m < addressable_by homes i → n < addressable_by homes j
+same_file : (homes : List Home) → AreHomes homes → (i j m n : ℕ) → m < addressable_by homes i
+    → n < addressable_by homes j
     → place_by homes i ≡ place_by homes j → i ≡ j
 same_file homes are i j m n here there same = by_test (i == j) refl where
   by_test : (one : Bool) → (i == j) ≡ one → i ≡ j
@@ -46,13 +49,15 @@ addressable_in_day homes are file frame below =
     let some : frame < home.0.addressable = rw home.1 at below in
     rw home.1 (are.in_day file home.0 home.1 (omega (arith, some)))
 
-module _ (kept : ℕ → ℕ → Bool) (homes : List Home) (runs : List Run) (at_home : (file frame : ℕ) → kept file frame ≡ true → frame < addressable_by homes file)
+module _ (kept : ℕ → ℕ → Bool) (homes : List Home) (runs : List Run)
+    (at_home : (file frame : ℕ) → kept file frame ≡ true → frame < addressable_by homes file)
     (are_homes : AreHomes homes) (are : AreRuns kept (place_by homes) runs) where
   pub maximal_at : (i : ℕ) (run : Run) → slice_get runs i ≡ Some run → IsMaximal kept run
   maximal_at i run there = holds_at (IsMaximal kept) runs i run are.maximal there
 
   -- the frames of a run are kept
-  run_kept : (run : Run) → IsMaximal kept run → (frame : ℕ) → run.first ≤ frame → frame < run.first + run.length → kept run.file frame ≡ true
+  run_kept : (run : Run) → IsMaximal kept run → (frame : ℕ) → run.first ≤ frame → frame < run.first + run.length
+      → kept run.file frame ≡ true
   run_kept run is frame from to =
       let place : run.first + (frame - run.first) ≡ frame = omega arith in
       subst (λ (f : ℕ). kept run.file f ≡ true) place (is.inside (frame - run.first) (omega arith))
@@ -60,22 +65,27 @@ module _ (kept : ℕ → ℕ → Bool) (homes : List Home) (runs : List Run) (at
   first_kept : (run : Run) → IsMaximal kept run → kept run.file run.first ≡ true
   first_kept run is = run_kept run is run.first (omega arith) (omega (arith, is.some))
 
-  ends_before : (a b : Run) → IsMaximal kept a → IsMaximal kept b → comes_before (place_by homes) a b ≡ true → EndsBefore (place_by homes) a b
+  ends_before : (a b : Run) → IsMaximal kept a → IsMaximal kept b → comes_before (place_by homes) a b ≡ true
+      → EndsBefore (place_by homes) a b
   ends_before a b is_a is_b order = by_place (nat_lt (place_by homes a.file) (place_by homes b.file)) refl order where
-    ends : a.file ≡ b.file → a.first < b.first → (b.first < a.first + a.length) ⊎ (a.first + a.length ≤ b.first) → a.first + a.length ≤ b.first
+    ends : a.file ≡ b.file → a.first < b.first → (b.first < a.first + a.length) ⊎ (a.first + a.length ≤ b.first)
+        → a.first + a.length ≤ b.first
     ends same first (inl inside) =
         let own = run_kept a is_a (b.first - 1) (omega arith) (omega arith) in
         let none : kept a.file (b.first - 1) ≡ false = rw same (is_b.before (omega arith)) in
         cc
     ends same first (inr past) = past
 
-    by_place : (before : Bool) → nat_lt (place_by homes a.file) (place_by homes b.file) ≡ before → comes_before (place_by homes) a b ≡ true → EndsBefore (place_by homes) a b
+    by_place : (before : Bool) → nat_lt (place_by homes a.file) (place_by homes b.file) ≡ before
+        → comes_before (place_by homes) a b ≡ true → EndsBefore (place_by homes) a b
     by_place true e order = inl (grind (arith, nat_tests))
     by_place false e order =
         let rest : (place_by homes a.file == place_by homes b.file && nat_lt a.first b.first) ≡ true = rw e at order in
         let places : place_by homes a.file ≡ place_by homes b.file = grind (arith, nat_tests) in
         let first : a.first < b.first = grind (arith, nat_tests) in
-        let same = same_file homes are_homes a.file b.file a.first b.first (at_home a.file a.first (first_kept a is_a)) (at_home b.file b.first (first_kept b is_b)) places in
+        let same =
+        same_file homes are_homes a.file b.file a.first b.first (at_home a.file a.first (first_kept a is_a))
+        (at_home b.file b.first (first_kept b is_b)) places in
         inr (same, ends same first (cases_lt b.first (a.first + a.length)))
 
   pub runs_apart : AreApart (place_by homes) runs
@@ -85,14 +95,16 @@ module _ (kept : ℕ → ℕ → Bool) (homes : List Home) (runs : List Run) (at
   run_ends : (run : Run) → IsMaximal kept run → EndsInDay homes run
   run_ends run is =
       let last : ℕ = run.first + (run.length - 1) in
-      let below : last < addressable_by homes run.file = at_home run.file last (is.inside (run.length - 1) (omega (arith, is.some))) in
+      let below : last < addressable_by homes run.file =
+      at_home run.file last (is.inside (run.length - 1) (omega (arith, is.some))) in
       omega (arith, below, is.some, addressable_in_day homes are_homes run.file last below)
 
   pub runs_end_in_day : All (EndsInDay homes) runs
   runs_end_in_day = λ i d below. run_ends _ (are.maximal i d below)
 
   -- frames that are kept together with one of a run are in it
-  pub goes_on_to : (run : Run) → IsMaximal kept run → (frame end : ℕ) → run.first ≤ frame → frame < run.first + run.length
+  pub goes_on_to : (run : Run) → IsMaximal kept run → (frame end : ℕ) → run.first ≤ frame
+      → frame < run.first + run.length
       → ((f : ℕ) → frame ≤ f → f < end → kept run.file f ≡ true) → end ≤ run.first + run.length
   goes_on_to run is frame end from to all = by_end (cases_lt (run.first + run.length) end) where
     by_end : (run.first + run.length < end) ⊎ (end ≤ run.first + run.length) → end ≤ run.first + run.length
@@ -102,7 +114,8 @@ module _ (kept : ℕ → ℕ → Bool) (homes : List Home) (runs : List Run) (at
         cc
     by_end (inr within) = within
 
-  pub comes_from : (run : Run) → IsMaximal kept run → (start : ℕ) → ((f : ℕ) → start ≤ f → f < run.first → kept run.file f ≡ true) → run.first ≤ start
+  pub comes_from : (run : Run) → IsMaximal kept run → (start : ℕ)
+      → ((f : ℕ) → start ≤ f → f < run.first → kept run.file f ≡ true) → run.first ≤ start
   comes_from run is start all = by_start (cases_lt start run.first) where
     by_start : (start < run.first) ⊎ (run.first ≤ start) → run.first ≤ start
     by_start (inl before) =

@@ -9,8 +9,10 @@ use Rattle.std.proofs.lemmas.List.Folds.{list_all-append}
 use Rattle.list_terms.specs.WholeProject.{is_quotable}
 use Rattle.list_terms.specs.Renewed.{media_name}
 
-both_parts : (a b : List ℕ) → list_all is_quotable a ≡ true → list_all is_quotable b ≡ true → list_all is_quotable (a ++ b) ≡ true
-both_parts a b front back = rw (list_all-append is_quotable a b) (and_from (list_all is_quotable a) (list_all is_quotable b) front back)
+both_parts : (a b : List ℕ) → list_all is_quotable a ≡ true → list_all is_quotable b ≡ true
+    → list_all is_quotable (a ++ b) ≡ true
+both_parts a b front back =
+    rw (list_all-append is_quotable a b) (and_from (list_all is_quotable a) (list_all is_quotable b) front back)
 
 digit : (d : ℕ) → d < 10 → list_all is_quotable ((48 + d) ∷ []) ≡ true
 digit d below = grind (arith, nat_tests)

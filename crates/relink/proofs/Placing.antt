@@ -23,7 +23,8 @@ use Rattle.relink.proofs.Stretching.{OnFrames, ends_in_day, on_frames, length_mo
 
 faded : (p : Piece) → rising_in p + falling_in p ≤ p.length
 faded p = by_shape p.shape where
-  by_shape : (shape : Shape) → rising_in (record p { shape = shape }) + falling_in (record p { shape = shape }) ≤ p.length
+  by_shape : (shape : Shape) → rising_in (record p { shape = shape }) + falling_in
+      (record p { shape = shape }) ≤ p.length
   by_shape Flat = omega arith
   by_shape (Rise offset den) = omega arith
   by_shape (Fall offset den) = omega arith
@@ -31,19 +32,23 @@ faded p = by_shape p.shape where
 fades_within : (group : List Piece) → sum_by rising_in group + sum_by falling_in group ≤ length_of_group group
 fades_within [] = omega arith
 fades_within (p ∷ ps) =
-    rw (sum_by-cons rising_in p ps, sum_by-cons falling_in p ps, length_more p ps) (omega (arith, faded p, fades_within ps))
+    rw (sum_by-cons rising_in p ps, sum_by-cons falling_in p ps, length_more p ps)
+    (omega (arith, faded p, fades_within ps))
 
 -- a kept frame can be addressed
 pub kept_at_home : (groups : List (List Piece)) (homes : List Home) (handle file frame : ℕ)
     → kept_of groups homes handle file frame ≡ true → frame < addressable_by homes file
 kept_at_home groups homes handle file frame is = by_test (nat_lt frame (addressable_by homes file)) refl is where
-  by_test : (inside : Bool) → nat_lt frame (addressable_by homes file) ≡ inside → kept_of groups homes handle file frame ≡ true → frame < addressable_by homes file
+  by_test : (inside : Bool) → nat_lt frame (addressable_by homes file) ≡ inside
+      → kept_of groups homes handle file frame ≡ true → frame < addressable_by homes file
   by_test true e is = grind (arith, nat_tests)
   by_test false e is = let none : false ≡ true = rw e at is in cc
 
 -- a frame near a piece is kept where it can be addressed
-pub near_kept : (groups : List (List Piece)) (homes : List Home) (handle : ℕ) (p : Piece) (frame : ℕ) → Contains (pieces_of groups) p
-    → 1 ≤ p.length → p.frame ≤ frame + handle → frame < p.frame + p.length + handle → frame < addressable_by homes p.file
+pub near_kept : (groups : List (List Piece)) (homes : List Home) (handle : ℕ) (p : Piece) (frame : ℕ)
+    → Contains (pieces_of groups) p
+    → 1 ≤ p.length → p.frame ≤ frame + handle → frame < p.frame + p.length + handle
+    → frame < addressable_by homes p.file
     → kept_of groups homes handle p.file frame ≡ true
 near_kept groups homes handle p frame has some from to below =
     let near : is_near handle p.file frame p ≡ true = grind (arith, nat_tests) in
@@ -73,32 +78,39 @@ module _ (groups : List (List Piece)) (homes : List Home) (handle : ℕ) (runs :
   group_length : (p : Piece) (ps : List Piece) → IsPlayed p → 1 ≤ length_of_group (p ∷ ps)
   group_length p ps is = rw (length_more p ps) (omega (arith, is.ok.some))
 
-  pub placed_lies : (p : Piece) (ps : List Piece) → IsGroup (p ∷ ps) → All IsPlayed (p ∷ ps) → LiesInRun runs (placed_by p (p ∷ ps))
+  pub placed_lies : (p : Piece) (ps : List Piece) → IsGroup (p ∷ ps) → All IsPlayed (p ∷ ps)
+      → LiesInRun runs (placed_by p (p ∷ ps))
   placed_lies p ps is all =
       let first : IsPlayed p = All-head IsPlayed p ps all in
       let some = group_length p ps first in
       let kept = group_kept p ps is all in
-      let found = run_of runs p.file p.frame (are.all p.file p.frame (kept p.frame (omega arith) (omega (arith, some)))) in
+      let found =
+      run_of runs p.file p.frame (are.all p.file p.frame (kept p.frame (omega arith) (omega (arith, some)))) in
       let at = found.1 in
       let same : at.run.file ≡ p.file = at.has.same_file in
-      let maximal = maximal_at (kept_of groups homes handle) homes runs (kept_at_home groups homes handle) are_homes are found.0 at.run at.there in
+      let maximal =
+      maximal_at (kept_of groups homes handle) homes runs (kept_at_home groups homes handle)
+      are_homes are found.0 at.run at.there in
       record {
         place = found.0;
         run = at.run;
         there = at.there;
         same_file = same;
         from = at.has.from;
-        to = goes_on_to (kept_of groups homes handle) homes runs (kept_at_home groups homes handle) are_homes are at.run maximal p.frame
+        to = goes_on_to (kept_of groups homes handle) homes runs (kept_at_home groups homes handle)
+            are_homes are at.run maximal p.frame
             (p.frame + length_of_group (p ∷ ps)) at.has.from at.has.to (λ f from to. rw same (kept f from to));
       }
 
-  pub placed_ok : (p : Piece) (ps : List Piece) → IsGroup (p ∷ ps) → All IsPlayed (p ∷ ps) → IsPlaced homes (placed_by p (p ∷ ps))
+  pub placed_ok : (p : Piece) (ps : List Piece) → IsGroup (p ∷ ps) → All IsPlayed (p ∷ ps)
+      → IsPlaced homes (placed_by p (p ∷ ps))
   placed_ok p ps is all =
       let first : IsPlayed p = All-head IsPlayed p ps all in
       let some = group_length p ps first in
       let whole : ℕ = length_of_group (p ∷ ps) in
       let last : p.frame + (whole - 1) < addressable_by homes p.file =
-      kept_at_home groups homes handle p.file (p.frame + (whole - 1)) (group_kept p ps is all (p.frame + (whole - 1)) (omega arith) (omega (arith, some))) in
+      kept_at_home groups homes handle p.file (p.frame + (whole - 1))
+      (group_kept p ps is all (p.frame + (whole - 1)) (omega arith) (omega (arith, some))) in
       let inside = addressable_in_day homes are_homes p.file (p.frame + (whole - 1)) last in
       record {
         wide = first.ok.wide;
@@ -117,16 +129,20 @@ module _ (groups : List (List Piece)) (homes : List Home) (handle : ℕ) (runs :
   ArePlayed group = IsGroup group × All IsPlayed group
 
   -- what holds of the event of each such group
-  pub all_placed : (P : Placed → Type 0) → ((p : Piece) (ps : List Piece) → IsGroup (p ∷ ps) → All IsPlayed (p ∷ ps) → P (placed_by p (p ∷ ps)))
+  pub all_placed : (P : Placed → Type 0)
+      → ((p : Piece) (ps : List Piece) → IsGroup (p ∷ ps) → All IsPlayed (p ∷ ps) → P (placed_by p (p ∷ ps)))
       → (gs : List (List Piece)) → All ArePlayed gs → All P (placed_of gs)
   all_placed P each [] all = All-nil P
   all_placed P each ([] ∷ gs) all = absurd (All-head ArePlayed [] gs all).0
   all_placed P each ((p ∷ ps) ∷ gs) all =
       let here = All-head ArePlayed (p ∷ ps) gs all in
-      All-cons P (placed_by p (p ∷ ps)) (placed_of gs) (each p ps here.0 here.1) (all_placed P each gs (All-tail ArePlayed (p ∷ ps) gs all))
+      All-cons P (placed_by p (p ∷ ps)) (placed_of gs) (each p ps here.0 here.1)
+      (all_placed P each gs (All-tail ArePlayed (p ∷ ps) gs all))
 
   pub all_linkable : (gs : List (List Piece)) → All ArePlayed gs → All (IsLinkable homes runs) (placed_of gs)
-  all_linkable gs all = all_placed (IsLinkable homes runs) (λ p ps is played. (placed_ok p ps is played, placed_lies p ps is played)) gs all
+  all_linkable gs all =
+      all_placed (IsLinkable homes runs) (λ p ps is played. (placed_ok p ps is played, placed_lies p ps is played))
+      gs all
 
 -- every group has one event
 pub length-placed_of : (gs : List (List Piece)) → All IsGroup gs → length (placed_of gs) ≡ length gs

@@ -13,18 +13,23 @@ use Rattle.relink.proofs.Placing.{ArePlayed}
 pub all_pieces : (gs : List (List Piece)) → All (All IsPiece) gs → All IsPiece (pieces_of gs)
 all_pieces [] all = All-nil IsPiece
 all_pieces (group ∷ gs) all =
-    All-append IsPiece group (pieces_of gs) (All-head (All IsPiece) group gs all) (all_pieces gs (All-tail (All IsPiece) group gs all))
+    All-append IsPiece group (pieces_of gs) (All-head (All IsPiece) group gs all)
+    (all_pieces gs (All-tail (All IsPiece) group gs all))
 
 module _ (groups : List (List Piece)) (homes : List Home) (handle : ℕ) (runs : List Run) (are_homes : AreHomes homes)
-    (are : AreRuns (kept_of groups homes handle) (place_by homes) runs) (at_home : All (LiesAtHome homes) (pieces_of groups)) where
-  each_played : (gs : List (List Piece)) → All IsGroup gs → All (All IsPiece) gs → ((x : Piece) → Contains (pieces_of gs) x → Contains (pieces_of groups) x)
+    (are : AreRuns (kept_of groups homes handle) (place_by homes) runs)
+    (at_home : All (LiesAtHome homes) (pieces_of groups)) where
+  each_played : (gs : List (List Piece)) → All IsGroup gs → All (All IsPiece) gs
+      → ((x : Piece) → Contains (pieces_of gs) x → Contains (pieces_of groups) x)
       → All (ArePlayed groups homes handle runs are_homes are) gs
   each_played [] are_groups are_pieces inside = All-nil (ArePlayed groups homes handle runs are_homes are)
   each_played (group ∷ gs) are_groups are_pieces inside =
       All-cons (ArePlayed groups homes handle runs are_homes are) group gs (
         All-head IsGroup group gs are_groups,
         (λ i d below.
-            let has = inside (get_or group i d) (Contains-append_left group (pieces_of gs) (get_or group i d) (Contains-get_or group i d below)) in
+            let has =
+            inside (get_or group i d) (Contains-append_left group (pieces_of gs) (get_or group i d)
+            (Contains-get_or group i d below)) in
             record {
               has = has;
               ok = All-head (All IsPiece) group gs are_pieces i d below;

@@ -44,10 +44,12 @@ sum_of-append : (r : Reading) (a b : List Piece) (channel time : ℕ)
 sum_of-append r [] b channel time = omega (arith, ints)
 sum_of-append r (p ∷ ps) b channel time = omega (arith, ints, sum_of-append r ps b channel time)
 
-module _ (homes : List Home) (runs : List Run) (apart : AreApart (place_by homes) runs) (given copied : Reading) (copies : CopiesRuns given runs copied) (channel time : ℕ) where
+module _ (homes : List Home) (runs : List Run) (apart : AreApart (place_by homes) runs) (given copied : Reading)
+    (copies : CopiesRuns given runs copied) (channel time : ℕ) where
   -- an entry adds what the event of its group adds
   one_event : (number : ℕ) (placed : Placed) → IsLinkable homes runs placed
-      → contribution_of copied (run_indexes homes runs) (run_event homes runs number placed) channel time ≡ placed_part given placed channel time
+      → contribution_of copied (run_indexes homes runs) (run_event homes runs number placed) channel time
+      ≡ placed_part given placed channel time
   one_event number placed is =
       let index = number_there homes runs apart placed is in
       let found = index_there homes runs is.1.place is.1.run is.1.there in
@@ -56,12 +58,15 @@ module _ (homes : List Home) (runs : List Run) (apart : AreApart (place_by homes
       let to : placed.frame + placed.length ≤ is.1.run.first + is.1.run.length = is.1.to in
       let base : ℕ = base_by homes placed.file in
       let file : is.1.run.file ≡ placed.file = is.1.same_file in
-      let last : nat_le channel ((placed.dest + placed.width) - 1) ≡ nat_lt channel (placed.dest + placed.width) = grind (arith, nat_tests) in
+      let last : nat_le channel ((placed.dest + placed.width) - 1) ≡ nat_lt channel (placed.dest + placed.width) =
+      grind (arith, nat_tests) in
       let long : (placed.start + placed.length) - placed.start ≡ placed.length = omega arith in
       let medium : (1 + is.1.place) - 1 ≡ is.1.place = omega arith in
-      let bases : run_base homes is.1.run ≡ base + is.1.run.first = ap (λ (f : ℕ). base_by homes f + is.1.run.first) file in
+      let bases : run_base homes is.1.run ≡ base + is.1.run.first =
+      ap (λ (f : ℕ). base_by homes f + is.1.run.first) file in
       rw (index, found, last, long, medium, bases)
-      (same_under (nat_le placed.dest channel) (nat_lt channel (placed.dest + placed.width)) placed.start placed.length time _ _
+      (same_under (nat_le placed.dest channel) (nat_lt channel (placed.dest + placed.width))
+      placed.start placed.length time _ _
       (λ begun inside.
       let at : ℕ = ((base + placed.frame) - (base + is.1.run.first)) + (time - placed.start) in
       let frame : is.1.run.first + at ≡ placed.frame + (time - placed.start) = omega arith in
@@ -70,8 +75,10 @@ module _ (homes : List Home) (runs : List Run) (apart : AreApart (place_by homes
       (sample ∙ ap (λ (f : ℕ). given f (placed.first + (channel - placed.dest)) (is.1.run.first + at)) file
       ∙ ap (λ (f : ℕ). given placed.file (placed.first + (channel - placed.dest)) f) frame)))
 
-  all_events : (number : ℕ) (gs : List (List Piece)) → All IsGroup gs → are_whole gs ≡ true → All (IsLinkable homes runs) (placed_of gs)
-      → mix_at copied (run_indexes homes runs) (numbered (run_event homes runs) number (placed_of gs)) channel time ≡ sum_of given (pieces_of gs) channel time
+  all_events : (number : ℕ) (gs : List (List Piece)) → All IsGroup gs → are_whole gs ≡ true
+      → All (IsLinkable homes runs) (placed_of gs)
+      → mix_at copied (run_indexes homes runs) (numbered (run_event homes runs) number (placed_of gs)) channel time
+      ≡ sum_of given (pieces_of gs) channel time
   all_events number [] are_groups whole all = refl
   all_events number ([] ∷ gs) are_groups whole all = absurd (All-head IsGroup [] gs are_groups)
   all_events number ((p ∷ ps) ∷ gs) are_groups whole all =
@@ -79,10 +86,14 @@ module _ (homes : List Home) (runs : List Run) (apart : AreApart (place_by homes
       let placed = placed_by p (p ∷ ps) in
       let here = one_event number placed (All-head (IsLinkable homes runs) placed (placed_of gs) all)
       ∙ group_sum given p ps channel time (All-head IsGroup (p ∷ ps) gs are_groups) split.0 in
-      let rest = all_events (suc number) gs (All-tail IsGroup (p ∷ ps) gs are_groups) split.1 (All-tail (IsLinkable homes runs) placed (placed_of gs) all) in
+      let rest =
+      all_events (suc number) gs (All-tail IsGroup (p ∷ ps) gs are_groups) split.1
+      (All-tail (IsLinkable homes runs) placed (placed_of gs) all) in
       let append = sum_of-append given (p ∷ ps) (pieces_of gs) channel time in
       rw (here, rest) (sym append)
 
-  pub relinked : (groups : List (List Piece)) → All IsGroup groups → IsTrue (are_whole groups) → All (IsLinkable homes runs) (placed_of groups)
-      → mix_at copied (run_indexes homes runs) (numbered (run_event homes runs) 1 (placed_of groups)) channel time ≡ mix_of given groups channel time
+  pub relinked : (groups : List (List Piece)) → All IsGroup groups → IsTrue (are_whole groups)
+      → All (IsLinkable homes runs) (placed_of groups)
+      → mix_at copied (run_indexes homes runs) (numbered (run_event homes runs) 1 (placed_of groups)) channel time
+      ≡ mix_of given groups channel time
   relinked groups are_groups whole all = all_events 1 groups are_groups whole all

@@ -36,7 +36,8 @@ in_it file frame run has =
     let to : frame < run.first + run.length = has.to in
     grind (arith, nat_tests)
 
-not_in_it : (place : ℕ → ℕ) (file frame : ℕ) (a run : Run) → HasFrame file frame run → EndsBefore place a run → is_in_run file frame a ≡ false
+not_in_it : (place : ℕ → ℕ) (file frame : ℕ) (a run : Run) → HasFrame file frame run → EndsBefore place a run
+    → is_in_run file frame a ≡ false
 not_in_it place file frame a run has (inl before) = by_file (a.file == file) refl where
   by_file : (same : Bool) → (a.file == file) ≡ same → is_in_run file frame a ≡ false
   by_file true e =
@@ -50,7 +51,8 @@ not_in_it place file frame a run has (inr ends) =
     let past : nat_lt frame (a.first + a.length) ≡ false = grind (arith, nat_tests, ends.1) in
     grind (arith, nat_tests)
 
-run_number-at : (file frame number place : ℕ) (runs : List Run) (run : Run) → slice_get runs place ≡ Some run → HasFrame file frame run
+run_number-at : (file frame number place : ℕ) (runs : List Run) (run : Run) → slice_get runs place ≡ Some run
+    → HasFrame file frame run
     → ((i : ℕ) (a : Run) → i < place → slice_get runs i ≡ Some a → is_in_run file frame a ≡ false)
     → run_number number runs file frame ≡ number + place
 run_number-at file frame number place [] run there has none = cc
@@ -60,10 +62,12 @@ run_number-at file frame number zero (r ∷ runs) run there has none =
     rw inside (omega arith)
 run_number-at file frame number (suc place) (r ∷ runs) run there has none =
     let outside : is_in_run file frame r ≡ false = none 0 r (omega arith) refl in
-    rw outside (run_number-at file frame (suc number) place runs run there has (λ i a below at. none (suc i) a (omega arith) at) ∙ omega arith)
+    rw outside (run_number-at file frame (suc number) place runs run there has
+    (λ i a below at. none (suc i) a (omega arith) at) ∙ omega arith)
 
 -- the number of the run that has the frame
-pub run_number_of : (home : ℕ → ℕ) (runs : List Run) (file frame place : ℕ) → AreApart home runs → IsRunAt runs file frame place
+pub run_number_of : (home : ℕ → ℕ) (runs : List Run) (file frame place : ℕ) → AreApart home runs
+    → IsRunAt runs file frame place
     → run_number 1 runs file frame ≡ 1 + place
 run_number_of home runs file frame place apart is =
     run_number-at file frame 1 place runs is.run is.there is.has
@@ -82,10 +86,12 @@ module _ (home : ℕ → ℕ) (runs : List Run) (file frame : ℕ) (apart : AreA
 
   pub parted : IsPartitionedBy begun runs
   parted = λ i j d below inside is. by_order i j d below inside is (cases_lt i j) where
-    by_order : (i j : ℕ) (d : Run) → i ≤ j → j < length runs → begun (get_or runs j d) ≡ true → (i < j) ⊎ (j ≤ i) → begun (get_or runs i d) ≡ true
+    by_order : (i j : ℕ) (d : Run) → i ≤ j → j < length runs → begun (get_or runs j d) ≡ true → (i < j) ⊎ (j ≤ i)
+        → begun (get_or runs i d) ≡ true
     by_order i j d below inside is (inl before) =
         begun_before (get_or runs i d) (get_or runs j d)
-        (apart i j (get_or runs i d) (get_or runs j d) before (slice_get-get_or runs i d (omega arith)) (slice_get-get_or runs j d inside)) is
+        (apart i j (get_or runs i d) (get_or runs j d) before (slice_get-get_or runs i d (omega arith))
+        (slice_get-get_or runs j d inside)) is
     by_order i j d below inside is (inr behind) = let same : i ≡ j = omega arith in rw same is
 
   -- how many runs are begun, where the runs parted there
@@ -98,8 +104,13 @@ module _ (home : ℕ → ℕ) (runs : List Run) (file frame : ℕ) (apart : AreA
       let from : is.run.first ≤ frame = is.has.from in
       let to : frame < is.run.first + is.run.length = is.has.to in
       let is_begun_here : begun is.run ≡ true = rw same (grind (arith, nat_tests)) in
-      omega (arith, at_least inside here is_begun_here (cases_lt place count), at_most inside (cases_lt (suc place) count)) where
-        at_least : place < length runs → get_or runs place is.run ≡ is.run → begun is.run ≡ true → (place < count) ⊎ (count ≤ place) → suc place ≤ count
+      omega (
+        arith,
+        at_least inside here is_begun_here (cases_lt place count),
+        at_most inside (cases_lt (suc place) count),
+      ) where
+        at_least : place < length runs → get_or runs place is.run ≡ is.run → begun is.run ≡ true
+            → (place < count) ⊎ (count ≤ place) → suc place ≤ count
         at_least inside here begins (inl below) = omega arith
         at_least inside here begins (inr above) =
             let not_begun : begun is.run ≡ false = rw here at (point.1 place is.run above inside) in cc
@@ -119,6 +130,8 @@ module _ (home : ℕ → ℕ) (runs : List Run) (file frame : ℕ) (apart : AreA
         at_most inside (inl above) =
             let next = get_or runs (suc place) is.run in
             let begins : begun next ≡ true = point.0 (suc place) is.run (omega arith) above in
-            let not_begun = ends_before next (apart place (suc place) is.run next (omega arith) is.there (slice_get-get_or runs (suc place) is.run (omega arith))) in
+            let not_begun =
+            ends_before next (apart place (suc place) is.run next (omega arith) is.there
+            (slice_get-get_or runs (suc place) is.run (omega arith))) in
             cc
         at_most inside (inr below) = below

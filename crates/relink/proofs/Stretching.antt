@@ -34,7 +34,8 @@ pub length_more : (p : Piece) (ps : List Piece) → length_of_group (p ∷ ps) �
 length_more p ps = sum_by-cons (λ (q : Piece). q.length) p ps
 
 -- the group ends in the day
-pub ends_in_day : (p : Piece) (ps : List Piece) → IsGroup (p ∷ ps) → All IsPiece (p ∷ ps) → p.start + length_of_group (p ∷ ps) ≤ day
+pub ends_in_day : (p : Piece) (ps : List Piece) → IsGroup (p ∷ ps) → All IsPiece (p ∷ ps)
+    → p.start + length_of_group (p ∷ ps) ≤ day
 ends_in_day p [] is all = rw (length_more p []) (omega (arith, (All-head IsPiece p [] all).in_day))
 ends_in_day p (q ∷ qs) is all =
     let next = goes_on p q is.0 in
@@ -52,12 +53,14 @@ on_frames K p [] is all f from to =
     All-head (OnFrames K) p [] all f from (omega (arith, whole, to))
 on_frames K p (q ∷ qs) is all f from to =
     by_side (on_frames K q qs is.1 (All-tail (OnFrames K) p (q ∷ qs) all) f) (cases_lt f (p.frame + p.length)) where
-      by_side : (q.frame ≤ f → f < q.frame + length_of_group (q ∷ qs) → K q.file f) → (f < p.frame + p.length) ⊎ (p.frame + p.length ≤ f) → K p.file f
+      by_side : (q.frame ≤ f → f < q.frame + length_of_group (q ∷ qs) → K q.file f)
+          → (f < p.frame + p.length) ⊎ (p.frame + p.length ≤ f) → K p.file f
       by_side behind (inl own) = All-head (OnFrames K) p (q ∷ qs) all f from own
       by_side behind (inr later) =
           let next = goes_on p q is.0 in
           let whole = length_more p (q ∷ qs) in
-          subst (λ (file : ℕ). K file f) next.file (behind (omega (arith, next.frame)) (omega (arith, next.frame, whole, to)))
+          subst (λ (file : ℕ). K file f) next.file
+          (behind (omega (arith, next.frame)) (omega (arith, next.frame, whole, to)))
 
 -- a piece of a group plays frames of it
 pub record IsInside (p : Piece) (whole : ℕ) (x : Piece) : Type 0 where
@@ -68,7 +71,8 @@ pub record IsInside (p : Piece) (whole : ℕ) (x : Piece) : Type 0 where
 inside_first : (p : Piece) (ps : List Piece) → IsInside p (length_of_group (p ∷ ps)) p
 inside_first p ps = record { same_file = refl; from = omega arith; to = rw (length_more p ps) (omega arith) }
 
-inside_next : (p q : Piece) (qs : List Piece) → GoesOn p q → (x : Piece) → IsInside q (length_of_group (q ∷ qs)) x → IsInside p (length_of_group (p ∷ q ∷ qs)) x
+inside_next : (p q : Piece) (qs : List Piece) → GoesOn p q → (x : Piece) → IsInside q (length_of_group (q ∷ qs)) x
+    → IsInside p (length_of_group (p ∷ q ∷ qs)) x
 inside_next p q qs next x there =
     let whole = length_more p (q ∷ qs) in
     record {
@@ -78,7 +82,9 @@ inside_next p q qs next x there =
     }
 
 pub all_inside : (p : Piece) (ps : List Piece) → IsGroup (p ∷ ps) → All (IsInside p (length_of_group (p ∷ ps))) (p ∷ ps)
-all_inside p [] is = All-cons (IsInside p (length_of_group (p ∷ []))) p [] (inside_first p []) (All-nil (IsInside p (length_of_group (p ∷ []))))
+all_inside p [] is =
+    All-cons (IsInside p (length_of_group (p ∷ []))) p [] (inside_first p [])
+    (All-nil (IsInside p (length_of_group (p ∷ []))))
 all_inside p (q ∷ qs) is =
     let behind = all_inside q qs is.1 in
     All-cons (IsInside p (length_of_group (p ∷ q ∷ qs))) p (q ∷ qs) (inside_first p (q ∷ qs))

@@ -21,10 +21,12 @@ use Rattle.relink.proofs.RunOf.{run_number_of}
 use Rattle.relink.proofs.Stretching.{IsInside, all_inside}
 
 -- the first of these that passes
-some_of : {X : Type 0} (test : X → Bool) (xs : List X) → list_any test xs ≡ true → (x : X) × Contains xs x × (test x ≡ true)
+some_of : {X : Type 0} (test : X → Bool) (xs : List X) → list_any test xs ≡ true
+    → (x : X) × Contains xs x × (test x ≡ true)
 some_of test [] any = absurd (let no : false ≡ true = any in cc)
 some_of {X} test (x ∷ xs) any = by_test (test x) refl (λ h. some_of test xs h) any where
-  by_test : (b : Bool) → test x ≡ b → (list_any test xs ≡ true → (y : X) × Contains xs y × (test y ≡ true)) → list_any test (x ∷ xs) ≡ true
+  by_test : (b : Bool) → test x ≡ b → (list_any test xs ≡ true → (y : X) × Contains xs y × (test y ≡ true))
+      → list_any test (x ∷ xs) ≡ true
       → (y : X) × Contains (x ∷ xs) y × (test y ≡ true)
   by_test true e rest any = (x, (0, omega arith, refl), e)
   by_test false e rest any =
@@ -48,7 +50,8 @@ module _ (groups : List (List Piece)) (homes : List Home) (handle : ℕ) (runs :
     frame : HasFrame p.file p.frame run
 
   -- a frame that is kept because of a piece, and the piece's first frame, are in one run
-  starts_in : (run : Run) → IsMaximal kept run → (p : Piece) → Contains (pieces_of groups) p → is_near handle run.file run.first p ≡ true
+  starts_in : (run : Run) → IsMaximal kept run → (p : Piece) → Contains (pieces_of groups) p
+      → is_near handle run.file run.first p ≡ true
       → p.frame < addressable_by homes p.file → StartsIn run p
   starts_in run is p has near at_home =
       let same : p.file ≡ run.file = grind (arith, nat_tests) in
@@ -60,14 +63,17 @@ module _ (groups : List (List Piece)) (homes : List Home) (handle : ℕ) (runs :
       let first : kept run.file (run.first + 0) ≡ true = is.inside 0 long in
       let counted : run.first + 0 ≡ run.first = omega arith in
       let first_home : run.first < addressable_by homes run.file = home run.file run.first (rw counted at first) in
-      let keeps = λ (f : ℕ) (lies : p.frame ≤ f + handle) (ends : f < p.frame + p.length + handle) (below : f < addressable_by homes p.file).
+      let keeps =
+      λ (f : ℕ) (lies : p.frame ≤ f + handle) (ends : f < p.frame + p.length + handle)
+      (below : f < addressable_by homes p.file).
       subst (λ (file : ℕ). kept file f ≡ true) same (near_kept groups homes handle p f has some lies ends below) in
       let own_home : run.first < addressable_by homes p.file = rw same first_home in
       record {
         has = has;
         frame = record {
           same_file = sym same;
-          from = comes_from kept homes runs home are_homes are run is p.frame (λ f above below. keeps f (omega arith) (omega arith) (omega arith));
+          from = comes_from kept homes runs home are_homes are run is p.frame
+              (λ f above below. keeps f (omega arith) (omega arith) (omega arith));
           to = omega (
             arith,
             goes_on_to kept homes runs home are_homes are run is run.first (p.frame + 1) (omega arith) (omega arith)
@@ -80,17 +86,21 @@ module _ (groups : List (List Piece)) (homes : List Home) (handle : ℕ) (runs :
   all_apart = runs_apart kept homes runs (kept_at_home groups homes handle) are_homes are
 
   -- the entry of a group that has such a piece plays the run
-  index_of_group : (k : ℕ) (run : Run) → slice_get runs k ≡ Some run → (p : Piece) → StartsIn run p → (q : Piece) (qs : List Piece)
+  index_of_group : (k : ℕ) (run : Run) → slice_get runs k ≡ Some run → (p : Piece) → StartsIn run p
+      → (q : Piece) (qs : List Piece)
       → IsGroup (q ∷ qs) → All (IsPlayed groups homes handle runs are_homes are) (q ∷ qs) → Contains (q ∷ qs) p
       → run_number 1 runs q.file q.frame ≡ 1 + k
   index_of_group k run there p starts q qs is all has =
       let lies = placed_lies groups homes handle runs are_homes are q qs is all in
-      let inside : IsInside q (length_of_group (q ∷ qs)) p = All-contains (IsInside q (length_of_group (q ∷ qs))) (q ∷ qs) p (all_inside q qs is) has in
+      let inside : IsInside q (length_of_group (q ∷ qs)) p =
+      All-contains (IsInside q (length_of_group (q ∷ qs))) (q ∷ qs) p (all_inside q qs is) has in
       let own = All-contains (IsPlayed groups homes handle runs are_homes are) (q ∷ qs) p all has in
       let first : lies.run.first ≤ q.frame = lies.from in
       let last : q.frame + length_of_group (q ∷ qs) ≤ lies.run.first + lies.run.length = lies.to in
       let some : 1 ≤ p.length = own.ok.some in
-      let one = run_number_of (place_by homes) runs p.file p.frame k all_apart (record { run = run; there = there; has = starts.frame }) in
+      let one =
+      run_number_of (place_by homes) runs p.file p.frame k all_apart
+      (record { run = run; there = there; has = starts.frame }) in
       let other = run_number_of (place_by homes) runs p.file p.frame lies.place all_apart (record {
         run = lies.run;
         there = lies.there;
@@ -107,15 +117,19 @@ module _ (groups : List (List Piece)) (homes : List Home) (handle : ℕ) (runs :
       }) in
       playing ∙ sym other ∙ one
 
-  used_by : (k : ℕ) (run : Run) → slice_get runs k ≡ Some run → (p : Piece) → StartsIn run p → (number : ℕ) (gs : List (List Piece))
+  used_by : (k : ℕ) (run : Run) → slice_get runs k ≡ Some run → (p : Piece) → StartsIn run p
+      → (number : ℕ) (gs : List (List Piece))
       → All (ArePlayed groups homes handle runs are_homes are) gs → Contains (pieces_of gs) p
       → is_used (numbered (run_event homes runs) number (placed_of gs)) (1 + k) ≡ true
   used_by k run there p starts number [] all has = absurd (omega (arith, has.1))
-  used_by k run there p starts number ([] ∷ gs) all has = absurd (All-head (ArePlayed groups homes handle runs are_homes are) [] gs all).0
+  used_by k run there p starts number ([] ∷ gs) all has =
+      absurd (All-head (ArePlayed groups homes handle runs are_homes are) [] gs all).0
   used_by k run there p starts number ((q ∷ qs) ∷ gs) all has =
-      by_side (λ later. used_by k run there p starts (suc number) gs (All-tail (ArePlayed groups homes handle runs are_homes are) (q ∷ qs) gs all) later)
+      by_side (λ later. used_by k run there p starts (suc number) gs
+      (All-tail (ArePlayed groups homes handle runs are_homes are) (q ∷ qs) gs all) later)
       (Contains-append_cases (q ∷ qs) (pieces_of gs) p has) where
-        by_side : (Contains (pieces_of gs) p → is_used (numbered (run_event homes runs) (suc number) (placed_of gs)) (1 + k) ≡ true)
+        by_side : (Contains (pieces_of gs) p
+            → is_used (numbered (run_event homes runs) (suc number) (placed_of gs)) (1 + k) ≡ true)
             → Contains (q ∷ qs) p ⊎ Contains (pieces_of gs) p
             → is_used (numbered (run_event homes runs) number (placed_of ((q ∷ qs) ∷ gs))) (1 + k) ≡ true
         by_side rest (inl here) =
@@ -126,12 +140,14 @@ module _ (groups : List (List Piece)) (homes : List Home) (handle : ℕ) (runs :
         by_side rest (inr later) = or_right (run_number 1 runs q.file q.frame == 1 + k) _ (rest later)
 
   -- some piece is the reason why the first frame of a run is kept
-  reason : (run : Run) → IsMaximal kept run → (p : Piece) × Contains (pieces_of groups) p × (is_near handle run.file run.first p ≡ true)
+  reason : (run : Run) → IsMaximal kept run
+      → (p : Piece) × Contains (pieces_of groups) p × (is_near handle run.file run.first p ≡ true)
   reason run is =
       let counted : run.first + 0 ≡ run.first = omega arith in
       let first : kept run.file (run.first + 0) ≡ true = is.inside 0 is.some in
       some_of (is_near handle run.file run.first) (pieces_of groups)
-      (right_of (nat_lt run.first (addressable_by homes run.file)) _ (subst (λ (f : ℕ). kept run.file f ≡ true) counted first)) where
+      (right_of (nat_lt run.first (addressable_by homes run.file)) _
+      (subst (λ (f : ℕ). kept run.file f ≡ true) counted first)) where
         right_of : (a b : Bool) → (a && b) ≡ true → b ≡ true
         right_of true b h = h
         right_of false b h = absurd (let no : false ≡ true = h in cc)
@@ -140,7 +156,8 @@ module _ (groups : List (List Piece)) (homes : List Home) (handle : ℕ) (runs :
       → All (ArePlayed groups homes handle runs are_homes are) groups
       → (k : ℕ) → k < length runs → is_used (numbered (run_event homes runs) 1 (placed_of groups)) (1 + k) ≡ true
   all_used_by at_home all k below = of_run (slice_get runs k) refl below where
-    of_run : (o : Option Run) → slice_get runs k ≡ o → k < length runs → is_used (numbered (run_event homes runs) 1 (placed_of groups)) (1 + k) ≡ true
+    of_run : (o : Option Run) → slice_get runs k ≡ o → k < length runs
+        → is_used (numbered (run_event homes runs) 1 (placed_of groups)) (1 + k) ≡ true
     of_run None e below = absurd (let none = slice_get_past_no runs k below e in none)
     of_run (Some run) e below =
         let is = maximal_at kept homes runs (kept_at_home groups homes handle) are_homes are k run e in

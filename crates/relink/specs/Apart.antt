@@ -8,7 +8,8 @@ EndsBefore place a b =
     (place a.file < place b.file) ⊎ ((a.file ≡ b.file) × (a.first + a.length ≤ b.first))
 
 abbrev pub AreApart : (ℕ → ℕ) → List Run → Type 0
-AreApart place runs = (i j : ℕ) (a b : Run) → i < j → slice_get runs i ≡ Some a → slice_get runs j ≡ Some b → EndsBefore place a b
+AreApart place runs =
+    (i j : ℕ) (a b : Run) → i < j → slice_get runs i ≡ Some a → slice_get runs j ≡ Some b → EndsBefore place a b
 
 -- the run begins no later than this frame of the file whose home index has this place
 abbrev pub is_begun : (ℕ → ℕ) → (place frame : ℕ) → Run → Bool

@@ -63,7 +63,7 @@ pub(crate) fn entries_of(
     requires linkable { All (IsLinkable homes.now runs.now) groups.now }
     ensures { IfOk result (λ events. events.items ≡ numbered (run_event homes.now runs.now) 1 groups.now) }
 {
-    let mut events = Vec::new(alloc);
+    let mut events = Vec::with_capacity(alloc, groups.len())?;
     for (place, placed) in groups.iter().enumerate() {
         let event = entry_of(runs, homes, place as u32 + 1, placed);
         events.push(event)?;

@@ -56,7 +56,7 @@ pub(crate) fn indexes_of(
     requires in_day { All (EndsInDay homes.now) runs.now }
     ensures { IfOk result (λ sources. sources.items ≡ numbered (run_source homes.now) 1 runs.now) }
 {
-    let mut sources = Vec::new(alloc);
+    let mut sources = Vec::with_capacity(alloc, runs.len())?;
     for (place, run) in runs.iter().enumerate() {
         let source = index_of(alloc, homes, place as u32 + 1, run)?;
         sources.push(source)?;

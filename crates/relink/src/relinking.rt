@@ -39,7 +39,8 @@ fn linked(
     requires apart { AreApart (place_by homes.now) runs.now }
     requires in_day { All (EndsInDay homes.now) runs.now }
     requires linkable { All (IsLinkable homes.now runs.now) (placed_of intervals.now) }
-    ensures renewed { IfOk result (λ renewed. renewed ≡ consolidated_project project.now homes.now intervals.now runs.now) }
+    ensures renewed { IfOk result (λ renewed. renewed
+        ≡ consolidated_project project.now homes.now intervals.now runs.now) }
     ensures memory { IfErr result (λ fault. fault ≡ Memory) }
 {
     let groups = intervals.to_events()?;
@@ -49,8 +50,8 @@ fn linked(
     Ok(renewed)
 }
 
-/// The list over the media of these runs: an index for each run, an entry for each group, under the header of a project.
-/// `homes` has the home of each file by its number. `TooManyEntries` where there are more than 32,767 groups.
+/// The list over the media of these runs: an index for each run, an entry for each group, under the header of a
+/// project. `homes` has the home of each file by its number. `TooManyEntries` where there are more than 32,767 groups.
 pub fn relink(
     alloc: Global,
     intervals: &Intervals,
@@ -63,13 +64,15 @@ pub fn relink(
     requires homes { AreHomes homes.now }
     requires runs { (handle : ℕ) × AreRuns (kept_of intervals.now homes.now handle) (place_by homes.now) runs.now }
     requires at_home { All (LiesAtHome homes.now) (pieces_of intervals.now) }
-    ensures renewed { IfOk result (λ renewed. renewed ≡ consolidated_project project.now homes.now intervals.now runs.now) }
+    ensures renewed { IfOk result (λ renewed. renewed
+        ≡ consolidated_project project.now homes.now intervals.now runs.now) }
     ensures too_many { IsErrOf result TooManyEntries ↔ (32767 < length intervals.now) }
     ensures few { OnOk result (length intervals.now ≤ 32767) }
     ensures all_used { (k : ℕ) → k < length runs.now
         → is_used (consolidated_project project.now homes.now intervals.now runs.now).events (1 + k) ≡ true }
     ensures same_mix { (given copied : Reading) → CopiesRuns given runs.now copied → (channel time : ℕ)
-        → mix_at copied (run_indexes homes.now runs.now) (consolidated_project project.now homes.now intervals.now runs.now).events channel time
+        → mix_at copied (run_indexes homes.now runs.now)
+        (consolidated_project project.now homes.now intervals.now runs.now).events channel time
         ≡ mix_of given intervals.now channel time }
     ensures no_fault { (binding : Binding) → binding.indexes ≡ run_indexes homes.now runs.now
         → HaveChannels (pieces_of intervals.now) runs.now binding.files

@@ -9,7 +9,8 @@ use Rattle.rendering.specs.Rendering.{values_of}
 use Rattle.rendering.specs.declared.options.Options.{Options}
 
 -- that of the events of a project
-pub same_range : (project : ListProject) (options : Options) (events : List Event) (from to channels : ℕ) → events ≡ project.events
+pub same_range : (project : ListProject) (options : Options) (events : List Event) (from to channels : ℕ)
+    → events ≡ project.events
     → from ≡ chosen options.from (least_of (λ event. event.dest_in) events)
     → to ≡ chosen options.to (greatest_of (λ event. event.dest_out) events)
     → channels ≡ chosen options.channels (max 1 (greatest_of (λ event. event.dest.last) events))

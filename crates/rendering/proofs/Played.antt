@@ -7,7 +7,8 @@ use Rattle.rendering.specs.declared.fault.RenderFault.TheVariants.{Intervals, Em
 use Rattle.rendering.specs.Fault.{IsOfBlock, is_late}
 
 -- a part that was written over keeps the length of the whole
-pub length-written : {X : Type 0} (n : ℕ) (part old : List X) → length part ≡ length (take n old) → length (part ++ drop n old) ≡ length old
+pub length-written : {X : Type 0} (n : ℕ) (part old : List X) → length part ≡ length (take n old)
+    → length (part ++ drop n old) ≡ length old
 length-written n part old same =
     length-append part (drop n old)
     ∙ ap (λ (k : ℕ). k + length (drop n old)) same
@@ -33,6 +34,7 @@ not_output TooLong own same = elim own [ ]
 not_output Output own same = elim own [ ]
 
 -- the fault that a failing output gives
-pub told_output : {X : Type 0} (result : Result X RenderFault) → IsErrAnd result (λ fault. fault ≡ Output) → result ≡ Err Output
+pub told_output : {X : Type 0} (result : Result X RenderFault) → IsErrAnd result (λ fault. fault ≡ Output)
+    → result ≡ Err Output
 told_output (Ok x) told = elim told [ ]
 told_output (Err fault) told = ap Err told

@@ -7,7 +7,8 @@ use Rattle.rendering.specs.declared.fault.RenderFault.TheVariants.{Output}
 use Rattle.rendering.proofs.Played.{told_output}
 
 -- a call behind one that didn't fail
-pub written_behind : {S quiet device failed : Type 0} (stored : S → Files) (honest : S → Bool) (failures : S → ℕ) (failed_at : S → List ℕ → Type 0)
+pub written_behind : {S quiet device failed : Type 0} (stored : S → Files) (honest : S → Bool)
+    (failures : S → ℕ) (failed_at : S → List ℕ → Type 0)
     (may_leave : S → Files → Type 0) (stays : List ℕ → Type 0) (old mid new : S)
     → HasWritten stored honest failures failed_at may_leave stays old mid ⊤ ⊥ ⊤
     → HasWritten stored honest failures failed_at may_leave stays mid new quiet device failed
@@ -16,7 +17,8 @@ written_behind stored honest failures failed_at may_leave stays old mid new firs
     let left : failures mid ≡ failures old = first.cause.left tt in
     record {
       others = λ is n stay. second.others (subst IsTrue (sym first.honest_same) is) n stay ∙ first.others is n stay;
-      durable = λ is n stay safe. second.durable (subst IsTrue (sym first.honest_same) is) n stay (first.durable is n stay safe);
+      durable = λ is n stay safe.
+          second.durable (subst IsTrue (sym first.honest_same) is) n stay (first.durable is n stay safe);
       honest_same = second.honest_same ∙ first.honest_same;
       cause = record {
         later = omega (arith, left, second.cause.later);
@@ -28,7 +30,8 @@ written_behind stored honest failures failed_at may_leave stays old mid new firs
     }
 
 -- a call that failed, as its fault tells
-pub output_failed : {S X failed : Type 0} (stored : S → Files) (honest : S → Bool) (failures : S → ℕ) (failed_at : S → List ℕ → Type 0)
+pub output_failed : {S X failed : Type 0} (stored : S → Files) (honest : S → Bool)
+    (failures : S → ℕ) (failed_at : S → List ℕ → Type 0)
     (may_leave : S → Files → Type 0) (stays : List ℕ → Type 0) (old new : S) (result : Result X RenderFault)
     → HasWritten stored honest failures failed_at may_leave stays old new (⊤ → ⊥) ⊤ (⊤ → failed)
     → IsErrAnd result (λ fault. fault ≡ Output)

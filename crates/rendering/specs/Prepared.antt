@@ -19,7 +19,8 @@ use Rattle.rendering.specs.declared.preparing.Prepared.{Prepared}
 
 -- the pieces sound like the bound project, over any files
 abbrev pub MixAs : ListProject → Binding → List Piece → Type 0
-MixAs project binding pieces = (files : Files) (channel time : ℕ) → sum_of (reading_of files binding) pieces channel time ≡ project_mix files project binding channel time
+MixAs project binding pieces = (files : Files) (channel time : ℕ)
+    → sum_of (reading_of files binding) pieces channel time ≡ project_mix files project binding channel time
 
 -- its parts are those of one plan over these opened files, and its file fits
 pub record IsReady (sounds : List SoundFacts) (prepared : Prepared) : Type 0 where
@@ -33,11 +34,13 @@ pub record IsReady (sounds : List SoundFacts) (prepared : Prepared) : Type 0 whe
   pub head : prepared.head.items ≡ header_of prepared.info
 
 -- it renders what was chosen of a project to a file that reads back
-pub record IsPrepared (project : ListProject) (binding : Binding) (values : OptionValues) (prepared : Prepared) : Type 0 where
+pub record IsPrepared (project : ListProject) (binding : Binding) (values : OptionValues)
+    (prepared : Prepared) : Type 0 where
   pub range : prepared.plan.range ≡ range_of project values
   pub ready : IsReady (sounds_of binding) prepared
   pub mixes : MixAs project binding prepared.plan.pieces
-  pub reads_back : (mix : ℕ → ℕ → ℤ) → ReadsBack (range_of project values) mix (rendering_of (range_of project values) mix)
+  pub reads_back : (mix : ℕ → ℕ → ℤ)
+      → ReadsBack (range_of project values) mix (rendering_of (range_of project values) mix)
 
 -- nothing was written yet, and no earlier fault is due for this range
 abbrev pub IsEarly : Range → RenderFault → Type 0

@@ -15,7 +15,12 @@ use Rattle.rendering.specs.declared.rendered.Rendered.{Rendered}
 
 -- what was chosen
 abbrev pub values_of : Options → OptionValues
-values_of options = record { from = options.from; to = options.to; channels = options.channels; depth = bits_of options.depth }
+values_of options = record {
+  from = options.from;
+  to = options.to;
+  channels = options.channels;
+  depth = bits_of options.depth;
+}
 
 -- a number of channels that was chosen is 1 to 64
 abbrev pub HaveChannels : Options → Type 0
@@ -28,17 +33,20 @@ pub record HasRange (rendered : Rendered) (range : Range) : Type 0 where
 
 -- 58: the range is empty; 61: its file would be too long for RIFF
 abbrev pub empty_fault : Range → Option Refusal
-empty_fault range = if nat_le range.to range.from then Some (record { number = 58; place = Nowhere; late = false }) else None
+empty_fault range =
+    if nat_le range.to range.from then Some (record { number = 58; place = Nowhere; late = false }) else None
 
 abbrev pub size_fault : Range → Option Refusal
-size_fault range = if is_large (render_info range) then Some (record { number = 61; place = Nowhere; late = false }) else None
+size_fault range =
+    if is_large (render_info range) then Some (record { number = 61; place = Nowhere; late = false }) else None
 
 -- the first fault of rendering a project without a fault
 abbrev pub render_fault : ListProject → OptionValues → Option Refusal
 render_fault project values = first_fault (empty_fault (range_of project values)) (size_fault (range_of project values))
 
--- The file is that of the exact sums of a bound project over its sources, rounded and clipped, and it reads back as them.
-pub record IsRendered (project : ListProject) (binding : Binding) (values : OptionValues) (sources : Files) (file : Option (List ℕ)) : Type 0 where
+-- The file is that of the exact sums of a bound project over its sources, rounded and clipped, and it reads back so.
+pub record IsRendered (project : ListProject) (binding : Binding) (values : OptionValues) (sources : Files)
+    (file : Option (List ℕ)) : Type 0 where
   pub bytes : List ℕ
   pub there : file ≡ Some bytes
   pub whole : bytes ≡ rendering_of (range_of project values) (project_mix sources project binding)

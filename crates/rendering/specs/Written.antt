@@ -1,9 +1,11 @@
--- The samples in the rendered file, as bytes.
-use Rattle.std.specs.Prelude.{ℕ, ℤ, List}
+-- The rendered file: the bytes of its samples, and calls that write no other.
+use Rattle.std.specs.Prelude.{◌≢◌, ℕ, ℤ, List, Result, codes}
 use Rattle.std.specs.List.{flat_map}
 use Rattle.sound_terms.specs.Blocks.{mixed_block}
 use Rattle.sound_terms.specs.Render.{Range, frames_of}
 use Rattle.sound_terms.specs.Waves.{sample_bytes}
+use Rattle.shelf.specs.declared.bench.Bench as output
+use Rattle.shelf.specs.Frame.{OnlyWrites}
 
 -- the bytes of block k
 abbrev pub block_bytes : Range → (ℕ → ℕ → ℤ) → ℕ → List ℕ
@@ -12,3 +14,8 @@ block_bytes range mix k = flat_map (sample_bytes range.depth) (mixed_block range
 -- the bytes of the first n frames
 abbrev pub first_frames : Range → (ℕ → ℕ → ℤ) → ℕ → List ℕ
 first_frames range mix n = frames_of range.depth mix range.channels range.from n
+
+-- a call that writes no other file: these faults tell that the device of this one failed
+abbrev pub WritesRendering : {B X E : Type 0} → output.Ghosts B → B → B → Result X E → (E → Type 0) → Type 0
+WritesRendering bench old new result is_device =
+    OnlyWrites bench (λ n. n ≢ codes "render.wav") old new result is_device (λ _ failed. failed (codes "render.wav"))

@@ -1,6 +1,7 @@
 // Why a project isn't rendered.
 ghost use Rattle.std.specs.Prelude.{◌≡◌};
-ghost use Rattle.rendering.specs.Fault.{number_of};
+ghost use Rattle.rendering.specs.Fault.{fault_of_header, fault_of_machine, fault_of_plan, number_of};
+ghost use Rattle.rendering.specs.declared.fault.RenderFault.TheVariants.{Intervals, Memory, Output};
 
 use blockmachine::MachineFault;
 use interval::IntervalFault;
@@ -10,8 +11,8 @@ use std::alloc::AllocError;
 use thiserror::Error;
 use wavwrite::HeaderFault;
 
-/// Why a project isn't rendered. After `BlockMemory`, `Source` and `Output` what is written is unfinished; the others come
-/// before anything is written.
+/// Why a project isn't rendered. After `BlockMemory`, `Source` and `Output` what is written is unfinished; the others
+/// come before anything is written.
 #[derive(Clone, Copy, Debug, PartialEq, Eq, Error)]
 pub enum RenderFault {
     /// 47: no memory was left for the pieces of the entries.
@@ -54,9 +55,6 @@ impl RenderFault {
 }
 
 impl From<IntervalFault> for RenderFault {
-    ghost use Rattle.std.specs.Prelude.{◌≡◌};
-    ghost use Rattle.rendering.specs.declared.fault.RenderFault.TheVariants.{Intervals};
-
     ghost from_gives = { λ _ fault. fault ≡ Intervals };
 
     fn from(fault: IntervalFault) -> Self {
@@ -67,9 +65,6 @@ impl From<IntervalFault> for RenderFault {
 }
 
 impl From<DeviceFault> for RenderFault {
-    ghost use Rattle.std.specs.Prelude.{◌≡◌};
-    ghost use Rattle.rendering.specs.declared.fault.RenderFault.TheVariants.{Output};
-
     ghost from_gives = { λ _ fault. fault ≡ Output };
 
     fn from(_: DeviceFault) -> Self {
@@ -78,9 +73,6 @@ impl From<DeviceFault> for RenderFault {
 }
 
 impl From<PlanFault> for RenderFault {
-    ghost use Rattle.std.specs.Prelude.{◌≡◌};
-    ghost use Rattle.rendering.specs.Fault.{fault_of_plan};
-
     ghost from_gives = { λ plan fault. fault ≡ fault_of_plan plan };
 
     fn from(fault: PlanFault) -> Self {
@@ -92,9 +84,6 @@ impl From<PlanFault> for RenderFault {
 }
 
 impl From<HeaderFault> for RenderFault {
-    ghost use Rattle.std.specs.Prelude.{◌≡◌};
-    ghost use Rattle.rendering.specs.Fault.{fault_of_header};
-
     ghost from_gives = { λ header fault. fault ≡ fault_of_header header };
 
     fn from(fault: HeaderFault) -> Self {
@@ -106,9 +95,6 @@ impl From<HeaderFault> for RenderFault {
 }
 
 impl From<MachineFault> for RenderFault {
-    ghost use Rattle.std.specs.Prelude.{◌≡◌};
-    ghost use Rattle.rendering.specs.Fault.{fault_of_machine};
-
     ghost from_gives = { λ machine fault. fault ≡ fault_of_machine machine };
 
     fn from(fault: MachineFault) -> Self {
@@ -120,9 +106,6 @@ impl From<MachineFault> for RenderFault {
 }
 
 impl From<AllocError> for RenderFault {
-    ghost use Rattle.std.specs.Prelude.{◌≡◌};
-    ghost use Rattle.rendering.specs.declared.fault.RenderFault.TheVariants.{Memory};
-
     ghost from_gives = { λ _ fault. fault ≡ Memory };
 
     fn from(_: AllocError) -> Self {

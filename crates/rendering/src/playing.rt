@@ -1,5 +1,5 @@
 // Sums blocks, and writes their samples.
-ghost use Rattle.std.specs.Prelude.{◌≡◌, ◌≢◌, ◌*◌, ◌/◌, ◌<◌, ◌≤◌, true, codes, IfErr, IsTrue, OnOk, length};
+ghost use Rattle.std.specs.Prelude.{◌≡◌, ◌*◌, ◌/◌, ◌<◌, ◌≤◌, true, codes, IfErr, IsTrue, OnOk, length};
 ghost use Rattle.std.specs.List.{All};
 ghost use Rattle.work_terms.specs.Disk.{IsAppended};
 ghost use Rattle.sound_terms.specs.Blocks.{block_count, block_frames};
@@ -7,9 +7,9 @@ ghost use Rattle.sound_terms.specs.Depth.{bits_of};
 ghost use Rattle.sound_terms.specs.Groups.{sum_of};
 ghost use Rattle.sound_terms.specs.Media.{IsPieceOf};
 ghost use Rattle.list_terms.specs.Heard.{reading_by};
-ghost use Rattle.shelf.specs.Frame.{OnlyReads, OnlyWrites};
+ghost use Rattle.shelf.specs.Frame.{OnlyReads};
 ghost use Rattle.rendering.specs.Fault.{FailsAt, IsOfBlock, IsSource, is_late};
-ghost use Rattle.rendering.specs.Written.{block_bytes};
+ghost use Rattle.rendering.specs.Written.{WritesRendering, block_bytes};
 ghost use Rattle.rendering.specs.declared.fault.RenderFault.TheVariants.{Output};
 
 use crate::RenderFault;
@@ -43,7 +43,8 @@ fn play_block<S: Shelf>(
     requires samples { length samples.old ≡ block_frames plan.now.range k * plan.now.range.channels }
     requires bytes { length bytes.old ≡ length samples.old * (bits_of depth / 8) }
     ensures played { IsTrue (S.honest shelf.old) → OnOk result
-        (bytes.new ≡ block_bytes plan.now.range (sum_of (reading_by (S.stored shelf.old) sounds.now) plan.now.pieces) k) }
+        (bytes.new ≡ block_bytes plan.now.range
+        (sum_of (reading_by (S.stored shelf.old) sounds.now) plan.now.pieces) k) }
     ensures ready { machine.new ≡ machine.old }
     ensures own { IfErr result IsOfBlock }
     ensures only_reads { OnlyReads S.Shelf shelf.old shelf.new result IsSource (FailsAt sounds.now) }
@@ -84,7 +85,7 @@ pub fn append_block<S: Shelf, B: Bench>(
     ensures ready { machine.new ≡ machine.old }
     ensures late { IfErr result (λ fault. is_late fault ≡ true) }
     ensures only_reads { OnlyReads S.Shelf shelf.old shelf.new result IsSource (FailsAt sounds.now) }
-    ensures only_writes { OnlyWrites B.Bench (λ n. n ≢ codes "render.wav") bench.old bench.new result (λ fault. fault ≡ Output) (λ _ failed. failed (codes "render.wav")) }
+    ensures only_writes { WritesRendering B.Bench bench.old bench.new result (λ fault. fault ≡ Output) }
 {
     let count = plan.frames_of(k) as usize * usize::from(format.channels);
     let length = count * usize::from(format.depth.bits() / 8);

@@ -21,8 +21,8 @@ use sound_terms::{Bext, Depth, Format};
 use std::alloc::Global;
 use wavwrite::{SoundInfo, header};
 
-/// What a rendering takes: its plan, room for its blocks, what its file tells of itself, and all that stands in it before
-/// the samples.
+/// What a rendering takes: its plan, room for its blocks, what its file tells of itself, and all that stands in it
+/// before the samples.
 #[derive(Drop)]
 pub struct Prepared {
     pub plan: Plan,
@@ -62,7 +62,8 @@ fn bext_at(time: SampleTime) -> Bext
 fn info_of(alloc: Global, span: &Span, depth: Depth) -> Result<SoundInfo, RenderFault>
     requires channels { (1 ≤ span.now.channels) × (span.now.channels ≤ 64) }
     requires some { span.now.from < span.now.to }
-    ensures info { IfOk result (λ info. info ≡ render_info (range_of span.now.from span.now.to span.now.channels depth)) }
+    ensures info { IfOk result
+        (λ info. info ≡ render_info (range_of span.now.from span.now.to span.now.channels depth)) }
     ensures only_memory { IfErr result (λ fault. fault ≡ Memory) }
 {
     let frames = span.to.get() - span.from.get();

@@ -61,7 +61,8 @@ pub fn span_of(events: &[Event], options: &Options) -> Span
     requires channels { HaveChannels options.now }
     ensures from { result.from ≡ chosen options.now.from (least_of (λ event. event.dest_in) events.now) }
     ensures to { result.to ≡ chosen options.now.to (greatest_of (λ event. event.dest_out) events.now) }
-    ensures channels { result.channels ≡ chosen options.now.channels (max 1 (greatest_of (λ event. event.dest.last) events.now)) }
+    ensures channels { result.channels
+        ≡ chosen options.now.channels (max 1 (greatest_of (λ event. event.dest.last) events.now)) }
     ensures sound { (1 ≤ result.channels) × (result.channels ≤ 64) }
 {
     Span {

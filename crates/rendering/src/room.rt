@@ -1,5 +1,5 @@
 // Room for the blocks of a rendering.
-ghost use Rattle.std.specs.Prelude.{◌≡◌, ◌≢◌, ◌<◌, ◌≤◌, true, codes, IfErr, IfOk, IsTrue, OnOk};
+ghost use Rattle.std.specs.Prelude.{◌≡◌, ◌<◌, ◌≤◌, true, codes, IfErr, IfOk, IsTrue, OnOk};
 ghost use Rattle.std.specs.List.{All};
 ghost use Rattle.work_terms.specs.Disk.{IsAppended};
 ghost use Rattle.sound_terms.specs.Blocks.{block_count};
@@ -7,9 +7,9 @@ ghost use Rattle.sound_terms.specs.Depth.{bits_of};
 ghost use Rattle.sound_terms.specs.Groups.{sum_of};
 ghost use Rattle.sound_terms.specs.Media.{IsPieceOf};
 ghost use Rattle.list_terms.specs.Heard.{reading_by};
-ghost use Rattle.shelf.specs.Frame.{OnlyReads, OnlyWrites};
+ghost use Rattle.shelf.specs.Frame.{OnlyReads};
 ghost use Rattle.rendering.specs.Fault.{FailsAt, IsSource, is_late};
-ghost use Rattle.rendering.specs.Written.{block_bytes};
+ghost use Rattle.rendering.specs.Written.{WritesRendering, block_bytes};
 ghost use Rattle.rendering.specs.declared.fault.RenderFault.TheVariants.{Memory, Output};
 
 use crate::RenderFault;
@@ -43,7 +43,8 @@ impl Model for Room {
 
     ghost view = { λ room. room.format };
 
-    ghost invariant = { λ room. (room.machine ≡ record { frames = 4096; channels = room.format.channels }) × (room.format.channels ≤ 64)
+    ghost invariant = { λ room. (room.machine ≡ record { frames = 4096; channels = room.format.channels })
+        × (room.format.channels ≤ 64)
         × (length room.samples.items ≡ 4096 * room.format.channels)
         × (length room.bytes.items ≡ 4096 * room.format.channels * (bits_of room.format.depth / 8)) };
 }
@@ -69,7 +70,8 @@ impl Room {
         })
     }
 
-    /// Adds the samples of block k at the end of the rendered file. `BlockMemory`, `Source` or `Output` where that fails.
+    /// Adds the samples of block k at the end of the rendered file. `BlockMemory`, `Source` or `Output` where that
+    /// fails.
     pub fn append_block<S: Shelf, B: Bench>(
         &mut self,
         plan: &Plan,
@@ -89,7 +91,7 @@ impl Room {
         ensures ready { self.new ≡ self.old }
         ensures late { IfErr result (λ fault. is_late fault ≡ true) }
         ensures only_reads { OnlyReads S.Shelf shelf.old shelf.new result IsSource (FailsAt sounds.now) }
-        ensures only_writes { OnlyWrites B.Bench (λ n. n ≢ codes "render.wav") bench.old bench.new result (λ fault. fault ≡ Output) (λ _ failed. failed (codes "render.wav")) }
+        ensures only_writes { WritesRendering B.Bench bench.old bench.new result (λ fault. fault ≡ Output) }
     {
         let format = &self.format;
         let machine = &mut self.machine;

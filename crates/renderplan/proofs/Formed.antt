@@ -18,7 +18,8 @@ use Rattle.sound_terms.specs.Passes.{shape_behind}
 use Rattle.sound_terms.specs.Blocks.{AddsOne, IsBlockProgram, IsFormed, LiesInFiles, block_frames, block_start, lines_of, program_of, stretch_in}
 
 -- what holds of each part holds of all
-pub all_of_parts : {X A : Type 0} (Q : X → Type 0) (P : A → Type 0) (f : X → List A) → ((x : X) → Q x → All P (f x)) → (xs : List X) → All Q xs → All P (flat_map f xs)
+pub all_of_parts : {X A : Type 0} (Q : X → Type 0) (P : A → Type 0) (f : X → List A) → ((x : X) → Q x → All P (f x))
+    → (xs : List X) → All Q xs → All P (flat_map f xs)
 all_of_parts Q P f each [] all = All-nil P
 all_of_parts Q P f each (x ∷ xs) all =
     All-append P (f x) (flat_map f xs) (each x (All-head Q x xs all)) (all_of_parts Q P f each xs (All-tail Q x xs all))
@@ -26,7 +27,8 @@ all_of_parts Q P f each (x ∷ xs) all =
 pub all_pieces : (groups : List (List Piece)) → All (All IsPiece) groups → All IsPiece (pieces_of groups)
 all_pieces groups all = all_of_parts (All IsPiece) IsPiece (λ group. group) (λ group pieces. pieces) groups all
 
-ramp_within : (shape : Shape) (cut n whole : ℕ) → cut + n ≤ whole → IsRamp shape whole → IsRamp (shape_behind cut shape) n
+ramp_within : (shape : Shape) (cut n whole : ℕ) → cut + n ≤ whole → IsRamp shape whole
+    → IsRamp (shape_behind cut shape) n
 ramp_within Flat cut n whole inside ramp = tt
 ramp_within (Rise offset den) cut n whole inside ramp = (omega arith, ramp.1)
 ramp_within (Fall offset den) cut n whole inside ramp = (omega arith, ramp.1)
@@ -35,14 +37,19 @@ module _ (from n channels : ℕ) where
   -- a line of a piece is the one of its stretch
   by_stretch : (P : Instruction → Type 0) (p : Piece)
       → (max from p.start < min (from + n) (p.start + p.length) → p.dest ≤ channels
-      → P (Add (stretch_in from (max from p.start) (min (from + n) (p.start + p.length)) channels p) (shape_behind (max from p.start - p.start) p.shape)))
+      → P (Add (stretch_in from (max from p.start) (min (from + n) (p.start + p.length)) channels p)
+      (shape_behind (max from p.start - p.start) p.shape)))
       → All P (lines_of from n channels p)
-  by_stretch P p holds = by_tests (nat_lt (max from p.start) (min (from + n) (p.start + p.length))) (nat_le p.dest channels) refl refl where
-    by_tests : (some there : Bool) → nat_lt (max from p.start) (min (from + n) (p.start + p.length)) ≡ some → nat_le p.dest channels ≡ there
-        → All P (lines_of from n channels p)
-    by_tests false there e f = rw e (All-nil P)
-    by_tests true false e f = rw (e, f) (All-nil P)
-    by_tests true true e f = rw (e, f) (All-cons P _ [] (holds (grind (arith, nat_tests)) (grind (arith, nat_tests))) (All-nil P))
+  by_stretch P p holds =
+      by_tests (nat_lt (max from p.start) (min (from + n) (p.start + p.length))) (nat_le p.dest channels)
+      refl refl where
+        by_tests : (some there : Bool) → nat_lt (max from p.start) (min (from + n) (p.start + p.length)) ≡ some
+            → nat_le p.dest channels ≡ there
+            → All P (lines_of from n channels p)
+        by_tests false there e f = rw e (All-nil P)
+        by_tests true false e f = rw (e, f) (All-nil P)
+        by_tests true true e f =
+            rw (e, f) (All-cons P _ [] (holds (grind (arith, nat_tests)) (grind (arith, nat_tests))) (All-nil P))
 
   line_formed : (p : Piece) → IsPiece p → All (IsFormed n channels) (lines_of from n channels p)
   line_formed p ok = by_stretch (IsFormed n channels) p (λ some there. (
@@ -62,7 +69,8 @@ module _ (from n channels : ℕ) where
   pub line_adds : (p : Piece) → IsPiece p → All AddsOne (lines_of from n channels p)
   line_adds p ok = by_stretch AddsOne p (λ some there. tt)
 
-  line_inside : (sounds : List SoundFacts) (p : Piece) → IsPieceOf sounds p → All (LiesInFiles sounds) (lines_of from n channels p)
+  line_inside : (sounds : List SoundFacts) (p : Piece) → IsPieceOf sounds p
+      → All (LiesInFiles sounds) (lines_of from n channels p)
   line_inside sounds p is = by_stretch (LiesInFiles sounds) p (λ some there. record {
     facts = is.facts;
     there = is.there;
@@ -78,15 +86,20 @@ program_formed pieces range depth k all =
     record {
       lines = flat_map (lines_of from n range.channels) pieces;
       whole = refl;
-      formed = all_of_parts IsPiece (IsFormed n range.channels) (lines_of from n range.channels) (line_formed from n range.channels) pieces all;
-      added = all_of_parts IsPiece AddsOne (lines_of from n range.channels) (line_adds from n range.channels) pieces all;
+      formed = all_of_parts IsPiece (IsFormed n range.channels) (lines_of from n range.channels)
+          (line_formed from n range.channels) pieces all;
+      added = all_of_parts IsPiece AddsOne (lines_of from n range.channels) (line_adds from n range.channels)
+          pieces all;
     }
 
-pub program_inside : (sounds : List SoundFacts) (pieces : List Piece) (range : Range) (depth : Depth) (k : ℕ) → All (IsPieceOf sounds) pieces
+pub program_inside : (sounds : List SoundFacts) (pieces : List Piece) (range : Range) (depth : Depth) (k : ℕ)
+    → All (IsPieceOf sounds) pieces
     → All (LiesInFiles sounds) (program_of pieces range depth k)
 program_inside sounds pieces range depth k all =
     let from = block_start range k in
     let n = block_frames range k in
-    let lines = all_of_parts (IsPieceOf sounds) (LiesInFiles sounds) (lines_of from n range.channels) (line_inside from n range.channels sounds) pieces all in
+    let lines =
+    all_of_parts (IsPieceOf sounds) (LiesInFiles sounds) (lines_of from n range.channels)
+    (line_inside from n range.channels sounds) pieces all in
     let emitted = All-cons (LiesInFiles sounds) (Emit depth) [] tt (All-nil (LiesInFiles sounds)) in
     All-cons (LiesInFiles sounds) (Start n) _ tt (All-append (LiesInFiles sounds) _ _ lines emitted)

@@ -17,14 +17,18 @@ module _ (from n channels least greatest : ℕ) (outside : (greatest ≤ from) �
   not_heard p lies = by_side outside where
     by_side : (greatest ≤ from) ⊎ (from + n ≤ least) → lines_of from n channels p ≡ []
     by_side (inl before) =
-        let none : nat_lt (max from p.start) (min (from + n) (p.start + p.length)) ≡ false = grind (arith, nat_tests) in rw none refl
+        let none : nat_lt (max from p.start) (min (from + n) (p.start + p.length)) ≡ false = grind (arith, nat_tests) in
+        rw none refl
     by_side (inr behind) =
-        let none : nat_lt (max from p.start) (min (from + n) (p.start + p.length)) ≡ false = grind (arith, nat_tests) in rw none refl
+        let none : nat_lt (max from p.start) (min (from + n) (p.start + p.length)) ≡ false = grind (arith, nat_tests) in
+        rw none refl
 
-  none_heard : (pieces : List Piece) → All (LiesWithin least greatest) pieces → flat_map (lines_of from n channels) pieces ≡ []
+  none_heard : (pieces : List Piece) → All (LiesWithin least greatest) pieces
+      → flat_map (lines_of from n channels) pieces ≡ []
   none_heard [] all = refl
   none_heard (p ∷ ps) all =
-      rw (not_heard p (All-head (LiesWithin least greatest) p ps all)) (none_heard ps (All-tail (LiesWithin least greatest) p ps all))
+      rw (not_heard p (All-head (LiesWithin least greatest) p ps all))
+      (none_heard ps (All-tail (LiesWithin least greatest) p ps all))
 
 -- pieces can be passed over where their reach lies outside
 pub passed_over : (from n channels : ℕ) (pieces : List Piece) (reach : Reach) → IsReach pieces reach
@@ -35,7 +39,8 @@ passed_over from n channels pieces reach is test =
     let lines : Piece → List Instruction = lines_of from n channels in
     ap (flat_map lines) (sym (take-append-drop reach.count pieces))
     ∙ flat_map-append lines (take reach.count pieces) (drop reach.count pieces)
-    ∙ ap (λ front. front ++ flat_map lines (drop reach.count pieces)) (none_heard from n channels reach.least reach.greatest outside _ is.within) where
+    ∙ ap (λ front. front ++ flat_map lines (drop reach.count pieces))
+    (none_heard from n channels reach.least reach.greatest outside _ is.within) where
       either_side : (b : Bool) → nat_le reach.greatest from ≡ b → (reach.greatest ≤ from) ⊎ (from + n ≤ reach.least)
       either_side true before = inl (grind (arith, nat_tests))
       either_side false before =

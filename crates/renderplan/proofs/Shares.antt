@@ -27,33 +27,42 @@ held_few m (pos n) few within =
 held_few m (negsuc n) few within =
     let below : min n (2 ^ 63 - 1) ≡ n = omega (arith, ints, within) in ap negsuc below
 
-negative_share : (n den bound : ℕ) → 0 < den → n ≤ bound * den → bound ≤ 2 ^ 47 → IsWithin 1 (int_div_euclid (neg_ℤ (pos n)) (pos den))
-negative_share zero den bound some few small = let none : 0 / den ≡ 0 = zero-div den in rw none (omega (arith, ints), omega (arith, ints))
+negative_share : (n den bound : ℕ) → 0 < den → n ≤ bound * den → bound ≤ 2 ^ 47
+    → IsWithin 1 (int_div_euclid (neg_ℤ (pos n)) (pos den))
+negative_share zero den bound some few small = let none : 0 / den ≡ 0 = zero-div den in
+    rw none (omega (arith, ints), omega (arith, ints))
 negative_share (suc n) den zero some few small = absurd (omega arith)
 negative_share (suc n) den (suc bound) some few small =
-    let less : n / den < suc bound = (div-lt_iff_lt-mul some).1 few in (omega (arith, ints, less), omega (arith, ints, less))
+    let less : n / den < suc bound = (div-lt_iff_lt-mul some).1 few in
+    (omega (arith, ints, less), omega (arith, ints, less))
 
 share_within : (v : ℤ) (num den : ℕ) → IsWithin 1 v → num ≤ den → 0 < den → IsWithin 1 (share_of v (num, den))
 share_within (pos n) num den within le some =
     let less : n * num / den ≤ n = div-le_of_le-mul den (omega (arith, mul-le-mul_left n le)) in
-    let is : share_of (pos n) (num, den) ≡ pos (n * num / den) = ap (λ z. int_div_euclid z (pos den)) (pos-*ℤ-pos n num) in
+    let is : share_of (pos n) (num, den) ≡ pos (n * num / den) =
+    ap (λ z. int_div_euclid z (pos den)) (pos-*ℤ-pos n num) in
     subst (λ (z : ℤ). IsWithin 1 z) (sym is) (omega (arith, ints, less, within), omega (arith, ints, less, within))
 share_within (negsuc n) num den within le some =
     let is : share_of (negsuc n) (num, den) ≡ int_div_euclid (neg_ℤ (pos (suc n * num))) (pos den) =
     ap (λ z. int_div_euclid z (pos den)) (negsuc-*ℤ-pos n num) in
-    subst (λ (z : ℤ). IsWithin 1 z) (sym is) (negative_share (suc n * num) den (suc n) some (mul-le-mul_left (suc n) le) (omega (arith, ints, within)))
+    subst (λ (z : ℤ). IsWithin 1 z) (sym is)
+    (negative_share (suc n * num) den (suc n) some (mul-le-mul_left (suc n) le) (omega (arith, ints, within)))
 
 -- a shape takes at most all of a sample
-ramp_fraction : (v : ℤ) (shape : Shape) (n i : ℕ) → IsRamp shape n → i < n → IsWithin 1 v → IsWithin 1 (share_of v (fraction_of shape i))
+ramp_fraction : (v : ℤ) (shape : Shape) (n i : ℕ) → IsRamp shape n → i < n → IsWithin 1 v
+    → IsWithin 1 (share_of v (fraction_of shape i))
 ramp_fraction v Flat n i ramp below within = share_within v 1 1 within (omega arith) (omega arith)
-ramp_fraction v (Rise offset den) n i ramp below within = share_within v (offset + i) den within (omega (arith, ramp.0)) (omega (arith, ramp.0))
-ramp_fraction v (Fall offset den) n i ramp below within = share_within v (den - (offset + i)) den within (omega arith) (omega (arith, ramp.0))
+ramp_fraction v (Rise offset den) n i ramp below within =
+    share_within v (offset + i) den within (omega (arith, ramp.0)) (omega (arith, ramp.0))
+ramp_fraction v (Fall offset den) n i ramp below within =
+    share_within v (den - (offset + i)) den within (omega arith) (omega (arith, ramp.0))
 
 -- whether the piece holds a time, as a count
 abbrev pub holds : Piece → ℕ → ℕ
 holds p time = if nat_le p.start time && nat_lt time (p.start + p.length) then 1 else 0
 
-gated : (a b h : Bool) (x : ℤ) → ((a && (b && h)) ≡ true → IsWithin 1 x) → IsWithin (if h then 1 else 0) (if a && (b && h) then x else pos 0)
+gated : (a b h : Bool) (x : ℤ) → ((a && (b && h)) ≡ true → IsWithin 1 x)
+    → IsWithin (if h then 1 else 0) (if a && (b && h) then x else pos 0)
 gated true true true x here = here refl
 gated true true false x here = (omega (arith, ints), omega (arith, ints))
 gated true false h x here = nothing h where
@@ -67,12 +76,15 @@ gated false b h x here = nothing h where
 
 -- what a piece adds at a time, by whether it holds it, where what it plays is full scale
 pub part_within : (reading : Reading) (p : Piece) → IsPiece p → (channel time : ℕ)
-    → (is_under p channel time ≡ true → IsWithin 1 (reading p.file (p.first + (channel - p.dest)) (p.frame + (time - p.start))))
+    → (is_under p channel time ≡ true → IsWithin 1 (reading p.file (p.first + (channel - p.dest))
+    (p.frame + (time - p.start))))
     → IsWithin (holds p time) (part_of reading p channel time)
 part_within reading p ok channel time full =
-    gated (nat_le p.dest channel) (nat_lt channel (p.dest + p.width)) (nat_le p.start time && nat_lt time (p.start + p.length)) _ within where
+    gated (nat_le p.dest channel) (nat_lt channel (p.dest + p.width))
+    (nat_le p.start time && nat_lt time (p.start + p.length)) _ within where
       within : is_under p channel time ≡ true
-          → IsWithin 1 (share_of (reading p.file (p.first + (channel - p.dest)) (p.frame + (time - p.start))) (fraction_of p.shape (time - p.start)))
+          → IsWithin 1 (share_of (reading p.file (p.first + (channel - p.dest)) (p.frame + (time - p.start)))
+          (fraction_of p.shape (time - p.start)))
       within under =
           let inside : time - p.start < p.length = grind (arith, nat_tests, ok.some) in
           ramp_fraction _ p.shape p.length (time - p.start) ok.ramp inside (full under)

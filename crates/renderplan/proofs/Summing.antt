@@ -5,6 +5,7 @@ use Rattle.std.specs.List.{flat_map}
 use Rattle.std.proofs.lemmas.Bool.Decides.{nat_tests}
 use Rattle.std.proofs.lemmas.Int.{ints}
 use Rattle.std.proofs.lemmas.List.Elements.{All-cons, All-head, All-nil, All-tail}
+use Rattle.facts.specs.Lists.{all_behind, all_front}
 use Rattle.sound_terms.specs.declared.Depth.{Depth}
 use Rattle.sound_terms.specs.declared.block.Instruction.{Instruction}
 use Rattle.sound_terms.specs.declared.block.Instruction.TheVariants.{Start, Add, Emit}
@@ -16,32 +17,11 @@ use Rattle.sound_terms.specs.Mix.{Reading, share_of}
 use Rattle.sound_terms.specs.Groups.{IsBounded, IsPiece, fraction_of, holding, is_under, part_of, sum_of}
 use Rattle.sound_terms.specs.Passes.{shape_behind}
 use Rattle.sound_terms.specs.Render.{Range}
+use Rattle.sound_terms.specs.BlockLaws.{executed_all-append, frames_kept}
+use Rattle.sound_terms.specs.GroupLaws.{fraction_behind}
 use Rattle.sound_terms.specs.Blocks.{AddsOne, BlockState, block_frames, block_samples, block_start, executed_all, frame_samples, held, is_on, lines_of, mixed_block, program_of, share_at, stretch_in, PlaysFull}
 use Rattle.renderplan.proofs.Formed.{all_of_parts, line_adds}
 use Rattle.renderplan.proofs.Shares.{IsWithin, held_few, holds, part_within, within_add}
-
-executed_all-append : (reading : Reading) (channels : ℕ) (a b : List Instruction) (s : BlockState)
-    → executed_all reading channels (a ++ b) s ≡ executed_all reading channels b (executed_all reading channels a s)
-executed_all-append reading channels [] b s = refl
-executed_all-append reading channels (i ∷ a) b s = executed_all-append reading channels a b _
-
--- what holds of all of two lists, of the first and of the second
-all_front : {X : Type 0} (P : X → Type 0) (xs ys : List X) → All P (xs ++ ys) → All P xs
-all_front P [] ys all = All-nil P
-all_front P (x ∷ xs) ys all =
-    All-cons P x xs (All-head P x (xs ++ ys) all) (all_front P xs ys (All-tail P x (xs ++ ys) all))
-
-all_behind : {X : Type 0} (P : X → Type 0) (xs ys : List X) → All P (xs ++ ys) → All P ys
-all_behind P [] ys all = all
-all_behind P (x ∷ xs) ys all = all_behind P xs ys (All-tail P x (xs ++ ys) all)
-
--- what only adds leaves the frames of the block
-frames_kept : (reading : Reading) (channels : ℕ) (program : List Instruction) (s : BlockState) → All AddsOne program
-    → (executed_all reading channels program s).frames ≡ s.frames
-frames_kept reading channels [] s all = refl
-frames_kept reading channels (Start n ∷ program) s all = absurd (All-head AddsOne (Start n) program all)
-frames_kept reading channels (Add stretch shape ∷ program) s all = frames_kept reading channels program _ (All-tail AddsOne (Add stretch shape) program all)
-frames_kept reading channels (Emit depth ∷ program) s all = absurd (All-head AddsOne (Emit depth) program all)
 
 -- the same sums are handed out alike
 same_frame : (depth : ℕ) (f g : ℕ → ℕ → ℤ) (i channel n : ℕ) → ((c : ℕ) → channel ≤ c → c < channel + n → f i c ≡ g i c)
@@ -57,20 +37,16 @@ pub same_block : (depth : ℕ) (f g : ℕ → ℕ → ℤ) (channels i n : ℕ)
     → block_samples depth f channels i n ≡ block_samples depth g channels i n
 same_block depth f g channels i zero same = refl
 same_block depth f g channels i (suc n) same =
-    let here = same_frame depth f g i 1 channels (λ c low high. same i c (omega arith) (omega arith) low (omega arith)) in
+    let here =
+    same_frame depth f g i 1 channels (λ c low high. same i c (omega arith) (omega arith) low (omega arith)) in
     let rest = same_block depth f g channels (suc i) n (λ j c low high. same j c (omega arith) (omega arith)) in
     rw (here, rest) refl
-
--- a shape goes on where it was
-fraction_behind : (shape : Shape) (cut i : ℕ) → fraction_of (shape_behind cut shape) i ≡ fraction_of shape (cut + i)
-fraction_behind Flat cut i = refl
-fraction_behind (Rise offset den) cut i = let e : offset + cut + i ≡ offset + (cut + i) = omega arith in rw e refl
-fraction_behind (Fall offset den) cut i = let e : offset + cut + i ≡ offset + (cut + i) = omega arith in rw e refl
 
 -- what a piece adds where it sounds
 abbrev share_in : Reading → Piece → ℕ → ℕ → ℤ
 share_in reading p channel time =
-    share_of (reading p.file (p.first + (channel - p.dest)) (p.frame + (time - p.start))) (fraction_of p.shape (time - p.start))
+    share_of (reading p.file (p.first + (channel - p.dest)) (p.frame + (time - p.start)))
+    (fraction_of p.shape (time - p.start))
 
 not_under : (a b h : Bool) (x y : ℤ) → h ≡ false → y ≡ (if a && (b && h) then x else y)
 not_under true true h x y none = rw none refl
@@ -86,9 +62,11 @@ held_sum false m x share few within = omega (arith, ints)
 module _ (reading : Reading) (from n channels : ℕ) where
   -- the stretch sounds where its piece does
   same_under : (p : Piece) (i c : ℕ) → i < n → c ≤ channels → p.dest ≤ channels
-      → is_on (stretch_in from (max from p.start) (min (from + n) (p.start + p.length)) channels p) i c ≡ is_under p c (from + i)
+      → is_on (stretch_in from (max from p.start) (min (from + n) (p.start + p.length)) channels p) i c
+      ≡ is_under p c (from + i)
   same_under p i c below inside there =
-      let width : nat_lt c (p.dest + min p.width (channels + 1 - p.dest)) ≡ nat_lt c (p.dest + p.width) = grind (arith, nat_tests) in
+      let width : nat_lt c (p.dest + min p.width (channels + 1 - p.dest)) ≡ nat_lt c (p.dest + p.width) =
+      grind (arith, nat_tests) in
       let begun : nat_le (max from p.start - from) i ≡ nat_le p.start (from + i) = grind (arith, nat_tests) in
       let ends : nat_lt i (max from p.start - from + (min (from + n) (p.start + p.length) - max from p.start))
       ≡ nat_lt (from + i) (p.start + p.length) = grind (arith, nat_tests) in
@@ -98,7 +76,8 @@ module _ (reading : Reading) (from n channels : ℕ) where
       → share_at reading (stretch_in from (max from p.start) (min (from + n) (p.start + p.length)) channels p)
       (shape_behind (max from p.start - p.start) p.shape) i c ≡ share_in reading p c (from + i)
   same_share p i c begun =
-      let frames : p.frame + (max from p.start - p.start) + (i - (max from p.start - from)) ≡ p.frame + (from + i - p.start) = omega arith in
+      let frames : p.frame + (max from p.start - p.start) + (i - (max from p.start - from))
+      ≡ p.frame + (from + i - p.start) = omega arith in
       let samples : max from p.start - p.start + (i - (max from p.start - from)) ≡ from + i - p.start = omega arith in
       rw (frames, fraction_behind p.shape (max from p.start - p.start) (i - (max from p.start - from)), samples) refl
 
@@ -107,12 +86,15 @@ module _ (reading : Reading) (from n channels : ℕ) where
       → (executed_all reading channels (lines_of from n channels p) s).sums i c
       ≡ (if is_under p c (from + i) then held (s.sums i c +ℤ share_in reading p c (from + i)) else s.sums i c)
   line_effect p s i c below inside =
-      by_tests (nat_lt (max from p.start) (min (from + n) (p.start + p.length))) (nat_le p.dest channels) refl refl where
-        by_tests : (some there : Bool) → nat_lt (max from p.start) (min (from + n) (p.start + p.length)) ≡ some → nat_le p.dest channels ≡ there
+      by_tests (nat_lt (max from p.start) (min (from + n) (p.start + p.length))) (nat_le p.dest channels)
+      refl refl where
+        by_tests : (some there : Bool) → nat_lt (max from p.start) (min (from + n) (p.start + p.length)) ≡ some
+            → nat_le p.dest channels ≡ there
             → (executed_all reading channels (lines_of from n channels p) s).sums i c
             ≡ (if is_under p c (from + i) then held (s.sums i c +ℤ share_in reading p c (from + i)) else s.sums i c)
         by_tests false there e f =
-            let none : (nat_le p.start (from + i) && nat_lt (from + i) (p.start + p.length)) ≡ false = grind (arith, nat_tests) in
+            let none : (nat_le p.start (from + i) && nat_lt (from + i) (p.start + p.length)) ≡ false =
+            grind (arith, nat_tests) in
             rw e (not_under (nat_le p.dest c) (nat_lt c (p.dest + p.width)) _ _ _ none)
         by_tests true false e f = let none : nat_le p.dest c ≡ false = grind (arith, nat_tests) in rw (e, f, none) refl
         by_tests true true e f = by_place (is_under p c (from + i)) refl where
@@ -131,7 +113,8 @@ module _ (reading : Reading) (from n channels : ℕ) where
 
   -- what the piece plays there is full scale where all that its line plays is
   full_under : (p : Piece) (i c : ℕ) → i < n → c ≤ channels → All (PlaysFull reading) (lines_of from n channels p)
-      → is_under p c (from + i) ≡ true → IsWithin 1 (reading p.file (p.first + (c - p.dest)) (p.frame + (from + i - p.start)))
+      → is_under p c (from + i) ≡ true → IsWithin 1 (reading p.file (p.first + (c - p.dest))
+      (p.frame + (from + i - p.start)))
   full_under p i c below inside full under =
       let first = max from p.start in
       let last = min (from + n) (p.start + p.length) in
@@ -139,24 +122,30 @@ module _ (reading : Reading) (from n channels : ℕ) where
       let there : nat_le p.dest channels ≡ true = grind (arith, nat_tests) in
       let line = Add (stretch_in from first last channels p) (shape_behind (first - p.start) p.shape) in
       let plays = All-head (PlaysFull reading) line [] (rw (some, there) at full) in
-      let frames : p.frame + (first - p.start) + (i - (first - from)) ≡ p.frame + (from + i - p.start) = grind (arith, nat_tests) in
+      let frames : p.frame + (first - p.start) + (i - (first - from)) ≡ p.frame + (from + i - p.start) =
+      grind (arith, nat_tests) in
       let both = plays (c - p.dest) (i - (first - from)) (grind (arith, nat_tests)) (grind (arith, nat_tests)) in
       subst (λ (frame : ℕ). IsWithin 1 (reading p.file (p.first + (c - p.dest)) frame)) frames
       (omega (arith, ints, both.0), omega (arith, ints, both.1))
 
   -- as the sum of both, where few pieces were added
-  line_sum : (p : Piece) (s : BlockState) (i c m : ℕ) → All (PlaysFull reading) (lines_of from n channels p) → IsPiece p → i < n → c ≤ channels
+  line_sum : (p : Piece) (s : BlockState) (i c m : ℕ) → All (PlaysFull reading) (lines_of from n channels p) → IsPiece p
+      → i < n → c ≤ channels
       → m + holds p (from + i) ≤ 32767 → IsWithin m (s.sums i c)
-      → (executed_all reading channels (lines_of from n channels p) s).sums i c ≡ s.sums i c +ℤ part_of reading p c (from + i)
+      → (executed_all reading channels (lines_of from n channels p) s).sums i c
+      ≡ s.sums i c +ℤ part_of reading p c (from + i)
   line_sum p s i c m full ok below inside few within =
       let part = part_within reading p ok c (from + i) (full_under p i c below inside full) in
       let both = within_add m (holds p (from + i)) (s.sums i c) (part_of reading p c (from + i)) within part in
-      line_effect p s i c below inside ∙ held_sum (is_under p c (from + i)) (m + holds p (from + i)) (s.sums i c) _ few both
+      line_effect p s i c below inside ∙ held_sum (is_under p c (from + i)) (m + holds p
+      (from + i)) (s.sums i c) _ few both
 
-  lines_sum : (pieces : List Piece) (s : BlockState) (i c m : ℕ) → All (PlaysFull reading) (flat_map (lines_of from n channels) pieces)
+  lines_sum : (pieces : List Piece) (s : BlockState) (i c m : ℕ)
+      → All (PlaysFull reading) (flat_map (lines_of from n channels) pieces)
       → All IsPiece pieces → i < n → c ≤ channels
       → m + holding (from + i) pieces ≤ 32767 → IsWithin m (s.sums i c)
-      → (executed_all reading channels (flat_map (lines_of from n channels) pieces) s).sums i c ≡ s.sums i c +ℤ sum_of reading pieces c (from + i)
+      → (executed_all reading channels (flat_map (lines_of from n channels) pieces) s).sums i c
+      ≡ s.sums i c +ℤ sum_of reading pieces c (from + i)
   lines_sum [] s i c m full all below inside few within = omega (arith, ints)
   lines_sum (p ∷ ps) s i c m full all below inside few within =
       let ok = All-head IsPiece p ps all in
@@ -166,15 +155,22 @@ module _ (reading : Reading) (from n channels : ℕ) where
       let part = part_within reading p ok c (from + i) (full_under p i c below inside here) in
       let both = within_add m (holds p (from + i)) (s.sums i c) (part_of reading p c (from + i)) within part in
       let next : BlockState = executed_all reading channels (lines_of from n channels p) s in
-      let split = executed_all-append reading channels (lines_of from n channels p) (flat_map (lines_of from n channels) ps) s in
-      let rest = lines_sum ps next i c (m + holds p (from + i)) later (All-tail IsPiece p ps all) below inside (omega (arith, few))
+      let split =
+      executed_all-append reading channels (lines_of from n channels p) (flat_map (lines_of from n channels) ps)
+      s in
+      let rest =
+      lines_sum ps next i c (m + holds p (from + i)) later (All-tail IsPiece p ps all) below inside
+      (omega (arith, few))
       (subst (λ (z : ℤ). IsWithin (m + holds p (from + i)) z) (sym first) both) in
       ap (λ (state : BlockState). state.sums i c) split ∙ rest ∙ omega (arith, ints, first)
 
 -- the samples of a block are those of the mix
-pub program_sums : (reading : Reading) (pieces : List Piece) (range : Range) (depth : Depth) (k : ℕ) (start : BlockState)
-    → All (PlaysFull reading) (program_of pieces range depth k) → All IsPiece pieces → IsBounded 32767 pieces → range.depth ≡ bits_of depth
-    → (executed_all reading range.channels (program_of pieces range depth k) start).out ≡ mixed_block range (sum_of reading pieces) k
+pub program_sums : (reading : Reading) (pieces : List Piece) (range : Range) (depth : Depth) (k : ℕ)
+    (start : BlockState)
+    → All (PlaysFull reading) (program_of pieces range depth k) → All IsPiece pieces → IsBounded 32767 pieces
+    → range.depth ≡ bits_of depth
+    → (executed_all reading range.channels (program_of pieces range depth k) start).out
+    ≡ mixed_block range (sum_of reading pieces) k
 program_sums reading pieces range depth k start plays all bounded told =
     let from = block_start range k in
     let n = block_frames range k in
@@ -186,11 +182,15 @@ program_sums reading pieces range depth k start plays all bounded told =
     frames_kept reading range.channels lines begun
     (all_of_parts IsPiece AddsOne (lines_of from n range.channels) (line_adds from n range.channels) pieces all) in
     let full : All (PlaysFull reading) lines =
-    all_front (PlaysFull reading) lines (Emit depth ∷ []) (All-tail (PlaysFull reading) (Start n) (lines ++ Emit depth ∷ []) plays) in
-    let sums : (i c : ℕ) → 0 ≤ i → i < 0 + n → 1 ≤ c → c ≤ range.channels → added.sums i c ≡ sum_of reading pieces c (from + i) =
+    all_front (PlaysFull reading) lines (Emit depth ∷ [])
+    (All-tail (PlaysFull reading) (Start n) (lines ++ Emit depth ∷ []) plays) in
+    let sums : (i c : ℕ) → 0 ≤ i → i < 0 + n → 1 ≤ c → c ≤ range.channels
+    → added.sums i c ≡ sum_of reading pieces c (from + i) =
     λ i c low high first last. lines_sum reading from n range.channels pieces begun i c 0 full all (omega arith) last
     (omega (arith, bounded (from + i))) (omega (arith, ints), omega (arith, ints)) ∙ omega (arith, ints) in
     ap (λ (state : BlockState). state.out) split
     ∙ ap (λ m. block_samples (bits_of depth) added.sums range.channels 0 m) frames
-    ∙ same_block (bits_of depth) added.sums (λ i channel. sum_of reading pieces channel (from + i)) range.channels 0 n sums
-    ∙ ap (λ bits. block_samples bits (λ i channel. sum_of reading pieces channel (from + i)) range.channels 0 n) (sym told)
+    ∙ same_block (bits_of depth) added.sums (λ i channel. sum_of reading pieces channel (from + i))
+    range.channels 0 n sums
+    ∙ ap (λ bits. block_samples bits (λ i channel. sum_of reading pieces channel (from + i)) range.channels 0 n)
+    (sym told)

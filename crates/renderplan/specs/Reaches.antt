@@ -27,4 +27,5 @@ last n pieces = drop (length pieces - n) pieces
 
 -- reach k is one of the last k + 1 pieces
 abbrev pub AreReaches : List Piece → List Reach → Type 0
-AreReaches pieces reaches = (k : ℕ) (d : Reach) → k < length reaches → IsReach (last (k + 1) pieces) (slice_index_or reaches k d)
+AreReaches pieces reaches =
+    (k : ℕ) (d : Reach) → k < length reaches → IsReach (last (k + 1) pieces) (slice_index_or reaches k d)

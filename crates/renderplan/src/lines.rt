@@ -56,7 +56,8 @@ pub fn push_lines(
     requires channels { window.channels ≤ 64 }
     requires each { length reaches.now ≡ length pieces.now }
     requires far { AreReaches pieces.now reaches.now }
-    ensures { OnOk result (program.new.items ≡ program.old.items ++ flat_map (lines_of window.from window.frames window.channels) pieces.now) }
+    ensures { OnOk result (program.new.items
+        ≡ program.old.items ++ flat_map (lines_of window.from window.frames window.channels) pieces.now) }
 {
     let end = window.from + u64::from(window.frames);
     let mut next = 0;

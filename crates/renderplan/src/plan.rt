@@ -40,9 +40,17 @@ impl Model for Plan {
 
     ghost Value = { Planned };
 
-    ghost view = { λ plan. record { pieces = plan.pieces.items; range = range_of plan.from plan.to plan.channels plan.depth; depth = plan.depth } };
+    ghost view = { λ plan. record {
+      pieces = plan.pieces.items;
+      range = range_of plan.from plan.to plan.channels plan.depth;
+      depth = plan.depth;
+    } };
 
-    ghost invariant = { λ plan. IsPlan (record { pieces = plan.pieces.items; range = range_of plan.from plan.to plan.channels plan.depth; depth = plan.depth })
+    ghost invariant = { λ plan. IsPlan (record {
+      pieces = plan.pieces.items;
+      range = range_of plan.from plan.to plan.channels plan.depth;
+      depth = plan.depth;
+    })
         × (length plan.reaches.items ≡ length plan.pieces.items) × AreReaches plan.pieces.items plan.reaches.items };
 }
 
@@ -59,8 +67,8 @@ fn pieces_of(alloc: Global, intervals: &Intervals) -> Result<Vec<Piece>, AllocEr
 }
 
 impl Plan {
-    /// A rendering of groups from one time up to, and without, another, on 1 to 64 channels. No sample may be held by more
-    /// than 32,767 pieces. `EmptyRange` where `to` isn't behind `from`.
+    /// A rendering of groups from one time up to, and without, another, on 1 to 64 channels. No sample may be held by
+    /// more than 32,767 pieces. `EmptyRange` where `to` isn't behind `from`.
     pub fn new(
         alloc: Global,
         intervals: &Intervals,
@@ -71,7 +79,12 @@ impl Plan {
     ) -> Result<Self, PlanFault>
         requires bounded { IsBounded 32767 (spec.pieces_of intervals.now) }
         requires channels { (1 ≤ channels) × (channels ≤ 64) }
-        ensures made { IfOk result (λ plan. plan ≡ record { pieces = spec.pieces_of intervals.now; range = range_of from to channels depth; depth = depth }) }
+        ensures made { IfOk result (λ plan. plan
+            ≡ record {
+              pieces = spec.pieces_of intervals.now;
+              range = range_of from to channels depth;
+              depth = depth;
+            }) }
         ensures empty { IsErrOf result PlanFault.EmptyRange ↔ (to ≤ from) }
     {
         if to.get() <= from.get() {
@@ -108,7 +121,8 @@ impl Plan {
     /// The instructions of block k.
     fn program(&self, k: u64) -> Result<Vec<Instruction>, AllocError>
         requires { k < block_count self.now.range }
-        ensures program { IfOk result (λ program. program.items ≡ program_of self.now.pieces self.now.range self.now.depth k) }
+        ensures program { IfOk result (λ program. program.items
+            ≡ program_of self.now.pieces self.now.range self.now.depth k) }
         ensures planned { IsPlan self.now }
     {
         let window = Window {
@@ -133,10 +147,14 @@ impl Plan {
     /// The program of block k, counted from 0: it hands out the block's samples, frame by frame.
     pub fn block(&self, k: u64) -> Result<Vec<Instruction>, PlanFault>
         requires { k < block_count self.now.range }
-        ensures program { IfOk result (λ program. program.items ≡ program_of self.now.pieces self.now.range self.now.depth k) }
-        ensures sums { IfOk result (λ program. (reading : Reading) → All (PlaysFull reading) program.items → (start : BlockState)
-            → (executed_all reading self.now.range.channels program.items start).out ≡ mixed_block self.now.range (sum_of reading self.now.pieces) k) }
-        ensures formed { IfOk result (λ program. IsBlockProgram (block_frames self.now.range k) self.now.range.channels self.now.depth program.items) }
+        ensures program { IfOk result (λ program. program.items
+            ≡ program_of self.now.pieces self.now.range self.now.depth k) }
+        ensures sums { IfOk result (λ program. (reading : Reading) → All (PlaysFull reading) program.items
+            → (start : BlockState)
+            → (executed_all reading self.now.range.channels program.items start).out
+            ≡ mixed_block self.now.range (sum_of reading self.now.pieces) k) }
+        ensures formed { IfOk result (λ program.
+            IsBlockProgram (block_frames self.now.range k) self.now.range.channels self.now.depth program.items) }
         ensures inside { (sounds : List SoundFacts) → All (IsPieceOf sounds) self.now.pieces
             → IfOk result (λ program. All (LiesInFiles sounds) program.items) }
         ensures only_memory { IfErr result (λ fault. fault ≡ PlanFault.Memory) }

@@ -19,7 +19,11 @@ impl Reach {
     /// That of one piece.
     fn of(piece: &Piece) -> Self
         requires { IsPiece piece.now }
-        ensures { result ≡ record { count = 1; least = piece.now.start; greatest = piece.now.start + piece.now.length } }
+        ensures { result ≡ record {
+          count = 1;
+          least = piece.now.start;
+          greatest = piece.now.start + piece.now.length;
+        } }
     {
         Reach {
             count: 1,

@@ -22,7 +22,8 @@ is_riff-take file enough =
     let twelve : 12 ≤ length (take 12 file) = omega (arith, length-take {A = ℕ}) in
     let taken : nat_le 12 (length (take 12 file)) ≡ true = grind (arith, nat_tests) in
     let riff : take 4 (take 12 file) ≡ take 4 file = take-take 4 12 file (lit≤ tt) in
-    let wave : take 4 (drop 8 (take 12 file)) ≡ take 4 (drop 8 file) = ap (take 4) (drop-take 8 4 file) ∙ take-take 4 4 _ (lit≤ tt) in
+    let wave : take 4 (drop 8 (take 12 file)) ≡ take 4 (drop 8 file) =
+    ap (take 4) (drop-take 8 4 file) ∙ take-take 4 4 _ (lit≤ tt) in
     rw (long, taken, riff, wave)
 
 is_rf64-take : (file : List ℕ) → 12 ≤ length file → is_rf64 (take 12 file) ≡ is_rf64 file
@@ -31,7 +32,8 @@ is_rf64-take file enough =
     let twelve : 12 ≤ length (take 12 file) = omega (arith, length-take {A = ℕ}) in
     let taken : nat_le 12 (length (take 12 file)) ≡ true = grind (arith, nat_tests) in
     let rf64 : take 4 (take 12 file) ≡ take 4 file = take-take 4 12 file (lit≤ tt) in
-    let wave : take 4 (drop 8 (take 12 file)) ≡ take 4 (drop 8 file) = ap (take 4) (drop-take 8 4 file) ∙ take-take 4 4 _ (lit≤ tt) in
+    let wave : take 4 (drop 8 (take 12 file)) ≡ take 4 (drop 8 file) =
+    ap (take 4) (drop-take 8 4 file) ∙ take-take 4 4 _ (lit≤ tt) in
     rw (long, taken, rf64, wave)
 
 front_read : (file form : List ℕ) → IsAhead file 0 form → length form ≡ 12 → form ≡ take 12 file
@@ -67,7 +69,8 @@ by_sizes : (file : List ℕ) (sizes : Option Ds64) → is_riff file ≡ false �
     → layout_of file ≡ ok_or (option_map (rf64_layout file) sizes) BadDs64
 by_sizes file sizes riff rf64 found = rw (riff, rf64) (ap (λ s. ok_or (option_map (rf64_layout file) s) BadDs64) found)
 
-pub no_sizes : (file : List ℕ) → is_riff file ≡ false → is_rf64 file ≡ true → ds64_in file ≡ None → walked file ≡ Err BadDs64
+pub no_sizes : (file : List ℕ) → is_riff file ≡ false → is_rf64 file ≡ true → ds64_in file ≡ None
+    → walked file ≡ Err BadDs64
 no_sizes file riff rf64 none = no_layout file BadDs64 (by_sizes file None riff rf64 none)
 
 pub rf64_laid : (file : List ℕ) (end left : ℕ) (ds64 : Ds64) (head : Head) → is_riff file ≡ false → is_rf64 file ≡ true
@@ -88,7 +91,8 @@ pub sizes_there : (file fields : List ℕ) (head : Head) → HasHead file 12 hea
 sizes_there file fields head is_head id within enough ahead whole =
     let size : head.size ≡ ds64_size file = is_head.size in
     let stands : stands_at (codes "ds64") 12 file ≡ true = ap (bytes_eq (codes "ds64")) (sym is_head.id ∙ id) in
-    let inside : nat_le (20 + ds64_size file) (length file) ≡ true = le-leb (20 + ds64_size file) (length file) (omega arith) in
+    let inside : nat_le (20 + ds64_size file) (length file) ≡ true =
+    le-leb (20 + ds64_size file) (length file) (omega arith) in
     let read : take 28 (drop 20 file) ≡ fields = sym (ahead.same ∙ ap (λ n. take n (drop 20 file)) whole) in
     rw (stands, inside) (ap (λ (bytes : List ℕ). ds64_of bytes (ds64_size file)) read ∙ ap (ds64_of fields) (sym size))
 
@@ -113,10 +117,12 @@ sizes_missing file head is_head enough never =
           let size : head.size ≡ ds64_size file = is_head.size in
           let fits : 28 + 12 * number_at 4 24 (take 28 (drop 20 file)) ≤ ds64_size file = grind (arith, nat_tests) in
           let within : 20 + ds64_size file ≤ length file = grind (arith, nat_tests) in
-          let id : codes "ds64" ≡ take 4 (drop 12 file) = (bytes_eq-Decides (codes "ds64") (take 4 (drop 12 file))).0 stands in
+          let id : codes "ds64" ≡ take 4 (drop 12 file) =
+          (bytes_eq-Decides (codes "ds64") (take 4 (drop 12 file))).0 stands in
           absurd (never (is_head.id ∙ sym id, omega arith, omega arith))
 
-      by_place : (b : Bool) → (stands_at (codes "ds64") 12 file && nat_le (20 + ds64_size file) (length file)) ≡ b → ds64_in file ≡ None
+      by_place : (b : Bool) → (stands_at (codes "ds64") 12 file && nat_le (20 + ds64_size file) (length file)) ≡ b
+          → ds64_in file ≡ None
       by_place false out = rw out
       by_place true there =
           let stands : stands_at (codes "ds64") 12 file ≡ true = grind (arith, nat_tests) in

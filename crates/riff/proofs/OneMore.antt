@@ -11,21 +11,23 @@ use Rattle.sound_terms.specs.declared.Span.{Span}
 use Rattle.sound_terms.specs.declared.SoundFault.{SoundFault}
 use Rattle.sound_terms.specs.declared.SoundFault.TheVariants.{Truncated}
 use Rattle.sound_terms.specs.Chunks.{Chunk, counted_ids, first_of, has_others}
-use Rattle.sound_terms.specs.Walks.{chunk_fault, first_fault, span_of}
+use Rattle.sound_terms.specs.Walks.{chunk_fault, first_chunk_fault, span_of}
 use Rattle.riff.specs.declared.found.Found.{Found}
 use Rattle.riff.specs.Found.{IsFoundIn, chunk_at}
 
 -- faults from the left, in two parts
-pub first_fault-append : (end : ℕ) (before xs ys : List Chunk)
-    → first_fault end before (xs ++ ys) ≡ option_or (first_fault end before xs) (first_fault end (before ++ xs) ys)
-first_fault-append end before [] ys = rw append-nil
-first_fault-append end before (x ∷ xs) ys = by_fault (chunk_fault end before x) refl (first_fault-append end (before ++ x ∷ []) xs ys) where
-  by_fault : (fault : Option SoundFault) → chunk_fault end before x ≡ fault
-      → first_fault end (before ++ x ∷ []) (xs ++ ys)
-      ≡ option_or (first_fault end (before ++ x ∷ []) xs) (first_fault end ((before ++ x ∷ []) ++ xs) ys)
-      → first_fault end before (x ∷ (xs ++ ys)) ≡ option_or (first_fault end before (x ∷ xs)) (first_fault end (before ++ x ∷ xs) ys)
-  by_fault None none rest = rw none (rest ∙ rw append_assoc)
-  by_fault (Some fault) some rest = rw some
+pub first_chunk_fault-append : (end : ℕ) (before xs ys : List Chunk)
+    → first_chunk_fault end before (xs ++ ys) ≡ option_or (first_chunk_fault end before xs) (first_chunk_fault end (before ++ xs) ys)
+first_chunk_fault-append end before [] ys = rw append-nil
+first_chunk_fault-append end before (x ∷ xs) ys =
+    by_fault (chunk_fault end before x) refl (first_chunk_fault-append end (before ++ x ∷ []) xs ys) where
+      by_fault : (fault : Option SoundFault) → chunk_fault end before x ≡ fault
+          → first_chunk_fault end (before ++ x ∷ []) (xs ++ ys)
+          ≡ option_or (first_chunk_fault end (before ++ x ∷ []) xs) (first_chunk_fault end ((before ++ x ∷ []) ++ xs) ys)
+          → first_chunk_fault end before (x ∷ (xs ++ ys))
+          ≡ option_or (first_chunk_fault end before (x ∷ xs)) (first_chunk_fault end (before ++ x ∷ xs) ys)
+      by_fault None none rest = rw none (rest ∙ rw append_assoc)
+      by_fault (Some fault) some rest = rw some
 
 -- other chunks, in two parts
 pub has_others-append : (before xs ys : List Chunk)
@@ -33,27 +35,32 @@ pub has_others-append : (before xs ys : List Chunk)
 has_others-append before [] ys = rw append-nil
 has_others-append before (x ∷ xs) ys = rw (has_others-append (before ++ x ∷ []) xs ys, append_assoc, or_assoc)
 
-map-option_or : (a b : Option Chunk) → option_map span_of (option_or a b) ≡ option_or (option_map span_of a) (option_map span_of b)
+map-option_or : (a b : Option Chunk)
+    → option_map span_of (option_or a b) ≡ option_or (option_map span_of a) (option_map span_of b)
 map-option_or None b = refl
 map-option_or (Some chunk) b = refl
 
 -- the first of an id, in two parts
 span-append : (id : List ℕ) (xs ys : List Chunk)
-    → option_map span_of (first_of id (xs ++ ys)) ≡ option_or (option_map span_of (first_of id xs)) (option_map span_of (first_of id ys))
+    → option_map span_of (first_of id (xs ++ ys))
+    ≡ option_or (option_map span_of (first_of id xs)) (option_map span_of (first_of id ys))
 span-append id xs ys = rw find-append (map-option_or _ _)
 
-fault-one : (end : ℕ) (before : List Chunk) (chunk : Chunk) → first_fault end before (chunk ∷ []) ≡ chunk_fault end before chunk
+fault-one : (end : ℕ) (before : List Chunk) (chunk : Chunk)
+    → first_chunk_fault end before (chunk ∷ []) ≡ chunk_fault end before chunk
 fault-one end before chunk = by_fault (chunk_fault end before chunk) refl where
-  by_fault : (fault : Option SoundFault) → chunk_fault end before chunk ≡ fault → first_fault end before (chunk ∷ []) ≡ chunk_fault end before chunk
+  by_fault : (fault : Option SoundFault) → chunk_fault end before chunk ≡ fault
+      → first_chunk_fault end before (chunk ∷ []) ≡ chunk_fault end before chunk
   by_fault None none = rw none
   by_fault (Some fault) some = rw some
 
-fault-more : (end : ℕ) (chunks : List Chunk) (chunk : Chunk) → first_fault end [] chunks ≡ None
-    → first_fault end [] (chunks ++ chunk ∷ []) ≡ chunk_fault end chunks chunk
-fault-more end chunks chunk none = rw (first_fault-append end [] chunks (chunk ∷ []), none) (fault-one end chunks chunk)
+fault-more : (end : ℕ) (chunks : List Chunk) (chunk : Chunk) → first_chunk_fault end [] chunks ≡ None
+    → first_chunk_fault end [] (chunks ++ chunk ∷ []) ≡ chunk_fault end chunks chunk
+fault-more end chunks chunk none = rw (first_chunk_fault-append end [] chunks (chunk ∷ []), none) (fault-one end chunks chunk)
 
 -- what is found in one more chunk that has no fault
-pub one_more : (end : ℕ) (chunks : List Chunk) (found : Found) (chunk : Chunk) (next : Found) → IsFoundIn end chunks found
+pub one_more : (end : ℕ) (chunks : List Chunk) (found : Found) (chunk : Chunk) (next : Found)
+    → IsFoundIn end chunks found
     → chunk_fault end chunks chunk ≡ None
     → next.format ≡ option_or found.format (option_map span_of (first_of (codes "fmt ") (chunk ∷ [])))
     → next.bext ≡ option_or found.bext (option_map span_of (first_of (codes "bext") (chunk ∷ [])))
@@ -80,7 +87,8 @@ pub fine_counted : (chunks : List Chunk) (id : List ℕ) (contents : Span) (left
     → (option_map span_of (first_of id chunks) ≡ None → contents.length ≤ left)
     → chunk_fault (contents.at + left) chunks (chunk_at id contents) ≡ None
 fine_counted chunks id contents left counted inside = by_first (first_of id chunks) refl where
-  by_first : (first : Option Chunk) → first_of id chunks ≡ first → chunk_fault (contents.at + left) chunks (chunk_at id contents) ≡ None
+  by_first : (first : Option Chunk) → first_of id chunks ≡ first
+      → chunk_fault (contents.at + left) chunks (chunk_at id contents) ≡ None
   by_first None none =
       let within : contents.length ≤ left = inside (ap (option_map span_of) none) in
       let no : nat_lt (contents.at + left) (contents.at + contents.length) ≡ false = grind (arith, nat_tests) in
@@ -92,7 +100,8 @@ cut_at : (chunks : List Chunk) (id : List ℕ) (contents : Span) (left : ℕ) �
     → option_map span_of (first_of id chunks) ≡ None → left < contents.length
     → chunk_fault (contents.at + left) chunks (chunk_at id contents) ≡ Some Truncated
 cut_at chunks id contents left counted none past = by_first (first_of id chunks) refl where
-  by_first : (first : Option Chunk) → first_of id chunks ≡ first → chunk_fault (contents.at + left) chunks (chunk_at id contents) ≡ Some Truncated
+  by_first : (first : Option Chunk) → first_of id chunks ≡ first
+      → chunk_fault (contents.at + left) chunks (chunk_at id contents) ≡ Some Truncated
   by_first None is_none =
       let yes : nat_lt (contents.at + left) (contents.at + contents.length) ≡ true = grind (arith, nat_tests) in
       rw (yes, counted, is_none)
@@ -101,10 +110,11 @@ cut_at chunks id contents left counted none past = by_first (first_of id chunks)
 pub cut_behind : (chunks : List Chunk) (found : Found) (one id : List ℕ) (contents : Span) (left : ℕ)
     → IsFoundIn (contents.at + left) chunks found → IsCounted one → bytes_eq id one ≡ true
     → option_map span_of (first_of one chunks) ≡ None → left < contents.length
-    → first_fault (contents.at + left) [] (chunks ++ chunk_at id contents ∷ []) ≡ Some Truncated
+    → first_chunk_fault (contents.at + left) [] (chunks ++ chunk_at id contents ∷ []) ≡ Some Truncated
 cut_behind chunks found one id contents left known counted same none past =
     fault-more _ chunks _ known.faultless
-    ∙ subst (λ x. chunk_fault (contents.at + left) chunks (chunk_at x contents) ≡ Some Truncated) (sym ((bytes_eq-Decides id one).0 same))
+    ∙ subst (λ x. chunk_fault (contents.at + left) chunks (chunk_at x contents) ≡ Some Truncated)
+    (sym ((bytes_eq-Decides id one).0 same))
     (cut_at chunks one contents left counted none past)
 
 some-map : (first : Option Chunk) → is_some (option_map span_of first) ≡ is_some first
@@ -112,50 +122,70 @@ some-map None = refl
 some-map (Some chunk) = refl
 
 -- one that counts is another chunk where its id was seen
-others_counted : (chunks : List Chunk) (id : List ℕ) (contents : Span) → IsCounted id → bytes_eq id (codes "JUNK") ≡ false
+others_counted : (chunks : List Chunk) (id : List ℕ) (contents : Span) → IsCounted id
+    → bytes_eq id (codes "JUNK") ≡ false
     → has_others chunks (chunk_at id contents ∷ []) ≡ is_some (option_map span_of (first_of id chunks))
-others_counted chunks id contents counted no_junk = rw (counted, no_junk) (last _ ∙ sym (some-map (first_of id chunks))) where
-  last : (b : Bool) → ((b && true) || false) ≡ b
-  last true = refl
-  last false = refl
+others_counted chunks id contents counted no_junk =
+    rw (counted, no_junk) (last _ ∙ sym (some-map (first_of id chunks))) where
+      last : (b : Bool) → ((b && true) || false) ≡ b
+      last true = refl
+      last false = refl
 
 none-or : (slot : Option Span) → slot ≡ option_or slot None
 none-or None = refl
 none-or (Some span) = refl
 
 -- what is found in one more chunk that counts, at each of the three ids: its slot holds the first
-pub format_more : (chunks : List Chunk) (found : Found) (id : List ℕ) (contents : Span) (left : ℕ) (slot : Option Span) (taken : Bool)
+pub format_more : (chunks : List Chunk) (found : Found) (id : List ℕ) (contents : Span) (left : ℕ) (slot : Option Span)
+    (taken : Bool)
     → IsFoundIn (contents.at + left) chunks found → bytes_eq id (codes "fmt ") ≡ true
-    → slot ≡ option_or found.format (Some contents) → taken ≡ is_some found.format → (found.format ≡ None → contents.length ≤ left)
-    → IsFoundIn (contents.at + left) (chunks ++ chunk_at id contents ∷ []) (record found { format = slot; others = found.others || taken })
+    → slot ≡ option_or found.format (Some contents) → taken ≡ is_some found.format
+    → (found.format ≡ None → contents.length ≤ left)
+    → IsFoundIn (contents.at + left) (chunks ++ chunk_at id contents ∷ [])
+    (record found { format = slot; others = found.others || taken })
 format_more chunks found id contents left slot taken known same first seen inside =
-    subst (λ x. IsFoundIn (contents.at + left) (chunks ++ chunk_at x contents ∷ []) (record found { format = slot; others = found.others || taken }))
+    subst (λ x. IsFoundIn (contents.at + left) (chunks ++ chunk_at x contents ∷ [])
+    (record found { format = slot; others = found.others || taken }))
     (sym ((bytes_eq-Decides id (codes "fmt ")).0 same))
-    (one_more _ _ _ _ _ known (fine_counted chunks (codes "fmt ") contents left refl (λ none. inside (known.format ∙ none)))
+    (one_more _ _ _ _ _ known (fine_counted chunks (codes "fmt ") contents left refl
+    (λ none. inside (known.format ∙ none)))
     first (none-or _) (none-or _)
-    (ap (λ b. found.others || b) (seen ∙ ap is_some known.format ∙ sym (others_counted chunks (codes "fmt ") contents refl refl))))
+    (ap (λ b. found.others || b) (seen ∙ ap is_some known.format
+    ∙ sym (others_counted chunks (codes "fmt ") contents refl refl))))
 
-pub bext_more : (chunks : List Chunk) (found : Found) (id : List ℕ) (contents : Span) (left : ℕ) (slot : Option Span) (taken : Bool)
+pub bext_more : (chunks : List Chunk) (found : Found) (id : List ℕ) (contents : Span) (left : ℕ) (slot : Option Span)
+    (taken : Bool)
     → IsFoundIn (contents.at + left) chunks found → bytes_eq id (codes "bext") ≡ true
-    → slot ≡ option_or found.bext (Some contents) → taken ≡ is_some found.bext → (found.bext ≡ None → contents.length ≤ left)
-    → IsFoundIn (contents.at + left) (chunks ++ chunk_at id contents ∷ []) (record found { bext = slot; others = found.others || taken })
+    → slot ≡ option_or found.bext (Some contents) → taken ≡ is_some found.bext
+    → (found.bext ≡ None → contents.length ≤ left)
+    → IsFoundIn (contents.at + left) (chunks ++ chunk_at id contents ∷ [])
+    (record found { bext = slot; others = found.others || taken })
 bext_more chunks found id contents left slot taken known same first seen inside =
-    subst (λ x. IsFoundIn (contents.at + left) (chunks ++ chunk_at x contents ∷ []) (record found { bext = slot; others = found.others || taken }))
+    subst (λ x. IsFoundIn (contents.at + left) (chunks ++ chunk_at x contents ∷ [])
+    (record found { bext = slot; others = found.others || taken }))
     (sym ((bytes_eq-Decides id (codes "bext")).0 same))
-    (one_more _ _ _ _ _ known (fine_counted chunks (codes "bext") contents left refl (λ none. inside (known.bext ∙ none)))
+    (one_more _ _ _ _ _ known (fine_counted chunks (codes "bext") contents left refl
+    (λ none. inside (known.bext ∙ none)))
     (none-or _) first (none-or _)
-    (ap (λ b. found.others || b) (seen ∙ ap is_some known.bext ∙ sym (others_counted chunks (codes "bext") contents refl refl))))
+    (ap (λ b. found.others || b) (seen ∙ ap is_some known.bext
+    ∙ sym (others_counted chunks (codes "bext") contents refl refl))))
 
-pub sound_more : (chunks : List Chunk) (found : Found) (id : List ℕ) (contents : Span) (left : ℕ) (slot : Option Span) (taken : Bool)
+pub sound_more : (chunks : List Chunk) (found : Found) (id : List ℕ) (contents : Span) (left : ℕ) (slot : Option Span)
+    (taken : Bool)
     → IsFoundIn (contents.at + left) chunks found → bytes_eq id (codes "data") ≡ true
-    → slot ≡ option_or found.sound (Some contents) → taken ≡ is_some found.sound → (found.sound ≡ None → contents.length ≤ left)
-    → IsFoundIn (contents.at + left) (chunks ++ chunk_at id contents ∷ []) (record found { sound = slot; others = found.others || taken })
+    → slot ≡ option_or found.sound (Some contents) → taken ≡ is_some found.sound
+    → (found.sound ≡ None → contents.length ≤ left)
+    → IsFoundIn (contents.at + left) (chunks ++ chunk_at id contents ∷ [])
+    (record found { sound = slot; others = found.others || taken })
 sound_more chunks found id contents left slot taken known same first seen inside =
-    subst (λ x. IsFoundIn (contents.at + left) (chunks ++ chunk_at x contents ∷ []) (record found { sound = slot; others = found.others || taken }))
+    subst (λ x. IsFoundIn (contents.at + left) (chunks ++ chunk_at x contents ∷ [])
+    (record found { sound = slot; others = found.others || taken }))
     (sym ((bytes_eq-Decides id (codes "data")).0 same))
-    (one_more _ _ _ _ _ known (fine_counted chunks (codes "data") contents left refl (λ none. inside (known.sound ∙ none)))
+    (one_more _ _ _ _ _ known (fine_counted chunks (codes "data") contents left refl
+    (λ none. inside (known.sound ∙ none)))
     (none-or _) (none-or _) first
-    (ap (λ b. found.others || b) (seen ∙ ap is_some known.sound ∙ sym (others_counted chunks (codes "data") contents refl refl))))
+    (ap (λ b. found.others || b) (seen ∙ ap is_some known.sound
+    ∙ sym (others_counted chunks (codes "data") contents refl refl))))
 
 -- what holds anyway holds at an error
 pub OnErr_always : {T E : Type 0} (result : Result T E) {P : Type 0} → P → OnErr result P

@@ -1,6 +1,7 @@
 -- Bytes that were read stand in the file.
 use Rattle.std.proofs.Common.{◌≡◌, ℕ, ◌+◌, ◌-◌, ◌≤◌, List, [], ◌∷◌, Option, Some, length, take, drop, get_or, refl, sym, ap, subst, ◌∙◌, arith}
 use Rattle.std.proofs.lemmas.List.{drop-take, drop-drop, take-take}
+use Rattle.facts.specs.Tests.{same_some}
 use Rattle.byteorder.specs.Endian.{little_number}
 use Rattle.byteorder.specs.Numbers.{little_from-take}
 use Rattle.sound_terms.specs.Chunks.{number_at}
@@ -10,11 +11,9 @@ use Rattle.riff.specs.declared.sizes.Entry.{Entry}
 use Rattle.riff.specs.Found.{HasHead, IsAhead}
 use Rattle.riff.specs.Sizes.{HasEntry}
 
-pub same_some : {a b : List ℕ} → Some a ≡ Some b → a ≡ b
-same_some same = cc
-
 -- a range that was read of this file
-pub ranged : (stored : Option (List ℕ)) (file : List ℕ) (at : ℕ) (bytes : List ℕ) → IsRange stored at bytes → stored ≡ Some file
+pub ranged : (stored : Option (List ℕ)) (file : List ℕ) (at : ℕ) (bytes : List ℕ) → IsRange stored at bytes
+    → stored ≡ Some file
     → IsAhead file at bytes
 ranged stored file at bytes range there =
     let same : range.file ≡ file = same_some (sym range.there ∙ there) in
@@ -39,16 +38,20 @@ number_front n k bytes enough = little_from-take 0 n k bytes (omega arith)
 number_ahead : (file : List ℕ) (at offset n : ℕ) (bytes : List ℕ) → IsAhead file at bytes → offset + n ≤ length bytes
     → number_at n offset bytes ≡ number_at n (at + offset) file
 number_ahead file at offset n bytes ahead within =
-    ap (little_number n) (ahead_at file at offset bytes ahead (omega arith)) ∙ number_front n (length bytes - offset) _ (omega arith)
+    ap (little_number n) (ahead_at file at offset bytes ahead (omega arith))
+    ∙ number_front n (length bytes - offset) _ (omega arith)
 
 -- the head of a chunk in bytes that were read
-pub head_ahead : (file : List ℕ) (at offset : ℕ) (bytes : List ℕ) (head : Head) → IsAhead file at bytes → offset + 8 ≤ length bytes
-    → head.id ≡ take 4 (drop offset bytes) → head.size ≡ number_at 4 4 (drop offset bytes) → HasHead file (at + offset) head
+pub head_ahead : (file : List ℕ) (at offset : ℕ) (bytes : List ℕ) (head : Head) → IsAhead file at bytes
+    → offset + 8 ≤ length bytes
+    → head.id ≡ take 4 (drop offset bytes) → head.size ≡ number_at 4 4 (drop offset bytes)
+    → HasHead file (at + offset) head
 head_ahead file at offset bytes head ahead within id size =
     let place : at + (offset + 4) ≡ at + offset + 4 = omega arith in
     record {
       inside = omega (arith, ahead.inside);
-      id = id ∙ ap (take 4) (ahead_at file at offset bytes ahead (omega arith)) ∙ take-take 4 (length bytes - offset) _ (omega arith);
+      id = id ∙ ap (take 4) (ahead_at file at offset bytes ahead (omega arith))
+          ∙ take-take 4 (length bytes - offset) _ (omega arith);
       size = size ∙ ap (little_number 4) (drop-drop 4 offset bytes)
           ∙ number_ahead file at (offset + 4) 4 bytes ahead (omega arith) ∙ ap (λ n. number_at 4 n file) place;
     }
@@ -61,7 +64,8 @@ head_front file at bytes head ahead enough id size =
     subst (λ n. HasHead file n head) none (head_ahead file at 0 bytes head ahead (omega arith) id size)
 
 -- the first four of a list
-four : (bytes : List ℕ) → 4 ≤ length bytes → get_or bytes 0 0 ∷ get_or bytes 1 0 ∷ get_or bytes 2 0 ∷ get_or bytes 3 0 ∷ [] ≡ take 4 bytes
+four : (bytes : List ℕ) → 4 ≤ length bytes
+    → get_or bytes 0 0 ∷ get_or bytes 1 0 ∷ get_or bytes 2 0 ∷ get_or bytes 3 0 ∷ [] ≡ take 4 bytes
 four (a ∷ b ∷ c ∷ d ∷ rest) enough = refl
 four (a ∷ b ∷ c ∷ []) enough = absurd (omega arith)
 four (a ∷ b ∷ []) enough = absurd (omega arith)

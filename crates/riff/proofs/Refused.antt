@@ -1,5 +1,6 @@
 -- Faults that a file is refused by.
 use Rattle.std.proofs.Common.{◌≡◌, ℕ, Bool, true, false, List, Option, None, Err, MatchBool, refl, sym, ap, ◌∙◌}
+use Rattle.facts.specs.Tests.{unless}
 use Rattle.sound_terms.specs.declared.Ds64.{Ds64}
 use Rattle.sound_terms.specs.declared.SoundFault.{SoundFault}
 use Rattle.sound_terms.specs.declared.SoundFault.TheVariants as sound
@@ -14,10 +15,6 @@ use Rattle.riff.specs.Form.{IsRefused}
 use Rattle.riff.specs.Sizes.{TellsSize, head_size}
 
 -- what holds anyway, and what follows where it isn't excused
-pub unless : (b : Bool) (P : Type 0) → P → MatchBool b (Unit {0}) P
-unless true P holds = tt
-unless false P holds = holds
-
 follows : (b : Bool) (P Q : Type 0) → MatchBool b (Unit {0}) P → (P → Q) → MatchBool b (Unit {0}) Q
 follows true P Q told then = tt
 follows false P Q told then = then told
@@ -32,7 +29,8 @@ pub refused_sound : (file : List ℕ) (fault : SoundFault) → walked file ≡ E
 refused_sound file fault read = unless (is_excused (number_of (media_fault fault))) _ (ap as_media read)
 
 -- a size that can't be told
-pub refused_size : (file : List ℕ) (sizes : Option Ds64) (head : Head) (fault : MediaFault) → TellsSize file sizes head (Err fault)
+pub refused_size : (file : List ℕ) (sizes : Option Ds64) (head : Head) (fault : MediaFault)
+    → TellsSize file sizes head (Err fault)
     → (head_size file sizes head ≡ None → walked file ≡ Err sound.BadDs64) → IsRefused file fault
 refused_size file sizes head fault told read =
     follows (is_excused (number_of fault)) _ _ told (λ known. ap as_media (read known.1) ∙ ap Err (sym known.0))

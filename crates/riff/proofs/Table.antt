@@ -7,9 +7,11 @@ use Rattle.riff.specs.Sizes.{HasEntry, entry_from}
 
 -- another id
 pub entry_missed : (file : List ℕ) (at next n rest : ℕ) (id : List ℕ) (entry : Entry) → HasEntry file at entry
-    → bytes_eq entry.id id ≡ false → n ≡ suc rest → next ≡ at + 12 → entry_from file at n id ≡ entry_from file next rest id
+    → bytes_eq entry.id id ≡ false → n ≡ suc rest → next ≡ at + 12
+    → entry_from file at n id ≡ entry_from file next rest id
 entry_missed file at next n rest id entry is_entry other more behind =
-    let no : bytes_eq (take 4 (drop at file)) id ≡ false = ap (λ (x : List ℕ). bytes_eq x id) (sym is_entry.id) ∙ other in
+    let no : bytes_eq (take 4 (drop at file)) id ≡ false =
+    ap (λ (x : List ℕ). bytes_eq x id) (sym is_entry.id) ∙ other in
     let moved : drop 12 (drop at file) ≡ drop next file = drop-drop 12 at file ∙ ap (λ k. drop k file) (sym behind) in
     ap (λ k. entry_from file at k id) more ∙ rw (no, moved)
 
@@ -17,7 +19,8 @@ entry_missed file at next n rest id entry is_entry other more behind =
 pub entry_met : (file : List ℕ) (at n rest : ℕ) (id : List ℕ) (entry : Entry) → HasEntry file at entry
     → bytes_eq entry.id id ≡ true → n ≡ suc rest → entry_from file at n id ≡ Some entry.size
 entry_met file at n rest id entry is_entry this more =
-    let yes : bytes_eq (take 4 (drop at file)) id ≡ true = ap (λ (x : List ℕ). bytes_eq x id) (sym is_entry.id) ∙ this in
+    let yes : bytes_eq (take 4 (drop at file)) id ≡ true =
+    ap (λ (x : List ℕ). bytes_eq x id) (sym is_entry.id) ∙ this in
     let told : little_number 8 (drop 4 (drop at file)) ≡ entry.size =
     ap (little_number 8) (drop-drop 4 at file) ∙ sym is_entry.size in
     ap (λ k. entry_from file at k id) more ∙ rw (yes, told)

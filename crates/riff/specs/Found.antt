@@ -5,7 +5,7 @@ use Rattle.sound_terms.specs.declared.Span.{Span}
 use Rattle.sound_terms.specs.declared.Chunks.{Chunks}
 use Rattle.sound_terms.specs.declared.SoundFault.{SoundFault}
 use Rattle.sound_terms.specs.Chunks.{Chunk, number_at, chunks_from, first_of, has_others}
-use Rattle.sound_terms.specs.Walks.{span_of, Layout, riff_layout, rf64_layout, layout_of, chunks_in, first_fault, walked}
+use Rattle.sound_terms.specs.Walks.{span_of, Layout, riff_layout, rf64_layout, layout_of, chunks_in, first_chunk_fault, walked}
 use Rattle.riff.specs.declared.found.Found.{Found}
 use Rattle.riff.specs.declared.head.Head.{Head}
 
@@ -22,7 +22,7 @@ pub record IsAhead (file : List ℕ) (at : ℕ) (bytes : List ℕ) : Type 0 wher
 
 -- these chunks have no fault, and this is what counts among them
 pub record IsFoundIn (end : ℕ) (chunks : List Chunk) (found : Found) : Type 0 where
-  pub faultless : first_fault end [] chunks ≡ None
+  pub faultless : first_chunk_fault end [] chunks ≡ None
   pub format : found.format ≡ option_map span_of (first_of (codes "fmt ") chunks)
   pub bext : found.bext ≡ option_map span_of (first_of (codes "bext") chunks)
   pub sound : found.sound ≡ option_map span_of (first_of (codes "data") chunks)

@@ -14,7 +14,8 @@ use Rattle.riff.specs.Found.{layout_by}
 
 -- the size in the first entry of an id, of so many entries from this place on
 abbrev pub entry_from : List ℕ → ℕ → ℕ → List ℕ → Option ℕ
-entry_from file at entries id = option_map (λ entry. entry.1) (find (λ entry. bytes_eq entry.0 id) (table_of entries (drop at file)))
+entry_from file at entries id =
+    option_map (λ entry. entry.1) (find (λ entry. bytes_eq entry.0 id) (table_of entries (drop at file)))
 
 abbrev pub entry_size : List ℕ → ℕ → List ℕ → Option ℕ
 entry_size file entries id = entry_from file 48 entries id

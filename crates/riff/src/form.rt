@@ -52,9 +52,11 @@ fn is_rf64(form: &[u8; 12]) -> bool
 
 /// Reads the head of the chunk at this place.
 fn head_at<S: Shelf>(shelf: &mut S, name: &str, at: u64) -> Result<Head, ShelfFault>
-    ensures head { IsTrue (S.honest shelf.old) → (file : List ℕ) → S.stored shelf.old name.now ≡ Some file → IfOk result (HasHead file at) }
+    ensures head { IsTrue (S.honest shelf.old) → (file : List ℕ) → S.stored shelf.old name.now ≡ Some file
+        → IfOk result (HasHead file at) }
     ensures not_missing { IsErrOf result ShelfFault.NotFound → ⊥ }
-    ensures only_reads { OnlyReads S.Shelf shelf.old shelf.new result (λ fault. fault ≡ ShelfFault.Device) (λ _ failed. failed name.now) }
+    ensures only_reads { OnlyReads S.Shelf shelf.old shelf.new result (λ fault. fault ≡ ShelfFault.Device)
+        (λ _ failed. failed name.now) }
 {
     let mut bytes = [0u8; 8];
     shelf.read_at(name, at, &mut bytes)?;
@@ -70,10 +72,12 @@ fn holds_fields(head: &Head, left: u64) -> bool
 
 /// Reads the `ds64` of an RF64 file of so many bytes.
 fn read_sizes<S: Shelf>(shelf: &mut S, name: &str, end: u64) -> Result<Form, MediaFault>
-    ensures opens { IsTrue (S.honest shelf.old) → (file : List ℕ) → S.stored shelf.old name.now ≡ Some file → length file ≡ end
+    ensures opens { IsTrue (S.honest shelf.old) → (file : List ℕ) → S.stored shelf.old name.now ≡ Some file
+        → length file ≡ end
         → is_riff file ≡ false → is_rf64 file ≡ true → OpensAs file end result }
     ensures few { IfOk result (λ form. 8 * heads_of form.sizes + form.left + 12 ≤ end) }
-    ensures only_reads { OnlyReads S.Shelf shelf.old shelf.new result (λ fault. fault ≡ MediaFault.Device) (λ _ failed. failed name.now) }
+    ensures only_reads { OnlyReads S.Shelf shelf.old shelf.new result (λ fault. fault ≡ MediaFault.Device)
+        (λ _ failed. failed name.now) }
     ensures no_memory { IsErrOf result MediaFault.Memory → ⊥ }
 {
     if end < FORM_LENGTH + HEAD_LENGTH {
@@ -96,9 +100,11 @@ fn read_sizes<S: Shelf>(shelf: &mut S, name: &str, end: u64) -> Result<Form, Med
 
 /// Reads the head of a file of so many bytes, and in RF64 its `ds64`.
 pub fn read_form<S: Shelf>(shelf: &mut S, name: &str, end: u64) -> Result<Form, MediaFault>
-    ensures opens { IsTrue (S.honest shelf.old) → (file : List ℕ) → S.stored shelf.old name.now ≡ Some file → length file ≡ end → OpensAs file end result }
+    ensures opens { IsTrue (S.honest shelf.old) → (file : List ℕ) → S.stored shelf.old name.now ≡ Some file
+        → length file ≡ end → OpensAs file end result }
     ensures few { IfOk result (λ form. 8 * heads_of form.sizes + form.left + 12 ≤ end) }
-    ensures only_reads { OnlyReads S.Shelf shelf.old shelf.new result (λ fault. fault ≡ MediaFault.Device) (λ _ failed. failed name.now) }
+    ensures only_reads { OnlyReads S.Shelf shelf.old shelf.new result (λ fault. fault ≡ MediaFault.Device)
+        (λ _ failed. failed name.now) }
     ensures no_memory { IsErrOf result MediaFault.Memory → ⊥ }
 {
     if end < FORM_LENGTH {

@@ -2,7 +2,7 @@
 ghost use Rattle.std.specs.Prelude.{◌≡◌, ◌≤◌, ◌<◌, ◌+◌, ◌*◌, ◌-◌, ◌^◌, ◌++◌, ℕ, List, [], ◌∷◌, Option, Some, None, is_some, IfOk, IfErr, OnOk, OnErr};
 ghost use Rattle.std.specs.Option.{option_or};
 ghost use Rattle.sound_terms.specs.Chunks.{Chunk};
-ghost use Rattle.sound_terms.specs.Walks.{first_fault, found_in};
+ghost use Rattle.sound_terms.specs.Walks.{first_chunk_fault, found_in};
 ghost use Rattle.sound_terms.specs.declared.Ds64.{Ds64};
 ghost use Rattle.riff.specs.Found.{IsFoundIn, IsWalked, WalksOn, HasHead, IsInside, EndsInside, EndInside, chunk_at, layout_by};
 
@@ -41,10 +41,12 @@ impl Found {
         ensures added { (chunks : List Chunk) → IsFoundIn (contents.at + left) chunks self.old
             → OnOk result (IsFoundIn (contents.at + left) (chunks ++ chunk_at id contents ∷ []) self.new) }
         ensures refused { (chunks : List Chunk) → IsFoundIn (contents.at + left) chunks self.old
-            → OnErr result (first_fault (contents.at + left) [] (chunks ++ chunk_at id contents ∷ []) ≡ Some SoundFault.Truncated) }
+            → OnErr result (first_chunk_fault (contents.at + left) [] (chunks ++ chunk_at id contents ∷ [])
+            ≡ Some SoundFault.Truncated) }
         ensures cut { IfErr result (λ fault. fault ≡ SoundFault.Truncated) }
         ensures seen { self.new.seen ≡ self.old.seen }
-        ensures ends { EndsInside (contents.at + left) self.old → OnOk result (EndsInside (contents.at + left) self.new) }
+        ensures ends { EndsInside (contents.at + left) self.old
+            → OnOk result (EndsInside (contents.at + left) self.new) }
     {
         if id == *b"fmt " {
             self.others |= claim(&mut self.format, contents, left)?;
@@ -107,7 +109,8 @@ fn claim(slot: &mut Option<Span>, contents: Span, left: u64) -> Result<bool, Sou
     ensures first { OnOk result (slot.new ≡ option_or slot.old (Some contents)) }
     ensures taken { IfOk result (λ taken. taken ≡ is_some slot.old) }
     ensures inside { OnOk result (slot.old ≡ None → contents.length ≤ left) }
-    ensures cut { IfErr result (λ fault. (fault ≡ SoundFault.Truncated) × (slot.old ≡ None) × (left < contents.length)) }
+    ensures cut { IfErr result (λ fault. (fault ≡ SoundFault.Truncated) × (slot.old ≡ None)
+        × (left < contents.length)) }
 {
     if slot.is_some() {
         return Ok(true);

@@ -50,9 +50,11 @@ struct Entry {
 
 /// Reads the entry at this place.
 fn entry_at<S: Shelf>(shelf: &mut S, name: &str, at: u64) -> Result<Entry, ShelfFault>
-    ensures entry { IsTrue (S.honest shelf.old) → (file : List ℕ) → S.stored shelf.old name.now ≡ Some file → IfOk result (HasEntry file at) }
+    ensures entry { IsTrue (S.honest shelf.old) → (file : List ℕ) → S.stored shelf.old name.now ≡ Some file
+        → IfOk result (HasEntry file at) }
     ensures not_missing { IsErrOf result ShelfFault.NotFound → ⊥ }
-    ensures only_reads { OnlyReads S.Shelf shelf.old shelf.new result (λ fault. fault ≡ ShelfFault.Device) (λ _ failed. failed name.now) }
+    ensures only_reads { OnlyReads S.Shelf shelf.old shelf.new result (λ fault. fault ≡ ShelfFault.Device)
+        (λ _ failed. failed name.now) }
 {
     let mut bytes = [0u8; 12];
     shelf.read_at(name, at, &mut bytes)?;
@@ -73,7 +75,8 @@ fn entry_of<S: Shelf>(
     ensures found { IsTrue (S.honest shelf.old) → (file : List ℕ) → S.stored shelf.old name.now ≡ Some file
         → IfOk result (λ size. size ≡ entry_size file entries id) }
     ensures not_missing { IsErrOf result ShelfFault.NotFound → ⊥ }
-    ensures only_reads { OnlyReads S.Shelf shelf.old shelf.new result (λ fault. fault ≡ ShelfFault.Device) (λ _ failed. failed name.now) }
+    ensures only_reads { OnlyReads S.Shelf shelf.old shelf.new result (λ fault. fault ≡ ShelfFault.Device)
+        (λ _ failed. failed name.now) }
 {
     for i in 0..entries {
         let entry = entry_at(shelf, name, TABLE + ENTRY_LENGTH * u64::from(i))?;
@@ -94,7 +97,8 @@ pub fn told_size<S: Shelf>(
     ensures told { IsTrue (S.honest shelf.old) → (file : List ℕ) → S.stored shelf.old name.now ≡ Some file
         → TellsSize file sizes.now head.now result }
     ensures no_memory { IsErrOf result MediaFault.Memory → ⊥ }
-    ensures only_reads { OnlyReads S.Shelf shelf.old shelf.new result (λ fault. fault ≡ MediaFault.Device) (λ _ failed. failed name.now) }
+    ensures only_reads { OnlyReads S.Shelf shelf.old shelf.new result (λ fault. fault ≡ MediaFault.Device)
+        (λ _ failed. failed name.now) }
 {
     match size_of(sizes, head) {
         Size::Told(size) => Ok(size),

@@ -46,7 +46,8 @@ fn walk_ahead(
     requires head { 8 ≤ length bytes.now }
     requires within { length bytes.now ≤ first }
     requires inside { IsInside end first found.old }
-    ensures walked { (file : List ℕ) → IsAhead file (end - first) bytes.now → IsWalked file sizes.now end first found.old
+    ensures walked { (file : List ℕ) → IsAhead file (end - first) bytes.now
+        → IsWalked file sizes.now end first found.old
         → WalksOn file sizes.now end found.new result }
     ensures inside { IfOk result (λ left. IsInside end left found.new) }
     ensures less { IfOk result (λ left. left ≤ first) }
@@ -82,7 +83,8 @@ fn walk_on<S: Shelf>(
     ensures inside { IfOk result (λ rest. IsInside end rest found.new) }
     ensures less { IfOk result (λ rest. rest < left) }
     ensures no_memory { IsErrOf result MediaFault.Memory → ⊥ }
-    ensures only_reads { OnlyReads S.Shelf shelf.old shelf.new result (λ fault. fault ≡ MediaFault.Device) (λ _ failed. failed name.now) }
+    ensures only_reads { OnlyReads S.Shelf shelf.old shelf.new result (λ fault. fault ≡ MediaFault.Device)
+        (λ _ failed. failed name.now) }
 {
     let count = left.min(ahead.len() as u64) as usize;
     let bytes = &mut ahead[..count];
@@ -116,7 +118,8 @@ fn walk_form<S: Shelf>(
     ensures few { IfOk result (λ chunks. 8 * chunks.seen + 12 ≤ end) }
     ensures ends { IfOk result (λ chunks. EndInside end (chunks_view chunks)) }
     ensures no_memory { IsErrOf result MediaFault.Memory → ⊥ }
-    ensures only_reads { OnlyReads S.Shelf shelf.old shelf.new result (λ fault. fault ≡ MediaFault.Device) (λ _ failed. failed name.now) }
+    ensures only_reads { OnlyReads S.Shelf shelf.old shelf.new result (λ fault. fault ≡ MediaFault.Device)
+        (λ _ failed. failed name.now) }
 {
     let mut found = Found::nothing(form.heads());
     let mut left = form.left;
@@ -151,7 +154,8 @@ pub fn walk<S: Shelf>(shelf: &mut S, name: &str) -> Result<Chunks, MediaFault>
         → IfOk result (λ chunks. EndInside (length file) (chunks_view chunks)) }
     ensures ends { IfOk result (λ chunks. (end : ℕ) × (end < 2 ^ 64) × EndInside end (chunks_view chunks)) }
     ensures no_memory { IsErrOf result MediaFault.Memory → ⊥ }
-    ensures only_reads { OnlyReads S.Shelf shelf.old shelf.new result (λ fault. fault ≡ MediaFault.Device) (λ _ failed. failed name.now) }
+    ensures only_reads { OnlyReads S.Shelf shelf.old shelf.new result (λ fault. fault ≡ MediaFault.Device)
+        (λ _ failed. failed name.now) }
 {
     let end = shelf.length(name)?;
     let form = read_form(shelf, name, end)?;

@@ -18,4 +18,10 @@ fields-again t h m s f r i e =
     let bs : s < 60 = grind (arith, nat_tests) in
     let bf : f < 25 = grind (arith, nat_tests) in
     let br : r < 1920 = grind (arith, nat_tests) in
-    record { hours = omega arith; minutes = omega arith; seconds = omega arith; frames = omega arith; remainder = omega arith }
+    record {
+      hours = omega arith;
+      minutes = omega arith;
+      seconds = omega arith;
+      frames = omega arith;
+      remainder = omega arith;
+    }

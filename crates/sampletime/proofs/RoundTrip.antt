@@ -30,7 +30,8 @@ time_of_parts-again :
     (h m s f r : Option ℕ) (separators : List ℕ) (t : ℕ) (separators' : List ℕ)
     → time_of_parts 25 h m s f r separators ≡ Some (t, separators') → HaveTime h m s f r separators t separators'
 time_of_parts-again (Some h) (Some m) (Some s) (Some f) (Some r) separators t separators' e =
-    let p = chosen (is_in_day 25 h m s f r) (are_separators separators) (samples_of_parts 25 h m s f r, separators) (t, separators') e in
+    let p = chosen (is_in_day 25 h m s f r) (are_separators separators) (samples_of_parts 25 h m s f r, separators)
+    (t, separators') e in
     let q = p.1 in
     record {
       hours = h;
@@ -57,7 +58,8 @@ text_of-samples_of :
     (text : List ℕ) (t : ℕ) (separators : List ℕ) → samples_of 25 text ≡ Some (t, separators)
     → text ≡ text_of 25 t separators
 text_of-samples_of (h ∷ h' ∷ a ∷ m ∷ m' ∷ b ∷ s ∷ s' ∷ c ∷ f ∷ f' ∷ d ∷ r ∷ r' ∷ r'' ∷ r''' ∷ []) t separators e =
-    let p = time_of_parts-again (two_digits (h ∷ h' ∷ [])) (two_digits (m ∷ m' ∷ [])) (two_digits (s ∷ s' ∷ [])) (two_digits (f ∷ f' ∷ []))
+    let p = time_of_parts-again (two_digits (h ∷ h' ∷ [])) (two_digits (m ∷ m' ∷ [])) (two_digits (s ∷ s' ∷ []))
+    (two_digits (f ∷ f' ∷ []))
     (four_digits (r ∷ r' ∷ r'' ∷ r''' ∷ [])) (a ∷ b ∷ c ∷ d ∷ []) t separators e in
     let eh = two_digits-again h h' p.hours p.hours_is in
     let em = two_digits-again m m' p.minutes p.minutes_is in
@@ -77,6 +79,7 @@ text_is_again text (Some p) e = text_of-samples_of text p.0 p.1 (sym e)
 
 -- what a time is written as is read as that time
 pub time_is_again :
-    (text : List ℕ) (t : ℕ) (separators : List ℕ) → text ≡ text_of 25 t separators → t ≤ day → IsTrue (are_separators separators)
+    (text : List ℕ) (t : ℕ) (separators : List ℕ) → text ≡ text_of 25 t separators → t ≤ day
+    → IsTrue (are_separators separators)
     → samples_of 25 text ≡ Some (t, separators)
 time_is_again text t separators e h i = rw e (samples_of-text_of t separators h i)

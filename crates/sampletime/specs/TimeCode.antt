@@ -50,7 +50,8 @@ four_digits _ = None
 -- the samples and separators of these parts and separators; None: they are no moment of a day, or no separators
 abbrev pub time_of_parts : ℕ → (h m s f r : Option ℕ) → List ℕ → Option (ℕ × List ℕ)
 time_of_parts rate (Some h) (Some m) (Some s) (Some f) (Some r) separators =
-    if is_in_day rate h m s f r && are_separators separators then Some (samples_of_parts rate h m s f r, separators) else None
+    if is_in_day rate h m s f r && are_separators separators then Some (samples_of_parts rate h m s f r, separators)
+    else None
 time_of_parts _ _ _ _ _ _ _ = None
 
 -- the samples and separators of a time text of 16 bytes; None: every other text
@@ -64,7 +65,8 @@ samples_of _ _ = None
 abbrev pub text_of_parts : (h m s f r : ℕ) → List ℕ → List ℕ
 text_of_parts h m s f r (a ∷ b ∷ c ∷ d ∷ []) =
     (48 + h / 10) ∷ (48 + h % 10) ∷ a ∷ (48 + m / 10) ∷ (48 + m % 10) ∷ b ∷ (48 + s / 10) ∷ (48 + s % 10) ∷ c
-    ∷ (48 + f / 10) ∷ (48 + f % 10) ∷ d ∷ (48 + r / 1000) ∷ (48 + r / 100 % 10) ∷ (48 + r / 10 % 10) ∷ (48 + r % 10) ∷ []
+    ∷ (48 + f / 10) ∷ (48 + f % 10) ∷ d ∷ (48 + r / 1000) ∷ (48 + r / 100 % 10) ∷ (48 + r / 10 % 10) ∷ (48 + r % 10)
+    ∷ []
 text_of_parts _ _ _ _ _ _ = []
 
 -- the time text of so many samples, with these four separators

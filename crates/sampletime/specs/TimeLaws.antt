@@ -27,7 +27,8 @@ samples_of_parts-of t = omega arith
 -- fields in the day, between separators, are a time
 time_of_parts-in_day :
     (h m s f r : ℕ) (separators : List ℕ) → is_in_day 25 h m s f r ≡ true → are_separators separators ≡ true
-    → time_of_parts 25 (Some h) (Some m) (Some s) (Some f) (Some r) separators ≡ Some (samples_of_parts 25 h m s f r, separators)
+    → time_of_parts 25 (Some h) (Some m) (Some s) (Some f) (Some r) separators
+    ≡ Some (samples_of_parts 25 h m s f r, separators)
 time_of_parts-in_day h m s f r separators i e = rw (i, e)
 
 -- the samples and separators of a written time

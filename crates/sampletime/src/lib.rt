@@ -159,7 +159,8 @@ fn digits_of_two(number: u8) -> [u8; 2]
 /// The four ASCII digits of a number below 10000.
 fn digits_of_four(number: u16) -> [u8; 4]
     requires { number < 10000 }
-    ensures { result ≡ (48 + number / 1000) ∷ (48 + number / 100 % 10) ∷ (48 + number / 10 % 10) ∷ (48 + number % 10) ∷ [] }
+    ensures { result ≡ (48 + number / 1000) ∷ (48 + number / 100 % 10) ∷ (48 + number / 10 % 10) ∷ (48 + number % 10)
+        ∷ [] }
 {
     let [a, b] = digits_of_two((number / 100) as u8);
     let [c, d] = digits_of_two((number % 100) as u8);
@@ -237,7 +238,8 @@ impl Parts {
         requires seconds { self.seconds < 100 }
         requires frames { self.frames < 100 }
         requires remainder { self.remainder < 10000 }
-        ensures text { result ≡ text_of_parts self.hours self.minutes self.seconds self.frames self.remainder separators }
+        ensures text { result ≡ text_of_parts self.hours self.minutes self.seconds self.frames self.remainder
+            separators }
         ensures separators { IsTrue (are_separators separators) }
     {
         let [a, b, c, d] = separators.bytes();

@@ -18,19 +18,25 @@ abbrev pub bytes_in : Map → Files
 bytes_in m name = option_map (λ bytes. bytes.items) (get_by_text m name)
 
 -- the map has these bytes under the name, and every other file as it was
-pub changes : (step : Option (List ℕ) → Option (List ℕ) → Type 0) (m n : Map) (name : List ℕ) (v : global.Vec ℕ) → UpdatesBy string_cmp (λ k. slice_cmp nat_cmp name (string_bytes k)) m n (Some v) → step (bytes_in m name) (Some v.items) → Changes step name (bytes_in m) (bytes_in n)
+pub changes : (step : Option (List ℕ) → Option (List ℕ) → Type 0) (m n : Map) (name : List ℕ) (v : global.Vec ℕ)
+    → UpdatesBy string_cmp (λ k. slice_cmp nat_cmp name (string_bytes k)) m n (Some v)
+    → step (bytes_in m name) (Some v.items) → Changes step name (bytes_in m) (bytes_in n)
 changes step m n name v updates does = record {
-  here = subst (λ (o : Option (global.Vec ℕ)). step (bytes_in m name) (option_map (λ bytes. bytes.items) o)) (sym updates.1) does;
+  here = subst (λ (o : Option (global.Vec ℕ)). step (bytes_in m name) (option_map (λ bytes. bytes.items) o))
+      (sym updates.1) does;
   others = λ other apart. ap (option_map (λ bytes. bytes.items)) (kept other apart);
 }
   where
     kept : (other : List ℕ) → other ≢ name → get_by_text n other ≡ get_by_text m other
     kept other apart =
         btree_map_updates_text name m n (Some v) updates other
-        ∙ cond-false (bytes_eq name other) (Some v) (get_by_text m other) (false_from_ne_true _ (λ same. apart (sym ((bytes_eq-Decides name other).0 same))))
+        ∙ cond-false (bytes_eq name other) (Some v) (get_by_text m other)
+        (false_from_ne_true _ (λ same. apart (sym ((bytes_eq-Decides name other).0 same))))
 
 -- the map has the same bytes under the name, so all its files are as they were
-pub stays : (m n : Map) (name : List ℕ) (v : global.Vec ℕ) → UpdatesBy string_cmp (λ k. slice_cmp nat_cmp name (string_bytes k)) m n (Some v) → bytes_in m name ≡ Some v.items → (other : List ℕ) → bytes_in n other ≡ bytes_in m other
+pub stays : (m n : Map) (name : List ℕ) (v : global.Vec ℕ)
+    → UpdatesBy string_cmp (λ k. slice_cmp nat_cmp name (string_bytes k)) m n (Some v) → bytes_in m name ≡ Some v.items
+    → (other : List ℕ) → bytes_in n other ≡ bytes_in m other
 stays m n name v updates same other =
     let all = changes (λ old new. new ≡ old) m n name v updates (sym same) in
     elim (cases_Bool (bytes_eq name other)) [

@@ -8,9 +8,9 @@ abbrev pub is_dots : List ℕ → Bool
 is_dots name = bytes_eq name [] || bytes_eq name (codes ".") || bytes_eq name (codes "..")
 
 -- no slash and no NUL
-abbrev pub is_name_byte : ℕ → Bool
-is_name_byte byte = not (byte == 47) && not (byte == 0)
+abbrev pub is_file_name_byte : ℕ → Bool
+is_file_name_byte byte = not (byte == 47) && not (byte == 0)
 
 -- a file right inside a folder can have the name
 abbrev pub is_file_name : List ℕ → Bool
-is_file_name name = not (is_dots name) && list_all is_name_byte name
+is_file_name name = not (is_dots name) && list_all is_file_name_byte name

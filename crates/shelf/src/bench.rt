@@ -30,35 +30,53 @@ pub trait Bench {
 
     /// Makes an empty file of the name, or empties the one that is there.
     fn create(&mut self, name: &str) -> Result<(), DeviceFault>
-        ensures created { IsTrue (honest self.old) → OnOk result (Changes IsCreated name.now (stored self.old) (stored self.new)) }
-        ensures unsure { IsTrue (honest self.old) → OnErr result (Changes MayBeCreated name.now (stored self.old) (stored self.new)) }
+        ensures created { IsTrue (honest self.old)
+            → OnOk result (Changes IsCreated name.now (stored self.old) (stored self.new)) }
+        ensures unsure { IsTrue (honest self.old)
+            → OnErr result (Changes MayBeCreated name.now (stored self.old) (stored self.new)) }
         ensures crash { Follows (Changes IsPending name.now) (may_leave self.old) (may_leave self.new) }
-        ensures time { Elapses (moment self.old) (moment self.new) (left_since self.old) (left_since self.new) (may_leave self.new) }
-        ensures only_writes { WritesTo stored honest failures failed_at may_leave (λ n. n ≢ name.now) self.old self.new result (λ _. ⊤) (λ _ failed. failed name.now) };
+        ensures time { Elapses (moment self.old) (moment self.new) (left_since self.old) (left_since self.new)
+            (may_leave self.new) }
+        ensures only_writes { WritesTo stored honest failures failed_at may_leave (λ n. n ≢ name.now)
+            self.old self.new result (λ _. ⊤) (λ _ failed. failed name.now) };
 
     /// Adds the bytes at the end of the file, which has to be there.
     fn append(&mut self, name: &str, bytes: &[u8]) -> Result<(), DeviceFault>
-        ensures appended { IsTrue (honest self.old) → OnOk result (Changes (IsAppended bytes.now) name.now (stored self.old) (stored self.new)) }
-        ensures grown { IsTrue (honest self.old) → OnErr result (Changes (IsGrown (length bytes.now)) name.now (stored self.old) (stored self.new)) }
-        ensures crash { Follows (Changes (IsTornBehind (end_of (stored self.old name.now)) (length bytes.now)) name.now) (may_leave self.old) (may_leave self.new) }
-        ensures time { Elapses (moment self.old) (moment self.new) (left_since self.old) (left_since self.new) (may_leave self.new) }
-        ensures only_writes { WritesTo stored honest failures failed_at may_leave (λ n. n ≢ name.now) self.old self.new result (λ _. ⊤) (λ _ failed. failed name.now) };
+        ensures appended { IsTrue (honest self.old)
+            → OnOk result (Changes (IsAppended bytes.now) name.now (stored self.old) (stored self.new)) }
+        ensures grown { IsTrue (honest self.old)
+            → OnErr result (Changes (IsGrown (length bytes.now)) name.now (stored self.old) (stored self.new)) }
+        ensures crash { Follows (Changes (IsTornBehind (end_of (stored self.old name.now)) (length bytes.now)) name.now)
+            (may_leave self.old) (may_leave self.new) }
+        ensures time { Elapses (moment self.old) (moment self.new) (left_since self.old) (left_since self.new)
+            (may_leave self.new) }
+        ensures only_writes { WritesTo stored honest failures failed_at may_leave (λ n. n ≢ name.now)
+            self.old self.new result (λ _. ⊤) (λ _ failed. failed name.now) };
 
     /// Writes the bytes over those from `at` on. They have to lie inside the file.
     fn write_at(&mut self, name: &str, at: u64, bytes: &[u8]) -> Result<(), DeviceFault>
-        ensures written { IsTrue (honest self.old) → OnOk result (Changes (IsWritten at bytes.now) name.now (stored self.old) (stored self.new)) }
-        ensures torn { IsTrue (honest self.old) → OnErr result (Changes (IsTorn at (length bytes.now)) name.now (stored self.old) (stored self.new)) }
-        ensures crash { Follows (Changes (IsTorn at (length bytes.now)) name.now) (may_leave self.old) (may_leave self.new) }
-        ensures time { Elapses (moment self.old) (moment self.new) (left_since self.old) (left_since self.new) (may_leave self.new) }
-        ensures only_writes { WritesTo stored honest failures failed_at may_leave (λ n. n ≢ name.now) self.old self.new result (λ _. ⊤) (λ _ failed. failed name.now) };
+        ensures written { IsTrue (honest self.old)
+            → OnOk result (Changes (IsWritten at bytes.now) name.now (stored self.old) (stored self.new)) }
+        ensures torn { IsTrue (honest self.old)
+            → OnErr result (Changes (IsTorn at (length bytes.now)) name.now (stored self.old) (stored self.new)) }
+        ensures crash { Follows (Changes (IsTorn at (length bytes.now)) name.now) (may_leave self.old)
+            (may_leave self.new) }
+        ensures time { Elapses (moment self.old) (moment self.new) (left_since self.old) (left_since self.new)
+            (may_leave self.new) }
+        ensures only_writes { WritesTo stored honest failures failed_at may_leave (λ n. n ≢ name.now)
+            self.old self.new result (λ _. ⊤) (λ _ failed. failed name.now) };
 
     /// How many bytes the file has. `NotFound` where no file has the name.
     fn length(&mut self, name: &str) -> Result<u64, ShelfFault>
-        ensures found { IsTrue (honest self.old) → IfOk result (λ n. (bytes : List ℕ) × (stored self.old name.now ≡ Some bytes) × (length bytes ≡ n)) }
-        ensures missing { IsTrue (honest self.old) → IsErrOf result ShelfFault.NotFound → stored self.old name.now ≡ None }
+        ensures found { IsTrue (honest self.old)
+            → IfOk result (λ n. (bytes : List ℕ) × (stored self.old name.now ≡ Some bytes) × (length bytes ≡ n)) }
+        ensures missing { IsTrue (honest self.old) → IsErrOf result ShelfFault.NotFound
+            → stored self.old name.now ≡ None }
         ensures crash { (c : Files) → may_leave self.new c → may_leave self.old c }
-        ensures time { Elapses (moment self.old) (moment self.new) (left_since self.old) (left_since self.new) (may_leave self.new) }
-        ensures only_reads { ReadsTo stored honest failures failed_at self.old self.new result (λ fault. fault ≡ ShelfFault.Device) (λ _ failed. failed name.now) };
+        ensures time { Elapses (moment self.old) (moment self.new) (left_since self.old) (left_since self.new)
+            (may_leave self.new) }
+        ensures only_reads { ReadsTo stored honest failures failed_at self.old self.new result
+            (λ fault. fault ≡ ShelfFault.Device) (λ _ failed. failed name.now) };
 
     /// Fills the buffer with the file's bytes from `at` on. A range that isn't inside the file is a failure of the
     /// device, and so is a file that isn't there. After a fault the buffer holds any bytes.
@@ -66,23 +84,30 @@ pub trait Bench {
         ensures read { IsTrue (honest self.old) → OnOk result (IsRange (stored self.old name.now) at buffer.new) }
         ensures not_missing { IsErrOf result ShelfFault.NotFound → ⊥ }
         ensures crash { (c : Files) → may_leave self.new c → may_leave self.old c }
-        ensures time { Elapses (moment self.old) (moment self.new) (left_since self.old) (left_since self.new) (may_leave self.new) }
-        ensures only_reads { ReadsTo stored honest failures failed_at self.old self.new result (λ fault. fault ≡ ShelfFault.Device) (λ _ failed. failed name.now) };
+        ensures time { Elapses (moment self.old) (moment self.new) (left_since self.old) (left_since self.new)
+            (may_leave self.new) }
+        ensures only_reads { ReadsTo stored honest failures failed_at self.old self.new result
+            (λ fault. fault ≡ ShelfFault.Device) (λ _ failed. failed name.now) };
 
     /// After it a crash leaves this file as it is read. The file has to be there.
     fn sync(&mut self, name: &str) -> Result<(), DeviceFault>
-        ensures durable { IsTrue (honest self.old) → OnOk result (IsDurable name.now (stored self.new) (may_leave self.new)) }
+        ensures durable { IsTrue (honest self.old)
+            → OnOk result (IsDurable name.now (stored self.new) (may_leave self.new)) }
         ensures there { IsTrue (honest self.old) → OnOk result (IsSome (stored self.old name.now)) }
         ensures crash { (c : Files) → may_leave self.new c → may_leave self.old c }
-        ensures time { Elapses (moment self.old) (moment self.new) (left_since self.old) (left_since self.new) (may_leave self.new) }
-        ensures only_reads { ReadsTo stored honest failures failed_at self.old self.new result (λ _. ⊤) (λ _ failed. failed name.now) };
+        ensures time { Elapses (moment self.old) (moment self.new) (left_since self.old) (left_since self.new)
+            (may_leave self.new) }
+        ensures only_reads { ReadsTo stored honest failures failed_at self.old self.new result (λ _. ⊤)
+            (λ _ failed. failed name.now) };
 
     /// This moment is one of those since an earlier one.
-    ghost counts_now: { (bench : Self) (t : ℕ) (c : Files) → t ≤ moment bench → may_leave bench c → left_since bench t c };
+    ghost counts_now: { (bench : Self) (t : ℕ) (c : Files) → t ≤ moment bench → may_leave bench c
+        → left_since bench t c };
 
     /// Since this moment there is no other.
     ghost only_now: { (bench : Self) (c : Files) → left_since bench (moment bench) c → may_leave bench c };
 
     /// Nothing takes a file away: where reads find none, a crash leaves none, or an empty one.
-    ghost absent: { (bench : Self) (name : List ℕ) (c : Files) → IsTrue (honest bench) → stored bench name ≡ None → may_leave bench c → IsEmptyOrAbsent (c name) };
+    ghost absent: { (bench : Self) (name : List ℕ) (c : Files) → IsTrue (honest bench) → stored bench name ≡ None
+        → may_leave bench c → IsEmptyOrAbsent (c name) };
 }

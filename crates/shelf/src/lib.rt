@@ -6,6 +6,7 @@ mod failures;
 mod fault;
 mod folder;
 mod memory;
+mod progress;
 mod reason;
 mod source;
 
@@ -13,5 +14,6 @@ pub use bench::Bench;
 pub use fault::{DeviceFault, ShelfFault};
 pub use folder::{FolderBench, FolderShelf, Overwrite};
 pub use memory::{MemoryBench, MemoryShelf};
+pub use progress::{Progress, Unwatched};
 pub use reason::Reasons;
 pub use source::Shelf;

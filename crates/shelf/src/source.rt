@@ -20,14 +20,18 @@ pub trait Shelf {
 
     /// How many bytes the file has. `NotFound` where no file has the name.
     fn length(&mut self, name: &str) -> Result<u64, ShelfFault>
-        ensures found { IsTrue (honest self.old) → IfOk result (λ n. (bytes : List ℕ) × (stored self.old name.now ≡ Some bytes) × (length bytes ≡ n)) }
-        ensures missing { IsTrue (honest self.old) → IsErrOf result ShelfFault.NotFound → stored self.old name.now ≡ None }
-        ensures only_reads { ReadsTo stored honest failures failed_at self.old self.new result (λ fault. fault ≡ ShelfFault.Device) (λ _ failed. failed name.now) };
+        ensures found { IsTrue (honest self.old)
+            → IfOk result (λ n. (bytes : List ℕ) × (stored self.old name.now ≡ Some bytes) × (length bytes ≡ n)) }
+        ensures missing { IsTrue (honest self.old) → IsErrOf result ShelfFault.NotFound
+            → stored self.old name.now ≡ None }
+        ensures only_reads { ReadsTo stored honest failures failed_at self.old self.new result
+            (λ fault. fault ≡ ShelfFault.Device) (λ _ failed. failed name.now) };
 
     /// Fills the buffer with the file's bytes from `at` on. A range that isn't inside the file is a failure of the
     /// device, and so is a file that isn't there. After a fault the buffer holds any bytes.
     fn read_at(&mut self, name: &str, at: u64, buffer: &mut [u8]) -> Result<(), ShelfFault>
         ensures read { IsTrue (honest self.old) → OnOk result (IsRange (stored self.old name.now) at buffer.new) }
         ensures not_missing { IsErrOf result ShelfFault.NotFound → ⊥ }
-        ensures only_reads { ReadsTo stored honest failures failed_at self.old self.new result (λ fault. fault ≡ ShelfFault.Device) (λ _ failed. failed name.now) };
+        ensures only_reads { ReadsTo stored honest failures failed_at self.old self.new result
+            (λ fault. fault ≡ ShelfFault.Device) (λ _ failed. failed name.now) };
 }

@@ -12,7 +12,8 @@ use Rattle.sound_terms.specs.Blocks.{BlockState, block_count, block_frames, exec
 
 -- a piece of the first channel of file 0, on the first channel
 abbrev piece : (start length frame : ℕ) → Shape → Piece
-piece start length frame shape = record { start = start; length = length; frame = frame; file = 0; first = 1; dest = 1; width = 1; shape = shape }
+piece start length frame shape =
+    record { start = start; length = length; frame = frame; file = 0; first = 1; dest = 1; width = 1; shape = shape }
 
 abbrev stretch : (at length frame : ℕ) → Stretch
 stretch at length frame = record { at = at; length = length; frame = frame; file = 0; first = 1; dest = 1; width = 1 }
@@ -31,10 +32,12 @@ minus_one file channel frame = full_scale 16 (neg_ℤ (pos 1))
 abbrev rise : List Piece
 rise = piece 0 3 0 (Rise 0 3) ∷ []
 
-pub a_rise_is_added : program_of rise (range 0 3) Sixteen 0 ≡ Start 3 ∷ Add (stretch 0 3 0) (Rise 0 3) ∷ Emit Sixteen ∷ []
+pub a_rise_is_added : program_of rise (range 0 3) Sixteen 0
+    ≡ Start 3 ∷ Add (stretch 0 3 0) (Rise 0 3) ∷ Emit Sixteen ∷ []
 a_rise_is_added = refl
 
-pub a_rise_is_rounded_once : (executed_all minus_one 1 (program_of rise (range 0 3) Sixteen 0) silence).out ≡ pos 0 ∷ pos 0 ∷ negsuc 0 ∷ []
+pub a_rise_is_rounded_once : (executed_all minus_one 1 (program_of rise (range 0 3) Sixteen 0) silence).out
+    ≡ pos 0 ∷ pos 0 ∷ negsuc 0 ∷ []
 a_rise_is_rounded_once = refl
 
 -- a piece over the end of the first block
@@ -63,5 +66,6 @@ pub layers_in_turn : program_of layers (range 0 3) Sixteen 0
     ≡ Start 3 ∷ Add (stretch 0 2 0) Flat ∷ Add (stretch 1 2 5) Flat ∷ Emit Sixteen ∷ []
 layers_in_turn = refl
 
-pub layers_are_summed : (executed_all minus_one 1 (program_of layers (range 0 3) Sixteen 0) silence).out ≡ negsuc 0 ∷ negsuc 1 ∷ negsuc 0 ∷ []
+pub layers_are_summed : (executed_all minus_one 1 (program_of layers (range 0 3) Sixteen 0) silence).out
+    ≡ negsuc 0 ∷ negsuc 1 ∷ negsuc 0 ∷ []
 layers_are_summed = refl

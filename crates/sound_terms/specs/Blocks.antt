@@ -46,7 +46,8 @@ sums_with reading s shape sums i channel =
 -- the samples of sample i of a block at this depth: n channels, from this one on
 abbrev pub frame_samples : ℕ → (ℕ → ℕ → ℤ) → (i channel n : ℕ) → List ℤ
 frame_samples depth sums i channel zero = []
-frame_samples depth sums i channel (suc n) = quantized depth (sums i channel) ∷ frame_samples depth sums i (suc channel) n
+frame_samples depth sums i channel (suc n) =
+    quantized depth (sums i channel) ∷ frame_samples depth sums i (suc channel) n
 
 -- so n frames, from sample i on, frame by frame
 abbrev pub block_samples : ℕ → (ℕ → ℕ → ℤ) → (channels i n : ℕ) → List ℤ
@@ -58,7 +59,8 @@ block_samples depth sums channels i (suc n) =
 abbrev pub executed : Reading → ℕ → Instruction → BlockState → BlockState
 executed reading channels (Start frames) old = record old { frames = frames; sums = λ i channel. pos 0 }
 executed reading channels (Add stretch shape) old = record old { sums = sums_with reading stretch shape old.sums }
-executed reading channels (Emit depth) old = record old { out = block_samples (bits_of depth) old.sums channels 0 old.frames }
+executed reading channels (Emit depth) old =
+    record old { out = block_samples (bits_of depth) old.sums channels 0 old.frames }
 
 abbrev pub executed_all : Reading → ℕ → List Instruction → BlockState → BlockState
 executed_all reading channels [] state = state
@@ -105,12 +107,14 @@ lines_of from n channels p =
 -- block k of a range, over pieces
 abbrev pub program_of : List Piece → Range → Depth → ℕ → List Instruction
 program_of pieces range depth k =
-    Start (block_frames range k) ∷ (flat_map (lines_of (block_start range k) (block_frames range k) range.channels) pieces ++ Emit depth ∷ [])
+    Start (block_frames range k) ∷ (flat_map (lines_of (block_start range k) (block_frames range k) range.channels)
+    pieces ++ Emit depth ∷ [])
 
 -- the samples of block k by a mix
 abbrev pub mixed_block : Range → (ℕ → ℕ → ℤ) → ℕ → List ℤ
 mixed_block range mix k =
-    block_samples range.depth (λ i channel. mix channel (block_start range k + i)) range.channels 0 (block_frames range k)
+    block_samples range.depth (λ i channel. mix channel (block_start range k + i)) range.channels 0
+    (block_frames range k)
 
 -- ---- which programs are formed
 
@@ -146,13 +150,15 @@ pub record IsBlockProgram (frames channels : ℕ) (depth : Depth) (program : Lis
 -- what the instruction adds are frames and channels of an opened file
 abbrev pub LiesInFiles : List SoundFacts → Instruction → Type 0
 LiesInFiles sounds (Start n) = ⊤
-LiesInFiles sounds (Add stretch shape) = LiesInFile sounds stretch.file stretch.first stretch.width stretch.frame stretch.length
+LiesInFiles sounds (Add stretch shape) =
+    LiesInFile sounds stretch.file stretch.first stretch.width stretch.frame stretch.length
 LiesInFiles sounds (Emit depth) = ⊤
 
 -- no sample that the stretch plays lies outside full scale
 abbrev pub IsFull : Reading → Stretch → Type 0
 IsFull reading s = (j i : ℕ) → j < s.width → i < s.length
-    → (neg_ℤ (pos (2 ^ 47)) ≤ℤ reading s.file (s.first + j) (s.frame + i)) × (reading s.file (s.first + j) (s.frame + i) ≤ℤ pos (2 ^ 47))
+    → (neg_ℤ (pos (2 ^ 47)) ≤ℤ reading s.file (s.first + j) (s.frame + i))
+    × (reading s.file (s.first + j) (s.frame + i) ≤ℤ pos (2 ^ 47))
 
 -- nor one that the instruction plays
 abbrev pub PlaysFull : Reading → Instruction → Type 0

@@ -17,7 +17,8 @@ ds64_of bytes size = if nat_le (28 + 12 * number_at 4 24 bytes) size
 
 -- the 28 bytes of a chunk without a table
 unfoldable pub ds64_bytes : ℕ → ℕ → ℕ → List ℕ
-ds64_bytes riff_size data_size samples = u64_bytes riff_size ++ (u64_bytes data_size ++ (u64_bytes samples ++ u32_bytes 0))
+ds64_bytes riff_size data_size samples =
+    u64_bytes riff_size ++ (u64_bytes data_size ++ (u64_bytes samples ++ u32_bytes 0))
 
 -- the size of the chunk at byte 12
 abbrev pub ds64_size : List ℕ → ℕ

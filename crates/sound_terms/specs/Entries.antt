@@ -32,7 +32,8 @@ parts_of index event =
     let fall = event.fall.length in
     let length = event.dest_out - event.dest_in in
     stretch_of index event 0 rise (Rise 0 rise)
-    ++ (stretch_of index event rise ((length - fall) - rise) Flat ++ stretch_of index event (length - fall) fall (Fall 0 fall))
+    ++ (stretch_of index event rise ((length - fall) - rise) Flat
+    ++ stretch_of index event (length - fall) fall (Fall 0 fall))
 
 abbrev pub parts_by : Option BoundIndex → Event → List Piece
 parts_by None event = []
@@ -41,7 +42,8 @@ parts_by (Some index) event = parts_of index event
 -- the parts of each entry, in list order; an entry without a sample has none
 abbrev pub groups_in_turn : List BoundIndex → List Event → List (List Piece)
 groups_in_turn indexes [] = []
-groups_in_turn indexes (event ∷ events) = as_group (parts_by (index_of indexes event.index) event) ++ groups_in_turn indexes events
+groups_in_turn indexes (event ∷ events) =
+    as_group (parts_by (index_of indexes event.index) event) ++ groups_in_turn indexes events
 
 -- by destination in, then in list order
 abbrev pub groups_of_entries : List BoundIndex → List Event → List (List Piece)
@@ -103,7 +105,8 @@ placed_of groups = flat_map event_of groups
 -- what such an event adds to one channel at one time
 abbrev pub placed_part : Reading → Placed → ℕ → ℕ → ℤ
 placed_part reading e channel time =
-    if nat_le e.dest channel && (nat_lt channel (e.dest + e.width) && (nat_le e.start time && nat_lt time (e.start + e.length)))
+    if nat_le e.dest channel && (nat_lt channel (e.dest + e.width)
+    && (nat_le e.start time && nat_lt time (e.start + e.length)))
     then share_of (reading e.file (e.first + (channel - e.dest)) (e.frame + (time - e.start)))
     (fade_fraction e.rise e.fall e.length (time - e.start))
     else pos 0

@@ -61,7 +61,8 @@ pub files_read : map frames_or_fault
     ∷ riff (chunk (codes "data") (replicate 8 7))
     ∷ riff (chunk (codes "fmt ") mono_format)
     ∷ riff (chunk (codes "fmt ") (take 14 mono_format) ++ chunk (codes "data") [])
-    ∷ riff (chunk (codes "JUNK") (1 ∷ []) ++ (0 ∷ chunk (codes "fmt ") mono_format) ++ chunk (codes "data") (replicate 4 7))
+    ∷ riff (chunk (codes "JUNK") (1 ∷ []) ++ (0 ∷ chunk (codes "fmt ") mono_format)
+    ++ chunk (codes "data") (replicate 4 7))
     ∷ take 11 (riff []) ∷ [])
     ≡ Ok 4 ∷ Err Truncated ∷ Err NoFormat ∷ Err NoData ∷ Err BadFormat ∷ Ok 2 ∷ Err NotWave ∷ []
 unfolding u16_bytes u32_bytes zeros
@@ -69,7 +70,8 @@ files_read = refl
 
 -- twelve bytes of sound under such a `fmt `: two channels of 24 bits by their sub-format, no such sub-format, another
 -- rate, another tag, 65 channels, another depth, bytes between the frames
-pub formats_read : map (λ contents. frames_or_fault (riff (chunk (codes "fmt ") contents ++ chunk (codes "data") (replicate 12 7))))
+pub formats_read : map (λ contents. frames_or_fault (riff
+    (chunk (codes "fmt ") contents ++ chunk (codes "data") (replicate 12 7))))
     (extensible 113 ∷ extensible 112 ∷ take 38 (extensible 113) ∷ format 1 1 44100 2 16 ∷ format 3 1 48000 2 16
     ∷ format 1 65 48000 130 16 ∷ format 1 1 48000 1 8 ∷ format 1 1 48000 4 16 ∷ format 1 1 48000 4 32 ∷ [])
     ≡ Ok 2 ∷ Err BadFormat ∷ Err BadFormat ∷ Err WrongRate ∷ Err BadFormat
@@ -103,6 +105,7 @@ table_of_one id = codes "RF64" ++ (u32_bytes 4294967295 ++ (codes "WAVE"
     ++ chunk (codes "ds64") (sizes 1 ++ (id ++ u64_bytes 16))))
     ++ sized (codes "fmt ") 4294967295 mono_format ++ sized (codes "data") 4294967295 (replicate 8 7)
 
-pub table_read : map frames_or_fault (table_of_one (codes "fmt ") ∷ table_of_one (codes "bext") ∷ []) ≡ Ok 4 ∷ Err BadDs64 ∷ []
+pub table_read : map frames_or_fault (table_of_one (codes "fmt ") ∷ table_of_one (codes "bext") ∷ [])
+    ≡ Ok 4 ∷ Err BadDs64 ∷ []
 unfolding u16_bytes u32_bytes u64_bytes zeros
 table_read = refl

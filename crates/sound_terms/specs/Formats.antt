@@ -10,7 +10,9 @@ use Rattle.sound_terms.specs.Chunks.{number_at, stands_at}
 
 -- the depth of so many bits
 abbrev pub depth_of : ℕ → Option Depth
-depth_of bits = if bits == 16 then Some Sixteen else (if bits == 24 then Some TwentyFour else (if bits == 32 then Some ThirtyTwo else None))
+depth_of bits =
+    if bits == 16 then Some Sixteen else (if bits == 24 then Some TwentyFour
+    else (if bits == 32 then Some ThirtyTwo else None))
 
 -- PCM by its tag, or by the sub-format of WAVE_FORMAT_EXTENSIBLE
 abbrev pub is_pcm : List ℕ → Bool
@@ -25,6 +27,7 @@ format_of format = formed (depth_of (number_at 2 14 format)) where
   formed None = Err BadFormat
   formed (Some depth) =
       let channels = number_at 2 2 format in
-      if is_pcm format && (nat_le 1 channels && (nat_le channels 64 && number_at 2 12 format == channels * (bits_of depth / 8)))
+      if is_pcm format && (nat_le 1 channels && (nat_le channels 64
+      && number_at 2 12 format == channels * (bits_of depth / 8)))
       then (if number_at 4 4 format == 48000 then Ok (record { channels = channels; depth = depth }) else Err WrongRate)
       else Err BadFormat

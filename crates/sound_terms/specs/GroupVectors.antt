@@ -27,7 +27,17 @@ entry width source_in dest_in dest_out fade = record {
 }
 
 abbrev piece : (start length frame width : ℕ) → Shape → Piece
-piece start length frame width shape = record { start = start; length = length; frame = frame; file = 0; first = 1; dest = 1; width = width; shape = shape }
+piece start length frame width shape =
+    record {
+      start = start;
+      length = length;
+      frame = frame;
+      file = 0;
+      first = 1;
+      dest = 1;
+      width = width;
+      shape = shape;
+    }
 
 -- 12 stereo frames: the left is silent, the right sounds in the first four and the last four
 abbrev one_side : Reading
@@ -44,18 +54,21 @@ an_entry_has_three_parts = refl
 pub the_middle_is_silent : silences one_side (split_fades whole_entry) ≡ false ∷ true ∷ false ∷ []
 the_middle_is_silent = refl
 
-pub the_middle_goes : standard_groups one_side whole_entry ≡ (piece 0 4 0 2 (Rise 0 4) ∷ []) ∷ (piece 8 4 8 2 (Fall 0 4) ∷ []) ∷ []
+pub the_middle_goes : standard_groups one_side whole_entry
+    ≡ (piece 0 4 0 2 (Rise 0 4) ∷ []) ∷ (piece 8 4 8 2 (Fall 0 4) ∷ []) ∷ []
 the_middle_goes = refl
 
 -- every frame sounds
 abbrev all_sound : Reading
 all_sound file channel frame = pos 1
 
-pub neighbours_are_joined : standard_groups all_sound (groups_of_entries (midnight ∷ []) (entry 1 4 4 8 0 ∷ entry 1 0 0 4 0 ∷ []))
+pub neighbours_are_joined : standard_groups all_sound
+    (groups_of_entries (midnight ∷ []) (entry 1 4 4 8 0 ∷ entry 1 0 0 4 0 ∷ []))
     ≡ (piece 0 8 0 1 Flat ∷ []) ∷ []
 neighbours_are_joined = refl
 
-pub others_stay_apart : standard_groups all_sound (groups_of_entries (midnight ∷ []) (entry 1 5 4 8 0 ∷ entry 1 0 0 4 0 ∷ []))
+pub others_stay_apart : standard_groups all_sound
+    (groups_of_entries (midnight ∷ []) (entry 1 5 4 8 0 ∷ entry 1 0 0 4 0 ∷ []))
     ≡ (piece 0 4 0 1 Flat ∷ []) ∷ (piece 4 4 5 1 Flat ∷ []) ∷ []
 others_stay_apart = refl
 

@@ -17,12 +17,14 @@ fraction_of (Fall offset den) i = (den - (offset + i), den)
 -- the piece sounds on this channel at this time
 abbrev pub is_under : Piece → ℕ → ℕ → Bool
 is_under p channel time =
-    nat_le p.dest channel && (nat_lt channel (p.dest + p.width) && (nat_le p.start time && nat_lt time (p.start + p.length)))
+    nat_le p.dest channel && (nat_lt channel (p.dest + p.width)
+    && (nat_le p.start time && nat_lt time (p.start + p.length)))
 
 -- what a piece adds to one channel at one time
 abbrev pub part_of : Reading → Piece → ℕ → ℕ → ℤ
 part_of reading p channel time = if is_under p channel time
-    then share_of (reading p.file (p.first + (channel - p.dest)) (p.frame + (time - p.start))) (fraction_of p.shape (time - p.start))
+    then share_of (reading p.file (p.first + (channel - p.dest)) (p.frame + (time - p.start)))
+    (fraction_of p.shape (time - p.start))
     else pos 0
 
 -- the exact sum of pieces
@@ -59,7 +61,8 @@ Agrees reading (p ∷ ps) (b ∷ silent) = (b ≡ true → IsSilent reading p) �
 -- the same sum on every channel at every time, for all readings of the files that agree with what is called silent
 abbrev pub SameMix : List (List Piece) → List Bool → List (List Piece) → Type 0
 SameMix old silent new =
-    (reading : Reading) → Agrees reading (pieces_of old) silent → (channel time : ℕ) → mix_of reading new channel time ≡ mix_of reading old channel time
+    (reading : Reading) → Agrees reading (pieces_of old) silent → (channel time : ℕ)
+    → mix_of reading new channel time ≡ mix_of reading old channel time
 
 -- the piece reads this channel of this file at this frame
 abbrev pub is_read : Piece → ℕ → ℕ → ℕ → Bool
@@ -138,7 +141,8 @@ pub record AreGroups (groups : List (List Piece)) : Type 0 where
 -- stable: a group stands before the first one that begins no earlier
 abbrev pub put_by_start : List Piece → List (List Piece) → List (List Piece)
 put_by_start own [] = own ∷ []
-put_by_start own (group ∷ groups) = if nat_le (start_of own) (start_of group) then own ∷ group ∷ groups else group ∷ put_by_start own groups
+put_by_start own (group ∷ groups) =
+    if nat_le (start_of own) (start_of group) then own ∷ group ∷ groups else group ∷ put_by_start own groups
 
 -- in order of start; of equal starts the earlier stays first
 abbrev pub in_start_order : List (List Piece) → List (List Piece)

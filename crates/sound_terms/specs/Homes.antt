@@ -21,7 +21,8 @@ place_by homes file = unwrap_or (option_map (λ home. home.place) (slice_get hom
 
 -- two files have two home indexes, and what can be addressed lies inside the day
 pub record AreHomes (homes : List Home) : Type 0 where
-  pub apart : (i j : ℕ) (a b : Home) → i ≢ j → slice_get homes i ≡ Some a → slice_get homes j ≡ Some b → a.place ≢ b.place
+  pub apart : (i j : ℕ) (a b : Home) → i ≢ j → slice_get homes i ≡ Some a → slice_get homes j ≡ Some b
+      → a.place ≢ b.place
   pub in_day : (i : ℕ) (a : Home) → slice_get homes i ≡ Some a → 0 < a.addressable → a.base + a.addressable ≤ day
 
 abbrev pub kept_of : List (List Piece) → List Home → ℕ → ℕ → ℕ → Bool

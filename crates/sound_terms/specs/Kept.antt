@@ -7,11 +7,13 @@ use Rattle.sound_terms.specs.declared.piece.Run.{Run}
 -- at most `handle` frames away from a frame that the piece plays
 abbrev pub is_near : ℕ → ℕ → ℕ → Piece → Bool
 is_near handle file frame p =
-    p.file == file && (nat_lt 0 p.length && (nat_le p.frame (frame + handle) && nat_lt frame (p.frame + p.length + handle)))
+    p.file == file && (nat_lt 0 p.length && (nat_le p.frame (frame + handle)
+    && nat_lt frame (p.frame + p.length + handle)))
 
 -- addressable by the home index of its file, and near a frame that is played
 abbrev pub is_kept : List Piece → (ℕ → ℕ) → ℕ → ℕ → ℕ → Bool
-is_kept pieces addressable handle file frame = nat_lt frame (addressable file) && list_any (is_near handle file frame) pieces
+is_kept pieces addressable handle file frame =
+    nat_lt frame (addressable file) && list_any (is_near handle file frame) pieces
 
 -- frames that are all kept, and that no kept frame goes on
 pub record IsMaximal (kept : ℕ → ℕ → Bool) (run : Run) : Type 0 where
@@ -34,4 +36,5 @@ pub record HasFrame (file frame : ℕ) (run : Run) : Type 0 where
 pub record AreRuns (kept : ℕ → ℕ → Bool) (home : ℕ → ℕ) (runs : List Run) : Type 0 where
   pub maximal : All (IsMaximal kept) runs
   pub all : (file frame : ℕ) → kept file frame ≡ true → (run : Run) × Contains runs run × HasFrame file frame run
-  pub order : (i j : ℕ) (a b : Run) → i < j → slice_get runs i ≡ Some a → slice_get runs j ≡ Some b → comes_before home a b ≡ true
+  pub order : (i j : ℕ) (a b : Run) → i < j → slice_get runs i ≡ Some a → slice_get runs j ≡ Some b
+      → comes_before home a b ≡ true

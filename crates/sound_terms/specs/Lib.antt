@@ -1,4 +1,5 @@
 pub mod Bext
+pub mod BlockLaws
 pub mod BlockVectors
 pub mod Blocks
 pub mod Chunks
@@ -7,6 +8,7 @@ pub mod Ds64
 pub mod Entries
 pub mod FileVectors
 pub mod Formats
+pub mod GroupLaws
 pub mod GroupVectors
 pub mod Groups
 pub mod Homes

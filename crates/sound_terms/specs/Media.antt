@@ -10,8 +10,8 @@ use Rattle.sound_terms.specs.Waves.{SoundInfo, file_of, zeros}
 abbrev pub frame_length : SoundFacts → ℕ
 frame_length facts = facts.channels * (facts.depth / 8)
 
--- what the medium of a run tells of itself: the channels, the depth and the texts of its source, and the time of its first
--- frame, where the source's first frame stands at `base`
+-- what the medium of a run tells of itself: the channels, the depth and the texts of its source, and the time of its
+-- first frame, where the source's first frame stands at `base`
 abbrev pub medium_info : SoundFacts → ℕ → Run → SoundInfo
 medium_info facts base run = record {
   channels = facts.channels;
@@ -24,7 +24,8 @@ medium_info facts base run = record {
 
 -- the bytes of so many frames of a source, from this frame on
 abbrev pub frames_in : SoundFacts → List ℕ → (frame count : ℕ) → List ℕ
-frames_in facts bytes frame count = take (count * frame_length facts) (drop (facts.place + frame * frame_length facts) bytes)
+frames_in facts bytes frame count =
+    take (count * frame_length facts) (drop (facts.place + frame * frame_length facts) bytes)
 
 -- the medium of a run of a source of these bytes
 abbrev pub medium_of : SoundFacts → List ℕ → ℕ → Run → List ℕ

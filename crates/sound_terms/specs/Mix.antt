@@ -24,7 +24,8 @@ share_of sample fraction = int_div_euclid (sample *ℤ pos fraction.0) (pos frac
 -- the event sounds on this channel at this time: its first and last channel are in, its `out` isn't
 abbrev pub is_heard : Event → ℕ → ℕ → Bool
 is_heard event channel time =
-    nat_le event.dest.first channel && (nat_le channel event.dest.last && (nat_le event.dest_in time && nat_lt time event.dest_out))
+    nat_le event.dest.first channel && (nat_le channel event.dest.last
+    && (nat_le event.dest_in time && nat_lt time event.dest_out))
 
 -- the index of this number
 abbrev pub index_of : List BoundIndex → ℕ → Option BoundIndex
@@ -36,7 +37,8 @@ contribution_at reading None event channel time = pos 0
 contribution_at reading (Some index) event channel time =
     if is_heard event channel time
     then share_of
-    (reading index.file (event.source.first + (channel - event.dest.first)) ((event.source_in - index.base) + (time - event.dest_in)))
+    (reading index.file (event.source.first + (channel - event.dest.first))
+    ((event.source_in - index.base) + (time - event.dest_in)))
     (fade_fraction event.rise.length event.fall.length (event.dest_out - event.dest_in) (time - event.dest_in))
     else pos 0
 

@@ -83,7 +83,8 @@ lengthened later (p ∷ q ∷ ps) = None
 -- a group of one flat piece lengthens the first such group that it continues; every other one is put last
 abbrev pub put_joined : List (List Piece) → List Piece → List (List Piece)
 put_joined groups [] = groups ++ [] ∷ []
-put_joined groups (p ∷ []) = if is_flat p.shape then put_to_first (lengthened p) (p ∷ []) groups else groups ++ (p ∷ []) ∷ []
+put_joined groups (p ∷ []) =
+    if is_flat p.shape then put_to_first (lengthened p) (p ∷ []) groups else groups ++ (p ∷ []) ∷ []
 put_joined groups (p ∷ q ∷ ps) = groups ++ (p ∷ q ∷ ps) ∷ []
 
 abbrev pub join_cuts : List (List Piece) → List (List Piece)

@@ -49,4 +49,5 @@ pub record ReadsBack (range : Range) (mix : ℕ → ℕ → ℤ) (file : List �
   pub frames : facts.frames ≡ range.to - range.from
   pub start : facts.time_reference ≡ Some range.from
   pub samples : (frame channel : ℕ) → frame < range.to - range.from → 1 ≤ channel → channel ≤ range.channels
-      → sample_at file facts.place range.channels range.depth frame channel ≡ quantized range.depth (mix channel (range.from + frame))
+      → sample_at file facts.place range.channels range.depth frame channel
+      ≡ quantized range.depth (mix channel (range.from + frame))

@@ -38,17 +38,21 @@ pub out_fade_of_four : heard (constant (pos 1000)) (four_samples 0 4 ∷ []) ≡
 out_fade_of_four = refl
 
 -- negative shares are rounded down, and rounded sums go to the nearest, halves up
-pub shares_go_down : map (λ i. share_of (full_scale 16 (negsuc 0)) (i, 3)) (0 ∷ 1 ∷ 2 ∷ []) ≡ pos 0 ∷ negsuc 1431655765 ∷ negsuc 2863311530 ∷ []
+pub shares_go_down : map (λ i. share_of (full_scale 16 (negsuc 0)) (i, 3)) (0 ∷ 1 ∷ 2 ∷ [])
+    ≡ pos 0 ∷ negsuc 1431655765 ∷ negsuc 2863311530 ∷ []
 shares_go_down = refl
 
-pub fade_of_minus_one : map (quantized 16) (pos 0 ∷ negsuc 1431655765 ∷ negsuc 2863311530 ∷ []) ≡ pos 0 ∷ pos 0 ∷ negsuc 0 ∷ []
+pub fade_of_minus_one : map (quantized 16) (pos 0 ∷ negsuc 1431655765 ∷ negsuc 2863311530 ∷ [])
+    ≡ pos 0 ∷ pos 0 ∷ negsuc 0 ∷ []
 fade_of_minus_one = refl
 
-pub halves_go_up : map (λ v. quantized 16 (share_of (full_scale 16 v) (1, 2))) (pos 1 ∷ negsuc 0 ∷ []) ≡ pos 1 ∷ pos 0 ∷ []
+pub halves_go_up : map (λ v. quantized 16 (share_of (full_scale 16 v) (1, 2))) (pos 1 ∷ negsuc 0 ∷ [])
+    ≡ pos 1 ∷ pos 0 ∷ []
 halves_go_up = refl
 
 -- an out-fade of three under an in-fade of three on the same samples: the second sum is one below 5 * 2 ^ 32
-pub crossfade_is_exact : map (λ i. quantized 16 (share_of (full_scale 16 (pos 5)) (3 - i, 3) +ℤ share_of (full_scale 16 (pos 5)) (i, 3))) (0 ∷ 1 ∷ 2 ∷ []) ≡ pos 5 ∷ pos 5 ∷ pos 5 ∷ []
+pub crossfade_is_exact : map (λ i. quantized 16 (share_of (full_scale 16 (pos 5)) (3 - i, 3)
+    +ℤ share_of (full_scale 16 (pos 5)) (i, 3))) (0 ∷ 1 ∷ 2 ∷ []) ≡ pos 5 ∷ pos 5 ∷ pos 5 ∷ []
 crossfade_is_exact = refl
 
 pub crossfade_sum : share_of (full_scale 16 (pos 5)) (2, 3) +ℤ share_of (full_scale 16 (pos 5)) (1, 3) ≡ pos 21474836479
@@ -57,29 +61,41 @@ crossfade_sum = refl
 -- 1000, -1000, 32767, -32768
 abbrev pub four_values : Reading
 four_values file channel frame = full_scale 16
-    (if frame == 0 then pos 1000 else (if frame == 1 then negsuc 999 else (if frame == 2 then pos 32767 else negsuc 32767)))
+    (if frame == 0 then pos 1000 else (if frame == 1 then negsuc 999
+    else (if frame == 2 then pos 32767 else negsuc 32767)))
 
-pub twice_is_clipped : heard four_values (four_samples 0 0 ∷ four_samples 0 0 ∷ []) ≡ pos 2000 ∷ negsuc 1999 ∷ pos 32767 ∷ negsuc 32767 ∷ []
+pub twice_is_clipped : heard four_values (four_samples 0 0 ∷ four_samples 0 0 ∷ [])
+    ≡ pos 2000 ∷ negsuc 1999 ∷ pos 32767 ∷ negsuc 32767 ∷ []
 twice_is_clipped = refl
 
 -- 32767 + 32767 - 32768: no partial sum is clipped
-pub sums_are_exact : quantized 16 (full_scale 16 (pos 32767) +ℤ (full_scale 16 (pos 32767) +ℤ full_scale 16 (negsuc 32767))) ≡ pos 32766
+pub sums_are_exact : quantized 16 (full_scale 16 (pos 32767)
+    +ℤ (full_scale 16 (pos 32767) +ℤ full_scale 16 (negsuc 32767))) ≡ pos 32766
 sums_are_exact = refl
 
 -- `out` isn't heard, and neither is the sample before `in`
-pub ends_are_silent : map (λ time. mix_at (constant (pos 1)) one_index (four_samples 0 0 ∷ []) 1 time) (99 ∷ 104 ∷ []) ≡ pos 0 ∷ pos 0 ∷ []
+pub ends_are_silent : map (λ time. mix_at (constant (pos 1)) one_index (four_samples 0 0 ∷ []) 1 time) (99 ∷ 104 ∷ [])
+    ≡ pos 0 ∷ pos 0 ∷ []
 ends_are_silent = refl
 
 pub wider_depth : quantized 24 (full_scale 16 (pos 1000)) ≡ pos 256000
 wider_depth = refl
 
-pub narrower_depth : map (λ v. quantized 16 (full_scale 24 v)) (pos 128 ∷ pos 127 ∷ negsuc 127 ∷ []) ≡ pos 1 ∷ pos 0 ∷ pos 0 ∷ []
+pub narrower_depth : map (λ v. quantized 16 (full_scale 24 v)) (pos 128 ∷ pos 127 ∷ negsuc 127 ∷ [])
+    ≡ pos 1 ∷ pos 0 ∷ pos 0 ∷ []
 narrower_depth = refl
 
 -- the sizes of written files
 abbrev mono : ℕ → ℕ → List ℕ → SoundInfo
 mono depth frames history =
-    record { channels = 1; depth = depth; frames = frames; text = replicate 338 0; time_reference = 0; history = history }
+    record {
+      channels = 1;
+      depth = depth;
+      frames = frames;
+      text = replicate 338 0;
+      time_reference = 0;
+      history = history;
+    }
 
 pub one_frame_of_24_bits : file_length (mono 24 1 []) ≡ 694
 one_frame_of_24_bits = refl

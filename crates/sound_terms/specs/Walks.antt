@@ -20,12 +20,13 @@ chunk_fault end before chunk = fault_by chunk.size where
       if nat_lt end (chunk.at + size) && not (is_uncounted before chunk) then Some Truncated else None
 
 -- the first of these faults, of chunks behind others
-abbrev pub first_fault : ℕ → List Chunk → List Chunk → Option SoundFault
-first_fault end before [] = None
-first_fault end before (chunk ∷ chunks) = fault_or (chunk_fault end before chunk) (first_fault end (before ++ chunk ∷ []) chunks) where
-  fault_or : Option SoundFault → Option SoundFault → Option SoundFault
-  fault_or None later = later
-  fault_or (Some fault) later = Some fault
+abbrev pub first_chunk_fault : ℕ → List Chunk → List Chunk → Option SoundFault
+first_chunk_fault end before [] = None
+first_chunk_fault end before (chunk ∷ chunks) =
+    fault_or (chunk_fault end before chunk) (first_chunk_fault end (before ++ chunk ∷ []) chunks) where
+      fault_or : Option SoundFault → Option SoundFault → Option SoundFault
+      fault_or None later = later
+      fault_or (Some fault) later = Some fault
 
 -- the contents of a chunk whose size is told
 abbrev pub span_of : Chunk → Span
@@ -46,7 +47,7 @@ found_in chunks = found (first_of (codes "fmt ") chunks) (first_of (codes "data"
 
 -- the first fault of these chunks, else those that count
 abbrev pub checked_chunks : ℕ → List Chunk → Result Chunks SoundFault
-checked_chunks end chunks = checked (first_fault end [] chunks) where
+checked_chunks end chunks = checked (first_chunk_fault end [] chunks) where
   checked : Option SoundFault → Result Chunks SoundFault
   checked None = found_in chunks
   checked (Some fault) = Err fault

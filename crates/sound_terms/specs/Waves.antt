@@ -67,13 +67,15 @@ is_large info = nat_lt 4294967294 (file_length info - 8)
 -- `ds64` of RF64, with no table (EBU Tech 3306, 3.2)
 abbrev pub ds64_chunk : SoundInfo → List ℕ
 ds64_chunk info =
-    chunk_head (codes "ds64") 28 ++ (u64_bytes (file_length info - 8) ++ (u64_bytes (data_size info) ++ (u64_bytes info.frames ++ zeros 4)))
+    chunk_head (codes "ds64") 28 ++ (u64_bytes (file_length info - 8)
+    ++ (u64_bytes (data_size info) ++ (u64_bytes info.frames ++ zeros 4)))
 
 -- the head of the file, and in RIFF a JUNK chunk in the place of `ds64`
 abbrev pub form_head : SoundInfo → List ℕ
 form_head info = if is_large info
     then chunk_head (codes "RF64") 4294967295 ++ (codes "WAVE" ++ ds64_chunk info)
-    else chunk_head (codes "RIFF") (file_length info - 8) ++ (codes "WAVE" ++ (chunk_head (codes "JUNK") 28 ++ zeros 28))
+    else chunk_head (codes "RIFF") (file_length info - 8)
+    ++ (codes "WAVE" ++ (chunk_head (codes "JUNK") 28 ++ zeros 28))
 
 -- the `bext` chunk, version 1 with no UMID (EBU Tech 3285, 2.3)
 abbrev pub bext_chunk : SoundInfo → List ℕ

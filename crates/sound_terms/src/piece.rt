@@ -3,7 +3,8 @@ ghost use Rattle.std.specs.Prelude.{◌≡◌};
 ghost use Rattle.sound_terms.specs.Groups.{IsRamp};
 ghost use Rattle.sound_terms.specs.Passes.{shape_behind};
 
-/// How a piece fades at its sample i. A ramp that was cut keeps the length of the whole one, `den`, and begins at `offset`.
+/// How a piece fades at its sample i. A ramp that was cut keeps the length of the whole one, `den`, and begins at
+/// `offset`.
 #[derive(Clone, Copy, Debug, Default, PartialEq, Eq)]
 pub enum Shape {
     /// All samples as they are.
@@ -35,8 +36,8 @@ impl Shape {
     }
 }
 
-/// A part of a file on the timeline: `length` samples from `start` on, from the file's frame `frame` on. `width` channels
-/// sound, those of the file from `first` on, on channels from `dest` on; both are counted from 1.
+/// A part of a file on the timeline: `length` samples from `start` on, from the file's frame `frame` on. `width`
+/// channels sound, those of the file from `first` on, on channels from `dest` on; both are counted from 1.
 #[derive(Clone, Copy, Debug, Default, PartialEq, Eq)]
 pub struct Piece {
     pub start: u64,
@@ -71,8 +72,8 @@ pub struct Run {
     pub length: u64,
 }
 
-/// What a file's home index tells, the bound index of that file with the least base: that base, how many frames from the
-/// first on can be addressed, and which of the bound indexes it is, from 0.
+/// What a file's home index tells, the bound index of that file with the least base: that base, how many frames from
+/// the first on can be addressed, and which of the bound indexes it is, from 0.
 #[derive(Clone, Copy, Debug, PartialEq, Eq)]
 pub struct Home {
     pub base: u64,

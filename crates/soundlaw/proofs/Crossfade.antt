@@ -23,7 +23,8 @@ pub record IsNearly (sum sample : ℤ) : Type 0 where
   pub is : sum +ℤ pos less ≡ sample
 
 -- of two parts of a product, each rounded down
-rounded_down : (m n x y a b r s : ℕ) → x + y ≡ n → n * a + r ≡ m * x → n * b + s ≡ m * y → r < n → s < n → (a + b ≤ m) × (m < a + b + 2)
+rounded_down : (m n x y a b r s : ℕ) → x + y ≡ n → n * a + r ≡ m * x → n * b + s ≡ m * y → r < n → s < n
+    → (a + b ≤ m) × (m < a + b + 2)
 rounded_down m n x y a b r s whole first second less small =
     let all = ap (λ z. m * z) whole in
     let low : n * (a + b) ≤ n * m = omega (arith, all, first, second) in
@@ -37,7 +38,9 @@ both_up : (m n i : ℕ) → i < n → IsNearly (share_of (pos m) (n - i, n) +ℤ
 both_up m n i inside =
     let first = div-add-mod (m * (n - i)) n in
     let second = div-add-mod (m * i) n in
-    let near = rounded_down m n (n - i) i (m * (n - i) / n) (m * i / n) (m * (n - i) % n) (m * i % n) (omega arith) first second (omega arith) (omega arith) in
+    let near =
+    rounded_down m n (n - i) i (m * (n - i) / n) (m * i / n) (m * (n - i) % n) (m * i % n) (omega arith)
+    first second (omega arith) (omega arith) in
     near_by _ _ _ _ (pos m) (share_up m (n - i) n) (share_up m i n) (record {
       less = m - (m * (n - i) / n + m * i / n);
       most = omega (arith, near);
@@ -58,7 +61,13 @@ share_below k x n some = by_rest (suc k * x % n == 0) refl where
   by_rest true e =
       let none : suc k * x % n ≡ 0 = eqb-true (suc k * x % n) 0 e in
       let parts = div-add-mod (suc k * x) n in
-      record { ceiling = suc k * x / n; over = 0; is = share_down k x n some ∙ rw e refl; product = omega (arith, parts, none); small = some }
+      record {
+        ceiling = suc k * x / n;
+        over = 0;
+        is = share_down k x n some ∙ rw e refl;
+        product = omega (arith, parts, none);
+        small = some;
+      }
   by_rest false e =
       let rest : suc k * x % n ≢ 0 = λ none. let yes = eq-eqb (suc k * x % n) 0 none in cc in
       let parts = div-add-mod (suc k * x) n in
@@ -71,7 +80,8 @@ share_below k x n some = by_rest (suc k * x % n == 0) refl where
         small = omega (arith, rest);
       }
 
-rounded_up : (m n x y a b r s : ℕ) → x + y ≡ n → n * a ≡ m * x + r → n * b ≡ m * y + s → r < n → s < n → (m ≤ a + b) × (a + b < m + 2)
+rounded_up : (m n x y a b r s : ℕ) → x + y ≡ n → n * a ≡ m * x + r → n * b ≡ m * y + s → r < n → s < n
+    → (m ≤ a + b) × (a + b < m + 2)
 rounded_up m n x y a b r s whole first second less small =
     let all = ap (λ z. m * z) whole in
     let low : n * m ≤ n * (a + b) = omega (arith, all, first, second) in
@@ -82,7 +92,9 @@ both_down : (k n i : ℕ) → i < n → IsNearly (share_of (negsuc k) (n - i, n)
 both_down k n i inside =
     let first = share_below k (n - i) n (omega arith) in
     let second = share_below k i n (omega arith) in
-    let near = rounded_up (suc k) n (n - i) i first.ceiling second.ceiling first.over second.over (omega arith) first.product second.product first.small second.small in
+    let near =
+    rounded_up (suc k) n (n - i) i first.ceiling second.ceiling first.over second.over (omega arith)
+    first.product second.product first.small second.small in
     near_by _ _ _ _ (negsuc k) first.is second.is (record {
       less = (first.ceiling + second.ceiling) - suc k;
       most = omega (arith, near);
@@ -94,7 +106,7 @@ nearly (pos m) n i inside = both_up m n i inside
 nearly (negsuc k) n i inside = both_down k n i inside
 
 -- the floor of a multiple and a rest
-floor_whole : (y : ℤ) (r step : ℕ) → r < step → int_div_euclid (y *ℤ pos step +ℤ pos r) (pos step) ≡ y
+pub floor_whole : (y : ℤ) (r step : ℕ) → r < step → int_div_euclid (y *ℤ pos step +ℤ pos r) (pos step) ≡ y
 floor_whole (pos m) r step small = ap pos (div-mul-add m step r small)
 floor_whole (negsuc k) r step small =
     let product = negsuc-*ℤ-pos k step in
@@ -102,7 +114,8 @@ floor_whole (negsuc k) r step small =
     ap (λ z. int_div_euclid z (pos step)) turned ∙ ap negsuc (div-mul-add k step (step - r - 1) (omega arith))
 
 -- the fractions of both fades at their i-th sample
-out_fraction : (rise n before i : ℕ) → i < n → rise + n ≤ before → fade_fraction rise n before (before - n + i) ≡ (n - i, n)
+out_fraction : (rise n before i : ℕ) → i < n → rise + n ≤ before
+    → fade_fraction rise n before (before - n + i) ≡ (n - i, n)
 out_fraction rise n before i inside fits =
     let risen : nat_lt (before - n + i) rise ≡ false = grind (arith, nat_tests) in
     let falls : nat_le (before - n) (before - n + i) ≡ true = grind (arith, nat_tests) in
@@ -118,29 +131,35 @@ held h (pos n) low high = let below : n < 2 ^ h = omega (arith, ints, high) in a
 held h (negsuc n) low high = let below : n + 1 ≤ 2 ^ h = omega (arith, ints, low) in ap negsuc (omega arith)
 
 -- a sum near a multiple of the step is rounded to it
-rounds : (h half step r : ℕ) (sum y : ℤ) → r < step → sum +ℤ pos half ≡ y *ℤ pos step +ℤ pos r → neg_ℤ (pos (2 ^ h)) ≤ℤ y → y <ℤ pos (2 ^ h)
+rounds : (h half step r : ℕ) (sum y : ℤ) → r < step → sum +ℤ pos half ≡ y *ℤ pos step +ℤ pos r
+    → neg_ℤ (pos (2 ^ h)) ≤ℤ y → y <ℤ pos (2 ^ h)
     → saturate_to_bits h (int_div_euclid (sum +ℤ pos half) (pos step)) ≡ y
 rounds h half step r sum y small parts low high =
-    ap (λ z. saturate_to_bits h (int_div_euclid z (pos step))) parts ∙ ap (saturate_to_bits h) (floor_whole y r step small) ∙ held h y low high
+    ap (λ z. saturate_to_bits h (int_div_euclid z (pos step))) parts
+    ∙ ap (saturate_to_bits h) (floor_whole y r step small) ∙ held h y low high
 
 from_16_to_16 : (x sum : ℤ) → FitsDepth 16 x → IsNearly sum (full_scale 16 x) → quantized 16 sum ≡ x *ℤ pos 1
 from_16_to_16 x sum fits near =
-    rounds 15 2147483648 4294967296 (2147483648 - near.less) sum (x *ℤ pos 1) (omega arith) (omega (arith, ints, near.is, near.most))
+    rounds 15 2147483648 4294967296 (2147483648 - near.less) sum (x *ℤ pos 1) (omega arith)
+    (omega (arith, ints, near.is, near.most))
     (omega (arith, ints, fits.0)) (omega (arith, ints, fits.1))
 
 from_16_to_24 : (x sum : ℤ) → FitsDepth 16 x → IsNearly sum (full_scale 16 x) → quantized 24 sum ≡ x *ℤ pos 256
 from_16_to_24 x sum fits near =
-    rounds 23 8388608 16777216 (8388608 - near.less) sum (x *ℤ pos 256) (omega arith) (omega (arith, ints, near.is, near.most))
+    rounds 23 8388608 16777216 (8388608 - near.less) sum (x *ℤ pos 256) (omega arith)
+    (omega (arith, ints, near.is, near.most))
     (omega (arith, ints, fits.0)) (omega (arith, ints, fits.1))
 
 from_16_to_32 : (x sum : ℤ) → FitsDepth 16 x → IsNearly sum (full_scale 16 x) → quantized 32 sum ≡ x *ℤ pos 65536
 from_16_to_32 x sum fits near =
-    rounds 31 32768 65536 (32768 - near.less) sum (x *ℤ pos 65536) (omega arith) (omega (arith, ints, near.is, near.most))
+    rounds 31 32768 65536 (32768 - near.less) sum (x *ℤ pos 65536) (omega arith)
+    (omega (arith, ints, near.is, near.most))
     (omega (arith, ints, fits.0)) (omega (arith, ints, fits.1))
 
 from_24_to_24 : (x sum : ℤ) → FitsDepth 24 x → IsNearly sum (full_scale 24 x) → quantized 24 sum ≡ x *ℤ pos 1
 from_24_to_24 x sum fits near =
-    rounds 23 8388608 16777216 (8388608 - near.less) sum (x *ℤ pos 1) (omega arith) (omega (arith, ints, near.is, near.most))
+    rounds 23 8388608 16777216 (8388608 - near.less) sum (x *ℤ pos 1) (omega arith)
+    (omega (arith, ints, near.is, near.most))
     (omega (arith, ints, fits.0)) (omega (arith, ints, fits.1))
 
 from_24_to_32 : (x sum : ℤ) → FitsDepth 24 x → IsNearly sum (full_scale 24 x) → quantized 32 sum ≡ x *ℤ pos 256
@@ -154,7 +173,8 @@ from_32_to_32 x sum fits near =
     (omega (arith, ints, fits.0)) (omega (arith, ints, fits.1))
 
 by_depths : (source depth : Depth) (x sum : ℤ) → bits_of source ≤ bits_of depth → FitsDepth (bits_of source) x
-    → IsNearly sum (full_scale (bits_of source) x) → quantized (bits_of depth) sum ≡ x *ℤ pos (2 ^ (bits_of depth - bits_of source))
+    → IsNearly sum (full_scale (bits_of source) x)
+    → quantized (bits_of depth) sum ≡ x *ℤ pos (2 ^ (bits_of depth - bits_of source))
 by_depths Sixteen Sixteen x sum le fits near = from_16_to_16 x sum fits near
 by_depths Sixteen TwentyFour x sum le fits near = from_16_to_24 x sum fits near
 by_depths Sixteen ThirtyTwo x sum le fits near = from_16_to_32 x sum fits near

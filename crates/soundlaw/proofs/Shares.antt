@@ -21,7 +21,8 @@ quotient_by size num den some =
     sym (ap (λ x. x / den) (product_by size num den) ∙ mul-add-div_right some (size / den * num) (size % den * num))
 
 pub rest_by : (size num den : ℕ) → size % den * num % den ≡ size * num % den
-rest_by size num den = sym (ap (λ x. x % den) (product_by size num den) ∙ mul-add-mod_self_right (size / den * num) den (size % den * num))
+rest_by size num den =
+    sym (ap (λ x. x % den) (product_by size num den) ∙ mul-add-mod_self_right (size / den * num) den (size % den * num))
 
 -- what is rounded away makes it smaller
 pub rounded_is_smaller : (size num den : ℕ) → num ≤ den → 0 < den → size * num % den ≢ 0 → size * num / den < size
@@ -72,8 +73,10 @@ pub share_down : (n num den : ℕ) → 0 < den → share_of (negsuc n) (num, den
 share_down n num den some = ap (λ z. int_div_euclid z (pos den)) (negsuc-*ℤ-pos n num) ∙ below (suc n * num) den some
 
 -- the share of a sample below zero, by the quotient of its size
-pub share_below : (v r : ℤ) (size num den q : ℕ) (exact : Bool) → le_z (pos 0) v ≡ false → size ≡ nat_abs v → q ≡ size * num / den
-    → exact ≡ (size * num % den == 0) → r ≡ (if exact then neg_ℤ (pos q) else negsuc q) → 0 < den → r ≡ share_of v (num, den)
+pub share_below : (v r : ℤ) (size num den q : ℕ) (exact : Bool) → le_z (pos 0) v ≡ false → size ≡ nat_abs v
+    → q ≡ size * num / den
+    → exact ≡ (size * num % den == 0) → r ≡ (if exact then neg_ℤ (pos q) else negsuc q) → 0 < den
+    → r ≡ share_of v (num, den)
 share_below (pos n) r size num den q exact negative abs quotient is_exact result some =
     let least : nat_le 0 n ≡ true = grind (arith, nat_tests) in
     let contrary : nat_le 0 n ≡ false = negative in cc

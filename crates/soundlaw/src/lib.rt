@@ -1,7 +1,7 @@
 //! The arithmetic of a mix. Samples of every depth meet at full scale, 48 bits; their exact sum is rounded once.
 #![tactic(auto)]
 
-ghost use Rattle.std.specs.Prelude.{false, negsuc, if◌then◌else◌, ◌≡◌, ◌*◌, ◌/◌, ◌%◌, ◌==◌, ◌^◌, ◌<◌, ◌≤◌, pos, neg_ℤ, ◌≤ℤ◌};
+ghost use Rattle.std.specs.Prelude.{false, negsuc, if◌then◌else◌, ◌≡◌, ◌*◌, ◌/◌, ◌%◌, ◌==◌, ◌*ℤ◌, ◌^◌, ◌<◌, ◌≤◌, pos, neg_ℤ, ◌≤ℤ◌};
 ghost use Rattle.sampletime.specs.TimeCode.{day};
 ghost use Rattle.sound_terms.specs.Depth.{bits_of};
 ghost use Rattle.sound_terms.specs.Mix.{full_scale, quantized, share_of};
@@ -49,8 +49,8 @@ fn negated(size: u64, is_exact: bool) -> i64
     if is_exact { -size } else { -size - 1 }
 }
 
-/// The share of a sample at full scale under a fade: `num` / `den` of it, rounded down. The fraction is at most one, and
-/// `den` at most the samples of a day. The share is no larger than full scale.
+/// The share of a sample at full scale under a fade: `num` / `den` of it, rounded down. The fraction is at most one,
+/// and `den` at most the samples of a day. The share is no larger than full scale.
 pub fn contribution(v: i64, num: u64, den: u64) -> i64
     requires low { neg_ℤ (pos (2 ^ 47)) ≤ℤ v }
     requires high { v ≤ℤ pos (2 ^ 47) }
@@ -68,6 +68,33 @@ pub fn contribution(v: i64, num: u64, den: u64) -> i64
     }
 }
 
+/// The same share, whatever the guess, and soon where the guess is right: no division is needed then.
+pub fn contribution_near(v: i64, num: u64, den: u64, guess: i64) -> i64
+    requires low { neg_ℤ (pos (2 ^ 47)) ≤ℤ v }
+    requires high { v ≤ℤ pos (2 ^ 47) }
+    requires fraction { num ≤ den }
+    requires some { 0 < den }
+    requires in_day { den ≤ day }
+    ensures share { result ≡ share_of v (num, den) }
+    ensures within { (neg_ℤ (pos (2 ^ 47)) ≤ℤ result) × (result ≤ℤ pos (2 ^ 47)) }
+{
+    let rest = product(v, num as u32) - product(guess, den as u32);
+    if 0 <= rest && rest < i128::from(den as u32) {
+        guess
+    } else {
+        contribution(v, num, den)
+    }
+}
+
+/// A product that is exact.
+#[inline(always)]
+fn product(value: i64, factor: u32) -> i128
+    ensures is { result ≡ value *ℤ pos factor }
+    ensures within { (neg_ℤ (pos (2 ^ 95)) ≤ℤ result) × (result ≤ℤ pos (2 ^ 95)) }
+{
+    i128::from(value) * i128::from(factor)
+}
+
 /// A sum of samples at full scale, from -2^62 to 2^62, as a sample of this depth: rounded to the nearest, halves up,
 /// and clipped to the depth's range.
 pub fn finish(sum: i64, depth: Depth) -> i32
@@ -77,10 +104,39 @@ pub fn finish(sum: i64, depth: Depth) -> i32
     ensures fit { FitsDepth (bits_of depth) result }
     ensures crossfade { IsCrossfadeExact depth }
 {
-    // Half a step is added, since the shift rounds down.
     match depth {
-        Depth::Sixteen => ((sum + (1 << 31)) >> 32).clamp(-(1 << 15), (1 << 15) - 1) as i32,
-        Depth::TwentyFour => ((sum + (1 << 23)) >> 24).clamp(-(1 << 23), (1 << 23) - 1) as i32,
-        Depth::ThirtyTwo => ((sum + (1 << 15)) >> 16).clamp(-(1 << 31), (1 << 31) - 1) as i32,
+        Depth::Sixteen => to_sixteen(sum),
+        Depth::TwentyFour => to_twenty_four(sum),
+        Depth::ThirtyTwo => to_thirty_two(sum),
     }
+}
+
+// Half a step is added to what is clipped, since the shift rounds down, and full scale, since shifts of what isn't
+// below zero are the quick ones.
+
+/// Any sum as a sample of 16 bits.
+#[inline(always)]
+fn to_sixteen(sum: i64) -> i32
+    ensures { result ≡ quantized 16 sum }
+{
+    let clipped = sum.clamp(-(1 << 47), (1 << 47) - (1 << 31) - 1);
+    (((clipped + ((1 << 47) + (1 << 31))) as u64 >> 32) as i64 - (1 << 15)) as i32
+}
+
+/// Any sum as a sample of 24 bits.
+#[inline(always)]
+fn to_twenty_four(sum: i64) -> i32
+    ensures { result ≡ quantized 24 sum }
+{
+    let clipped = sum.clamp(-(1 << 47), (1 << 47) - (1 << 23) - 1);
+    (((clipped + ((1 << 47) + (1 << 23))) as u64 >> 24) as i64 - (1 << 23)) as i32
+}
+
+/// Any sum as a sample of 32 bits.
+#[inline(always)]
+fn to_thirty_two(sum: i64) -> i32
+    ensures { result ≡ quantized 32 sum }
+{
+    let clipped = sum.clamp(-(1 << 47), (1 << 47) - (1 << 15) - 1);
+    (((clipped + ((1 << 47) + (1 << 15))) as u64 >> 16) as i64 - (1 << 31)) as i32
 }

@@ -15,26 +15,32 @@ use Rattle.list_terms.specs.Binding.{OpenedFile, file_named}
 use Rattle.sourceindex.specs.Files.{ArePlaced, opened_of}
 use Rattle.sourceindex.proofs.Places.{earlier_place, position-push}
 
-pub opened_of-push : (paths : List (List ℕ)) (sounds : List SoundFacts) (path : List ℕ) (facts : SoundFacts) → length paths ≡ length sounds
-    → opened_of (paths ++ path ∷ []) (sounds ++ facts ∷ []) ≡ opened_of paths sounds ++ record { path = path; facts = facts } ∷ []
+pub opened_of-push : (paths : List (List ℕ)) (sounds : List SoundFacts) (path : List ℕ) (facts : SoundFacts)
+    → length paths ≡ length sounds
+    → opened_of (paths ++ path ∷ []) (sounds ++ facts ∷ [])
+    ≡ opened_of paths sounds ++ record { path = path; facts = facts } ∷ []
 opened_of-push [] [] path facts together = refl
 opened_of-push [] (s ∷ sounds) path facts together = absurd (omega (arith, together))
 opened_of-push (p ∷ paths) [] path facts together = absurd (omega (arith, together))
 opened_of-push (p ∷ paths) (s ∷ sounds) path facts together =
-    ap (λ files. record { path = p; facts = s } ∷ files) (opened_of-push paths sounds path facts (omega (arith, together)))
+    ap (λ files. record { path = p; facts = s } ∷ files)
+    (opened_of-push paths sounds path facts (omega (arith, together)))
 
-pub sounds_opened : (paths : List (List ℕ)) (sounds : List SoundFacts) → map (λ (file : OpenedFile). file.facts) (opened_of paths sounds) ≡ sounds
+pub sounds_opened : (paths : List (List ℕ)) (sounds : List SoundFacts)
+    → map (λ (file : OpenedFile). file.facts) (opened_of paths sounds) ≡ sounds
 sounds_opened paths [] = refl
 sounds_opened [] (s ∷ sounds) = ap (λ rest. s ∷ rest) (sounds_opened [] sounds)
 sounds_opened (p ∷ paths) (s ∷ sounds) = ap (λ rest. s ∷ rest) (sounds_opened paths sounds)
 
-pub length-opened_of : (paths : List (List ℕ)) (sounds : List SoundFacts) → length (opened_of paths sounds) ≡ length sounds
+pub length-opened_of : (paths : List (List ℕ)) (sounds : List SoundFacts)
+    → length (opened_of paths sounds) ≡ length sounds
 length-opened_of paths [] = refl
 length-opened_of [] (s ∷ sounds) = ap suc (length-opened_of [] sounds)
 length-opened_of (p ∷ paths) (s ∷ sounds) = ap suc (length-opened_of paths sounds)
 
 -- the parts of the file at a place
-pub opened_at : (paths : List (List ℕ)) (sounds : List SoundFacts) (place : ℕ) (file : OpenedFile) → length paths ≡ length sounds
+pub opened_at : (paths : List (List ℕ)) (sounds : List SoundFacts) (place : ℕ) (file : OpenedFile)
+    → length paths ≡ length sounds
     → slice_get (opened_of paths sounds) place ≡ Some file
     → (slice_get paths place ≡ Some file.path) × (slice_get sounds place ≡ Some file.facts)
 opened_at [] [] place file together there = cc
@@ -43,18 +49,21 @@ opened_at (p ∷ paths) [] place file together there = absurd (omega (arith, tog
 opened_at (p ∷ paths) (s ∷ sounds) zero file together there =
     let same : record { path = p; facts = s } ≡ file = cc in
     (ap (λ (f : OpenedFile). Some f.path) same, ap (λ (f : OpenedFile). Some f.facts) same)
-opened_at (p ∷ paths) (s ∷ sounds) (suc place) file together there = opened_at paths sounds place file (omega (arith, together)) there
+opened_at (p ∷ paths) (s ∷ sounds) (suc place) file together there =
+    opened_at paths sounds place file (omega (arith, together)) there
 
 -- the name of the file at a place, by the facts of the files
 pub named_at : (files : List OpenedFile) (place : ℕ) (name : List ℕ) (facts : SoundFacts)
     → ((file : OpenedFile) → slice_get files place ≡ Some file → name ≡ file.facts.name)
     → slice_get (map (λ (file : OpenedFile). file.facts) files) place ≡ Some facts → name ≡ facts.name
 named_at [] place name facts is there = cc
-named_at (f ∷ files) zero name facts is there = let same : f.facts ≡ facts = cc in is f refl ∙ ap (λ (s : SoundFacts). s.name) same
+named_at (f ∷ files) zero name facts is there = let same : f.facts ≡ facts = cc in
+    is f refl ∙ ap (λ (s : SoundFacts). s.name) same
 named_at (f ∷ files) (suc place) name facts is there = named_at files place name facts is there
 
 -- one more file, whose name is new
-pub placed_push : (old new : BTreeMap (String Global) ℕ) (paths : List (List ℕ)) (sounds : List SoundFacts) (path : List ℕ) (facts : SoundFacts) (name : List ℕ)
+pub placed_push : (old new : BTreeMap (String Global) ℕ) (paths : List (List ℕ)) (sounds : List SoundFacts)
+    (path : List ℕ) (facts : SoundFacts) (name : List ℕ)
     → ArePlaced paths sounds old → name ≡ facts.name → file_named facts.name (opened_of paths sounds) ≡ None
     → tree.UpdatesBy string_cmp (λ k. slice_cmp nat_cmp name (string_bytes k)) old new (Some (length sounds))
     → ArePlaced (paths ++ path ∷ []) (sounds ++ facts ∷ []) new
@@ -69,13 +78,19 @@ placed_push old new paths sounds path facts name are same missing updates =
           let many = length-opened_of paths sounds in
           btree_map_updates_text name old new (Some last) updates sought
           ∙ by_name sought (bytes_eq name sought) refl
-          ∙ sym (ap (file_named sought) pushed ∙ position-push (λ (f : OpenedFile). bytes_eq f.facts.name sought) file files
+          ∙ sym (ap (file_named sought) pushed ∙ position-push (λ (f : OpenedFile).
+          bytes_eq f.facts.name sought) file files
           ∙ rw (many, ← same) refl);
     } where
-      by_name : (sought : List ℕ) (is : Bool) → bytes_eq name sought ≡ is → cond (bytes_eq name sought) (Some (length sounds)) (get_by_text old sought)
-          ≡ option_or (file_named sought (opened_of paths sounds)) (cond (bytes_eq name sought) (Some (length sounds)) None)
+      by_name : (sought : List ℕ) (is : Bool) → bytes_eq name sought ≡ is
+          → cond (bytes_eq name sought) (Some (length sounds)) (get_by_text old sought)
+          ≡ option_or (file_named sought (opened_of paths sounds))
+          (cond (bytes_eq name sought) (Some (length sounds)) None)
       by_name sought true e =
           let here : sought ≡ facts.name = sym ((bytes_eq-Decides name sought).0 e) ∙ same in
-          let none : file_named sought (opened_of paths sounds) ≡ None = ap (λ n. file_named n (opened_of paths sounds)) here ∙ missing in
+          let none : file_named sought (opened_of paths sounds) ≡ None =
+          ap (λ n. file_named n (opened_of paths sounds)) here ∙ missing in
           rw (e, none) refl
-      by_name sought false e = rw (e, are.placed sought) (earlier_place (file_named sought (opened_of paths sounds)) false (length sounds) (λ same. cc))
+      by_name sought false e =
+          rw (e, are.placed sought) (earlier_place (file_named sought (opened_of paths sounds)) false (length sounds)
+          (λ same. cc))

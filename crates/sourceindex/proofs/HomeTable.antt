@@ -14,36 +14,46 @@ other_file : (before : List BoundIndex) (index : BoundIndex) (file : ℕ) → na
 other_file before index file other = home_from-push 0 before index file ∙ rw other refl
 
 own_file : (before : List BoundIndex) (index : BoundIndex) (file : ℕ) → nat_eq index.file file ≡ true
-    → home_from 0 (before ++ index ∷ []) file ≡ Some (least_so_far (home_from 0 before file) (home_at (length before) index))
+    → home_from 0 (before ++ index ∷ []) file
+    ≡ Some (least_so_far (home_from 0 before file) (home_at (length before) index))
 own_file before index file own = home_from-push 0 before index file ∙ rw (own, zero-add (length before)) refl
 
 -- one more index
-pub least_put : (homes : List (Option Home)) (before : List BoundIndex) (index : BoundIndex) → AreLeast homes before → index.file < length homes
-    → AreLeast (set homes index.file (Some (least_so_far (get_or homes index.file None) (home_at (length before) index)))) (before ++ index ∷ [])
-least_put homes before index are inside = λ file below. by_file file (omega (arith, below, length-set homes index.file new)) (nat_eq index.file file) refl where
-  new : Option Home
-  new = Some (least_so_far (get_or homes index.file None) (home_at (length before) index))
+pub least_put : (homes : List (Option Home)) (before : List BoundIndex) (index : BoundIndex) → AreLeast homes before
+    → index.file < length homes
+    → AreLeast (set homes index.file (Some (least_so_far (get_or homes index.file None)
+    (home_at (length before) index)))) (before ++ index ∷ [])
+least_put homes before index are inside =
+    λ file below. by_file file (omega (arith, below, length-set homes index.file new)) (nat_eq index.file file)
+    refl where
+      new : Option Home
+      new = Some (least_so_far (get_or homes index.file None) (home_at (length before) index))
 
-  by_file : (file : ℕ) → file < length homes → (b : Bool) → nat_eq index.file file ≡ b
-      → get_or (set homes index.file (Some (least_so_far (get_or homes index.file None) (home_at (length before) index)))) file None ≡ home_from 0 (before ++ index ∷ []) file
-  by_file file below true e =
-      let same : index.file ≡ file = eqb-true index.file file e in
-      ap (λ n. get_or (set homes index.file (Some (least_so_far (get_or homes index.file None) (home_at (length before) index)))) n None) (sym same)
-      ∙ get_or-set_same homes index.file (Some (least_so_far (get_or homes index.file None) (home_at (length before) index))) None inside
-      ∙ ap (λ h. Some (least_so_far h (home_at (length before) index))) (are index.file inside)
-      ∙ ap (λ n. Some (least_so_far (home_from 0 before n) (home_at (length before) index))) same
-      ∙ sym (own_file before index file e)
-  by_file file below false e =
-      get_or-set_other homes index.file file _ None (grind (arith, nat_tests, e))
-      ∙ are file below ∙ sym (other_file before index file e)
+      by_file : (file : ℕ) → file < length homes → (b : Bool) → nat_eq index.file file ≡ b
+          → get_or (set homes index.file (Some (least_so_far (get_or homes index.file None)
+          (home_at (length before) index)))) file None ≡ home_from 0 (before ++ index ∷ []) file
+      by_file file below true e =
+          let same : index.file ≡ file = eqb-true index.file file e in
+          ap (λ n. get_or (set homes index.file (Some
+          (least_so_far (get_or homes index.file None) (home_at (length before) index)))) n None) (sym same)
+          ∙ get_or-set_same homes index.file (Some
+          (least_so_far (get_or homes index.file None) (home_at (length before) index))) None inside
+          ∙ ap (λ h. Some (least_so_far h (home_at (length before) index))) (are index.file inside)
+          ∙ ap (λ n. Some (least_so_far (home_from 0 before n) (home_at (length before) index))) same
+          ∙ sym (own_file before index file e)
+      by_file file below false e =
+          get_or-set_other homes index.file file _ None (grind (arith, nat_tests, e))
+          ∙ are file below ∙ sym (other_file before index file e)
 
-pub least_skipped : (homes : List (Option Home)) (before : List BoundIndex) (index : BoundIndex) → AreLeast homes before → length homes ≤ index.file
+pub least_skipped : (homes : List (Option Home)) (before : List BoundIndex) (index : BoundIndex) → AreLeast homes before
+    → length homes ≤ index.file
     → AreLeast homes (before ++ index ∷ [])
 least_skipped homes before index are outside = λ file below.
     are file below ∙ sym (other_file before index file (grind (arith, nat_tests, below, outside)))
 
 -- the whole table
-pub table_from : (indexes : List BoundIndex) (from : ℕ) (least : List (Option Home)) (files : List OpenedFile) → length files ≡ length least
+pub table_from : (indexes : List BoundIndex) (from : ℕ) (least : List (Option Home)) (files : List OpenedFile)
+    → length files ≡ length least
     → ((i : ℕ) → i < length least → get_or least i None ≡ home_from 0 indexes (from + i))
     → map (λ h. unwrap_or h no_home) least ≡ homes_from indexes from files
 table_from indexes from [] [] same are = refl

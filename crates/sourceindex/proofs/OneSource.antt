@@ -37,17 +37,22 @@ found_within p xs place found = by_test (ltb (position_or_len p xs) (length xs))
 -- the file that is found by its name
 pub found_file : (name : List ℕ) (files : List OpenedFile) (place : ℕ) → file_named name files ≡ Some place
     → (file : OpenedFile) × (slice_get files place ≡ Some file)
-found_file name files place found = element_at files place (found_within (λ (f : OpenedFile). bytes_eq f.facts.name name) files place found)
+found_file name files place found =
+    element_at files place (found_within (λ (f : OpenedFile). bytes_eq f.facts.name name) files place found)
 
 -- another path names the file
-pub known_refused : (binding : Binding) (source : Source) (place : Place) (file : ℕ) (opened : OpenedFile) → slice_get binding.files file ≡ Some opened
+pub known_refused : (binding : Binding) (source : Source) (place : Place) (file : ℕ) (opened : OpenedFile)
+    → slice_get binding.files file ≡ Some opened
     → bytes_eq opened.path place.path ≡ false
-    → with_known_file binding source place file (slice_get binding.files file) ≡ Err (record { number = 30; place = Index source.number; late = false })
+    → with_known_file binding source place file (slice_get binding.files file)
+    ≡ Err (record { number = 30; place = Index source.number; late = false })
 known_refused binding source place file opened there other = rw (there, other) refl
 
-pub known_added : (binding : Binding) (source : Source) (place : Place) (file : ℕ) (opened : OpenedFile) → slice_get binding.files file ≡ Some opened
+pub known_added : (binding : Binding) (source : Source) (place : Place) (file : ℕ) (opened : OpenedFile)
+    → slice_get binding.files file ≡ Some opened
     → bytes_eq opened.path place.path ≡ true
-    → with_known_file binding source place file (slice_get binding.files file) ≡ Ok (with_index binding source file opened.facts false binding.files)
+    → with_known_file binding source place file (slice_get binding.files file)
+    ≡ Ok (with_index binding source file opened.facts false binding.files)
 known_added binding source place file opened there same = rw (there, same) refl
 
 same_number : (fault : SoundFault) → sound.number_of fault ≡ number_of (media_fault fault)
@@ -60,10 +65,12 @@ same_number BadDs64 = refl
 same_number WrongRate = refl
 
 -- a file that is refused, by the number of its fault
-refused_under : (name : List ℕ) (stored : Option (List ℕ)) (fault : MediaFault) → sound_of_file name stored ≡ Err fault → sound_under name stored ≡ Err (number_of fault)
+refused_under : (name : List ℕ) (stored : Option (List ℕ)) (fault : MediaFault) → sound_of_file name stored ≡ Err fault
+    → sound_under name stored ≡ Err (number_of fault)
 refused_under name None fault refused = let same : Err (number_of fault) ≡ Err 21 = let e = refused in cc in sym same
 refused_under name (Some file) fault refused = by_sound (sound_of name file) refl where
-  by_sound : (read : Result SoundFacts SoundFault) → sound_of name file ≡ read → sound_under name (Some file) ≡ Err (number_of fault)
+  by_sound : (read : Result SoundFacts SoundFault) → sound_of name file ≡ read
+      → sound_under name (Some file) ≡ Err (number_of fault)
   by_sound (Ok facts) e = let h : as_media (Ok facts) ≡ Err fault = sym (ap as_media e) ∙ refused in cc
   by_sound (Err own) e =
       let h : Err (media_fault own) ≡ Err fault = sym (ap as_media e) ∙ refused in
@@ -71,11 +78,13 @@ refused_under name (Some file) fault refused = by_sound (sound_of name file) ref
       rw e (ap Err (same_number own ∙ ap number_of same))
 
 -- a file that is accepted
-accepted_under : (name : List ℕ) (stored : Option (List ℕ)) (facts : SoundFacts) → sound_of_file name stored ≡ Ok facts → sound_under name stored ≡ Ok facts
+accepted_under : (name : List ℕ) (stored : Option (List ℕ)) (facts : SoundFacts) → sound_of_file name stored ≡ Ok facts
+    → sound_under name stored ≡ Ok facts
 accepted_under name None facts accepted = cc
 accepted_under name (Some file) facts accepted = by_sound (sound_of name file) refl where
   by_sound : (read : Result SoundFacts SoundFault) → sound_of name file ≡ read → sound_under name (Some file) ≡ Ok facts
-  by_sound (Ok read) e = let h : Ok read ≡ Ok facts = sym (ap as_media e) ∙ accepted in let same : read ≡ facts = cc in rw e (ap Ok same)
+  by_sound (Ok read) e = let h : Ok read ≡ Ok facts = sym (ap as_media e) ∙ accepted in let same : read ≡ facts = cc in
+      rw e (ap Ok same)
   by_sound (Err own) e = let h : Err (media_fault own) ≡ Ok facts = sym (ap as_media e) ∙ accepted in cc
 
 -- the name that is told is the one that the URL has
@@ -83,9 +92,11 @@ named : (source : Source) (place : Place) → place_of_url source.url ≡ Some p
 named source place url = ap (λ p. unwrap_or (option_map (λ (x : Place). x.name) p) []) url
 
 -- the file of the source is refused
-pub new_refused : (files : Files) (binding : Binding) (source : Source) (place : Place) (fault : MediaFault) → place_of_url source.url ≡ Some place
+pub new_refused : (files : Files) (binding : Binding) (source : Source) (place : Place) (fault : MediaFault)
+    → place_of_url source.url ≡ Some place
     → MatchBool (is_excused (number_of fault)) (Unit {0}) (sound_of_file place.name (files place.name) ≡ Err fault)
-    → MatchBool (is_excused (number_of fault)) (Unit {0}) (bound_to_new files binding source place ≡ Err (refusal_of_source source (Media fault)))
+    → MatchBool (is_excused (number_of fault)) (Unit {0})
+    (bound_to_new files binding source place ≡ Err (refusal_of_source source (Media fault)))
 new_refused files binding source place fault url told = by_kind (is_excused (number_of fault)) told where
   by_kind : (b : Bool) → MatchBool b (Unit {0}) (sound_of_file place.name (files place.name) ≡ Err fault)
       → MatchBool b (Unit {0}) (bound_to_new files binding source place ≡ Err (refusal_of_source source (Media fault)))
@@ -99,13 +110,16 @@ new_refused files binding source place fault url told = by_kind (is_excused (num
 pub new_added : (files : Files) (binding : Binding) (source : Source) (place : Place) (facts : SoundFacts)
     → sound_of_file place.name (files place.name) ≡ Ok facts
     → bound_to_new files binding source place
-    ≡ Ok (with_index binding source (length binding.files) facts true (binding.files ++ record { path = place.path; facts = facts } ∷ []))
-new_added files binding source place facts opened = let under = accepted_under place.name (files place.name) facts opened in rw under refl
+    ≡ Ok (with_index binding source (length binding.files) facts true
+    (binding.files ++ record { path = place.path; facts = facts } ∷ []))
+new_added files binding source place facts opened = let under =
+    accepted_under place.name (files place.name) facts opened in rw under refl
 
 -- the index is added behind the new file
 pub pushed_new : (binding new : Binding) (files : List OpenedFile) (opened : OpenedFile) (file : ℕ) (source : Source)
     → files ≡ binding.files ++ opened ∷ [] → file ≡ length binding.files
-    → ((o : OpenedFile) → slice_get files file ≡ Some o → new ≡ with_index (record binding { files = files }) source file o.facts true files)
+    → ((o : OpenedFile) → slice_get files file ≡ Some o
+    → new ≡ with_index (record binding { files = files }) source file o.facts true files)
     → new ≡ with_index binding source (length binding.files) opened.facts true (binding.files ++ opened ∷ [])
 pushed_new binding new files opened file source pushed place added =
     added opened (rw (pushed, place) (get_last binding.files opened)) ∙ rw (pushed, place) refl

@@ -19,9 +19,9 @@ refusal_of_source source (of_source.Media fault) =
     record { number = media.number_of fault; place = IndexFile source.number (name_of_source source); late = false }
 
 -- the fault of the project at this index, whose source stands at this place
-abbrev pub numbered : ℕ → ℕ → SourceFault → BindFault
-numbered index place of_source.SameName = SameName index
-numbered index place (of_source.Media fault) = Media index place fault
+abbrev pub at_index : ℕ → ℕ → SourceFault → BindFault
+at_index index place of_source.SameName = SameName index
+at_index index place (of_source.Media fault) = Media index place fault
 
 -- the name of the file of the source at this place
 abbrev pub name_at : List Source → ℕ → List ℕ

@@ -13,6 +13,7 @@ opened_of [] (facts ∷ sounds) = record { path = []; facts = facts } ∷ opened
 opened_of (path ∷ paths) (facts ∷ sounds) = record { path = path; facts = facts } ∷ opened_of paths sounds
 
 -- there is a path for each sound, and each name has the place of the first file of that name
-pub record ArePlaced (paths : List (List ℕ)) (sounds : List SoundFacts) (places : BTreeMap (String Global) ℕ) : Type 0 where
+pub record ArePlaced (paths : List (List ℕ)) (sounds : List SoundFacts)
+    (places : BTreeMap (String Global) ℕ) : Type 0 where
   pub together : length paths ≡ length sounds
   pub placed : (name : List ℕ) → get_by_text places name ≡ file_named name (opened_of paths sounds)

@@ -82,7 +82,8 @@ impl Binder {
     /// Hands out the name of the file at this place.
     pub fn into_name(self, file: u32) -> String
         requires { file < length self.files }
-        ensures { (opened : OpenedFile) → slice_get self.files file ≡ Some opened → string_bytes result ≡ opened.facts.name }
+        ensures { (opened : OpenedFile) → slice_get self.files file ≡ Some opened
+            → string_bytes result ≡ opened.facts.name }
     {
         self.files.into_name(file)
     }
@@ -114,7 +115,8 @@ impl Binder {
     ) -> Result<(), SourceFault>
         requires place { place_of_url source.now.url ≡ Some place.now }
         requires opened { file_named place.now.name self.old.files ≡ Some file }
-        ensures added { Takes source.now result self.new (with_known_file self.old source.now place.now file (slice_get self.old.files file)) }
+        ensures added { Takes source.now result self.new
+            (with_known_file self.old source.now place.now file (slice_get self.old.files file)) }
         ensures sound { IsBinding self.old → OnOk result (IsBinding self.new) }
         ensures no_device { IfErr result (λ fault. fault ≡ SourceFault.Media MediaFault.Device → ⊥) }
     {
@@ -138,7 +140,8 @@ impl Binder {
         ensures added { IsTrue (S.honest shelf.old)
             → Takes source.now result self.new (bound_to_new (S.stored shelf.old) self.old source.now place.now) }
         ensures sound { IsBinding self.old → OnOk result (IsBinding self.new) }
-        ensures only_reads { OnlyReads S.Shelf shelf.old shelf.new result (λ fault. fault ≡ SourceFault.Media MediaFault.Device) (λ _ failed. failed (name_of_source source.now)) }
+        ensures only_reads { OnlyReads S.Shelf shelf.old shelf.new result
+            (λ fault. fault ≡ SourceFault.Media MediaFault.Device) (λ _ failed. failed (name_of_source source.now)) }
     {
         let sound = open(alloc, shelf, place.name())?;
         let path = Bytes::from_slice(alloc, place.path())?;
@@ -154,9 +157,12 @@ impl Binder {
         source: &Source,
         shelf: &mut S,
     ) -> Result<(), SourceFault>
-        ensures added { IsTrue (S.honest shelf.old) → Takes source.now result self.new (bound_source (S.stored shelf.old) self.old source.now (place_of_url source.now.url)) }
+        ensures added { IsTrue (S.honest shelf.old)
+            → Takes source.now result self.new (bound_source (S.stored shelf.old) self.old source.now
+            (place_of_url source.now.url)) }
         ensures sound { IsBinding self.old → OnOk result (IsBinding self.new) }
-        ensures only_reads { OnlyReads S.Shelf shelf.old shelf.new result (λ fault. fault ≡ SourceFault.Media MediaFault.Device) (λ _ failed. failed (name_of_source source.now)) }
+        ensures only_reads { OnlyReads S.Shelf shelf.old shelf.new result
+            (λ fault. fault ≡ SourceFault.Media MediaFault.Device) (λ _ failed. failed (name_of_source source.now)) }
     {
         let Some(place) = place_of(alloc, source.url())? else {
             return Ok(());
@@ -175,10 +181,14 @@ impl Binder {
         used: &UsedNumbers,
         shelf: &mut S,
     ) -> Result<(), SourceFault>
-        ensures taken { IsTrue (S.honest shelf.old) → Takes source.now result self.new (with_source (S.stored shelf.old) used.now.events.now self.old source.now) }
-        ensures used { IfErr result (λ fault. (fault ≡ SourceFault.Media MediaFault.Memory) ⊎ (is_used used.now.events.now source.now.number ≡ true)) }
+        ensures taken { IsTrue (S.honest shelf.old)
+            → Takes source.now result self.new (with_source (S.stored shelf.old)
+            used.now self.old source.now) }
+        ensures used { IfErr result (λ fault. (fault ≡ SourceFault.Media MediaFault.Memory)
+            ⊎ (is_used used.now source.now.number ≡ true)) }
         ensures sound { IsBinding self.old → OnOk result (IsBinding self.new) }
-        ensures only_reads { OnlyReads S.Shelf shelf.old shelf.new result (λ fault. fault ≡ SourceFault.Media MediaFault.Device) (λ _ failed. failed (name_of_source source.now)) }
+        ensures only_reads { OnlyReads S.Shelf shelf.old shelf.new result
+            (λ fault. fault ≡ SourceFault.Media MediaFault.Device) (λ _ failed. failed (name_of_source source.now)) }
     {
         let number = source.number();
         if used.contains(number) {

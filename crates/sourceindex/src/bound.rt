@@ -14,8 +14,8 @@ use std::alloc::{AllocError, Global};
 use std::marker::Model;
 use wavread::Sound;
 
-/// What the used indexes of a project are bound to: their files, each opened once, in the order in which the indexes name
-/// them; the base and the addressable frames of each index; and what their user should know of.
+/// What the used indexes of a project are bound to: their files, each opened once, in the order in which the indexes
+/// name them; the base and the addressable frames of each index; and what their user should know of.
 #[derive(Drop)]
 pub struct Bound {
     binder: Binder,
@@ -69,13 +69,15 @@ impl Bound {
     /// Hands out the name of a file, by its place among those opened.
     pub fn into_name(self, file: u32) -> String
         requires there { IsSome (slice_get (sounds_of self) file) }
-        ensures { (facts : SoundFacts) → slice_get (sounds_of self) file ≡ Some facts → string_bytes result ≡ facts.name }
+        ensures { (facts : SoundFacts) → slice_get (sounds_of self) file ≡ Some facts
+            → string_bytes result ≡ facts.name }
     {
         self.binder.into_name(file)
     }
 
-    /// 3 for an index that no entry names, 4 for one whose base isn't its file's, and at the first index of a file 5 where
-    /// its `bext` is too short, 6 where it has chunks that aren't carried, 7 where the end of its CodingHistory isn't.
+    /// 3 for an index that no entry names, 4 for one whose base isn't its file's, and at the first index of a file 5
+    /// where its `bext` is too short, 6 where it has chunks that aren't carried, 7 where the end of its CodingHistory
+    /// isn't.
     pub fn notices(&self) -> &[Notice]
         ensures { result.now ≡ self.now.notices }
     {

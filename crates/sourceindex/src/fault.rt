@@ -3,7 +3,7 @@ ghost use Rattle.std.specs.Prelude.{◌≡◌, ◌≤◌, List};
 ghost use Rattle.list_terms.specs.Project as list;
 ghost use Rattle.riff.specs.declared.fault.MediaFault.TheVariants as media;
 ghost use Rattle.sourceindex.specs.declared.fault.SourceFault.TheVariants as of_source;
-ghost use Rattle.sourceindex.specs.Fault.{numbered, refusal_of};
+ghost use Rattle.sourceindex.specs.Fault.{at_index, refusal_of};
 
 use std::alloc::AllocError;
 use thiserror::Error;
@@ -39,7 +39,7 @@ impl From<AllocError> for SourceFault {
 impl SourceFault {
     /// The fault of the project at the index of this number, which is the source at this place.
     pub fn of_index(self, index: u32, place: usize) -> BindFault
-        ensures { result ≡ numbered index place self }
+        ensures { result ≡ at_index index place self }
     {
         match self {
             SourceFault::SameName => BindFault::SameName { index },

@@ -32,8 +32,8 @@ fn least(home: Option<Home>, later: Home) -> Home
     }
 }
 
-/// The first with the least base of the indexes of each file; `None` where a file has no index. The error also stands for
-/// more indexes than 32 bits can number.
+/// The first with the least base of the indexes of each file; `None` where a file has no index. The error also stands
+/// for more indexes than 32 bits can number.
 fn least_homes(
     alloc: Global,
     indexes: &[BoundIndex],
@@ -76,7 +76,8 @@ pub fn homes_by(
     indexes: &[BoundIndex],
     files: usize,
 ) -> Result<Vec<Home>, AllocError>
-    ensures { (opened : List OpenedFile) → length opened ≡ files → IfOk result (λ homes. homes.items ≡ homes_from indexes.now 0 opened) }
+    ensures { (opened : List OpenedFile) → length opened ≡ files
+        → IfOk result (λ homes. homes.items ≡ homes_from indexes.now 0 opened) }
 {
     let least = least_homes(alloc, indexes, files)?;
     filled(alloc, least.as_slice())

@@ -16,3 +16,4 @@ pub use bound::Bound;
 pub use fault::BindFault;
 pub use riff::MediaFault;
 pub use sound_terms::{BoundIndex, Home};
+pub use used_numbers::UsedNumbers;

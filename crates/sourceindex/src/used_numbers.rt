@@ -4,6 +4,7 @@ ghost use Rattle.list_terms.specs.Binding.{is_used};
 
 use sound_terms::Event;
 use std::alloc::{AllocError, Global};
+use std::marker::Model;
 
 /// The numbers below this one have a flag: all that a list spells.
 const FLAGS: usize = 32_768;
@@ -15,7 +16,8 @@ fn cleared_flags(alloc: Global, count: usize) -> Result<Vec<bool>, AllocError>
     vec![in alloc; false; count]
 }
 
-/// The index numbers that some entry names. They are flagged, so that the entries aren't sought through for each number.
+/// The index numbers that some of these entries name. They are flagged, so that the entries aren't sought through for
+/// each number.
 #[derive(Drop)]
 pub struct UsedNumbers<'a> {
     events: &'a [Event],
@@ -23,10 +25,19 @@ pub struct UsedNumbers<'a> {
     ghost flagged: { (n : ℕ) → n < length flags.items → slice_index_or flags.items n false ≡ is_used events.now n },
 }
 
+impl<'a> Model for UsedNumbers<'a> {
+    ghost use Rattle.std.specs.Prelude.{List};
+    ghost use Rattle.sound_terms.specs.declared.Event.{Event};
+
+    ghost Value = { List Event };
+
+    ghost view = { λ used. used.events.now };
+}
+
 impl<'a> UsedNumbers<'a> {
     /// Flags the numbers that these entries name; none where there is no memory for flags.
     pub fn new(alloc: Global, events: &'a [Event]) -> Self
-        ensures { result.events.now ≡ events.now }
+        ensures { result ≡ events.now }
     {
         let mut flags = match cleared_flags(alloc, FLAGS) {
             Ok(flags) => flags,
@@ -43,7 +54,7 @@ impl<'a> UsedNumbers<'a> {
 
     /// Whether some entry names the number. One without a flag is sought among the entries.
     pub fn contains(&self, number: u32) -> bool
-        ensures { result ≡ is_used self.now.events.now number }
+        ensures { result ≡ is_used self.now number }
     {
         match self.flags.get(number as usize) {
             Some(used) => *used,

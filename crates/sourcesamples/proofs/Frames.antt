@@ -50,10 +50,12 @@ heard files facts channel frame file stored inside first last =
     let high : nat_le channel facts.channels ≡ true = grind (arith, nat_tests) in
     rw (stored, frames, low, high) refl
 
-module _ (files : Files) (facts : SoundFacts) (part : Part) (file : List ℕ) (frames : List ℤ) (stored : files facts.name ≡ Some file)
+module _ (files : Files) (facts : SoundFacts) (part : Part) (file : List ℕ) (frames : List ℤ)
+    (stored : files facts.name ≡ Some file)
     (are : AreFrames file (facts.place + part.frame * frame_length facts) facts.depth frames)
     (whole : length frames ≡ part.length * facts.channels) (lies : LiesIn facts part) where
-  place_told : (j i : ℕ) → facts.place + part.frame * frame_length facts + (i * facts.channels + (part.first - 1 + j)) * (facts.depth / 8)
+  place_told : (j i : ℕ) → facts.place + part.frame * frame_length facts + (i * facts.channels + (part.first - 1 + j)) *
+      (facts.depth / 8)
       ≡ sample_place facts (part.frame + i) (part.first + j)
   place_told j i =
       let first = lies.from_one in
@@ -69,7 +71,8 @@ module _ (files : Files) (facts : SoundFacts) (part : Part) (file : List ℕ) (f
       let k = i * facts.channels + (part.first - 1 + j) in
       let within : k < length frames = omega arith in
       heard files facts (part.first + j) (part.frame + i) file stored (omega arith) (omega arith) (omega arith)
-      ∙ sym (ap (full_scale facts.depth) (are k within ∙ ap (λ m. sample_of facts.depth (drop m file)) (place_told j i)))
+      ∙ sym (ap (full_scale facts.depth) (are k within
+      ∙ ap (λ m. sample_of facts.depth (drop m file)) (place_told j i)))
 
   pub read_zero : AreZero frames facts.channels part.first part.width part.length ↔ IsZero (sound_by files facts) part
   read_zero = (to_sound, to_frames) where
@@ -80,7 +83,8 @@ module _ (files : Files) (facts : SoundFacts) (part : Part) (file : List ℕ) (f
 
     to_frames : IsZero (sound_by files facts) part → AreZero frames facts.channels part.first part.width part.length
     to_frames silent j i wide below =
-        none_of _ (2 ^ (48 - facts.depth)) (pow_pos (48 - facts.depth)) (sym (sample_told j i wide below) ∙ silent j i wide below)
+        none_of _ (2 ^ (48 - facts.depth)) (pow_pos (48 - facts.depth))
+        (sym (sample_told j i wide below) ∙ silent j i wide below)
 
 -- these channels of one of the frames
 abbrev pub channels_of : List ℤ → (channels first width i : ℕ) → List ℤ
@@ -91,7 +95,8 @@ module _ (frames : List ℤ) (channels first width i : ℕ) where
   there : (j : ℕ) → j < width → get_or (channels_of frames channels first width i) j (pos 0)
       ≡ get_or frames (i * channels + (first - 1 + j)) (pos 0)
   there j less =
-      get_or-take (i * channels + (first - 1) + width - (i * channels + (first - 1))) (drop (i * channels + (first - 1)) frames) j (pos 0)
+      get_or-take (i * channels + (first - 1) + width - (i * channels + (first - 1)))
+      (drop (i * channels + (first - 1)) frames) j (pos 0)
       (omega arith)
       ∙ get_or-drop (i * channels + (first - 1)) frames j (pos 0) ∙ ap (λ k. get_or frames k (pos 0)) (omega arith)
 
@@ -106,7 +111,8 @@ module _ (frames : List ℤ) (channels first width i : ℕ) where
 
     to_each : All (λ z. z ≡ pos 0) (channels_of frames channels first width i)
         → (j : ℕ) → j < width → get_or frames (i * channels + (first - 1 + j)) (pos 0) ≡ pos 0
-    to_each all j less = sym (there j less) ∙ all j (pos 0) (omega (arith, inside, length-take {A = ℤ}, length-drop {A = ℤ}))
+    to_each all j less =
+        sym (there j less) ∙ all j (pos 0) (omega (arith, inside, length-take {A = ℤ}, length-drop {A = ℤ}))
 
     to_all : ((j : ℕ) → j < width → get_or frames (i * channels + (first - 1 + j)) (pos 0) ≡ pos 0)
         → All (λ z. z ≡ pos 0) (channels_of frames channels first width i)

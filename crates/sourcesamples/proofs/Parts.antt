@@ -53,20 +53,22 @@ outside files facts channel frame there = by_file (files facts.name) refl where
 module _ (files : Files) (facts : SoundFacts) (part inside : Part) where
   pub clipped : inside.first ≡ min part.first (facts.channels + 1)
       → inside.width ≡ min (part.first + part.width) (facts.channels + 1) - inside.first
-      → inside.frame ≡ min part.frame facts.frames → inside.length ≡ min (part.frame + part.length) facts.frames - inside.frame
+      → inside.frame ≡ min part.frame facts.frames
+      → inside.length ≡ min (part.frame + part.length) facts.frames - inside.frame
       → IsZero (sound_by files facts) inside ↔ IsZero (sound_by files facts) part
   clipped first width frame length = (whole, less) where
     whole : IsZero (sound_by files facts) inside → IsZero (sound_by files facts) part
-    whole silent j i wide below = by_place (cases_lt facts.channels (part.first + j)) (cases_lt (part.frame + i) facts.frames) where
-      by_place : (facts.channels < part.first + j) ⊎ (part.first + j ≤ facts.channels)
-          → (part.frame + i < facts.frames) ⊎ (facts.frames ≤ part.frame + i)
-          → sound_by files facts (part.first + j) (part.frame + i) ≡ pos 0
-      by_place (inl high) there = outside files facts (part.first + j) (part.frame + i) (inl high)
-      by_place (inr low) (inr behind) = outside files facts (part.first + j) (part.frame + i) (inr behind)
-      by_place (inr low) (inl before) =
-          let from : inside.first ≡ part.first = omega arith in
-          let at : inside.frame ≡ part.frame = omega arith in
-          rw (← from, ← at) (silent j i (omega arith) (omega arith))
+    whole silent j i wide below =
+        by_place (cases_lt facts.channels (part.first + j)) (cases_lt (part.frame + i) facts.frames) where
+          by_place : (facts.channels < part.first + j) ⊎ (part.first + j ≤ facts.channels)
+              → (part.frame + i < facts.frames) ⊎ (facts.frames ≤ part.frame + i)
+              → sound_by files facts (part.first + j) (part.frame + i) ≡ pos 0
+          by_place (inl high) there = outside files facts (part.first + j) (part.frame + i) (inl high)
+          by_place (inr low) (inr behind) = outside files facts (part.first + j) (part.frame + i) (inr behind)
+          by_place (inr low) (inl before) =
+              let from : inside.first ≡ part.first = omega arith in
+              let at : inside.frame ≡ part.frame = omega arith in
+              rw (← from, ← at) (silent j i (omega arith) (omega arith))
 
     less : IsZero (sound_by files facts) part → IsZero (sound_by files facts) inside
     less silent j i wide below =

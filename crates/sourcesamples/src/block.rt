@@ -32,7 +32,8 @@ fn is_silent<S: Shelf>(
     requires piece { IsPiece piece.now }
     requires some_samples { 64 ≤ length samples.old }
     requires room { length samples.old * 4 ≤ length bytes.old }
-    ensures answer { IsTrue (S.honest shelf.old) → IfOk result (λ silent. silent ≡ is_silent_in (reading_by (S.stored shelf.old) sounds.now) piece.now) }
+    ensures answer { IsTrue (S.honest shelf.old)
+        → IfOk result (λ silent. silent ≡ is_silent_in (reading_by (S.stored shelf.old) sounds.now) piece.now) }
     ensures only_reads { OnlyReads S.Shelf shelf.old shelf.new result IsDevice (FailsAt sounds.now) }
 {
     let Some(sound) = sounds.get(piece.file as usize) else {
@@ -80,7 +81,8 @@ impl Block {
         shelf: &mut S,
     ) -> Result<bool, PassFault>
         requires { IsPiece piece.now }
-        ensures answer { IsTrue (S.honest shelf.old) → IfOk result (λ silent. silent ≡ is_silent_in (reading_by (S.stored shelf.old) sounds.now) piece.now) }
+        ensures answer { IsTrue (S.honest shelf.old)
+            → IfOk result (λ silent. silent ≡ is_silent_in (reading_by (S.stored shelf.old) sounds.now) piece.now) }
         ensures only_reads { OnlyReads S.Shelf shelf.old shelf.new result IsDevice (FailsAt sounds.now) }
     {
         let bytes = self.bytes.as_mut_slice();

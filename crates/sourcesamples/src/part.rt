@@ -34,7 +34,8 @@ impl Part {
     pub fn inside(piece: &Piece, sound: &Sound) -> Part
         requires { IsPiece piece.now }
         ensures lies { LiesIn sound.now result }
-        ensures rest { (files : Files) → IsZero (sound_by files sound.now) result ↔ IsZero (sound_by files sound.now) (part_of piece.now) }
+        ensures rest { (files : Files) → IsZero (sound_by files sound.now) result
+            ↔ IsZero (sound_by files sound.now) (part_of piece.now) }
     {
         let behind_channels = sound.channels() + 1;
         let first = piece.first.min(behind_channels);

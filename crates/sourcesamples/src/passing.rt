@@ -14,20 +14,24 @@ use shelf::Shelf;
 use std::alloc::Global;
 use wavread::Sound;
 
-/// What is left of the pieces where each fade is a piece of its own, groups of silent pieces are left out, cuts are joined,
-/// and pieces that continue one another are groups again. A piece plays the sound of its file's place among `sounds`; each
-/// piece is asked for silence once, in blocks, up to the first sample that sounds. `Device` where a read fails.
+/// What is left of the pieces where each fade is a piece of its own, groups of silent pieces are left out, cuts are
+/// joined, and pieces that continue one another are groups again. A piece plays the sound of its file's place among
+/// `sounds`; each piece is asked for silence once, in blocks, up to the first sample that sounds. `Device` where a read
+/// fails.
 pub fn standard<S: Shelf>(
     alloc: Global,
     intervals: Intervals,
     sounds: &[Sound],
     shelf: &mut S,
 ) -> Result<Intervals, PassFault>
-    ensures gives { IsTrue (S.honest shelf.old) → IfOk result (λ new. new ≡ standard_groups (reading_by (S.stored shelf.old) sounds.now) intervals) }
+    ensures gives { IsTrue (S.honest shelf.old)
+        → IfOk result (λ new. new ≡ standard_groups (reading_by (S.stored shelf.old) sounds.now) intervals) }
     ensures keeps_mix { IsTrue (S.honest shelf.old) → (channel time : ℕ) → IfOk result (λ new.
-        mix_of (reading_by (S.stored shelf.old) sounds.now) new channel time ≡ mix_of (reading_by (S.stored shelf.old) sounds.now) intervals channel time) }
+        mix_of (reading_by (S.stored shelf.old) sounds.now) new channel time
+        ≡ mix_of (reading_by (S.stored shelf.old) sounds.now) intervals channel time) }
     ensures keeps_whole { IfOk result (λ new. IsTrue (are_whole intervals) → IsTrue (are_whole new)) }
-    ensures reads_no_more { (file channel frame : ℕ) → IfOk result (λ new. IsTrue (reads new file channel frame) → IsTrue (reads intervals file channel frame)) }
+    ensures reads_no_more { (file channel frame : ℕ)
+        → IfOk result (λ new. IsTrue (reads new file channel frame) → IsTrue (reads intervals file channel frame)) }
     ensures only_reads { OnlyReads S.Shelf shelf.old shelf.new result IsDevice (FailsAt sounds.now) }
 {
     let split = split_fades(intervals)?;

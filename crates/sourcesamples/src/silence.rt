@@ -25,7 +25,8 @@ fn push_silences<S: Shelf>(
 ) -> Result<(), PassFault>
     requires { All IsPiece pieces.now }
     ensures answers { IsTrue (S.honest shelf.old)
-        → OnOk result (silent.new.items ≡ silent.old.items ++ silences_of (reading_by (S.stored shelf.old) sounds.now) pieces.now) }
+        → OnOk result (silent.new.items
+        ≡ silent.old.items ++ silences_of (reading_by (S.stored shelf.old) sounds.now) pieces.now) }
     ensures only_reads { OnlyReads S.Shelf shelf.old shelf.new result IsDevice (FailsAt sounds.now) }
 {
     for piece in pieces {
@@ -37,8 +38,8 @@ fn push_silences<S: Shelf>(
     Ok(())
 }
 
-/// For each piece of the groups, in order, whether all samples that it plays are zero, on all its channels. Each piece is
-/// asked for once.
+/// For each piece of the groups, in order, whether all samples that it plays are zero, on all its channels. Each piece
+/// is asked for once.
 pub fn silent_of<S: Shelf>(
     alloc: Global,
     intervals: &Intervals,

@@ -13,7 +13,8 @@ fn are_zero(frames: &[i32], channels: usize, first: usize, width: usize) -> bool
     requires some { 1 ≤ channels }
     requires first { 1 ≤ first }
     requires last { first + width ≤ channels + 1 }
-    ensures { (count : ℕ) → length frames.now ≡ count * channels → IsTrue result ↔ AreZero frames.now channels first width count }
+    ensures { (count : ℕ) → length frames.now ≡ count * channels → IsTrue result
+        ↔ AreZero frames.now channels first width count }
 {
     for i in 0..frames.len() / channels {
         let at = i * channels + (first - 1);
@@ -38,7 +39,8 @@ fn is_block_zero<S: Shelf>(
     ensures answer { IsTrue (S.honest shelf.old)
         → IfOk result (λ zero. IsTrue zero ↔ IsZero (sound_by (S.stored shelf.old) sound.now) part.now) }
     ensures not_missing { IsErrOf result ShelfFault.NotFound → ⊥ }
-    ensures only_reads { OnlyReads S.Shelf shelf.old shelf.new result (λ fault. fault ≡ ShelfFault.Device) (λ _ failed. failed sound.now.name) }
+    ensures only_reads { OnlyReads S.Shelf shelf.old shelf.new result (λ fault. fault ≡ ShelfFault.Device)
+        (λ _ failed. failed sound.now.name) }
 {
     let channels = usize::from(sound.channels());
     let count = part.length as usize;
@@ -52,8 +54,8 @@ fn is_block_zero<S: Shelf>(
     ))
 }
 
-/// Whether a part of a file is zero. Each frame is read once, for all its channels, and no block is read behind the first one
-/// that sounds.
+/// Whether a part of a file is zero. Each frame is read once, for all its channels, and no block is read behind the
+/// first one that sounds.
 pub fn is_zero<S: Shelf>(
     part: &Part,
     sound: &Sound,
@@ -67,7 +69,8 @@ pub fn is_zero<S: Shelf>(
     ensures answer { IsTrue (S.honest shelf.old)
         → IfOk result (λ zero. IsTrue zero ↔ IsZero (sound_by (S.stored shelf.old) sound.now) part.now) }
     ensures not_missing { IsErrOf result ShelfFault.NotFound → ⊥ }
-    ensures only_reads { OnlyReads S.Shelf shelf.old shelf.new result (λ fault. fault ≡ ShelfFault.Device) (λ _ failed. failed sound.now.name) }
+    ensures only_reads { OnlyReads S.Shelf shelf.old shelf.new result (λ fault. fault ≡ ShelfFault.Device)
+        (λ _ failed. failed sound.now.name) }
 {
     let most = samples.len() as u64 / u64::from(sound.channels());
     let mut done = 0;

@@ -135,8 +135,8 @@ fn a_file_at_fault_is_told(rt: HostRuntime) -> Result<(), Fail> {
     Ok(())
 }
 
-/// The fault of entry 7 over a file of four samples from one hour on. It begins with `front`, its index and channels, and
-/// plays the file from `start` on, at sample 10 behind one hour and up to sample `end`; its own lines may follow.
+/// The fault of entry 7 over a file of four samples from one hour on. It begins with `front`, its index and channels,
+/// and plays the file from `start` on, at sample 10 behind one hour and up to sample `end`; its own lines may follow.
 fn refused_entry(
     alloc: Global,
     front: &str,
@@ -183,7 +183,7 @@ fn fades_may_be_as_long_as_their_entry(rt: HostRuntime) -> Result<(), Fail> {
     Ok(())
 }
 
-// Tried with each allocation failing in turn, where no answer but the whole one or a want of memory may come.
+// Tried with each allocation failing in turn, where no answer but the whole one or out of memory may come.
 #[test]
 fn a_list_is_checked_whole_or_not_at_all(rt: HostRuntime) -> Result<(), Fail> {
     let alloc = rt.alloc();
@@ -250,7 +250,8 @@ fn frames_near_one_another_are_one_run(rt: HostRuntime) -> Result<(), Fail> {
     Ok(())
 }
 
-/// A list of two indexes of one file, with entries of 200 samples: one plays the frames 100 to 299, the other 200 to 399.
+/// A list of two indexes of one file, with entries of 200 samples: one plays the frames 100 to 299, the other 200 to
+/// 399.
 fn overlapping(alloc: Global) -> Result<String, Fail> {
     let second = "(Index) 0002 (F) \"URL:file://localhost/A.wav\" _ 01.00.00.00/0000 _\n";
     let sources = format!(in alloc; "{SOURCE}{second}")?;

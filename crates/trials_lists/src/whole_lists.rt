@@ -28,7 +28,7 @@ const END: &str = "</EVENT_LIST>
 ";
 
 /// The sample list with these lines as its sources and entries, each with its end.
-pub fn list(alloc: Global, sources: &str, entries: &str) -> Result<String, AllocError> {
+pub(crate) fn list(alloc: Global, sources: &str, entries: &str) -> Result<String, AllocError> {
     format!(in alloc; "{HEAD}{sources}{MIDDLE}{entries}{END}")
 }
 

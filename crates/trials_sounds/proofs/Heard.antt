@@ -24,7 +24,8 @@ whole_fits channels one = record {
   source_in_day = omega arith;
 }
 
-pub added_twice : (channels : ℕ) (first second : Shape) (depth : Depth) → channels ≡ 1 → IsRamp first 4 → IsRamp second 4
+pub added_twice : (channels : ℕ) (first second : Shape) (depth : Depth) → channels ≡ 1 → IsRamp first 4
+    → IsRamp second 4
     → IsBlockProgram 4 channels depth (Start 4 ∷ Add whole first ∷ Add whole second ∷ Emit depth ∷ [])
 added_twice channels first second depth one ramp other =
     let fits = whole_fits channels one in
@@ -33,5 +34,6 @@ added_twice channels first second depth one ramp other =
       lines = Add whole first ∷ Add whole second ∷ [];
       whole = refl;
       formed = All-cons (IsFormed 4 channels) (Add whole first) (Add whole second ∷ []) (fits, ramp) last;
-      added = All-cons AddsOne (Add whole first) (Add whole second ∷ []) tt (All-cons AddsOne (Add whole second) [] tt (All-nil AddsOne));
+      added = All-cons AddsOne (Add whole first) (Add whole second ∷ []) tt
+          (All-cons AddsOne (Add whole second) [] tt (All-nil AddsOne));
     }

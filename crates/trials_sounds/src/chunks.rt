@@ -8,7 +8,7 @@ use std::test::Fail;
 const FORMAT: [u8; 16] = [1, 0, 1, 0, 0x80, 0xbb, 0, 0, 0, 0x77, 1, 0, 2, 0, 16, 0];
 
 /// The head of a file: its form's name, a size that isn't used, and `WAVE`.
-pub fn form(alloc: Global, name: &[u8; 4]) -> Result<Vec<u8>, AllocError> {
+pub(crate) fn form(alloc: Global, name: &[u8; 4]) -> Result<Vec<u8>, AllocError> {
     let mut file = name.to_vec(alloc)?;
     file.extend_from_slice(&[0; 4])?;
     file.extend_from_slice(b"WAVE")?;
@@ -16,7 +16,12 @@ pub fn form(alloc: Global, name: &[u8; 4]) -> Result<Vec<u8>, AllocError> {
 }
 
 /// Puts a chunk behind the others: its id, its size, and these bytes.
-pub fn chunk(file: &mut Vec<u8>, id: &[u8; 4], size: u32, bytes: &[u8]) -> Result<(), AllocError> {
+pub(crate) fn chunk(
+    file: &mut Vec<u8>,
+    id: &[u8; 4],
+    size: u32,
+    bytes: &[u8],
+) -> Result<(), AllocError> {
     file.extend_from_slice(id)?;
     file.extend_from_slice(&size.to_le_bytes())?;
     file.extend_from_slice(bytes)

@@ -63,7 +63,7 @@ fn entry() -> Result<Event, Fail>
 
 #[test]
 fn an_entry_has_an_in_fade_a_middle_and_an_out_fade(rt: HostRuntime) -> Result<(), Fail> {
-    let group = group_of(rt.alloc(), &MIDNIGHT, &entry()?).ok_or("no group")?;
+    let group = group_of(rt.alloc(), &MIDNIGHT, &entry()?)?.ok_or("no group")?;
     let shapes = [
         (0, Shape::Rise { offset: 0, den: 4 }),
         (4, Shape::Flat),
@@ -84,7 +84,7 @@ fn intervals(rt: &HostRuntime, event: &Event) -> Result<Intervals, Fail>
 {
     let alloc = rt.alloc();
     let mut groups = Vec::new(alloc);
-    if let Some(group) = group_of(alloc, &MIDNIGHT, event) {
+    if let Some(group) = group_of(alloc, &MIDNIGHT, event)? {
         groups.push(group)?;
     }
     Ok(Intervals::ordered(groups)?)

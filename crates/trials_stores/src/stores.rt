@@ -18,8 +18,10 @@ fn four_bytes<S: Shelf>(shelf: &mut S, name: &str, at: u64) -> Result<[u8; 4], S
 
 /// Puts a file on the disk.
 fn put_file<B: Bench>(bench: &mut B, name: &str, bytes: &[u8]) -> Result<(), DeviceFault>
-    ensures put { IsTrue (B.honest bench.old) → OnOk result (Changes (IsPut bytes.now) name.now (B.stored bench.old) (B.stored bench.new)) }
-    ensures durable { IsTrue (B.honest bench.old) → OnOk result (IsDurable name.now (B.stored bench.new) (B.may_leave bench.new)) }
+    ensures put { IsTrue (B.honest bench.old)
+        → OnOk result (Changes (IsPut bytes.now) name.now (B.stored bench.old) (B.stored bench.new)) }
+    ensures durable { IsTrue (B.honest bench.old)
+        → OnOk result (IsDurable name.now (B.stored bench.new) (B.may_leave bench.new)) }
 {
     bench.create(name)?;
     bench.append(name, bytes)?;

@@ -2,6 +2,7 @@
 use Rattle.std.proofs.Common.{◌≡◌, ℕ, ◌+◌, ◌-◌, ◌≤◌, Bool, true, false, nat_le, min, List, Option, None, Some, Result, Ok, Err, length, take, drop, refl, sym, ap, ◌∙◌, arith, length-take, lit≤}
 use Rattle.std.proofs.lemmas.Bool.Decides.{nat_tests}
 use Rattle.std.proofs.lemmas.List.{drop-take, take-take, take_all}
+use Rattle.facts.specs.Tests.{same_some}
 use Rattle.byteorder.specs.Endian.{little_number}
 use Rattle.byteorder.specs.Numbers.{little_from-take}
 use Rattle.sound_terms.specs.declared.SoundFault.{SoundFault}
@@ -17,7 +18,8 @@ use Rattle.riff.specs.declared.fault.MediaFault.TheVariants.{Device}
 use Rattle.riff.specs.Fault.{as_media, media_fault}
 
 -- a field among them
-front_number : (n place : ℕ) (bytes : List ℕ) → place + n ≤ 40 → number_at n place (take 40 bytes) ≡ number_at n place bytes
+front_number : (n place : ℕ) (bytes : List ℕ) → place + n ≤ 40
+    → number_at n place (take 40 bytes) ≡ number_at n place bytes
 front_number n place bytes inside =
     let split : 40 ≡ place + (40 - place) = omega arith in
     ap (little_number n) (ap (λ k. drop place (take k bytes)) split ∙ drop-take place (40 - place) bytes)
@@ -51,11 +53,9 @@ format_of-take bytes =
       by_depth (Some depth) some bits sixteen tag forty extension sub channels frame rate =
           rw (bits, some, sixteen, tag, forty, extension, sub, channels, frame, rate) refl
 
-same_some : {a b : List ℕ} → Some a ≡ Some b → a ≡ b
-same_some same = cc
-
 -- the first bytes of the chunk, forty at most
-pub format_read : (stored : Option (List ℕ)) (file : List ℕ) (span : Span) (buffer : List ℕ) → IsRange stored span.at buffer
+pub format_read : (stored : Option (List ℕ)) (file : List ℕ) (span : Span) (buffer : List ℕ)
+    → IsRange stored span.at buffer
     → stored ≡ Some file → length buffer ≡ min span.length 40 → format_of buffer ≡ format_of (bytes_of_span file span)
 format_read stored file span buffer range there count =
     let rest : List ℕ = drop span.at file in
@@ -69,7 +69,8 @@ format_read stored file span buffer range there count =
           let fits : span.length ≤ 40 = grind (arith, nat_tests) in
           let all : min span.length 40 ≡ span.length = omega arith in
           ap (λ n. take n (drop span.at file)) all
-          ∙ sym (take_all 40 (take span.length (drop span.at file)) (omega (arith, length-take span.length (drop span.at file))))
+          ∙ sym (take_all 40 (take span.length (drop span.at file))
+          (omega (arith, length-take span.length (drop span.at file))))
       by_size false large =
           let past : 40 ≤ span.length = grind (arith, nat_tests) in
           let most : min span.length 40 ≡ 40 = omega arith in
@@ -85,6 +86,7 @@ never_device sound.BadFormat same = cc
 never_device sound.BadDs64 same = cc
 never_device sound.WrongRate same = cc
 
-pub told_never_device : {X : Type 0} (read : Result X SoundFault) (fault : MediaFault) → Err fault ≡ as_media read → fault ≡ Device → ⊥
+pub told_never_device : {X : Type 0} (read : Result X SoundFault) (fault : MediaFault) → Err fault ≡ as_media read
+    → fault ≡ Device → ⊥
 told_never_device (Ok x) fault told same = cc
 told_never_device (Err e) fault told same = never_device e (let inner : fault ≡ media_fault e = cc in sym inner ∙ same)

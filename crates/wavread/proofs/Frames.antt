@@ -5,6 +5,7 @@ use Rattle.std.proofs.lemmas.Bool.Decides.{nat_tests}
 use Rattle.std.proofs.lemmas.List.{get_or_append_left, get_or-append_right, get_or-take}
 use borrow.Rule.Slice.PartMut.{post_of, put_mid}
 use Rattle.std.specs.Prelude.{ℤ, pos}
+use Rattle.facts.specs.Tests.{same_some}
 use Rattle.sound_terms.specs.declared.Depth.{Depth}
 use Rattle.sound_terms.specs.declared.Depth.TheVariants.{Sixteen, TwentyFour, ThirtyTwo}
 use Rattle.sound_terms.specs.Depth.{bits_of}
@@ -20,9 +21,6 @@ few_bytes Sixteen = omega arith
 few_bytes TwentyFour = omega arith
 few_bytes ThirtyTwo = omega arith
 
-same_some : {a b : List ℕ} → Some a ≡ Some b → a ≡ b
-same_some same = cc
-
 -- as many frames as a block holds
 pub fits_block : (count channels left : ℕ) → count ≡ min (1024 / channels) left → count * channels ≤ 1024
 fits_block count channels left most =
@@ -33,7 +31,8 @@ fits_block count channels left most =
 
 -- one stretch more behind those that were filled
 pub filled_more : (done count k : ℕ) (old new : List ℤ) (told : ℕ → ℤ) → done + count ≤ length old → length new ≡ count
-    → ((i : ℕ) → i < done → get_or old i (pos 0) ≡ told i) → ((j : ℕ) → j < count → get_or new j (pos 0) ≡ told (done + j))
+    → ((i : ℕ) → i < done → get_or old i (pos 0) ≡ told i)
+    → ((j : ℕ) → j < count → get_or new j (pos 0) ≡ told (done + j))
     → (i : ℕ) → i < done + count → get_or (put_mid done k old new) i (pos 0) ≡ told i
 filled_more done count k old new told inside whole before after i below = by_place (nat_lt i done) refl where
   by_place : (b : Bool) → nat_lt i done ≡ b → get_or (put_mid done k old new) i (pos 0) ≡ told i
@@ -63,12 +62,14 @@ length_kept done k old new inside whole =
 
 -- the samples of bytes that were read
 pub frames_told : (stored : Option (List ℕ)) (file : List ℕ) (place bits n : ℕ) (bytes : List ℕ) (samples : List ℤ)
-    → IsRange stored place bytes → stored ≡ Some file → length bytes ≡ n * (bits / 8) → samples ≡ samples_in bits n bytes
+    → IsRange stored place bytes → stored ≡ Some file → length bytes ≡ n * (bits / 8)
+    → samples ≡ samples_in bits n bytes
     → AreFrames file place bits samples
 frames_told stored file place bits n bytes samples range there count read = λ k below.
     let same : range.file ≡ file = same_some (sym range.there ∙ there) in
     let stretch : bytes ≡ take (n * (bits / 8)) (drop place file) =
-    range.same ∙ ap (λ (f : List ℕ). take (length bytes) (drop place f)) same ∙ ap (λ m. take m (drop place file)) count in
+    range.same ∙ ap (λ (f : List ℕ). take (length bytes) (drop place f)) same
+    ∙ ap (λ m. take m (drop place file)) count in
     let long : length samples ≡ n = ap length read ∙ length-samples_in bits n bytes in
     ap (λ (l : List ℤ). get_or l k (pos 0)) read
     ∙ get_or-samples_in_file bits n k place file bytes (pos 0) stretch (omega arith)
@@ -77,7 +78,8 @@ frames_told stored file place bits n bytes samples range there count read = λ k
 pub sample_told : (file : List ℕ) (place channels depth from done j channel : ℕ) (frames : List ℤ) (count : ℕ)
     → AreFrames file (place + (from + done) * (channels * (depth / 8))) depth frames → length frames ≡ count * channels
     → j < count → 1 ≤ channel → channel ≤ channels
-    → get_or frames (j * channels + (channel - 1)) (pos 0) ≡ sample_at file place channels depth (from + (done + j)) channel
+    → get_or frames (j * channels + (channel - 1)) (pos 0)
+    ≡ sample_at file place channels depth (from + (done + j)) channel
 sample_told file place channels depth from done j channel frames count are long below first last =
     let row : (j + 1) * channels ≤ count * channels = grind arith in
     let inside : j * channels + (channel - 1) < length frames = omega arith in

@@ -19,10 +19,6 @@ use Rattle.wavread.specs.Told.{TellsAll}
 use Rattle.wavread.specs.Facts.{sound_of_file, facts_told}
 
 -- what holds anyway
-pub unless : (b : Bool) (P : Type 0) → P → MatchBool b (Unit {0}) P
-unless true P holds = tt
-unless false P holds = holds
-
 -- where a step is at fault, all is
 fault_passes : {X Y : Type 0} (read : Result X SoundFault) (next : X → Result Y SoundFault) (fault : MediaFault)
     → as_media read ≡ Err fault → as_media (read >>= next) ≡ Err fault
@@ -50,13 +46,15 @@ walk_refused name stored fault told = by_kind (is_excused (number_of fault)) tol
 
 -- the format of the file is at fault
 pub format_refused : (name file : List ℕ) (chunks : Chunks) (fault : MediaFault) → as_media (walked file) ≡ Ok chunks
-    → MatchBool (is_excused (number_of fault)) (Unit {0}) (as_media (format_of (bytes_of_span file chunks.format)) ≡ Err fault)
+    → MatchBool (is_excused (number_of fault)) (Unit {0})
+    (as_media (format_of (bytes_of_span file chunks.format)) ≡ Err fault)
     → MatchBool (is_excused (number_of fault)) (Unit {0}) (as_media (sound_of name file) ≡ Err fault)
 format_refused name file chunks fault found told = by_kind (is_excused (number_of fault)) told where
   by_kind : (b : Bool) → MatchBool b (Unit {0}) (as_media (format_of (bytes_of_span file chunks.format)) ≡ Err fault)
       → MatchBool b (Unit {0}) (as_media (sound_of name file) ≡ Err fault)
   by_kind true read = tt
-  by_kind false read = ok_passes (walked file) _ chunks found ∙ fault_passes (format_of (bytes_of_span file chunks.format)) _ fault read
+  by_kind false read =
+      ok_passes (walked file) _ chunks found ∙ fault_passes (format_of (bytes_of_span file chunks.format)) _ fault read
 
 -- all of it is read
 pub sound_told : (name file : List ℕ) (chunks : Chunks) (format : Format) → as_media (walked file) ≡ Ok chunks
@@ -69,12 +67,15 @@ sound_told name file chunks format found read =
 pub format_refused_file : (name : List ℕ) (stored : Option (List ℕ)) (chunks : Chunks) (fault : MediaFault)
     → walked_file stored ≡ Ok chunks
     → ((file : List ℕ) → stored ≡ Some file
-    → MatchBool (is_excused (number_of fault)) (Unit {0}) (as_media (format_of (bytes_of_span file chunks.format)) ≡ Err fault))
+    → MatchBool (is_excused (number_of fault)) (Unit {0})
+    (as_media (format_of (bytes_of_span file chunks.format)) ≡ Err fault))
     → MatchBool (is_excused (number_of fault)) (Unit {0}) (sound_of_file name stored ≡ Err fault)
 format_refused_file name None chunks fault found told = cc
-format_refused_file name (Some file) chunks fault found told = format_refused name file chunks fault found (told file refl)
+format_refused_file name (Some file) chunks fault found told =
+    format_refused name file chunks fault found (told file refl)
 
-pub sound_told_file : (name : List ℕ) (stored : Option (List ℕ)) (chunks : Chunks) (format : Format) (facts : SoundFacts)
+pub sound_told_file : (name : List ℕ) (stored : Option (List ℕ)) (chunks : Chunks) (format : Format)
+    (facts : SoundFacts)
     → walked_file stored ≡ Ok chunks
     → ((file : List ℕ) → stored ≡ Some file → as_media (format_of (bytes_of_span file chunks.format)) ≡ Ok format)
     → ((file : List ℕ) → stored ≡ Some file → facts_with name chunks format (bext_in file chunks) ≡ facts)
@@ -87,7 +88,8 @@ sound_told_file name (Some file) chunks format facts found read same =
 pub facts_same : (name : List ℕ) (chunks : Chunks) (format : Format) (contents : List ℕ) (told : Told)
     → TellsAll chunks.bext contents told
     → facts_with name chunks format contents
-    ≡ facts_told name format.channels format.depth (chunks.sound.length / (format.channels * (bits_of format.depth / 8)))
+    ≡ facts_told name format.channels format.depth
+    (chunks.sound.length / (format.channels * (bits_of format.depth / 8)))
     chunks.sound.at told.bext told.history.items told.short told.cut chunks.others
 facts_same name chunks format contents told tells =
     let text = tells.text in

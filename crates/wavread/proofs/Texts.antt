@@ -12,7 +12,8 @@ use Rattle.wavread.specs.declared.bext_chunk.Told.{Told}
 use Rattle.wavread.specs.Told.{TellsAll}
 
 -- as many bytes as the chunk has
-length-contents : (file : List ℕ) (span : Span) → span.at + span.length ≤ length file → length (bytes_of_span file span) ≡ span.length
+length-contents : (file : List ℕ) (span : Span) → span.at + span.length ≤ length file
+    → length (bytes_of_span file span) ≡ span.length
 length-contents file span inside =
     let rest = length-drop span.at file in
     length-take span.length (drop span.at file) ∙ omega (arith, rest)
@@ -37,7 +38,10 @@ short_told file span told inside few none empty short cut =
 -- the fields of a whole chunk
 fields_told : (file : List ℕ) (span : Span) → 346 ≤ span.length → span.at + span.length ≤ length file
     → bext_of (take 346 (drop span.at file))
-    ≡ Some (record { text = take 338 (bytes_of_span file span); time_reference = number_at 8 338 (bytes_of_span file span) })
+    ≡ Some (record {
+      text = take 338 (bytes_of_span file span);
+      time_reference = number_at 8 338 (bytes_of_span file span);
+    })
 fields_told file span whole inside =
     let rest : List ℕ = drop span.at file in
     let behind = length-drop span.at file in
@@ -55,12 +59,14 @@ fields_told file span whole inside =
 
 -- a whole chunk
 pub whole_told : (file : List ℕ) (span : Span) (told : Told) → 346 ≤ span.length → span.at + span.length ≤ length file
-    → told.bext ≡ bext_of (take 346 (drop span.at file)) → told.history.items ≡ take history_limit (drop 602 (bytes_of_span file span))
+    → told.bext ≡ bext_of (take 346 (drop span.at file))
+    → told.history.items ≡ take history_limit (drop 602 (bytes_of_span file span))
     → told.short ≡ false → told.cut ≡ nat_lt (602 + history_limit) span.length
     → TellsAll (Some span) (bytes_of_span file span) told
 whole_told file span told whole inside fields history short cut =
     let long = length-contents file span inside in
-    let enough : nat_le 346 (length (bytes_of_span file span)) ≡ true = le-leb 346 (length (bytes_of_span file span)) (omega arith) in
+    let enough : nat_le 346 (length (bytes_of_span file span)) ≡ true =
+    le-leb 346 (length (bytes_of_span file span)) (omega arith) in
     let read = fields ∙ fields_told file span whole inside in
     record {
       text = rw (read, enough) refl;
@@ -80,7 +86,8 @@ no_history file span inside few =
 pub history_read : (file : List ℕ) (span : Span) (count : ℕ) (history : List ℕ) → 602 < span.length
     → (65536 < span.length - 602 → count ≡ 65536)
     → (span.length - 602 ≤ 65536 → count ≡ span.length - 602)
-    → history ≡ take count (drop (span.at + 602) file) → history ≡ take history_limit (drop 602 (bytes_of_span file span))
+    → history ≡ take count (drop (span.at + 602) file)
+    → history ≡ take history_limit (drop 602 (bytes_of_span file span))
 history_read file span count history long most all read =
     let split : span.length ≡ 602 + (span.length - 602) = omega arith in
     let behind : List ℕ = drop (span.at + 602) file in
@@ -94,7 +101,8 @@ history_read file span count history long most all read =
           let fits : span.length - 602 ≤ 65536 = grind (arith, nat_tests) in
           let behind : List ℕ = drop (span.at + 602) file in
           ap (λ n. take n behind) (all fits)
-          ∙ sym (take_all 65536 (take (span.length - 602) behind) (omega (arith, length-take (span.length - 602) behind)))
+          ∙ sym (take_all 65536 (take (span.length - 602) behind)
+          (omega (arith, length-take (span.length - 602) behind)))
       by_size false large =
           let past : 65536 < span.length - 602 = grind (arith, nat_tests) in
           ap (λ n. take n (drop (span.at + 602) file)) (most past)

@@ -11,7 +11,8 @@ contents_of file span = unwrap_or (option_map (bytes_of_span file) span) []
 
 -- this is what they tell
 pub record TellsAll (span : Option Span) (contents : List ℕ) (told : Told) : Type 0 where
-  pub text : option_map (λ b. b.text) told.bext ≡ (if nat_le 346 (length contents) then Some (take 338 contents) else None)
+  pub text : option_map (λ b. b.text) told.bext
+      ≡ (if nat_le 346 (length contents) then Some (take 338 contents) else None)
   pub time_reference : option_map (λ b. b.time_reference) told.bext
       ≡ (if nat_le 346 (length contents) then Some (number_at 8 338 contents) else None)
   pub history : told.history.items ≡ take history_limit (drop 602 contents)

@@ -36,7 +36,8 @@ fn read_fields<S: Shelf>(shelf: &mut S, name: &str, at: u64) -> Result<Option<Be
     ensures fields { IsTrue (S.honest shelf.old) → (file : List ℕ) → S.stored shelf.old name.now ≡ Some file
         → IfOk result (λ bext. bext ≡ bext_of (take 346 (drop at file))) }
     ensures not_missing { IsErrOf result ShelfFault.NotFound → ⊥ }
-    ensures only_reads { OnlyReads S.Shelf shelf.old shelf.new result (λ fault. fault ≡ ShelfFault.Device) (λ _ failed. failed name.now) }
+    ensures only_reads { OnlyReads S.Shelf shelf.old shelf.new result (λ fault. fault ≡ ShelfFault.Device)
+        (λ _ failed. failed name.now) }
 {
     let mut fields = [0u8; 346];
     shelf.read_at(name, at, &mut fields)?;
@@ -56,7 +57,8 @@ fn read_history<S: Shelf>(
         → IfOk result (λ history. history.items ≡ take count (drop at file)) }
     ensures few { IfOk result (λ history. vec_len history ≡ count) }
     ensures excused { IfErr result (λ fault. is_excused (number_of fault) ≡ true) }
-    ensures only_reads { OnlyReads S.Shelf shelf.old shelf.new result (λ fault. fault ≡ MediaFault.Device) (λ _ failed. failed name.now) }
+    ensures only_reads { OnlyReads S.Shelf shelf.old shelf.new result (λ fault. fault ≡ MediaFault.Device)
+        (λ _ failed. failed name.now) }
 {
     let mut history = Vec::new(alloc);
     history.resize(count, 0).map_err(|_| MediaFault::Memory)?;
@@ -77,7 +79,8 @@ fn read_whole<S: Shelf>(
         → IfOk result (TellsAll (Some contents) (contents_of file (Some contents))) }
     ensures few { IfOk result (λ told. vec_len told.history ≤ 65536) }
     ensures excused { IfErr result (λ fault. is_excused (number_of fault) ≡ true) }
-    ensures only_reads { OnlyReads S.Shelf shelf.old shelf.new result (λ fault. fault ≡ MediaFault.Device) (λ _ failed. failed name.now) }
+    ensures only_reads { OnlyReads S.Shelf shelf.old shelf.new result (λ fault. fault ≡ MediaFault.Device)
+        (λ _ failed. failed name.now) }
 {
     if contents.length < FIELDS_LENGTH {
         return Ok(Told {
@@ -120,7 +123,8 @@ pub fn read_told<S: Shelf>(
         → IfOk result (TellsAll contents (contents_of file contents)) }
     ensures few { IfOk result (λ told. vec_len told.history ≤ 65536) }
     ensures excused { IfErr result (λ fault. is_excused (number_of fault) ≡ true) }
-    ensures only_reads { OnlyReads S.Shelf shelf.old shelf.new result (λ fault. fault ≡ MediaFault.Device) (λ _ failed. failed name.now) }
+    ensures only_reads { OnlyReads S.Shelf shelf.old shelf.new result (λ fault. fault ≡ MediaFault.Device)
+        (λ _ failed. failed name.now) }
 {
     match contents {
         Some(contents) => read_whole(alloc, shelf, name, contents),

@@ -20,9 +20,11 @@ pub fn read_format<S: Shelf>(
     contents: Span,
 ) -> Result<Format, MediaFault>
     ensures exact { IsTrue (S.honest shelf.old) → (file : List ℕ) → S.stored shelf.old name.now ≡ Some file
-        → Gives (λ format. format) (λ fault. fault) number_of result (as_media (format_of (bytes_of_span file contents))) }
+        → Gives (λ format. format) (λ fault. fault) number_of result
+        (as_media (format_of (bytes_of_span file contents))) }
     ensures channels { IfOk result (λ format. (1 ≤ format.channels) × (format.channels ≤ 64)) }
-    ensures only_reads { OnlyReads S.Shelf shelf.old shelf.new result (λ fault. fault ≡ MediaFault.Device) (λ _ failed. failed name.now) }
+    ensures only_reads { OnlyReads S.Shelf shelf.old shelf.new result (λ fault. fault ≡ MediaFault.Device)
+        (λ _ failed. failed name.now) }
 {
     let mut buffer = [0u8; FORMAT_LENGTH];
     let length = contents.length.min(FORMAT_LENGTH as u64) as usize;

@@ -27,9 +27,11 @@ fn copy_of(alloc: Global, name: &str) -> Result<String, MediaFault>
 /// memory was left.
 pub fn open<S: Shelf>(alloc: Global, shelf: &mut S, name: &str) -> Result<Sound, MediaFault>
     ensures exact { IsTrue (S.honest shelf.old)
-        → Gives (λ sound. sound) (λ fault. fault) number_of result (sound_of_file name.now (S.stored shelf.old name.now)) }
+        → Gives (λ sound. sound) (λ fault. fault) number_of result
+        (sound_of_file name.now (S.stored shelf.old name.now)) }
     ensures named { IfOk result (λ sound. sound.name ≡ name.now) }
-    ensures only_reads { OnlyReads S.Shelf shelf.old shelf.new result (λ fault. fault ≡ MediaFault.Device) (λ _ failed. failed name.now) }
+    ensures only_reads { OnlyReads S.Shelf shelf.old shelf.new result (λ fault. fault ≡ MediaFault.Device)
+        (λ _ failed. failed name.now) }
 {
     let chunks = walk(shelf, name)?;
     let format = read_format(shelf, name, chunks.format)?;

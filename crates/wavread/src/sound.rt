@@ -45,9 +45,11 @@ impl Model for Sound {
 
     ghost Value = { SoundFacts };
 
-    ghost view = { λ s. facts_told (string_bytes s.name) s.channels s.depth s.frames s.place s.bext s.history.items s.short_bext s.history_cut s.others };
+    ghost view = { λ s. facts_told (string_bytes s.name)
+        s.channels s.depth s.frames s.place s.bext s.history.items s.short_bext s.history_cut s.others };
 
-    ghost invariant = { λ s. IsSound (facts_told (string_bytes s.name) s.channels s.depth s.frames s.place s.bext s.history.items s.short_bext s.history_cut s.others) };
+    ghost invariant = { λ s. IsSound (facts_told (string_bytes s.name)
+        s.channels s.depth s.frames s.place s.bext s.history.items s.short_bext s.history_cut s.others) };
 }
 
 impl Sound {
@@ -59,7 +61,8 @@ impl Sound {
         requires history { vec_len told.history ≤ 65536 }
         requires ends { sound.at + sound.length < 2 ^ 64 }
         ensures { result ≡ facts_told (string_bytes name) format.channels format.depth
-            (sound.length / (format.channels * (bits_of format.depth / 8))) sound.at told.bext told.history.items told.short told.cut others }
+            (sound.length / (format.channels * (bits_of format.depth / 8)))
+            sound.at told.bext told.history.items told.short told.cut others }
     {
         let frame = u64::from(format.channels) * u64::from(format.depth.bits() / 8);
         Sound {
@@ -164,11 +167,14 @@ impl Sound {
         from: u64,
         bytes: &mut [u8],
     ) -> Result<(), ShelfFault>
-        requires whole { (frames : ℕ) × (length bytes.old ≡ frames * frame_length self.now) × (from + frames ≤ self.now.frames) }
+        requires whole { (frames : ℕ) × (length bytes.old ≡ frames * frame_length self.now)
+            × (from + frames ≤ self.now.frames) }
         ensures bytes { IsTrue (S.honest shelf.old)
-            → OnOk result (IsRange (S.stored shelf.old self.now.name) (self.now.place + from * frame_length self.now) bytes.new) }
+            → OnOk result (IsRange (S.stored shelf.old self.now.name) (self.now.place + from * frame_length self.now)
+            bytes.new) }
         ensures not_missing { IsErrOf result ShelfFault.NotFound → ⊥ }
-        ensures only_reads { OnlyReads S.Shelf shelf.old shelf.new result (λ fault. fault ≡ ShelfFault.Device) (λ _ failed. failed self.now.name) }
+        ensures only_reads { OnlyReads S.Shelf shelf.old shelf.new result (λ fault. fault ≡ ShelfFault.Device)
+            (λ _ failed. failed self.now.name) }
     {
         let place = self.place + from * self.frame_length();
         shelf.read_at(self.name.as_str(), place, bytes)
@@ -189,7 +195,8 @@ impl Sound {
             → OnOk result ((i : ℕ) → i < length samples.new → get_or samples.new i (pos 0)
             ≡ sample_at file self.now.place self.now.channels self.now.depth (from + i) channel) }
         ensures not_missing { IsErrOf result ShelfFault.NotFound → ⊥ }
-        ensures only_reads { OnlyReads S.Shelf shelf.old shelf.new result (λ fault. fault ≡ ShelfFault.Device) (λ _ failed. failed self.now.name) }
+        ensures only_reads { OnlyReads S.Shelf shelf.old shelf.new result (λ fault. fault ≡ ShelfFault.Device)
+            (λ _ failed. failed self.now.name) }
     {
         let channels = usize::from(self.channels());
         let most = BLOCK / channels;
@@ -211,8 +218,8 @@ impl Sound {
         Ok(())
     }
 
-    /// Fills `frames` with so many frames from this one on, a sample of every channel after the other. `buffer` has room
-    /// for their bytes, at least. `Device` where a read fails; the frames are then unspecified.
+    /// Fills `frames` with so many frames from this one on, a sample of every channel after the other. `buffer` has
+    /// room for their bytes, at least. `Device` where a read fails; the frames are then unspecified.
     pub fn read_frames<S: Shelf>(
         &self,
         shelf: &mut S,
@@ -229,7 +236,8 @@ impl Sound {
         ensures there { IsTrue (S.honest shelf.old) → OnOk result (IsSome (S.stored shelf.old self.now.name)) }
         ensures fit { OnOk result (All (FitsDepth self.now.depth) frames.new) }
         ensures not_missing { IsErrOf result ShelfFault.NotFound → ⊥ }
-        ensures only_reads { OnlyReads S.Shelf shelf.old shelf.new result (λ fault. fault ≡ ShelfFault.Device) (λ _ failed. failed self.now.name) }
+        ensures only_reads { OnlyReads S.Shelf shelf.old shelf.new result (λ fault. fault ≡ ShelfFault.Device)
+            (λ _ failed. failed self.now.name) }
     {
         let depth = self.depth();
         let bytes = &mut buffer[..frames.len() * usize::from(depth.bits() / 8)];
@@ -244,7 +252,8 @@ fn pick(frames: &[i32], channels: usize, channel: usize, samples: &mut [i32])
     requires whole { length frames.now ≡ length samples.old * channels }
     requires channel { (1 ≤ channel) × (channel ≤ channels) }
     requires few { length frames.now ≤ 1024 }
-    ensures { (i : ℕ) → i < length samples.new → get_or samples.new i (pos 0) ≡ get_or frames.now (i * channels + (channel - 1)) (pos 0) }
+    ensures { (i : ℕ) → i < length samples.new
+        → get_or samples.new i (pos 0) ≡ get_or frames.now (i * channels + (channel - 1)) (pos 0) }
 {
     for (i, sample) in samples.iter_mut().enumerate() {
         *sample = frames[i * channels + (channel - 1)];

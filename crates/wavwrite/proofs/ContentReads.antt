@@ -40,7 +40,8 @@ length-bext_contents info whole =
 
 -- the sizes fit
 pub chunks_whole : (info : SoundInfo) (samples : List ℕ) → IsInfo info → length samples ≡ data_size info
-    → AreWhole (bext_size info) (data_size info) (bext_contents info ++ zeros (bext_size info % 2)) (format_contents info)
+    → AreWhole (bext_size info) (data_size info) (bext_contents info ++ zeros (bext_size info % 2))
+    (format_contents info)
     (samples ++ zeros (length samples % 2))
 chunks_whole info samples is counted =
     let fits = ltb-false 4294967294 (file_length info - 8) is.small in
@@ -59,36 +60,50 @@ time_told : (info : SoundInfo) → length info.text ≡ 338 → info.time_refere
 unfolding bext_contents
 time_told info whole fits =
     let rest = u16_bytes 1 ++ (zeros 254 ++ info.history) in
-    ap (little_number 8) (drop_at info.text (u64_bytes info.time_reference ++ rest) 338 whole) ∙ u64-reads_back info.time_reference rest fits
+    ap (little_number 8) (drop_at info.text (u64_bytes info.time_reference ++ rest) 338 whole)
+    ∙ u64-reads_back info.time_reference rest fits
 
 text_told : (info : SoundInfo) → length info.text ≡ 338 → take 338 (bext_contents info) ≡ info.text
 unfolding bext_contents
-text_told info whole = take_at info.text (u64_bytes info.time_reference ++ (u16_bytes 1 ++ (zeros 254 ++ info.history))) 338 whole
+text_told info whole =
+    take_at info.text (u64_bytes info.time_reference ++ (u16_bytes 1 ++ (zeros 254 ++ info.history))) 338 whole
 
 history_told : (info : SoundInfo) → length info.text ≡ 338 → length info.history ≤ 65536
     → take history_limit (drop 602 (bext_contents info)) ≡ info.history
 unfolding bext_contents
 history_told info whole fits =
     let front = info.text ++ (u64_bytes info.time_reference ++ (u16_bytes 1 ++ zeros 254)) in
-    let long : length front ≡ 602 = simp (length-append, length-zeros, length-u16_bytes, length-u64_bytes) (omega arith) in
+    let long : length front ≡ 602 =
+    simp (length-append, length-zeros, length-u16_bytes, length-u64_bytes) (omega arith) in
     let grouped : bext_contents info ≡ front ++ info.history = simp append_assoc in
     ap (λ (bytes : List ℕ). take history_limit (drop 602 bytes)) grouped
     ∙ ap (take history_limit) (drop_at front info.history 602 long) ∙ take_all 65536 info.history fits
 
 -- a frame has bytes
-frame_some : (channels : ℕ) (name : Depth) (depth : ℕ) → bits_of name ≡ depth → 1 ≤ channels → 0 < channels * (depth / 8)
+frame_some : (channels : ℕ) (name : Depth) (depth : ℕ) → bits_of name ≡ depth → 1 ≤ channels
+    → 0 < channels * (depth / 8)
 frame_some channels Sixteen depth named some = grind arith
 frame_some channels TwentyFour depth named some = grind arith
 frame_some channels ThirtyTwo depth named some = grind arith
 
 -- the facts of these chunks
 pub facts_found : (name : List ℕ) (info : SoundInfo) (depth : Depth) → IsInfo info → bits_of depth ≡ info.depth
-    → facts_with name (four_found (bext_size info) (data_size info)) (record { channels = info.channels; depth = depth }) (bext_contents info)
+    → facts_with name (four_found (bext_size info) (data_size info))
+    (record { channels = info.channels; depth = depth }) (bext_contents info)
     ≡ facts_of name info
 facts_found name info depth is named =
     let long = length-bext_contents info is.within.text_whole in
     let history_fits = is.within.history_fits in
     let whole = le-leb 346 (length (bext_contents info)) (omega (arith, long)) in
     let cut = le-ltb (602 + 65536) (length (bext_contents info)) (omega (arith, long)) in
-    let frames : data_size info / frame_bytes info ≡ info.frames = mul-div_cancel info.frames (frame_some info.channels depth info.depth named is.within.some_channels) in
-    rw (named, frames, whole, cut, text_told info is.within.text_whole, time_told info is.within.text_whole is.within.time_fits, history_told info is.within.text_whole is.within.history_fits) refl
+    let frames : data_size info / frame_bytes info ≡ info.frames =
+    mul-div_cancel info.frames (frame_some info.channels depth info.depth named is.within.some_channels) in
+    rw (
+      named,
+      frames,
+      whole,
+      cut,
+      text_told info is.within.text_whole,
+      time_told info is.within.text_whole is.within.time_fits,
+      history_told info is.within.text_whole is.within.history_fits,
+    ) refl

@@ -14,7 +14,8 @@ use Rattle.wavwrite.proofs.ContentReads.{bext_contents, format_contents, file_is
 
 -- the contents of `bext` and `fmt ` are found
 bext_found : (info : SoundInfo) (format sound : List ℕ) (size : ℕ) → length info.text ≡ 338
-    → take (bext_size info) (drop 56 (riff_file size (bext_size info) (data_size info) (bext_contents info ++ zeros (bext_size info % 2)) format sound))
+    → take (bext_size info) (drop 56 (riff_file size (bext_size info) (data_size info)
+    (bext_contents info ++ zeros (bext_size info % 2)) format sound))
     ≡ bext_contents info
 bext_found info format sound size whole =
     let bext = bext_contents info in
@@ -23,7 +24,8 @@ bext_found info format sound size whole =
     ap (take (bext_size info)) (behind.1 ∙ append_assoc bext pad behind.0)
     ∙ take_at bext (pad ++ behind.0) (bext_size info) (length-bext_contents info whole)
 
-format_found : (size bext_size data_size : ℕ) (bext format sound : List ℕ) → AreWhole bext_size data_size bext format sound
+format_found : (size bext_size data_size : ℕ) (bext format sound : List ℕ)
+    → AreWhole bext_size data_size bext format sound
     → take 16 (drop (64 + (bext_size + bext_size % 2)) (riff_file size bext_size data_size bext format sound)) ≡ format
 format_found size bext_size data_size bext format sound whole =
     let behind = behind_format size bext_size data_size bext format sound whole.bext_whole in
@@ -38,9 +40,11 @@ reads_back name info samples is counted =
     let bext = bext_contents info ++ zeros (bext_size info % 2) in
     let sound = samples ++ zeros (length samples % 2) in
     let formed : format_of (format_contents info) ≡ Ok (record { channels = info.channels; depth = known.0 }) =
-    subst (λ (bits : ℕ). format_of (format_bytes 1 info.channels 48000 (48000 * frame_bytes info) (info.channels * (bits / 8)) bits)
+    subst (λ (bits : ℕ). format_of (format_bytes 1 info.channels 48000 (48000 * frame_bytes info)
+    (info.channels * (bits / 8)) bits)
     ≡ Ok (record { channels = info.channels; depth = known.0 }))
-    known.1 (format_read info.channels (48000 * frame_bytes info) known.0 is.within.some_channels is.within.few_channels) in
+    known.1 (format_read info.channels (48000 * frame_bytes info)
+    known.0 is.within.some_channels is.within.few_channels) in
     let whole = chunks_whole info samples is counted in
     let walk = riff_walked size (bext_size info) (data_size info) bext (format_contents info) sound whole in
     let format_there = format_found size (bext_size info) (data_size info) bext (format_contents info) sound whole in
@@ -66,7 +70,15 @@ length-form_head info =
 pub length-header_of : (info : SoundInfo) → length info.text ≡ 338 → length (header_of info) ≡ data_place info
 unfolding header_of
 length-header_of info whole =
-    simp (length-append, length-form_head, length-zeros, length-chunk_head, length-u16_bytes, length-u32_bytes, length-u64_bytes) (omega arith)
+    simp (
+      length-append,
+      length-form_head,
+      length-zeros,
+      length-chunk_head,
+      length-u16_bytes,
+      length-u32_bytes,
+      length-u64_bytes,
+    ) (omega arith)
 
 -- the whole file, with the padding
 pub length-file_of : (info : SoundInfo) (samples : List ℕ) → length info.text ≡ 338 → length samples ≡ data_size info
@@ -79,13 +91,15 @@ length-file_of info samples whole counted =
 pub behind_header : (info : SoundInfo) (samples : List ℕ) → length info.text ≡ 338
     → drop (data_place info) (file_of info samples) ≡ samples ++ zeros (length samples % 2)
 unfolding file_of
-behind_header info samples whole = drop_at (header_of info) (samples ++ zeros (length samples % 2)) (data_place info) (length-header_of info whole)
+behind_header info samples whole =
+    drop_at (header_of info) (samples ++ zeros (length samples % 2)) (data_place info) (length-header_of info whole)
 
 -- the bytes of the samples stand at their place
 pub samples_stand : (info : SoundInfo) (samples : List ℕ) → length info.text ≡ 338 → length samples ≡ data_size info
     → take (data_size info) (drop (data_place info) (file_of info samples)) ≡ samples
 samples_stand info samples whole counted =
-    ap (take (data_size info)) (behind_header info samples whole) ∙ take_at samples (zeros (length samples % 2)) (data_size info) counted
+    ap (take (data_size info)) (behind_header info samples whole)
+    ∙ take_at samples (zeros (length samples % 2)) (data_size info) counted
 
 -- a sample of the file is one of the bytes of its samples
 pub sample_stands : (info : SoundInfo) (samples : List ℕ) (channels depth frame channel : ℕ) → length info.text ≡ 338
@@ -93,4 +107,5 @@ pub sample_stands : (info : SoundInfo) (samples : List ℕ) (channels depth fram
     ≡ sample_of depth (drop ((frame * channels + (channel - 1)) * (depth / 8)) (samples ++ zeros (length samples % 2)))
 sample_stands info samples channels depth frame channel whole =
     let place = (frame * channels + (channel - 1)) * (depth / 8) in
-    ap (sample_of depth) (sym (drop-drop place (data_place info) (file_of info samples)) ∙ ap (drop place) (behind_header info samples whole))
+    ap (sample_of depth) (sym (drop-drop place (data_place info) (file_of info samples))
+    ∙ ap (drop place) (behind_header info samples whole))

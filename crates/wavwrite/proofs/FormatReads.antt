@@ -13,26 +13,31 @@ use Rattle.sound_terms.specs.Laws.{length-u16_bytes, length-u32_bytes, u16-reads
 -- the six numbers of `fmt `: the tag, the channels, the rate, the bytes of a second, the bytes of a frame, the depth
 unfoldable pub format_bytes : ℕ → ℕ → ℕ → ℕ → ℕ → ℕ → List ℕ
 format_bytes tag channels rate speed frame depth =
-    u16_bytes tag ++ (u16_bytes channels ++ (u32_bytes rate ++ (u32_bytes speed ++ (u16_bytes frame ++ u16_bytes depth))))
+    u16_bytes tag ++ (u16_bytes channels ++ (u32_bytes rate
+    ++ (u32_bytes speed ++ (u16_bytes frame ++ u16_bytes depth))))
 
 -- sixteen bytes
-pub length-format_bytes : (tag channels rate speed frame depth : ℕ) → length (format_bytes tag channels rate speed frame depth) ≡ 16
+pub length-format_bytes : (tag channels rate speed frame depth : ℕ)
+    → length (format_bytes tag channels rate speed frame depth) ≡ 16
 unfolding format_bytes
-length-format_bytes tag channels rate speed frame depth = simp (length-append, length-u16_bytes, length-u32_bytes) (omega arith)
+length-format_bytes tag channels rate speed frame depth =
+    simp (length-append, length-u16_bytes, length-u32_bytes) (omega arith)
 
 -- each number is read
 tag_told : (tag channels rate speed frame depth : ℕ) → tag < 65536
     → number_at 2 0 (format_bytes tag channels rate speed frame depth) ≡ tag
 unfolding format_bytes
 tag_told tag channels rate speed frame depth below =
-    u16-reads_back tag (u16_bytes channels ++ (u32_bytes rate ++ (u32_bytes speed ++ (u16_bytes frame ++ u16_bytes depth)))) below
+    u16-reads_back tag (u16_bytes channels ++ (u32_bytes rate
+    ++ (u32_bytes speed ++ (u16_bytes frame ++ u16_bytes depth)))) below
 
 channels_told : (tag channels rate speed frame depth : ℕ) → channels < 65536
     → number_at 2 2 (format_bytes tag channels rate speed frame depth) ≡ channels
 unfolding format_bytes
 channels_told tag channels rate speed frame depth below =
     let rest = u32_bytes rate ++ (u32_bytes speed ++ (u16_bytes frame ++ u16_bytes depth)) in
-    ap (little_number 2) (drop_at (u16_bytes tag) (u16_bytes channels ++ rest) 2 (length-u16_bytes tag)) ∙ u16-reads_back channels rest below
+    ap (little_number 2) (drop_at (u16_bytes tag) (u16_bytes channels ++ rest) 2 (length-u16_bytes tag))
+    ∙ u16-reads_back channels rest below
 
 rate_told : (tag channels rate speed frame depth : ℕ) → rate < 4294967296
     → number_at 4 4 (format_bytes tag channels rate speed frame depth) ≡ rate
@@ -41,8 +46,10 @@ rate_told tag channels rate speed frame depth below =
     let front = u16_bytes tag ++ u16_bytes channels in
     let rest = u32_bytes speed ++ (u16_bytes frame ++ u16_bytes depth) in
     let long : length front ≡ 4 = simp (length-append, length-u16_bytes) (omega arith) in
-    let grouped : format_bytes tag channels rate speed frame depth ≡ front ++ (u32_bytes rate ++ rest) = simp append_assoc in
-    ap (number_at 4 4) grouped ∙ ap (little_number 4) (drop_at front (u32_bytes rate ++ rest) 4 long) ∙ u32-reads_back rate rest below
+    let grouped : format_bytes tag channels rate speed frame depth ≡ front ++ (u32_bytes rate ++ rest) =
+    simp append_assoc in
+    ap (number_at 4 4) grouped ∙ ap (little_number 4) (drop_at front (u32_bytes rate ++ rest) 4 long)
+    ∙ u32-reads_back rate rest below
 
 frame_told : (tag channels rate speed frame depth : ℕ) → frame < 65536
     → number_at 2 12 (format_bytes tag channels rate speed frame depth) ≡ frame
@@ -51,8 +58,10 @@ frame_told tag channels rate speed frame depth below =
     let front = u16_bytes tag ++ (u16_bytes channels ++ (u32_bytes rate ++ u32_bytes speed)) in
     let rest = u16_bytes depth in
     let long : length front ≡ 12 = simp (length-append, length-u16_bytes, length-u32_bytes) (omega arith) in
-    let grouped : format_bytes tag channels rate speed frame depth ≡ front ++ (u16_bytes frame ++ rest) = simp append_assoc in
-    ap (number_at 2 12) grouped ∙ ap (little_number 2) (drop_at front (u16_bytes frame ++ rest) 12 long) ∙ u16-reads_back frame rest below
+    let grouped : format_bytes tag channels rate speed frame depth ≡ front ++ (u16_bytes frame ++ rest) =
+    simp append_assoc in
+    ap (number_at 2 12) grouped ∙ ap (little_number 2) (drop_at front (u16_bytes frame ++ rest) 12 long)
+    ∙ u16-reads_back frame rest below
 
 depth_told : (tag channels rate speed frame depth : ℕ) → depth < 65536
     → number_at 2 14 (format_bytes tag channels rate speed frame depth) ≡ depth
@@ -62,7 +71,8 @@ depth_told tag channels rate speed frame depth below =
     let long : length front ≡ 14 = simp (length-append, length-u16_bytes, length-u32_bytes) (omega arith) in
     let end : u16_bytes depth ≡ u16_bytes depth ++ [] = sym (append-nil (u16_bytes depth)) in
     let grouped : format_bytes tag channels rate speed frame depth ≡ front ++ u16_bytes depth = simp append_assoc in
-    ap (number_at 2 14) grouped ∙ ap (little_number 2) (drop_at front (u16_bytes depth) 14 long ∙ end) ∙ u16-reads_back depth [] below
+    ap (number_at 2 14) grouped ∙ ap (little_number 2) (drop_at front (u16_bytes depth) 14 long ∙ end)
+    ∙ u16-reads_back depth [] below
 
 -- a depth is known by its bits
 depth_named_again : (depth : Depth) → depth_of (bits_of depth) ≡ Some depth
@@ -78,7 +88,8 @@ bits_bounded ThirtyTwo = omega arith
 
 -- PCM of 1 to 64 channels is read as it was written
 pub format_read : (channels speed : ℕ) (depth : Depth) → 1 ≤ channels → channels ≤ 64
-    → format_of (format_bytes 1 channels 48000 speed (channels * (bits_of depth / 8)) (bits_of depth)) ≡ Ok (record { channels = channels; depth = depth })
+    → format_of (format_bytes 1 channels 48000 speed (channels * (bits_of depth / 8)) (bits_of depth))
+    ≡ Ok (record { channels = channels; depth = depth })
 format_read channels speed depth some few =
     let frame = channels * (bits_of depth / 8) in
     let bits = bits_of depth in
@@ -89,5 +100,18 @@ format_read channels speed depth some few =
     let rate = rate_told 1 channels 48000 speed frame bits (omega arith) in
     let width = frame_told 1 channels 48000 speed frame bits (omega arith) in
     let named = depth_told 1 channels 48000 speed frame bits (omega (arith, bounds)) in
-    let long = le-leb 16 (length (format_bytes 1 channels 48000 speed frame bits)) (omega (arith, length-format_bytes 1 channels 48000 speed frame bits)) in
-    rw (named, depth_named_again depth, long, tag, count, le-leb 1 channels some, le-leb channels 64 few, width, eq-eqb frame frame refl, rate) refl
+    let long =
+    le-leb 16 (length (format_bytes 1 channels 48000 speed frame bits))
+    (omega (arith, length-format_bytes 1 channels 48000 speed frame bits)) in
+    rw (
+      named,
+      depth_named_again depth,
+      long,
+      tag,
+      count,
+      le-leb 1 channels some,
+      le-leb channels 64 few,
+      width,
+      eq-eqb frame frame refl,
+      rate,
+    ) refl

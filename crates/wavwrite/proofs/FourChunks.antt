@@ -8,13 +8,13 @@ use Rattle.sound_terms.specs.Laws.{length-zeros, length-chunk_head}
 use Rattle.byteorder.specs.Numbers.{little_number-reads_back}
 
 -- a chunk of a written file
-abbrev pub chunk_at : List ℕ → ℕ → ℕ → Chunk
-chunk_at id place size = record { id = id; at = place + 8; size = Some size }
+abbrev pub whole_chunk : List ℕ → ℕ → ℕ → Chunk
+whole_chunk id place size = record { id = id; at = place + 8; size = Some size }
 
 -- one chunk is read
 chunk_read : (a b c d size n place : ℕ) (contents rest : List ℕ) → size < 4294967296 → length contents ≡ size + size % 2
     → chunks_from as_it_stands (suc n) place (chunk_head (a ∷ b ∷ c ∷ d ∷ []) size ++ (contents ++ rest))
-    ≡ chunk_at (a ∷ b ∷ c ∷ d ∷ []) place size ∷ chunks_from as_it_stands n (place + 8 + (size + size % 2)) rest
+    ≡ whole_chunk (a ∷ b ∷ c ∷ d ∷ []) place size ∷ chunks_from as_it_stands n (place + 8 + (size + size % 2)) rest
 unfolding chunk_head u32_bytes
 chunk_read a b c d size n place contents rest below whole =
     let told = little_number-reads_back 4 size [] (omega arith) in
@@ -24,8 +24,9 @@ chunk_read a b c d size n place contents rest below whole =
 -- JUNK, `bext`, `fmt ` and `data` of these sizes and contents, each with its padding
 unfoldable pub four_chunks : ℕ → ℕ → List ℕ → List ℕ → List ℕ → List ℕ
 four_chunks bext_size data_size bext format sound =
-    chunk_head (codes "JUNK") 28 ++ (zeros 28 ++ (chunk_head (codes "bext") bext_size ++ (bext
-    ++ (chunk_head (codes "fmt ") 16 ++ (format ++ (chunk_head (codes "data") data_size ++ sound))))))
+    chunk_head (codes "JUNK") 28
+    ++ (zeros 28 ++ (chunk_head (codes "bext") bext_size
+    ++ (bext ++ (chunk_head (codes "fmt ") 16 ++ (format ++ (chunk_head (codes "data") data_size ++ sound))))))
 
 -- the file whose RIFF chunk tells this size
 unfoldable pub riff_file : ℕ → ℕ → ℕ → List ℕ → List ℕ → List ℕ → List ℕ
@@ -43,8 +44,9 @@ pub record AreWhole (bext_size data_size : ℕ) (bext format sound : List ℕ) :
 -- the heads of the four chunks
 abbrev pub four_heads : ℕ → ℕ → List Chunk
 four_heads bext_size data_size =
-    chunk_at (codes "JUNK") 12 28 ∷ chunk_at (codes "bext") 48 bext_size
-    ∷ chunk_at (codes "fmt ") (56 + (bext_size + bext_size % 2)) 16 ∷ chunk_at (codes "data") (80 + (bext_size + bext_size % 2)) data_size ∷ []
+    whole_chunk (codes "JUNK") 12 28 ∷ whole_chunk (codes "bext") 48 bext_size
+    ∷ whole_chunk (codes "fmt ") (56 + (bext_size + bext_size % 2)) 16
+    ∷ whole_chunk (codes "data") (80 + (bext_size + bext_size % 2)) data_size ∷ []
 
 -- where no bytes are left no chunk is
 none_left : (n place : ℕ) → chunks_from as_it_stands n place [] ≡ []
@@ -53,24 +55,29 @@ none_left (suc n) place = refl
 
 -- the last chunk is read
 last_read : (n place size : ℕ) (contents : List ℕ) → size < 4294967296 → length contents ≡ size + size % 2
-    → chunks_from as_it_stands (suc n) place (chunk_head (codes "data") size ++ contents) ≡ chunk_at (codes "data") place size ∷ []
+    → chunks_from as_it_stands (suc n) place (chunk_head (codes "data") size ++ contents)
+    ≡ whole_chunk (codes "data") place size ∷ []
 last_read n place size contents below whole =
-    ap (λ (rest : List ℕ). chunks_from as_it_stands (suc n) place (chunk_head (codes "data") size ++ rest)) (sym (append-nil contents))
+    ap (λ (rest : List ℕ). chunks_from as_it_stands (suc n) place (chunk_head (codes "data") size ++ rest))
+    (sym (append-nil contents))
     ∙ chunk_read 100 97 116 97 size n place contents [] below whole
-    ∙ ap (λ (chunks : List Chunk). chunk_at (codes "data") place size ∷ chunks) (none_left n (place + 8 + (size + size % 2)))
+    ∙ ap (λ (chunks : List Chunk). whole_chunk (codes "data") place size ∷ chunks)
+    (none_left n (place + 8 + (size + size % 2)))
 
 -- all four heads are read
-pub four_read : (n bext_size data_size : ℕ) (bext format sound : List ℕ) → AreWhole bext_size data_size bext format sound
-    → chunks_from as_it_stands (suc (suc (suc (suc n)))) 12 (four_chunks bext_size data_size bext format sound) ≡ four_heads bext_size data_size
+pub four_read : (n bext_size data_size : ℕ) (bext format sound : List ℕ)
+    → AreWhole bext_size data_size bext format sound
+    → chunks_from as_it_stands (suc (suc (suc (suc n)))) 12 (four_chunks bext_size data_size bext format sound)
+    ≡ four_heads bext_size data_size
 unfolding four_chunks
 four_read n bext_size data_size bext format sound whole =
     let bext_fits = whole.bext_fits in
     let data_fits = whole.data_fits in
     let place = 56 + (bext_size + bext_size % 2) in
     let last_place : place + 8 + 16 ≡ 80 + (bext_size + bext_size % 2) = omega arith in
-    let junk_chunk = chunk_at (codes "JUNK") 12 28 in
-    let bext_chunk = chunk_at (codes "bext") 48 bext_size in
-    let format_chunk = chunk_at (codes "fmt ") place 16 in
+    let junk_chunk = whole_chunk (codes "JUNK") 12 28 in
+    let bext_chunk = whole_chunk (codes "bext") 48 bext_size in
+    let format_chunk = whole_chunk (codes "fmt ") place 16 in
     let sound_chunk = chunk_head (codes "data") data_size ++ sound in
     let from_format = chunk_head (codes "fmt ") 16 ++ (format ++ sound_chunk) in
     let from_bext = chunk_head (codes "bext") bext_size ++ (bext ++ from_format) in
@@ -91,7 +98,8 @@ length-four_chunks bext_size data_size bext format sound =
     simp (length-append, length-zeros, length-chunk_head) (omega arith)
 
 pub length-riff_file : (size bext_size data_size : ℕ) (bext format sound : List ℕ)
-    → length (riff_file size bext_size data_size bext format sound) ≡ 72 + (length bext + (length format + length sound))
+    → length (riff_file size bext_size data_size bext format sound)
+    ≡ 72 + (length bext + (length format + length sound))
 unfolding riff_file
 length-riff_file size bext_size data_size bext format sound =
     simp (length-append, length-chunk_head, length-four_chunks) (omega arith)

@@ -35,12 +35,17 @@ fits_quantized TwentyFour sum = fits24 _
 fits_quantized ThirtyTwo sum = fits32 _
 
 -- so many samples of so many bytes
-pub length-frame_of : (depth : ℕ) (mix : ℕ → ℕ → ℤ) (time channel n : ℕ) → length (frame_of depth mix time channel n) ≡ n * (depth / 8)
+pub length-frame_of : (depth : ℕ) (mix : ℕ → ℕ → ℤ) (time channel n : ℕ)
+    → length (frame_of depth mix time channel n) ≡ n * (depth / 8)
 length-frame_of depth mix time channel zero = omega arith
 length-frame_of depth mix time channel (suc n) =
     let first = sample_bytes depth (quantized depth (mix channel time)) in
     let rest = frame_of depth mix time (suc channel) n in
-    length-append first rest ∙ omega (arith, length-sample_bytes depth (quantized depth (mix channel time)), length-frame_of depth mix time (suc channel) n)
+    length-append first rest ∙ omega (
+      arith,
+      length-sample_bytes depth (quantized depth (mix channel time)),
+      length-frame_of depth mix time (suc channel) n,
+    )
 
 -- so many frames
 pub length-frames_of : (depth : ℕ) (mix : ℕ → ℕ → ℤ) (channels from n : ℕ)
@@ -114,30 +119,36 @@ in_frames depth mix channels from (suc n) (suc frame) rest below =
 -- the sample of a frame and a channel of frames that were written
 pub samples_of_frames : (depth : Depth) (mix : ℕ → ℕ → ℤ) (channels from n frame channel : ℕ) (rest : List ℕ)
     → frame < n → 1 ≤ channel → channel ≤ channels
-    → sample_of (bits_of depth) (drop ((frame * channels + (channel - 1)) * (bits_of depth / 8)) (frames_of (bits_of depth) mix channels from n ++ rest))
+    → sample_of (bits_of depth) (drop ((frame * channels + (channel - 1)) * (bits_of depth / 8))
+    (frames_of (bits_of depth) mix channels from n ++ rest))
     ≡ quantized (bits_of depth) (mix channel (from + frame))
 samples_of_frames depth mix channels from n frame channel rest below first last =
     let bits = bits_of depth in
     let width = bits / 8 in
     let file = frames_of bits mix channels from n ++ rest in
-    let place : (frame * channels + (channel - 1)) * width ≡ frame * (channels * width) + (channel - 1) * width = omega arith in
+    let place : (frame * channels + (channel - 1)) * width ≡ frame * (channels * width) + (channel - 1) * width =
+    omega arith in
     let counted : 1 + (channel - 1) ≡ channel = omega arith in
     let there = in_frames bits mix channels from n frame rest below in
     ap (λ (k : ℕ). sample_of bits (drop k file)) place
-    ∙ ap (sample_of bits) (sym (drop-drop ((channel - 1) * width) (frame * (channels * width)) file) ∙ ap (drop ((channel - 1) * width)) there.1)
+    ∙ ap (sample_of bits) (sym (drop-drop ((channel - 1) * width) (frame * (channels * width)) file)
+    ∙ ap (drop ((channel - 1) * width)) there.1)
     ∙ in_frame depth mix (from + frame) 1 channels (channel - 1) there.0 (omega arith)
     ∙ ap (λ (c : ℕ). quantized bits (mix c (from + frame))) counted
 
 -- the samples of a file of frames that were written
-pub frames_read : (info : SoundInfo) (mix : ℕ → ℕ → ℤ) (from frame channel : ℕ) → length info.text ≡ 338 → IsDepth info.depth
+pub frames_read : (info : SoundInfo) (mix : ℕ → ℕ → ℤ) (from frame channel : ℕ) → length info.text ≡ 338
+    → IsDepth info.depth
     → frame < info.frames → 1 ≤ channel → channel ≤ info.channels
-    → sample_at (file_of info (frames_of info.depth mix info.channels from info.frames)) (data_place info) info.channels info.depth frame channel
+    → sample_at (file_of info (frames_of info.depth mix info.channels from info.frames)) (data_place info)
+    info.channels info.depth frame channel
     ≡ quantized info.depth (mix channel (from + frame))
 frames_read info mix from frame channel whole depth below first last =
     let known = depth_named info.depth depth in
     let samples = frames_of info.depth mix info.channels from info.frames in
     let pad = zeros (length samples % 2) in
     sample_stands info samples info.channels info.depth frame channel whole
-    ∙ subst (λ (bits : ℕ). sample_of bits (drop ((frame * info.channels + (channel - 1)) * (bits / 8)) (frames_of bits mix info.channels from info.frames ++ pad))
+    ∙ subst (λ (bits : ℕ). sample_of bits (drop ((frame * info.channels + (channel - 1)) * (bits / 8))
+    (frames_of bits mix info.channels from info.frames ++ pad))
     ≡ quantized bits (mix channel (from + frame)))
     known.1 (samples_of_frames known.0 mix info.channels from info.frames frame channel pad below first last)

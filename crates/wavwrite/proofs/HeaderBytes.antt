@@ -14,7 +14,8 @@ form_part size = chunk_head (codes "RIFF") size ++ (codes "WAVE" ++ (chunk_head 
 
 abbrev pub bext_part : Bext → List ℕ → List ℕ
 bext_part bext history =
-    chunk_head (codes "bext") (602 + length history) ++ (bext_bytes bext ++ (history ++ zeros ((602 + length history) % 2)))
+    chunk_head (codes "bext") (602 + length history)
+    ++ (bext_bytes bext ++ (history ++ zeros ((602 + length history) % 2)))
 
 abbrev pub format_part : ℕ → Depth → List ℕ
 format_part channels depth =
@@ -26,14 +27,16 @@ four_parts : (channels frames : ℕ) (depth : Depth) (bext : Bext) (history : Li
     → Fits (info_of channels depth frames bext history)
     → header_of (info_of channels depth frames bext history)
     ≡ form_part (file_length (info_of channels depth frames bext history) - 8) ++ (bext_part bext history
-    ++ (format_part channels depth ++ chunk_head (codes "data") (data_size (info_of channels depth frames bext history))))
+    ++ (format_part channels depth
+    ++ chunk_head (codes "data") (data_size (info_of channels depth frames bext history))))
 unfolding header_of bext_bytes
 four_parts channels frames depth bext history fits =
     rw (small_info (info_of channels depth frames bext history) fits) (simp append_assoc)
 
 -- this is what the parts tell
 pub told_by : (info : SoundInfo) (channels : ℕ) (depth : Depth) (bext : Bext) (history : List ℕ)
-    → channels ≡ info.channels → bits_of depth ≡ info.depth → bext.text ≡ info.text → bext.time_reference ≡ info.time_reference
+    → channels ≡ info.channels → bits_of depth ≡ info.depth → bext.text ≡ info.text
+    → bext.time_reference ≡ info.time_reference
     → history ≡ info.history → info ≡ info_of channels depth info.frames bext history
 told_by info channels depth bext history a b c d e = rw (a, b, c, d, e)
 
@@ -42,7 +45,8 @@ pub parts_put : (info : SoundInfo) (form sound channels : ℕ) (depth : Depth) (
     → form ≡ file_length info - 8 → sound ≡ data_size info
     → one ≡ form_part form → two ≡ one ++ bext_part bext history → three ≡ two ++ format_part channels depth
     → four ≡ three ++ chunk_head (codes "data") sound → four ≡ header_of info
-parts_put info form sound channels depth bext history one two three four fits told form-is sound-is first second third fourth =
+parts_put info form sound channels depth bext history one two three four fits told form-is sound-is first second third
+    fourth =
     let made = info_of channels depth info.frames bext history in
     let whole : header_of info ≡ form_part (file_length info - 8) ++ (bext_part bext history
     ++ (format_part channels depth ++ chunk_head (codes "data") (data_size info))) =

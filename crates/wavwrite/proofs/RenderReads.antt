@@ -11,11 +11,13 @@ use Rattle.wavwrite.proofs.FrameReads.{length-frames_of, frames_read}
 
 -- as many bytes as the frames take
 length-rendered : (range : Range) (mix : ℕ → ℕ → ℤ)
-    → length (frames_of range.depth mix range.channels range.from (range.to - range.from)) ≡ data_size (render_info range)
+    → length (frames_of range.depth mix range.channels range.from (range.to - range.from))
+    ≡ data_size (render_info range)
 length-rendered range mix = length-frames_of range.depth mix range.channels range.from (range.to - range.from)
 
 -- the rendered file is read as what was rendered
-rendered_reads : (range : Range) (mix : ℕ → ℕ → ℤ) → IsInfo (render_info range) → ReadsBack range mix (rendering_of range mix)
+rendered_reads : (range : Range) (mix : ℕ → ℕ → ℤ) → IsInfo (render_info range)
+    → ReadsBack range mix (rendering_of range mix)
 unfolding rendering_of
 rendered_reads range mix is =
     let info = render_info range in

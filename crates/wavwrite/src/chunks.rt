@@ -61,7 +61,8 @@ fn push_rates(out: &mut Vec<u8>, channels: u8, depth: Depth) -> Result<(), Alloc
 pub fn push_format(out: &mut Vec<u8>, channels: u8, depth: Depth) -> Result<(), AllocError>
     requires { channels ≤ 64 }
     ensures { OnOk result (out.new.items ≡ out.old.items ++ (chunk_head (codes "fmt ") 16
-        ++ (u16_bytes 1 ++ (u16_bytes channels ++ (u32_bytes 48000 ++ (u32_bytes (48000 * (channels * (bits_of depth / 8)))
+        ++ (u16_bytes 1 ++ (u16_bytes channels ++ (u32_bytes 48000
+        ++ (u32_bytes (48000 * (channels * (bits_of depth / 8)))
         ++ (u16_bytes (channels * (bits_of depth / 8)) ++ u16_bytes (bits_of depth)))))))) }
 {
     push_chunk_head(out, b"fmt ", 16)?;

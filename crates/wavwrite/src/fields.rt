@@ -4,6 +4,7 @@ ghost use Rattle.sound_terms.specs.Waves.{u16_bytes, u32_bytes, zeros, chunk_hea
 
 use std::alloc::AllocError;
 
+/// A number of 16 bits more, little endian.
 #[tactic(auto, unfolding(sound_terms::specs::Waves::u16_bytes))]
 pub fn push_u16(out: &mut Vec<u8>, number: u16) -> Result<(), AllocError>
     ensures { OnOk result (out.new.items ≡ out.old.items ++ u16_bytes number) }
@@ -11,6 +12,7 @@ pub fn push_u16(out: &mut Vec<u8>, number: u16) -> Result<(), AllocError>
     out.extend_from_slice(&number.to_le_bytes())
 }
 
+/// A number of 32 bits more, little endian.
 #[tactic(auto, unfolding(sound_terms::specs::Waves::u32_bytes))]
 pub fn push_u32(out: &mut Vec<u8>, number: u32) -> Result<(), AllocError>
     ensures { OnOk result (out.new.items ≡ out.old.items ++ u32_bytes number) }
@@ -18,6 +20,7 @@ pub fn push_u32(out: &mut Vec<u8>, number: u32) -> Result<(), AllocError>
     out.extend_from_slice(&number.to_le_bytes())
 }
 
+/// So many zeros more.
 #[tactic(auto, unfolding(sound_terms::specs::Waves::zeros))]
 pub fn push_zeros(out: &mut Vec<u8>, count: usize) -> Result<(), AllocError>
     requires { count ≤ 28 }
@@ -26,6 +29,7 @@ pub fn push_zeros(out: &mut Vec<u8>, count: usize) -> Result<(), AllocError>
     out.resize(out.len() + count, 0)
 }
 
+/// The head of a chunk more: its id, and the size of its contents.
 #[tactic(auto, unfolding(sound_terms::specs::Waves::chunk_head))]
 pub fn push_chunk_head(out: &mut Vec<u8>, id: &[u8; 4], size: u32) -> Result<(), AllocError>
     ensures { OnOk result (out.new.items ≡ out.old.items ++ chunk_head id.now size) }

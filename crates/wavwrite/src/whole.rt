@@ -91,11 +91,12 @@ pub fn fits(info: &SoundInfo) -> bool
     sizes_of(info).is_some()
 }
 
-/// Whether the size fields of RIFF can tell the length of a file of so many channels, bits a sample, frames and bytes of
-/// CodingHistory: `fits` before there is such a file.
+/// Whether the size fields of RIFF can tell the length of a file of so many channels, bits a sample, frames and bytes
+/// of CodingHistory: `fits` before there is such a file.
 pub fn fits_with(channels: u8, depth: Depth, frames: u64, history: usize) -> bool
     requires { history ≤ 65536 }
-    ensures { (info : waves.SoundInfo) → info.channels ≡ channels → info.depth ≡ bits_of depth → info.frames ≡ frames → length info.history ≡ history
+    ensures { (info : waves.SoundInfo) → info.channels ≡ channels → info.depth ≡ bits_of depth → info.frames ≡ frames
+        → length info.history ≡ history
         → IsTrue result ↔ Fits info }
 {
     let bext = BEXT_LENGTH + history as u64;

@@ -106,14 +106,17 @@ pub record Elapses (before now : ℕ) (past since : ℕ → Files → Type 0) (m
   pub keeps : (t : ℕ) (c : Files) → t ≤ before → past t c → since t c
 
 -- A crash at any moment since old leaves files that have P.
-pub record LeavesOnly {D : Type 0} (moment : D → ℕ) (left_since : D → ℕ → Files → Type 0) (old new : D) (P : Files → Type 0) : Type 0 where
+pub record LeavesOnly {D : Type 0} (moment : D → ℕ) (left_since : D → ℕ → Files → Type 0) (old new : D)
+    (P : Files → Type 0) : Type 0 where
   pub later : moment old ≤ moment new
   pub each : (c : Files) → left_since new (moment old) c → P c
   -- for a run that began earlier
   pub before : (t : ℕ) (c : Files) → t ≤ moment old → left_since new t c → left_since old t c ⊎ P c
 
--- nothing was written: reads are as they were, and a crash leaves, and at each moment left, what it might have left before
-pub record IsUntouched {D : Type 0} (stored : D → Files) (may_leave : D → Files → Type 0) (moment : D → ℕ) (left_since : D → ℕ → Files → Type 0) (old new : D) : Type 0 where
+-- nothing was written: reads are as they were, and a crash leaves, and at each moment left, what it might have left
+-- before
+pub record IsUntouched {D : Type 0} (stored : D → Files) (may_leave : D → Files → Type 0) (moment : D → ℕ)
+    (left_since : D → ℕ → Files → Type 0) (old new : D) : Type 0 where
   pub reads : stored new ≡ stored old
   pub crash : (c : Files) → may_leave new c → may_leave old c
   pub moments : LeavesOnly moment left_since old new (may_leave old)
@@ -123,7 +126,8 @@ abbrev pub IsBeside : (Files → Type 0) → List ℕ → Files → Type 0
 IsBeside outcomes name c = (d : Files) × outcomes d × ChangesOnly (name ∷ []) d c
 
 -- a crash, at each moment since old and now, leaves every file but this one as it might have left it before
-pub record LeavesOthers {D : Type 0} (may_leave : D → Files → Type 0) (moment : D → ℕ) (left_since : D → ℕ → Files → Type 0) (name : List ℕ) (old new : D) : Type 0 where
+pub record LeavesOthers {D : Type 0} (may_leave : D → Files → Type 0) (moment : D → ℕ)
+    (left_since : D → ℕ → Files → Type 0) (name : List ℕ) (old new : D) : Type 0 where
   pub now : (c : Files) → may_leave new c → IsBeside (may_leave old) name c
   pub moments : LeavesOnly moment left_since old new (IsBeside (may_leave old) name)
 
@@ -139,34 +143,37 @@ pub record HasCause (before now : ℕ) (quiet device : Type 0) : Type 0 where
   pub rose : device → before + 1 < 2 ^ 64 → before < now
 
 -- What a call leaves of a store that it only reads, and which of its answers tell a device fault.
-module _ {S : Type 0} (stored : S → Files) (honest : S → Bool) (failures : S → ℕ) (failed_at : S → List ℕ → Type 0) where
-  -- nothing was written: the same files and the same honesty, and a failure is counted at its file
-  pub record HasRead (old new : S) (quiet device failed : Type 0) : Type 0 where
-    pub same : stored new ≡ stored old
-    pub honest_same : honest new ≡ honest old
-    pub cause : HasCause (failures old) (failures new) quiet device
-    pub keeps : (n : List ℕ) → failed_at old n → failed_at new n
-    pub failed_there : failed
+module _ {S : Type 0} (stored : S → Files) (honest : S → Bool) (failures : S → ℕ) (failed_at : S → List ℕ → Type 0)
+  where
+    -- nothing was written: the same files and the same honesty, and a failure is counted at its file
+    pub record HasRead (old new : S) (quiet device failed : Type 0) : Type 0 where
+      pub same : stored new ≡ stored old
+      pub honest_same : honest new ≡ honest old
+      pub cause : HasCause (failures old) (failures new) quiet device
+      pub keeps : (n : List ℕ) → failed_at old n → failed_at new n
+      pub failed_there : failed
 
-  -- nothing was written, and nothing has failed
-  pub record IsKept (old new : S) : Type 0 where
-    pub same : stored new ≡ stored old
-    pub honest_same : honest new ≡ honest old
-    pub quiet : failures new ≡ failures old
-    pub keeps : (n : List ℕ) → failed_at old n → failed_at new n
+    -- nothing was written, and nothing has failed
+    pub record IsKept (old new : S) : Type 0 where
+      pub same : stored new ≡ stored old
+      pub honest_same : honest new ≡ honest old
+      pub quiet : failures new ≡ failures old
+      pub keeps : (n : List ℕ) → failed_at old n → failed_at new n
 
-  -- a call that only reads, by its result: these faults tell a failure, of a file that has one of these names
-  abbrev pub ReadsTo : {X E : Type 0} → S → S → Result X E → (E → Type 0) → (E → (List ℕ → Type 0) → Type 0) → Type 0
-  ReadsTo old new result is_device names =
-      HasRead old new (IfErr result (λ fault. ¬ is_device fault)) (IsErrAnd result is_device)
-      (IfErr result (λ fault. is_device fault → names fault (failed_at new)))
+    -- a call that only reads, by its result: these faults tell a failure, of a file that has one of these names
+    abbrev pub ReadsTo : {X E : Type 0} → S → S → Result X E → (E → Type 0) → (E → (List ℕ → Type 0) → Type 0) → Type 0
+    ReadsTo old new result is_device names =
+        HasRead old new (IfErr result (λ fault. ¬ is_device fault)) (IsErrAnd result is_device)
+        (IfErr result (λ fault. is_device fault → names fault (failed_at new)))
 
 -- What a call leaves of a store that it writes: the files that stay are as they were, and as durable.
-module _ {S : Type 0} (stored : S → Files) (honest : S → Bool) (failures : S → ℕ) (failed_at : S → List ℕ → Type 0) (may_leave : S → Files → Type 0) where
+module _ {S : Type 0} (stored : S → Files) (honest : S → Bool) (failures : S → ℕ) (failed_at : S → List ℕ → Type 0)
+    (may_leave : S → Files → Type 0) where
   -- only the files that don't stay changed: the same honesty, and a failure is counted at its file
   pub record HasWritten (stays : List ℕ → Type 0) (old new : S) (quiet device failed : Type 0) : Type 0 where
     pub others : IsTrue (honest old) → (n : List ℕ) → stays n → stored new n ≡ stored old n
-    pub durable : IsTrue (honest old) → (n : List ℕ) → stays n → IsDurable n (stored old) (may_leave old) → IsDurable n (stored new) (may_leave new)
+    pub durable : IsTrue (honest old) → (n : List ℕ) → stays n → IsDurable n (stored old) (may_leave old)
+        → IsDurable n (stored new) (may_leave new)
     pub honest_same : honest new ≡ honest old
     pub cause : HasCause (failures old) (failures new) quiet device
     pub keeps : (n : List ℕ) → failed_at old n → failed_at new n
@@ -175,13 +182,15 @@ module _ {S : Type 0} (stored : S → Files) (honest : S → Bool) (failures : S
   -- only the files that don't stay changed, and nothing has failed
   pub record IsExtended (stays : List ℕ → Type 0) (old new : S) : Type 0 where
     pub others : IsTrue (honest old) → (n : List ℕ) → stays n → stored new n ≡ stored old n
-    pub durable : IsTrue (honest old) → (n : List ℕ) → stays n → IsDurable n (stored old) (may_leave old) → IsDurable n (stored new) (may_leave new)
+    pub durable : IsTrue (honest old) → (n : List ℕ) → stays n → IsDurable n (stored old) (may_leave old)
+        → IsDurable n (stored new) (may_leave new)
     pub honest_same : honest new ≡ honest old
     pub quiet : failures new ≡ failures old
     pub keeps : (n : List ℕ) → failed_at old n → failed_at new n
 
   -- a call that may change all files but those that stay, by its result
-  abbrev pub WritesTo : {X E : Type 0} → (List ℕ → Type 0) → S → S → Result X E → (E → Type 0) → (E → (List ℕ → Type 0) → Type 0) → Type 0
+  abbrev pub WritesTo : {X E : Type 0} → (List ℕ → Type 0) → S → S → Result X E → (E → Type 0)
+      → (E → (List ℕ → Type 0) → Type 0) → Type 0
   WritesTo stays old new result is_device names =
       HasWritten stays old new (IfErr result (λ fault. ¬ is_device fault)) (IsErrAnd result is_device)
       (IfErr result (λ fault. is_device fault → names fault (failed_at new)))

@@ -23,8 +23,8 @@ pub record Refusal : Type 0 where
 abbrev is_from_to : ℕ → ℕ → ℕ → Bool
 is_from_to first last n = nat_le first n && nat_le n last
 
--- The stages of a call in turn: text, binding, entries, intervals, passes or an empty range, runs or a block, the new list,
--- the size of a file, the board, and opening marks.
+-- The stages of a call in turn: text, binding, entries, intervals, passes or an empty range, runs or a block, the new
+-- list, the size of a file, the board, and opening marks.
 abbrev pub stage_of : ℕ → ℕ
 stage_of n =
     if nat_le n 18 then 1
@@ -45,13 +45,14 @@ turn_of refusal = if refusal.late then 11 else stage_of refusal.number
 -- no memory was found
 abbrev pub is_memory : ℕ → Bool
 is_memory n =
-    n == 18 || n == 31 || n == 45 || n == 47 || n == 51 || n == 54 || n == 56 || n == 57 || n == 60 || n == 63 || n == 69
+    n == 18 || n == 31 || n == 45 || n == 47 || n == 51 || n == 54 || n == 56 || n == 57 || n == 60 || n == 63
+    || n == 69
 
 -- a device failed
 abbrev pub is_device : ℕ → Bool
 is_device n = n == 19 || n == 22 || n == 52 || n == 62 || n == 66
 
--- want of memory and devices, which may come where nothing is due
+-- out of memory and failed devices, which may come where nothing is due
 abbrev pub is_excused : ℕ → Bool
 is_excused n = is_memory n || is_device n
 

@@ -44,25 +44,30 @@ gives_from_reads (Err (Text fault location)) reading h =
 gives_from_reads (Err Memory) reading h = tt
 
 exact_from_reads :
-    (text : List ℕ) (result : Result ListProject AdlFault) → Reads (λ p. p) result (read_from 25 nothing_read 0 (lines_of text))
+    (text : List ℕ) (result : Result ListProject AdlFault)
+    → Reads (λ p. p) result (read_from 25 nothing_read 0 (lines_of text))
     → Gives (λ p. p) refusal (λ r. r.number) result (text_value text)
 unfolding text_value
 exact_from_reads text result h = gives_from_reads result (read_from 25 nothing_read 0 (lines_of text)) h
 
 spelled_from_exact :
-    (text : List ℕ) (result : Result ListProject AdlFault) → Gives (λ p. p) refusal (λ r. r.number) result (text_value text)
+    (text : List ℕ) (result : Result ListProject AdlFault)
+    → Gives (λ p. p) refusal (λ r. r.number) result (text_value text)
     → IfOk result (λ project. Spells text project)
 spelled_from_exact text (Ok project) h = spelled_of text project h
 spelled_from_exact text (Err fault) h = tt
 
 faulty_from_reads :
-    (text : List ℕ) (result : Result ListProject AdlFault) → Reads (λ p. p) result (read_from 25 nothing_read 0 (lines_of text))
-    → IfErr result (λ fault. is_memory (refusal fault).number ≡ false → (project : ListProject) → Spells text project → ⊥)
+    (text : List ℕ) (result : Result ListProject AdlFault)
+    → Reads (λ p. p) result (read_from 25 nothing_read 0 (lines_of text))
+    → IfErr result (λ fault. is_memory (refusal fault).number ≡ false → (project : ListProject) → Spells text project
+    → ⊥)
 unfolding text_value
 faulty_from_reads text (Ok project) h = tt
 faulty_from_reads text (Err (Text fault location)) h = λ _ project spells.
     let value = value_of text project spells in
-    let fault : ◌≡◌ {A = Result ListProject Refusal} (Err (text_refusal (record { fault = fault; location = location }))) (Ok project) =
+    let fault : ◌≡◌ {A = Result ListProject Refusal}
+    (Err (text_refusal (record { fault = fault; location = location }))) (Ok project) =
     sym (ap (err_map text_refusal) h) ∙ value in
     cc
 faulty_from_reads text (Err Memory) h = λ no project spells. let wrong : true ≡ false = no in cc
@@ -72,7 +77,8 @@ returns-clause-exact c = exact_from_reads c.args.text.now c.read_lines.result c.
 
 pub returns-clause-spelled : goal.returns-clause-spelled
 returns-clause-spelled c =
-    spelled_from_exact c.args.text.now c.read_lines.result (exact_from_reads c.args.text.now c.read_lines.result c.read_lines.ensures)
+    spelled_from_exact c.args.text.now c.read_lines.result
+    (exact_from_reads c.args.text.now c.read_lines.result c.read_lines.ensures)
 
 pub returns-clause-only : goal.returns-clause-only
 returns-clause-only c project spells =

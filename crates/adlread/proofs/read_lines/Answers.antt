@@ -13,27 +13,36 @@ lines-init c = record {
   same = ap (λ (d : Context). read_from 25 d c.new-lines.result.number c.new-lines.result.lines) c.in_ok-draft.ensures
       ∙ ap (λ (left : LinesLeft). read_from 25 nothing_read left.number left.lines) c.new-lines.ensures;
   so_far = rw c.in_ok-draft.ensures IsSoFar-nothing;
-  whole = ap (λ (left : LinesLeft). list_all (list_all is_line_byte) left.lines) c.new-lines.ensures ∙ lines_of-lines c.args.text.now;
+  whole = ap (λ (left : LinesLeft). list_all (list_all is_line_byte) left.lines) c.new-lines.ensures
+      ∙ lines_of-lines c.args.text.now;
 }
 
 pub finish-requires : goal.finish-requires
 finish-requires c =
-    let whole = first_of-lines c.lines.lines.lines c.next_line.new.self.lines c.in-Some.line.now c.in-Some.ensures.line.0 c.lines.invariant.whole in
-    IsSoFar-line (context_of c.lines.draft) (context_of c.add.new.self) c.number.result c.in-Some.line.now c.lines.invariant.so_far whole
+    let whole =
+    first_of-lines c.lines.lines.lines c.next_line.new.self.lines c.in-Some.line.now c.in-Some.ensures.line.0
+    c.lines.invariant.whole in
+    IsSoFar-line (context_of c.lines.draft) (context_of c.add.new.self)
+    c.number.result c.in-Some.line.now c.lines.invariant.so_far whole
     c.in_ok-add.ensures
 
 pub lines-preserved : goal.lines-preserved
 lines-preserved c =
     let first = c.in-Some.ensures.line.0 in
-    let whole = first_of-lines c.lines.lines.lines c.next_line.new.self.lines c.in-Some.line.now first c.lines.invariant.whole in
+    let whole =
+    first_of-lines c.lines.lines.lines c.next_line.new.self.lines c.in-Some.line.now first c.lines.invariant.whole
+    in
     let before : false ≡ is_behind c.add.new.self.stage = sym c.if-is_behind.false ∙ c.is_behind.ensures in
     let number : c.number.result ≡ c.lines.lines.number + 1 = c.number.ensures ∙ c.in-Some.ensures.line.1 in
     record {
       same = ap (λ n. read_from 25 (context_of c.add.new.self) n c.next_line.new.self.lines) (sym c.number.ensures)
-          ∙ read_from-step (context_of c.lines.draft) (context_of c.add.new.self) c.lines.lines.number c.number.result c.in-Some.line.now
+          ∙ read_from-step (context_of c.lines.draft) (context_of c.add.new.self)
+          c.lines.lines.number c.number.result c.in-Some.line.now
           c.lines.lines.lines c.next_line.new.self.lines first number c.in_ok-add.ensures before
           ∙ c.lines.invariant.same;
-      so_far = IsSoFar-line (context_of c.lines.draft) (context_of c.add.new.self) c.number.result c.in-Some.line.now c.lines.invariant.so_far whole
+      so_far = IsSoFar-line (context_of c.lines.draft) (context_of c.add.new.self)
+          c.number.result c.in-Some.line.now c.lines.invariant.so_far whole
           c.in_ok-add.ensures;
-      whole = rest_of-lines c.lines.lines.lines c.next_line.new.self.lines c.in-Some.line.now first c.lines.invariant.whole;
+      whole = rest_of-lines c.lines.lines.lines c.next_line.new.self.lines c.in-Some.line.now first
+          c.lines.invariant.whole;
     }

@@ -10,7 +10,8 @@ use Rattle.adlread.proofs.read_lines.Given as goal
 -- what is left to read, behind what was read so far, gives what the whole gives
 abbrev pub invariant-lines : goal.invariant-lines
 invariant-lines l = record {
-  same : read_from 25 (context_of l.draft) l.lines.number l.lines.lines ≡ read_from 25 nothing_read 0 (lines_of l.fn.text);
+  same : read_from 25 (context_of l.draft) l.lines.number l.lines.lines
+      ≡ read_from 25 nothing_read 0 (lines_of l.fn.text);
   so_far : IsSoFar (context_of l.draft);
   whole : list_all (list_all is_line_byte) l.lines.lines ≡ true;
 }

@@ -1,9 +1,9 @@
 use Rattle.std.proofs.Common.{◌≡◌, ◌<◌, ◌^◌, ◌∙◌, ap, arith, replicate, length}
+use Rattle.facts.specs.Filling.{three_filled}
 use Rattle.sound_terms.specs.Waves.{u16_bytes, u64_bytes, zeros}
 use Rattle.sound_terms.specs.Bext.{bext_of, bext_bytes}
 use Rattle.sound_terms.specs.Laws.{length-u16_bytes, length-u64_bytes}
 use Rattle.bext.proofs.Fields.{bext_again}
-use Rattle.bext.proofs.Filling.{three_filled}
 use Rattle.bext.proofs.bytes_of.Goals as goal
 
 bytes_put : goal.returns-clause-bytes

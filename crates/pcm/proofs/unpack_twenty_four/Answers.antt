@@ -1,7 +1,7 @@
-use Rattle.std.proofs.Common.{◌≡◌, ◌*◌, ◌∙◌, arith, drop, rules, sym, ap}
+use Rattle.std.proofs.Common.{◌≡◌, ◌*◌, ◌∙◌, arith, drop, rules, sym}
 use Rattle.std.specs.Int.{w32, cast_signed, cast_unsigned}
 use Rattle.std.proofs.lemmas.Int.{to_z-of_z}
-use Rattle.std.proofs.lemmas.List.{take_all, take_rest}
+use Rattle.std.proofs.lemmas.List.{take_all}
 use mir.Val.{SFits}
 use Rattle.sound_terms.specs.declared.Depth.TheVariants.{TwentyFour}
 use Rattle.sound_terms.specs.Waves.{sample_of}
@@ -13,10 +13,10 @@ use Rattle.pcm.proofs.unpack_twenty_four.Goals as goal
 pub loop-i-preserved : goal.loop-i-preserved
 loop-i-preserved c =
     let bytes = c.args.bytes.now in
-    let sample = c.read_twenty_four.result in
+    let sample = c.twenty_four_at.result in
     let fits : SFits w32 sample = search rules in
     let read : cast_signed w32 (cast_unsigned w32 sample) ≡ sample_of 24 (drop (c.loop-i.i * 3) bytes) =
-    to_z-of_z w32 sample fits ∙ c.read_twenty_four.ensures ∙ ap (sample_of 24) (take_rest bytes (c.loop-i.i * 3)) in
+    to_z-of_z w32 sample fits ∙ c.twenty_four_at.ensures in
     one_read 24 c.loop-i.i bytes c.loop-i.samples _ (omega arith) read c.loop-i.invariant
 
 pub returns-clause-fit : goal.returns-clause-fit

@@ -1,9 +1,9 @@
 use Rattle.std.proofs.Common.{◌≡◌, ◌∙◌, ap, arith, replicate}
+use Rattle.facts.specs.Filling.{three_filled}
 use Rattle.sound_terms.specs.Waves.{u32_bytes, u64_bytes}
 use Rattle.sound_terms.specs.Ds64.{ds64_of, ds64_bytes}
 use Rattle.sound_terms.specs.Laws.{length-u64_bytes}
 use Rattle.rf64.proofs.Fields.{ds64_again}
-use Rattle.rf64.proofs.Filling.{three_filled}
 use Rattle.rf64.proofs.ds64_bytes.Goals as goal
 
 bytes_put : goal.returns-clause-bytes
@@ -18,7 +18,8 @@ bytes_put c =
     let a = length-u64_bytes c.args.riff_size in
     let b = length-u64_bytes c.args.data_size in
     let d = length-u64_bytes c.args.samples in
-    three_filled (u64_bytes c.args.riff_size) (u64_bytes c.args.data_size) (u64_bytes c.args.samples) (replicate 28 0) _ _ _
+    three_filled (u64_bytes c.args.riff_size) (u64_bytes c.args.data_size) (u64_bytes c.args.samples) (replicate 28 0)
+    _ _ _
     8 16 24 a (omega arith) (omega arith) (rw first at put) (rw second at next) (rw third at last)
 
 pub returns-clause-bytes : goal.returns-clause-bytes
@@ -27,4 +28,5 @@ returns-clause-bytes = bytes_put
 pub returns-clause-again : goal.returns-clause-again
 returns-clause-again c =
     ap (λ bytes. ds64_of bytes 28) (bytes_put c)
-    ∙ ds64_again c.args.riff_size c.args.data_size c.args.samples c.ranges.riff_size.fits c.ranges.data_size.fits c.ranges.samples.fits
+    ∙ ds64_again c.args.riff_size c.args.data_size c.args.samples c.ranges.riff_size.fits c.ranges.data_size.fits
+    c.ranges.samples.fits

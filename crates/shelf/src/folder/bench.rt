@@ -10,9 +10,9 @@ use std::io;
 use std::marker::Model;
 use std::os::unix::fs::FileExt;
 
-/// Outputs in a folder, which has to be there. Only the names of files right inside the folder name a file, and no link is
-/// followed. While a bench is at work nothing else is to write to its files. A sync closes the file: it is finished, and
-/// a later call opens it again.
+/// Outputs in a folder, which has to be there. Only the names of files right inside the folder name a file, and no link
+/// is followed. While a bench is at work nothing else is to write to its files. A sync closes the file: it is finished,
+/// and a later call opens it again.
 #[derive(Drop)]
 pub struct FolderBench<R: Files + Drop>
 where

@@ -9,7 +9,7 @@ use std::io::{Error, ErrorKind};
 pub fn is_file_name(name: &str) -> bool
     ensures { result ≡ spec.is_file_name name.now }
 {
-    !is_dots(name) && name.as_bytes().iter().all(|byte| is_name_byte(*byte))
+    !is_dots(name) && name.as_bytes().iter().all(|byte| is_file_name_byte(*byte))
 }
 
 /// Fails where no file right inside a folder can have the name.
@@ -30,8 +30,8 @@ fn is_dots(name: &str) -> bool
     name.is_empty() || name == "." || name == ".."
 }
 
-fn is_name_byte(byte: u8) -> bool
-    ensures { result ≡ spec.is_name_byte byte }
+fn is_file_name_byte(byte: u8) -> bool
+    ensures { result ≡ spec.is_file_name_byte byte }
 {
     byte != b'/' && byte != 0
 }

@@ -50,7 +50,8 @@ impl NamedFiles {
 
     /// Adds the bytes at the end of the file. It fails where there is no file, or no memory.
     pub fn append(&mut self, name: &str, bytes: &[u8]) -> Result<(), DeviceFault>
-        ensures appended { OnOk result (Changes (IsAppended bytes.now) name.now (files_of self.old) (files_of self.new)) }
+        ensures appended { OnOk result (Changes (IsAppended bytes.now) name.now (files_of self.old)
+            (files_of self.new)) }
         ensures unchanged { OnErr result ((n : List ℕ) → files_of self.new n ≡ files_of self.old n) }
     {
         let file = self.files.get_mut(name).ok_or(DeviceFault)?;
@@ -60,7 +61,8 @@ impl NamedFiles {
 
     /// Writes the bytes over those from `at` on. It fails where they don't lie inside a file.
     pub fn write_at(&mut self, name: &str, at: u64, bytes: &[u8]) -> Result<(), DeviceFault>
-        ensures written { OnOk result (Changes (IsWritten at bytes.now) name.now (files_of self.old) (files_of self.new)) }
+        ensures written { OnOk result (Changes (IsWritten at bytes.now) name.now (files_of self.old)
+            (files_of self.new)) }
         ensures unchanged { OnErr result ((n : List ℕ) → files_of self.new n ≡ files_of self.old n) }
         ensures outside { OnErr result (IsOutside (files_of self.old name.now) at (length bytes.now)) }
     {

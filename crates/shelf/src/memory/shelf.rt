@@ -30,7 +30,8 @@ impl MemoryShelf {
 
     /// The same shelf with one file more, or with other bytes in the file of that name.
     pub fn with_file(mut self, name: &str, bytes: &[u8]) -> Result<Self, AllocError>
-        ensures file { IfOk result (λ shelf. Changes (IsPut bytes.now) name.now (shelf_files self) (shelf_files shelf)) }
+        ensures file { IfOk result (λ shelf. Changes (IsPut bytes.now) name.now (shelf_files self) (shelf_files
+            shelf)) }
         ensures failures { IfOk result (λ shelf. shelf_failures shelf ≡ shelf_failures self) }
         ensures stretch { IfOk result (λ shelf. shelf_stretch shelf ≡ shelf_stretch self) }
     {

@@ -12,5 +12,8 @@ returns-clause-exact c = ap (λ x. eqb x 0) (rest_by c.args.size c.args.num c.ar
 pub returns-clause-smaller : goal.returns-clause-smaller
 returns-clause-smaller c e =
     let rest : c.args.size * c.args.num % c.args.den ≢ 0 =
-    λ none. let yes = eq-eqb (c.args.size % c.args.den * c.args.num % c.args.den) 0 (rest_by c.args.size c.args.num c.args.den ∙ none) in cc in
-    rw (quotient_by c.args.size c.args.num c.args.den c.requires.some) (rounded_is_smaller c.args.size c.args.num c.args.den c.requires.fraction c.requires.some rest)
+    λ none. let yes =
+    eq-eqb (c.args.size % c.args.den * c.args.num % c.args.den) 0
+    (rest_by c.args.size c.args.num c.args.den ∙ none) in cc in
+    rw (quotient_by c.args.size c.args.num c.args.den c.requires.some)
+    (rounded_is_smaller c.args.size c.args.num c.args.den c.requires.fraction c.requires.some rest)

@@ -14,5 +14,9 @@ loop-character-preserved g c = λ plain.
 
 pub returns : goal.returns
 returns g c =
-    let all = YieldsList-end (YieldsList-from_chars c.args.name.now c.utf8.name cc) c.loop-character.yielded _ c.loop-character.yielded_by _ _ c.in-None.is c.next.ensures.steps in
-    λ plain ok. has_written_of_eq _ _ _ _ _ (ap (flat_map printed_character) (sym (map-id c.loop-character.yielded) ∙ all.0)) (c.loop-character.invariant plain)
+    let yields = YieldsList-from_chars c.args.name.now c.utf8.name cc in
+    let all = YieldsList-end yields c.loop-character.yielded _ c.loop-character.yielded_by _ _ c.in-None.is
+    c.next.ensures.steps in
+    λ plain ok. has_written_of_eq _ _ _ _ _
+    (ap (flat_map printed_character) (sym (map-id c.loop-character.yielded) ∙ all.0))
+    (c.loop-character.invariant plain)

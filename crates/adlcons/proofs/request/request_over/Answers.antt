@@ -12,17 +12,22 @@ returns-in_err-list c =
 pub returns-in_err-media : goal.returns-in_err-media
 returns-in_err-media c =
     ap (option_map asked_of) c.from_residual-in_err-media.ensures
-    ∙ sym (asked-without_media c.args.name.now _ (found_of c.args.words.now) c.in_ok-list.ensures c.in_err-media.ensures)
+    ∙ sym (asked-without_media c.args.name.now _ (found_of c.args.words.now)
+    c.in_ok-list.ensures c.in_err-media.ensures)
 
 pub returns-then-eq : goal.returns-then-eq
 returns-then-eq c =
-    sym (asked-check c.args.name.now _ _ (found_of c.args.words.now) (search rules) c.in_ok-list.ensures c.in_ok-media.ensures)
+    sym (asked-check c.args.name.now _ _ (found_of c.args.words.now)
+    (search rules) c.in_ok-list.ensures c.in_ok-media.ensures)
 
 pub returns-in_err-out : goal.returns-in_err-out
 returns-in_err-out c =
     ap (option_map asked_of) c.from_residual-in_err-out.ensures
-    ∙ sym (asked-without_out c.args.name.now _ _ (found_of c.args.words.now) (search rules) c.in_ok-list.ensures c.in_ok-media.ensures c.in_err-out.ensures)
+    ∙ sym (asked-without_out c.args.name.now _ _ (found_of c.args.words.now)
+    (search rules) c.in_ok-list.ensures c.in_ok-media.ensures c.in_err-out.ensures)
 
 pub returns : goal.returns
 returns c =
-    c.request_to.ensures ∙ sym (asked-all c.args.name.now _ _ _ (found_of c.args.words.now) (search rules) c.in_ok-list.ensures c.in_ok-media.ensures c.in_ok-out.ensures)
+    c.request_to.ensures
+    ∙ sym (asked-all c.args.name.now _ _ _ (found_of c.args.words.now)
+    (search rules) c.in_ok-list.ensures c.in_ok-media.ensures c.in_ok-out.ensures)

@@ -7,7 +7,8 @@ use Rattle.adlmodel.proofs.place.behind_last_slash.Given as goal
 abbrev pub invariant-loop-start : goal.invariant-loop-start
 invariant-loop-start l = record {
   inside : l.start ≤ length l.text;
-  others : l.start + suffix_len (λ b. not (is_slash b)) l.text ≡ length l.text + suffix_len (λ b. not (is_slash b)) (take l.start l.text);
+  others : l.start + suffix_len (λ b. not (is_slash b)) l.text
+      ≡ length l.text + suffix_len (λ b. not (is_slash b)) (take l.start l.text);
 }
 
 abbrev pub decreases-loop-start : goal.decreases-loop-start

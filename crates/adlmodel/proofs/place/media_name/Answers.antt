@@ -18,4 +18,5 @@ pub returns-then-is_media_name-clause-none : goal.returns-then-is_media_name-cla
 returns-then-is_media_name-clause-none c =
     let name = c.args.name.items in
     let is : is_media_name name ≡ true = cc in
-    there c.from_utf8.result c.ok.result _ c.ok.ensures.value (c.from_utf8.ensures.succeeds (IsUtf8-from_is_utf8 name (first (is_utf8 name) _ is)))
+    there c.from_utf8.result c.ok.result _ c.ok.ensures.value
+    (c.from_utf8.ensures.succeeds (IsUtf8-from_is_utf8 name (first (is_utf8 name) _ is)))

@@ -8,5 +8,6 @@ pub returns-in_err-next_token : goal.returns-in_err-next_token
 unfolding end_line
 returns-in_err-next_token c =
     let at : token_at c.loop.tokens.rest.now ≡ Err c.in_err-next_token.field-0.0 = search rules in
-    let e = IsLeft-fault (λ token. true) c.args.tokens.now.rest.now c.loop.tokens.rest.now c.in_err-next_token.field-0.0 c.loop.invariant at in
+    let e = IsLeft-fault (λ token. true)
+    c.args.tokens.now.rest.now c.loop.tokens.rest.now c.in_err-next_token.field-0.0 c.loop.invariant at in
     rw e (search rules)

@@ -4,4 +4,5 @@ use Rattle.adlread.proofs.numbers.spelled.Given as goal
 
 -- the digits so far spell the number
 abbrev pub invariant-loop-digit : goal.invariant-loop-digit
-invariant-loop-digit l = record { value : l.number ≡ spelled (take l.digit-index l.digits); small : l.number < 10 ^ l.digit-index }
+invariant-loop-digit l =
+    record { value : l.number ≡ spelled (take l.digit-index l.digits); small : l.number < 10 ^ l.digit-index }

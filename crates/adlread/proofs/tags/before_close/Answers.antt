@@ -27,4 +27,5 @@ by_cases text (Some front) h = sym (ap before_close h ∙ before_close-closed fr
 
 pub returns : goal.returns
 returns c =
-    by_cases c.args.tag.now c.strip_suffix.result (strip_suffix_is Decides-eqb c.args.tag.now (62 ∷ []) c.strip_suffix.result c.strip_suffix.ensures.cases)
+    by_cases c.args.tag.now c.strip_suffix.result
+    (strip_suffix_is Decides-eqb c.args.tag.now (62 ∷ []) c.strip_suffix.result c.strip_suffix.ensures.cases)

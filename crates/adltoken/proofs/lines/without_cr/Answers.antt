@@ -15,5 +15,6 @@ front_or_text text (Some front) h = sym (ap without_cr h ∙ without_cr-cr front
 
 pub returns : goal.returns
 returns c =
-    let e = front_or_text c.args.text c.strip_suffix.result (strip_suffix_is Decides-eqb c.args.text.now (13 ∷ []) c.strip_suffix.result c.strip_suffix.ensures.cases) in
+    let e = front_or_text c.args.text c.strip_suffix.result
+    (strip_suffix_is Decides-eqb c.args.text.now (13 ∷ []) c.strip_suffix.result c.strip_suffix.ensures.cases) in
     cc

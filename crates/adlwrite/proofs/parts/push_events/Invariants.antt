@@ -5,4 +5,5 @@ use Rattle.adlwrite.proofs.parts.push_events.Given as goal
 
 -- the parts before the place
 abbrev pub invariant-loop-event : goal.invariant-loop-event
-invariant-loop-event l = l.out.items ≡ l.initial.out.items ++ flat_map (event_text l.project) (take l.event-index l.events)
+invariant-loop-event l =
+    l.out.items ≡ l.initial.out.items ++ flat_map (event_text l.project) (take l.event-index l.events)

@@ -17,9 +17,14 @@ loop-i-preserved c =
     let sample_fits : SFits w64 c.full_sample-sample.result = search rules in
     let sum_fits : SFits w64 (get_or sums n (pos 0)) = search rules in
     let fits : SFits w64 c.added.result = search rules in
-    let share_fits : SFits w64 c.contribution-share.result = search rules in
-    let share = rw (to_z-of_z w64 c.full_sample-sample.result sample_fits) at c.contribution-share.ensures.share in
-    let sum = rw (to_z-of_z w64 (get_or sums n (pos 0)) sum_fits, to_z-of_z w64 c.contribution-share.result share_fits) at c.added.ensures in
-    let value = to_z-of_z w64 c.added.result fits ∙ sum ∙ ap (λ z. held (get_or sums n (pos 0) +ℤ z)) (rw (← c.full_sample-sample.ensures.value) share) in
-    added_more n (Fall c.args.offset c.args.den) (bits_of c.args.depth) c.args.channels c.args.channel c.args.frames.now c.args.sums.now sums _ inside
+    let share_fits : SFits w64 c.contribution_near-share.result = search rules in
+    let share = rw (to_z-of_z w64 c.full_sample-sample.result sample_fits) at c.contribution_near-share.ensures.share in
+    let sum =
+    rw (to_z-of_z w64 (get_or sums n (pos 0)) sum_fits, to_z-of_z w64 c.contribution_near-share.result share_fits)
+    at c.added.ensures in
+    let value =
+    to_z-of_z w64 c.added.result fits ∙ sum
+    ∙ ap (λ z. held (get_or sums n (pos 0) +ℤ z)) (rw (← c.full_sample-sample.ensures.value) share) in
+    added_more n (Fall c.args.offset c.args.den) (bits_of c.args.depth)
+    c.args.channels c.args.channel c.args.frames.now c.args.sums.now sums _ inside
     c.loop-i.invariant value

@@ -17,7 +17,10 @@ loop-i-preserved c =
     let sample_fits : SFits w64 c.full_sample-sample.result = search rules in
     let sum_fits : SFits w64 (get_or sums n (pos 0)) = search rules in
     let fits : SFits w64 c.added.result = search rules in
-    let sum = rw (to_z-of_z w64 (get_or sums n (pos 0)) sum_fits, to_z-of_z w64 c.full_sample-sample.result sample_fits) at c.added.ensures in
+    let sum =
+    rw (to_z-of_z w64 (get_or sums n (pos 0)) sum_fits, to_z-of_z w64 c.full_sample-sample.result sample_fits)
+    at c.added.ensures in
     let value = to_z-of_z w64 c.added.result fits ∙ sum
     ∙ ap (λ z. held (get_or sums n (pos 0) +ℤ z)) (c.full_sample-sample.ensures.value ∙ sym (flat_share _)) in
-    added_more n Flat (bits_of c.args.depth) c.args.channels c.args.channel c.args.frames.now c.args.sums.now sums _ inside c.loop-i.invariant value
+    added_more n Flat (bits_of c.args.depth)
+    c.args.channels c.args.channel c.args.frames.now c.args.sums.now sums _ inside c.loop-i.invariant value

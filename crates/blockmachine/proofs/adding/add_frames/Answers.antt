@@ -21,7 +21,8 @@ loop-j-preserved c =
     record {
       same_length = length-put a k old new (pos 0) fits whole ∙ same;
       added = λ reading plays before are.
-          channel_more reading stretch c.args.shape before j k (bits_of c.args.depth) c.args.channels c.args.frames.now old new (omega arith) long
+          channel_more reading stretch c.args.shape before j k (bits_of c.args.depth)
+          c.args.channels c.args.frames.now old new (omega arith) long
           (record {
             some = inside.some;
             samples = inside.samples;

@@ -26,5 +26,6 @@ loop-channel-preserved c = λ all are.
     let sample = to_z w32 (of_z w32 c.sample_of.result) in
     take_more_set c.loop-channel.frame n sample (omega arith)
     ∙ ap (λ (l : List ℤ). l ++ sample ∷ []) (c.loop-channel.invariant all are)
-    ∙ ap (λ z. frame_samples bits all i 1 n ++ z ∷ []) (to_z-of_z w32 c.sample_of.result fits ∙ told ∙ ap (quantized bits) sum)
+    ∙ ap (λ z. frame_samples bits all i 1 n ++ z ∷ [])
+    (to_z-of_z w32 c.sample_of.result fits ∙ told ∙ ap (quantized bits) sum)
     ∙ sym (frame_more bits all i 1 n)

@@ -26,19 +26,25 @@ loop-line-preserved g c =
           let sums = c.add_line.new.sums in
           let mid : BlockState = executed_all reading channels (take n lines) before in
           let old = c.loop-line.invariant.added honest channels before are in
-          let new : AreSums sums (executed (reading_by (g.S.Shelf.stored c.loop-line.shelf) c.args.sounds.now) channels line mid).sums =
+          let new : AreSums sums (executed (reading_by (g.S.Shelf.stored c.loop-line.shelf) c.args.sounds.now)
+          channels line mid).sums =
           c.in_ok-add_line.ensures.added (subst IsTrue (sym quiet.honest_same) honest) channels mid old in
-          let same = subst (λ (stored : Files). AreSums sums (executed (reading_by stored c.args.sounds.now) channels line mid).sums) quiet.same new in
+          let same =
+          subst (λ (stored : Files). AreSums sums (executed (reading_by stored c.args.sounds.now)
+          channels line mid).sums) quiet.same new in
           let whole : executed reading channels line mid ≡ executed_all reading channels (take (n + 1) lines) before =
           sym (executed_all-append reading channels (take n lines) (line ∷ []) before)
-          ∙ ap (λ (l : List Instruction). executed_all reading channels l before) (sym (take_more lines n (Start 0) (omega arith))) in
+          ∙ ap (λ (l : List Instruction). executed_all reading channels l before)
+          (sym (take_more lines n (Start 0) (omega arith))) in
           subst (λ (state : BlockState). AreSums sums state.sums) whole same;
       full = λ honest.
           let reading : Reading = reading_by (g.S.Shelf.stored c.args.shelf.now) c.args.sounds.now in
           let lines = c.args.lines.now in
           let n = c.loop-line.line-index in
           let new = c.in_ok-add_line.ensures.full (subst IsTrue (sym quiet.honest_same) honest) in
-          let same = subst (λ (stored : Files). PlaysFull (reading_by stored c.args.sounds.now) (get_or lines n (Start 0))) quiet.same new in
+          let same =
+          subst (λ (stored : Files). PlaysFull (reading_by stored c.args.sounds.now) (get_or lines n (Start 0)))
+          quiet.same new in
           All-more (PlaysFull reading) lines n (Start 0) (omega arith) (c.loop-line.invariant.full honest) same;
     }
 
@@ -47,12 +53,15 @@ returns-clause-added g c = λ honest channels before are.
     let sums = c.loop-line.sums in
     let lines = c.args.lines.now in
     let reading : Reading = reading_by (g.S.Shelf.stored c.args.shelf.now) c.args.sounds.now in
-    let all : take c.loop-line.line-index lines ≡ lines = take_all c.loop-line.line-index lines c.loop-line-test.false in
-    subst (λ (l : List Instruction). AreSums sums (executed_all reading channels l before).sums) all (c.loop-line.invariant.added honest channels before are)
+    let all : take c.loop-line.line-index lines ≡ lines =
+    take_all c.loop-line.line-index lines c.loop-line-test.false in
+    subst (λ (l : List Instruction). AreSums sums (executed_all reading channels l before).sums) all
+    (c.loop-line.invariant.added honest channels before are)
 
 pub returns-clause-full : goal.returns-clause-full
 returns-clause-full g c = λ honest.
     let lines = c.args.lines.now in
     let reading : Reading = reading_by (g.S.Shelf.stored c.args.shelf.now) c.args.sounds.now in
-    let all : take c.loop-line.line-index lines ≡ lines = take_all c.loop-line.line-index lines c.loop-line-test.false in
+    let all : take c.loop-line.line-index lines ≡ lines =
+    take_all c.loop-line.line-index lines c.loop-line-test.false in
     subst (λ (l : List Instruction). All (PlaysFull reading) l) all (c.loop-line.invariant.full honest)

@@ -10,7 +10,8 @@ invariant-loop-line g l = record {
   same_length : length l.sums ≡ length l.fn.sums;
   quiet : IsQuiet g.S.Shelf l.fn.shelf l.shelf;
   added : IsTrue (g.S.Shelf.honest l.fn.shelf) → (channels : ℕ) (before : BlockState) → AreSums l.fn.sums before.sums
-      → AreSums l.sums (executed_all (reading_by (g.S.Shelf.stored l.fn.shelf) l.sounds) channels (take l.line-index l.lines) before).sums;
+      → AreSums l.sums (executed_all (reading_by (g.S.Shelf.stored l.fn.shelf) l.sounds) channels
+      (take l.line-index l.lines) before).sums;
   full : IsTrue (g.S.Shelf.honest l.fn.shelf)
       → All (PlaysFull (reading_by (g.S.Shelf.stored l.fn.shelf) l.sounds)) (take l.line-index l.lines);
 }

@@ -30,14 +30,22 @@ loop-done-preserved g c =
           let sums = c.add_part.new.sums in
           let old = c.loop-done.invariant.added honest before are in
           let new = c.in_ok-add_part.ensures.added (subst IsTrue (sym quiet.honest_same) honest) front old in
-          let same = subst (λ (stored : Files). AreSums sums (sums_with (reading_by stored c.args.sounds.now) c.part_of-part.result c.behind.result front)) quiet.same new in
-          let part = subst (λ (p : Stretch). AreSums sums (sums_with reading p c.behind.result front)) c.part_of-part.ensures same in
+          let same =
+          subst (λ (stored : Files). AreSums sums (sums_with (reading_by stored c.args.sounds.now)
+          c.part_of-part.result c.behind.result front)) quiet.same new in
+          let part =
+          subst (λ (p : Stretch). AreSums sums (sums_with reading p c.behind.result front))
+          c.part_of-part.ensures same in
           let shaped = rw c.behind.ensures at part in
-          λ i channel room first there. shaped i channel room first there ∙ part_more reading stretch c.args.shape done count before i channel;
+          λ i channel room first there. shaped i channel room first there
+          ∙ part_more reading stretch c.args.shape done count before i channel;
       full = λ honest.
           let old = c.loop-done.invariant.full honest in
           let new = c.in_ok-add_part.ensures.full (subst IsTrue (sym quiet.honest_same) honest) in
-          let same = subst (λ (stored : Files). IsFull (reading_by stored c.args.sounds.now) c.part_of-part.result) quiet.same new in
+          let same =
+          subst (λ (stored : Files). IsFull (reading_by stored c.args.sounds.now) c.part_of-part.result)
+          quiet.same new in
           full_more (reading_by (g.S.Shelf.stored c.args.shelf.now) c.args.sounds.now) stretch done count old
-          (subst (λ (p : Stretch). IsFull (reading_by (g.S.Shelf.stored c.args.shelf.now) c.args.sounds.now) p) c.part_of-part.ensures same);
+          (subst (λ (p : Stretch). IsFull (reading_by (g.S.Shelf.stored c.args.shelf.now) c.args.sounds.now) p)
+          c.part_of-part.ensures same);
     }

@@ -12,7 +12,8 @@ invariant-loop-done g l = record {
   same_length : length l.sums ≡ length l.fn.sums;
   quiet : IsQuiet g.S.Shelf l.fn.shelf l.shelf;
   added : IsTrue (g.S.Shelf.honest l.fn.shelf) → (before : ℕ → ℕ → ℤ) → AreSums l.fn.sums before
-      → AreSums l.sums (sums_with (reading_by (g.S.Shelf.stored l.fn.shelf) l.sounds) (record l.stretch { length = l.done }) l.shape before);
+      → AreSums l.sums (sums_with (reading_by (g.S.Shelf.stored l.fn.shelf) l.sounds)
+      (record l.stretch { length = l.done }) l.shape before);
   full : IsTrue (g.S.Shelf.honest l.fn.shelf)
       → IsFull (reading_by (g.S.Shelf.stored l.fn.shelf) l.sounds) (record l.stretch { length = l.done });
 }

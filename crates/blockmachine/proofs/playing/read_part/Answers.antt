@@ -16,7 +16,8 @@ returns-in-Ok-clause-plays g c = λ honest facts there.
     let sound = c.index-sounds-part.result in
     let found : slice_get c.args.sounds.now c.args.part.now.file ≡ Some sound =
     slice_get_read c.args.sounds.now (length c.args.sounds.now) c.args.part.now.file c.index-sounds-part.result refl
-    (slice_get_within c.args.sounds.now c.args.part.now.file c.requires.lies.facts c.requires.lies.there) c.index-sounds-part.is in
+    (slice_get_within c.args.sounds.now c.args.part.now.file c.requires.lies.facts c.requires.lies.there)
+    c.index-sounds-part.is in
     let same : sound ≡ facts = same_Some sound facts (sym found ∙ there) in
     let told = same_Some lies.facts facts (sym lies.there ∙ there) in
     let files = g.S.Shelf.stored c.args.shelf.now in
@@ -24,9 +25,12 @@ returns-in-Ok-clause-plays g c = λ honest facts there.
     let inside = lies.frames in
     let last = lies.channels in
     let frames = c.read_frames.new.frames in
-    let whole : length frames ≡ c.args.part.now.length * sound.channels = c.read_frames.auto.frames ∙ c.requires.whole sound found in
-    subst (λ (f : SoundFacts). Plays (reading_by files c.args.sounds.now) c.args.part.now f.channels f.depth frames) same
-    (plays_sound files c.args.sounds.now sound c.args.part.now file.0 frames found file.1 (c.in-Ok.ensures.frames honest file.0 file.1) whole
+    let whole : length frames ≡ c.args.part.now.length * sound.channels =
+    c.read_frames.auto.frames ∙ c.requires.whole sound found in
+    subst (λ (f : SoundFacts). Plays (reading_by files c.args.sounds.now) c.args.part.now f.channels f.depth frames)
+    same
+    (plays_sound files c.args.sounds.now sound c.args.part.now file.0 frames found file.1
+    (c.in-Ok.ensures.frames honest file.0 file.1) whole
     c.requires.first (rw (told ∙ sym same) at last) (rw (told ∙ sym same) at inside))
 
 pub returns-in-Ok-clause-full : goal.returns-in-Ok-clause-full
@@ -35,7 +39,8 @@ returns-in-Ok-clause-full g c = λ honest.
     let sound = c.index-sounds-part.result in
     let found : slice_get c.args.sounds.now c.args.part.now.file ≡ Some sound =
     slice_get_read c.args.sounds.now (length c.args.sounds.now) c.args.part.now.file c.index-sounds-part.result refl
-    (slice_get_within c.args.sounds.now c.args.part.now.file c.requires.lies.facts c.requires.lies.there) c.index-sounds-part.is in
+    (slice_get_within c.args.sounds.now c.args.part.now.file c.requires.lies.facts c.requires.lies.there)
+    c.index-sounds-part.is in
     let told = same_Some lies.facts sound (sym lies.there ∙ found) in
     let files = g.S.Shelf.stored c.args.shelf.now in
     let reading : Reading = reading_by files c.args.sounds.now in
@@ -43,8 +48,11 @@ returns-in-Ok-clause-full g c = λ honest.
     let inside = lies.frames in
     let last = lies.channels in
     let frames = c.read_frames.new.frames in
-    let whole : length frames ≡ c.args.part.now.length * sound.channels = c.read_frames.auto.frames ∙ c.requires.whole sound found in
-    let plays = plays_sound files c.args.sounds.now sound c.args.part.now file.0 frames found file.1 (c.in-Ok.ensures.frames honest file.0 file.1) whole
+    let whole : length frames ≡ c.args.part.now.length * sound.channels =
+    c.read_frames.auto.frames ∙ c.requires.whole sound found in
+    let plays =
+    plays_sound files c.args.sounds.now sound c.args.part.now file.0 frames found file.1
+    (c.in-Ok.ensures.frames honest file.0 file.1) whole
     c.requires.first (rw told at last) (rw told at inside) in
     full_frames reading c.args.part.now sound.channels c.depth.result frames
     (subst (λ (bits : ℕ). All (FitsDepth bits) frames) (sym c.depth.ensures) c.in-Ok.ensures.fit)
@@ -55,7 +63,8 @@ pub returns-in-Ok-clause-fit : goal.returns-in-Ok-clause-fit
 returns-in-Ok-clause-fit g c = λ facts there.
     let found : slice_get c.args.sounds.now c.args.part.now.file ≡ Some c.index-sounds-part.result =
     slice_get_read c.args.sounds.now (length c.args.sounds.now) c.args.part.now.file c.index-sounds-part.result refl
-    (slice_get_within c.args.sounds.now c.args.part.now.file c.requires.lies.facts c.requires.lies.there) c.index-sounds-part.is in
+    (slice_get_within c.args.sounds.now c.args.part.now.file c.requires.lies.facts c.requires.lies.there)
+    c.index-sounds-part.is in
     let same : c.index-sounds-part.result ≡ facts = same_Some c.index-sounds-part.result facts (sym found ∙ there) in
     subst (λ (f : SoundFacts). All (FitsDepth f.depth) c.read_frames.new.frames) same c.in-Ok.ensures.fit
 
@@ -63,7 +72,8 @@ pub returns-in-Err-clause-only_reads : goal.returns-in-Err-clause-only_reads
 returns-in-Err-clause-only_reads g c =
     let found : slice_get c.args.sounds.now c.args.part.now.file ≡ Some c.index-sounds-part.result =
     slice_get_read c.args.sounds.now (length c.args.sounds.now) c.args.part.now.file c.index-sounds-part.result refl
-    (slice_get_within c.args.sounds.now c.args.part.now.file c.requires.lies.facts c.requires.lies.there) c.index-sounds-part.is in
+    (slice_get_within c.args.sounds.now c.args.part.now.file c.requires.lies.facts c.requires.lies.there)
+    c.index-sounds-part.is in
     let only = c.in-Err.ensures.only_reads in
     let is = device_of c.in-Err.field-0 (λ missing. c.in-Err.ensures.not_missing (ap Err missing)) in
     record {

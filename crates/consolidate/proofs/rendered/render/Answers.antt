@@ -1,10 +1,9 @@
-use Rattle.std.proofs.Common.{◌∙◌, rules, subst, sym}
+use Rattle.std.proofs.Common.{◌∙◌, rules, sym}
 use Rattle.std.proofs.lemmas.Result.{err_from_is_err_and}
-use Rattle.work_terms.specs.Disk.{IsUntouched}
 use Rattle.rendering.specs.Rendering.{values_of}
 use Rattle.consolidate.specs.Fault.{refusal_of}
 use Rattle.consolidate.proofs.Due.{opening_due, range_due}
-use Rattle.consolidate.proofs.Stores.{stopped_early, untouched}
+use Rattle.consolidate.proofs.Stores.{stopped_behind, stopped_early}
 use Rattle.consolidate.proofs.rendered.render.Goals as goal
 
 pub returns-in_err-checked : goal.returns-in_err-checked
@@ -16,11 +15,13 @@ returns-in_err-checked g c =
       rendered = search rules;
       durable = search rules;
       report = tt;
-      refusals = λ honest. opening_due (refusal_of fault) c.args.list.now (values_of c.args.options.now) (g.S.Shelf.stored c.args.shelf.now) told.in_turn (told.refusals honest);
+      refusals = λ honest. opening_due (refusal_of fault) c.args.list.now (values_of c.args.options.now)
+          (g.S.Shelf.stored c.args.shelf.now) told.in_turn (told.refusals honest);
       bad_text = told.bad_text;
       own = search rules;
       named = search rules;
-      stores = stopped_early g.S.Shelf g.B.Bench c.args.shelf.now c.open.new.shelf c.args.bench.now fault (g.met.B.Bench.only_now c.args.bench.now) told.only_reads (search rules);
+      stores = stopped_early g.S.Shelf g.B.Bench c.args.shelf.now c.open.new.shelf c.args.bench.now fault
+          (g.met.B.Bench.only_now c.args.bench.now) told.only_reads (search rules);
     })
 
 pub returns-in_err-rendered : goal.returns-in_err-rendered
@@ -33,19 +34,14 @@ returns-in_err-rendered g c =
       rendered = search rules;
       durable = search rules;
       report = tt;
-      refusals = λ honest. let same = range_due c.args.list.now (values_of c.args.options.now) (g.S.Shelf.stored c.args.shelf.now) _ _ (opened.accepted honest) in rw same told.refusals;
+      refusals = λ honest.
+          let values = values_of c.args.options.now in
+          rw (range_due c.args.list.now values (g.S.Shelf.stored c.args.shelf.now) _ _ (opened.accepted honest))
+          told.refusals;
       bad_text = λ refusal bad. let same = sym opened.spelt ∙ bad in absurd (cc);
       own = told.own c.args.list.now;
       named = search rules;
-      stores = record {
-        early = λ early. subst (λ b. IsUntouched g.B.Bench.stored g.B.Bench.may_leave g.B.Bench.moment g.B.Bench.left_since c.args.bench.now b) (sym (told.early early))
-            (untouched g.S.Shelf g.B.Bench c.args.bench.now (g.met.B.Bench.only_now c.args.bench.now));
-        sources = search rules;
-        honest_shelf = search rules;
-        honest_bench = search rules;
-        cause_at_source = search rules;
-        cause_of_62 = search rules;
-        failed_source = search rules;
-        failed_output = search rules;
-      };
+      stores = stopped_behind g.S.Shelf g.B.Bench c.args.shelf.now c.open.new.shelf c.render_checked.new.shelf
+          c.args.bench.now c.render_checked.new.bench fault (g.met.B.Bench.only_now c.args.bench.now)
+          opened.only_reads told.only_reads told.only_writes told.early;
     })

@@ -18,7 +18,8 @@ returns-clause-same_sound g c = λ honest_shelf honest_bench text accepted.
     let planned = is.planned in
     let left = is.left honest_shelf in
     let runs = c.in_ok-plan.plan.runs.items in
-    let shelf_now : IsTrue (g.S.Shelf.honest c.plan_project.new.shelf) = rw c.plan_project.ensures.only_reads.honest_same honest_shelf in
+    let shelf_now : IsTrue (g.S.Shelf.honest c.plan_project.new.shelf) =
+    rw c.plan_project.ensures.only_reads.honest_same honest_shelf in
     let filled : HoldAll (IsFilled (sounds_of binding) (homes_of binding) sources written) runs =
     rw (c.sounds-sounds.ensures.sounds, c.bound.ensures, planned.homes, c.plan_project.ensures.only_reads.same) at
     (c.in_ok-write_plan.ensures.filled shelf_now honest_bench) in
@@ -45,7 +46,8 @@ returns-clause-written g c = λ honest_shelf honest_bench.
     let planned = is.planned in
     let left = is.left honest_shelf in
     let runs = c.in_ok-plan.plan.runs.items in
-    let shelf_now : IsTrue (g.S.Shelf.honest c.plan_project.new.shelf) = rw c.plan_project.ensures.only_reads.honest_same honest_shelf in
+    let shelf_now : IsTrue (g.S.Shelf.honest c.plan_project.new.shelf) =
+    rw c.plan_project.ensures.only_reads.honest_same honest_shelf in
     let filled : HoldAll (IsFilled (sounds_of binding) (homes_of binding) sources written) runs =
     rw (c.sounds-sounds.ensures.sounds, c.bound.ensures, planned.homes, c.plan_project.ensures.only_reads.same) at
     (c.in_ok-write_plan.ensures.filled shelf_now honest_bench) in
@@ -56,7 +58,8 @@ returns-clause-written g c = λ honest_shelf honest_bench.
       list = c.in_ok-write_plan.ensures.list honest_bench ∙ ap Some planned.text;
       media = λ k run there.
           holds_medium binding sources written (1 + k) run
-          (holds_at (IsMediumRun (sounds_of binding) (homes_of binding)) runs k run planned.media there) (filled k run there);
+          (holds_at (IsMediumRun (sounds_of binding) (homes_of binding)) runs k run planned.media there)
+          (filled k run there);
       others = c.in_ok-write_plan.ensures.only_writes.others honest_bench;
       media_count = search rules;
       entry_count = planned.entries;

@@ -25,12 +25,15 @@ loop-place-preserved g c =
       search rules,
       c.fill_run.auto.buffer ∙ c.loop-place.invariant.2,
       λ honest.
-          one_more runs few (IsSafe before (g.B.Bench.may_leave c.loop-place.bench)) (IsSafe after (g.B.Bench.may_leave c.fill_run.new.bench)) i
-          (still_safe (i + 1) number before after (g.B.Bench.may_leave c.loop-place.bench) (g.B.Bench.may_leave c.fill_run.new.bench)
+          one_more runs few (IsSafe before (g.B.Bench.may_leave c.loop-place.bench))
+          (IsSafe after (g.B.Bench.may_leave c.fill_run.new.bench)) i
+          (still_safe (i + 1) number before after (g.B.Bench.may_leave c.loop-place.bench)
+          (g.B.Bench.may_leave c.fill_run.new.bench)
           (filled.only_writes.durable (bench_now honest)))
           run here (c.loop-place.invariant.3 honest) (filled.durable (bench_now honest)),
       λ honest_shelf honest laid.
-          let shelf_now : IsTrue (g.S.Shelf.honest c.loop-place.shelf) = rw c.loop-place.invariant.0.honest_same honest_shelf in
+          let shelf_now : IsTrue (g.S.Shelf.honest c.loop-place.shelf) =
+          rw c.loop-place.invariant.0.honest_same honest_shelf in
           let next = next_of runs (IsLaidOut sounds homes before) i run here (c.loop-place.invariant.5 honest laid) in
           one_more runs few (IsFilled sounds homes sources before) (IsFilled sounds homes sources after) i
           (still_filled sounds homes (i + 1) number before after (filled.only_writes.others (bench_now honest)) sources)
@@ -45,10 +48,12 @@ loop-place-preserved g c =
 pub returns-clause-filled : goal.returns-clause-filled
 returns-clause-filled g c = λ honest_shelf honest laid.
     all_first c.args.runs.now
-    (IsFilled c.args.sounds.now c.args.homes.now (g.S.Shelf.stored c.args.shelf.now) (g.B.Bench.stored c.loop-place.bench)) c.loop-place.place
+    (IsFilled c.args.sounds.now c.args.homes.now (g.S.Shelf.stored c.args.shelf.now)
+    (g.B.Bench.stored c.loop-place.bench)) c.loop-place.place
     (omega (arith, c.loop-place-test.false)) (c.loop-place.invariant.4 honest_shelf honest laid)
 
 pub returns-clause-durable : goal.returns-clause-durable
 returns-clause-durable g c = λ honest.
-    all_first c.args.runs.now (IsSafe (g.B.Bench.stored c.loop-place.bench) (g.B.Bench.may_leave c.loop-place.bench)) c.loop-place.place
+    all_first c.args.runs.now (IsSafe (g.B.Bench.stored c.loop-place.bench) (g.B.Bench.may_leave c.loop-place.bench))
+    c.loop-place.place
     (omega (arith, c.loop-place-test.false)) (c.loop-place.invariant.3 honest)

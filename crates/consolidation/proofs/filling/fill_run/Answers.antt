@@ -20,7 +20,9 @@ returns-in-Err-clause-only_reads g c =
       honest_same = only.honest_same;
       cause = source_cause number run.file _ _ fault only.cause;
       keeps = only.keeps;
-      failed_there = source_failed number run.file c.args.sounds.now of_file.facts (g.S.Shelf.failed_at c.copy_run.new.shelf) fault of_file.there
+      failed_there =
+          source_failed number run.file c.args.sounds.now of_file.facts (g.S.Shelf.failed_at c.copy_run.new.shelf)
+          fault of_file.there
           (λ source. rw same at (only.failed_there source));
     })
 
@@ -29,7 +31,9 @@ returns-in-Ok-clause-filled g c = λ honest_shelf honest_bench laid.
     let addressed = c.requires.run.addressed in
     let named = c.as_str-name.ensures.value ∙ c.in_ok-medium.ensures.name in
     let sound : c.index-sounds-run.result ≡ sound_at c.args.sounds.now c.args.run.now.file =
-    c.index-sounds-run.is ∙ sound_read c.args.sounds.now c.args.run.now.file addressed.of_file.facts _ addressed.of_file.there in
+    c.index-sounds-run.is ∙ sound_read c.args.sounds.now c.args.run.now.file addressed.of_file.facts _
+    addressed.of_file.there in
     let base = base_read c.args.homes.now c.args.run.now.file addressed.home no_home addressed.homed in
     rw c.in-Ok.ensures.only_reads.same
-    (rw (sound, base, named) at (c.in_default.ensures.copied honest_shelf honest_bench (rw (named, c.in_ok-medium.ensures.info) laid)))
+    (rw (sound, base, named) at (c.in_default.ensures.copied honest_shelf honest_bench
+    (rw (named, c.in_ok-medium.ensures.info) laid)))

@@ -15,8 +15,10 @@ returns-clause-left g c =
 
 pub returns-clause-given : goal.returns-clause-given
 returns-clause-given g c = λ honest. record {
-  gives = rw (c.sounds.ensures.sounds, c.bound.ensures, c.in_ok-intervals.ensures.parts) at (c.in_ok-left.ensures.gives honest);
+  gives = rw (c.sounds.ensures.sounds, c.bound.ensures, c.in_ok-intervals.ensures.parts) at
+      (c.in_ok-left.ensures.gives honest);
   same_mix = λ channel time.
       (rw (c.sounds.ensures.sounds, c.bound.ensures) at (c.in_ok-left.ensures.keeps_mix honest channel time))
-      ∙ c.in_ok-intervals.ensures.same_mix (reading_of (g.S.Shelf.stored c.args.shelf.now) c.args.checked.now.bound) channel time;
+      ∙ c.in_ok-intervals.ensures.same_mix (reading_of (g.S.Shelf.stored c.args.shelf.now) c.args.checked.now.bound)
+      channel time;
 }

@@ -17,11 +17,14 @@ loop-place-preserved g c =
       λ honest.
           let now : IsTrue (g.B.Bench.honest c.loop-place.bench) = rw c.loop-place.invariant.0.honest_same honest in
           one_more runs c.requires.few (IsLaidOut sounds homes before) (IsLaidOut sounds homes after) i
-          (still_laid_out sounds homes (i + 1) (omega (arith, below, c.requires.few)) before after (c.in_ok-lay_out_run.ensures.only_writes.others now))
-          (get_or runs i _) (slice_get-get_or runs i _ below) (c.loop-place.invariant.1 honest) (c.in_ok-lay_out_run.ensures.laid now),
+          (still_laid_out sounds homes (i + 1) (omega (arith, below, c.requires.few)) before after
+          (c.in_ok-lay_out_run.ensures.only_writes.others now))
+          (get_or runs i _) (slice_get-get_or runs i _ below) (c.loop-place.invariant.1 honest)
+          (c.in_ok-lay_out_run.ensures.laid now),
     )
 
 pub returns-clause-laid : goal.returns-clause-laid
 returns-clause-laid g c = λ honest.
-    all_first c.args.runs.now (IsLaidOut c.args.sounds.now c.args.homes.now (g.B.Bench.stored c.loop-place.bench)) c.loop-place.place
+    all_first c.args.runs.now (IsLaidOut c.args.sounds.now c.args.homes.now (g.B.Bench.stored c.loop-place.bench))
+    c.loop-place.place
     (omega (arith, c.loop-place-test.false)) (c.loop-place.invariant.1 honest)

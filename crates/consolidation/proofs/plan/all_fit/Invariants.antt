@@ -7,4 +7,5 @@ use Rattle.consolidation.proofs.plan.all_fit.Given as goal
 
 -- those so far can be told
 abbrev pub invariant-loop-run : goal.invariant-loop-run
-invariant-loop-run l = (homes : List spec.Home) → AllWithin (λ run. Fits (run_info l.sounds homes run)) l.runs 0 l.run-index
+invariant-loop-run l =
+    (homes : List spec.Home) → AllWithin (λ run. Fits (run_info l.sounds homes run)) l.runs 0 l.run-index

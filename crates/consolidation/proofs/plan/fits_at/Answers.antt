@@ -23,4 +23,5 @@ pub returns-clause-large : goal.returns-clause-large
 returns-clause-large c = λ homes no.
     let same : c.index-sounds-run.result ≡ sound_at c.args.sounds.now c.args.run.now.file =
     c.index-sounds-run.is ∙ sound_read c.args.sounds.now c.args.run.now.file c.requires.facts _ c.requires.there in
-    large_unless _ (λ fit. let yes = (c.fits.ensures (base_by homes c.args.run.now.file)).1 (rw same fit) in absurd (cc))
+    large_unless _ (λ fit. let yes = (c.fits.ensures (base_by homes c.args.run.now.file)).1 (rw same fit) in
+    absurd (cc))

@@ -27,7 +27,8 @@ use Rattle.consolidation.proofs.Due.{next_in_turn, nothing_due, too_long, too_ma
 use Rattle.consolidation.proofs.plan.plan_of.Goals as goal
 
 -- a fault of the list comes in turn
-linking_due : (binding : Binding) (work : Work) (count : ℕ) (f : ConsolidationFault) → length work.groups ≡ count → length work.runs ≤ 32767
+linking_due : (binding : Binding) (work : Work) (count : ℕ) (f : ConsolidationFault) → length work.groups ≡ count
+    → length work.runs ≤ 32767
     → IsOfLinking count f → IsDue (refusal_of (sounds_of binding) f) (work_fault binding work)
 linking_due binding work count (fault.Relink relink.TooManyEntries) counted few many =
     too_many_groups binding work few (omega (arith, counted, many))
@@ -43,77 +44,98 @@ linking_due binding work count (fault.Medium _) counted few many = elim many [ ]
 linking_due binding work count fault.List counted few many = elim many [ ]
 
 -- the runs that were found, each of which can become a medium if it isn't too long
-found_runs : (bound binding : Binding) (homes : List Home) (groups : List (List Piece)) (handle : ℕ) (runs : List Run) → bound ≡ binding
+found_runs : (bound binding : Binding) (homes : List Home) (groups : List (List Piece)) (handle : ℕ) (runs : List Run)
+    → bound ≡ binding
     → IsBinding bound → AreHomes (homes_of bound) → homes ≡ homes_of bound → AreLeft binding groups
-    → AreRuns (kept_of groups homes handle) (place_by homes) runs → All (IsAddressed (sounds_of binding) (homes_of binding)) runs
+    → AreRuns (kept_of groups homes handle) (place_by homes) runs
+    → All (IsAddressed (sounds_of binding) (homes_of binding)) runs
 found_runs bound binding homes groups handle runs same is apart homes_is left are =
-    let are' : AreRuns (kept_of groups (homes_of binding) handle) (place_by (homes_of binding)) runs = rw (homes_is, same) at are in
+    let are' : AreRuns (kept_of groups (homes_of binding) handle) (place_by (homes_of binding)) runs =
+    rw (homes_is, same) at are in
     all_addressed binding (rw same at is) (rw same at apart) groups handle left.at_home runs are'
 
 -- the work that they are of
-work_runs : (bound binding : Binding) (homes : List Home) (groups : List (List Piece)) (handle : ℕ) (runs : List Run) (work : Work) → bound ≡ binding
+work_runs : (bound binding : Binding) (homes : List Home) (groups : List (List Piece)) (handle : ℕ) (runs : List Run)
+    (work : Work) → bound ≡ binding
     → homes ≡ homes_of bound → work.groups ≡ groups
     → ((others : List Run) → AreRuns (kept_of groups homes handle) (place_by homes) others → others ≡ runs)
     → AreRuns (kept_of work.groups (homes_of binding) handle) (place_by (homes_of binding)) work.runs → work.runs ≡ runs
-work_runs bound binding homes groups handle runs work same homes_is left one are = one work.runs (rw (homes_is, same, ← left) are)
+work_runs bound binding homes groups handle runs work same homes_is left one are =
+    one work.runs (rw (homes_is, same, ← left) are)
 
 pub returns-in_err-text-clause-refusals : goal.returns-in_err-text-clause-refusals
 returns-in_err-text-clause-refusals c = λ work groups are.
     let binding = c.args.checked.now.bound in
     let p = err_from_is_err_and c.from_residual-in_err-text.result c.from_residual-in_err-text.ensures.1 in
-    let same = work_runs c.bound-bound.result.now binding c.deref.result.now c.args.intervals.now c.args.handle c.in_ok-runs.runs.items work
+    let same =
+    work_runs c.bound-bound.result.now binding c.deref.result.now c.args.intervals c.args.handle
+    c.in_ok-runs.runs.items work
     c.bound-bound.ensures (c.deref.ensures.value ∙ c.in-Ok.ensures.homes) groups c.in_ok-runs.ensures.one are in
     let few : length work.runs ≤ 32767 = rw same c.in_ok-runs.ensures.few in
-    rw (p.1, p.2) (linking_due binding work (length c.args.intervals.now) c.in_err-text.field-0.0 (ap length groups) few c.in_err-text.ensures.own)
+    rw (p.1, p.2) (linking_due binding work (length c.args.intervals) c.in_err-text.field-0.0 (ap length groups)
+    few c.in_err-text.ensures.own)
 
 pub all_fit-requires : goal.all_fit-requires
 all_fit-requires c =
     let binding = c.args.checked.now.bound in
-    let addressed = found_runs c.bound-bound.result.now binding c.deref.result.now c.args.intervals.now c.args.handle c.in_ok-runs.runs.items
+    let addressed =
+    found_runs c.bound-bound.result.now binding c.deref.result.now c.args.intervals c.args.handle
+    c.in_ok-runs.runs.items
     c.bound-bound.ensures c.sounds.ensures.bound c.in-Ok.ensures.apart (c.deref.ensures.value ∙ c.in-Ok.ensures.homes)
     c.requires.left c.in_ok-runs.ensures.kept in
     rw (c.deref-4.ensures.value, c.sounds.ensures.sounds, c.bound-bound.ensures)
-    (All-weaker (IsAddressed (sounds_of binding) (homes_of binding)) (IsRunOf (sounds_of binding)) (λ run is. is.of_file)
+    (All-weaker (IsAddressed (sounds_of binding) (homes_of binding)) (IsRunOf (sounds_of binding))
+    (λ run is. is.of_file)
     c.in_ok-runs.runs.items addressed)
 
 pub returns-then-not-all_fit-clause-refusals : goal.returns-then-not-all_fit-clause-refusals
 returns-then-not-all_fit-clause-refusals c = λ work groups are.
     let binding = c.args.checked.now.bound in
-    let same = work_runs c.bound-bound.result.now binding c.deref.result.now c.args.intervals.now c.args.handle c.in_ok-runs.runs.items work
+    let same =
+    work_runs c.bound-bound.result.now binding c.deref.result.now c.args.intervals c.args.handle
+    c.in_ok-runs.runs.items work
     c.bound-bound.ensures (c.deref.ensures.value ∙ c.in-Ok.ensures.homes) groups c.in_ok-runs.ensures.one are in
     let few : length work.runs ≤ 32767 = rw same c.in_ok-runs.ensures.few in
     let some : length work.groups ≤ 32767 = rw groups c.in_ok-text.ensures.few_entries in
-    let large : list_any (λ run. is_large (run_info (sounds_of binding) (homes_of binding) run)) c.in_ok-runs.runs.items ≡ true =
-    rw (c.deref-4.ensures.value, c.sounds.ensures.sounds, c.bound-bound.ensures) at (c.if-not-all_fit.ensures.large (homes_of binding) refl) in
+    let large : list_any (λ run. is_large (run_info (sounds_of binding) (homes_of binding) run)) c.in_ok-runs.runs.items
+    ≡ true =
+    rw (c.deref-4.ensures.value, c.sounds.ensures.sounds, c.bound-bound.ensures) at
+    (c.if-not-all_fit.ensures.large (homes_of binding) refl) in
     too_long binding work few some (rw same large)
 
 pub returns-clause-planned : goal.returns-clause-planned
 returns-clause-planned c =
     let binding = c.args.checked.now.bound in
     let runs = c.in_ok-runs.runs.items in
-    let homes : c.deref.result.now ≡ homes_of binding = c.deref.ensures.value ∙ c.in-Ok.ensures.homes ∙ ap homes_of c.bound-bound.ensures in
-    let addressed = found_runs c.bound-bound.result.now binding c.deref.result.now c.args.intervals.now c.args.handle runs
+    let homes : c.deref.result.now ≡ homes_of binding =
+    c.deref.ensures.value ∙ c.in-Ok.ensures.homes ∙ ap homes_of c.bound-bound.ensures in
+    let addressed = found_runs c.bound-bound.result.now binding c.deref.result.now c.args.intervals c.args.handle runs
     c.bound-bound.ensures c.sounds.ensures.bound c.in-Ok.ensures.apart (c.deref.ensures.value ∙ c.in-Ok.ensures.homes)
     c.requires.left c.in_ok-runs.ensures.kept in
     let fit : All (λ run. Fits (run_info (sounds_of binding) (homes_of binding) run)) runs =
-    rw (c.deref-4.ensures.value, c.sounds.ensures.sounds, c.bound-bound.ensures) at (c.if-not-all_fit.ensures.fit (homes_of binding) refl) in
+    rw (c.deref-4.ensures.value, c.sounds.ensures.sounds, c.bound-bound.ensures) at
+    (c.if-not-all_fit.ensures.fit (homes_of binding) refl) in
     record {
       homes = c.in-Ok.ensures.homes ∙ ap homes_of c.bound-bound.ensures;
       few = c.in_ok-runs.ensures.few;
       kept = rw homes at c.in_ok-runs.ensures.kept;
       media = λ k d below. record { addressed = addressed k d below; fits = fit k d below };
-      text = rw (c.deref-2.ensures.value, c.deref-3.ensures.value, c.in-Ok.ensures.homes, c.bound-bound.ensures) at c.in_ok-text.ensures.text;
-      entries = ap length c.groups.ensures.lent;
+      text = rw (c.deref-2.ensures.value, c.deref-3.ensures.value, c.in-Ok.ensures.homes, c.bound-bound.ensures)
+          at c.in_ok-text.ensures.text;
+      entries = ap length c.groups-entries.ensures.lent;
       linked = rw c.deref-2.ensures.value at c.in_ok-text.ensures.linked;
     }
 
 pub returns-clause-refusals : goal.returns-clause-refusals
 returns-clause-refusals c = λ work groups are.
     let binding = c.args.checked.now.bound in
-    let same = work_runs c.bound-bound.result.now binding c.deref.result.now c.args.intervals.now c.args.handle c.in_ok-runs.runs.items work
+    let same =
+    work_runs c.bound-bound.result.now binding c.deref.result.now c.args.intervals c.args.handle
+    c.in_ok-runs.runs.items work
     c.bound-bound.ensures (c.deref.ensures.value ∙ c.in-Ok.ensures.homes) groups c.in_ok-runs.ensures.one are in
     let few : length work.runs ≤ 32767 = rw same c.in_ok-runs.ensures.few in
     let some : length work.groups ≤ 32767 = rw groups c.in_ok-text.ensures.few_entries in
     let fit : All (λ run. Fits (run_info (sounds_of binding) (homes_of binding) run)) c.in_ok-runs.runs.items =
-    rw (c.deref-4.ensures.value, c.sounds.ensures.sounds, c.bound-bound.ensures) at (c.if-not-all_fit.ensures.fit (homes_of binding) refl) in
+    rw (c.deref-4.ensures.value, c.sounds.ensures.sounds, c.bound-bound.ensures) at
+    (c.if-not-all_fit.ensures.fit (homes_of binding) refl) in
     nothing_due binding work few some (rw same fit)

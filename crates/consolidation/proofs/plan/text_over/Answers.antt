@@ -10,8 +10,9 @@ use Rattle.consolidation.proofs.plan.text_over.Goals as goal
 pub relink-requires-clause-at_home : goal.relink-requires-clause-at_home
 relink-requires-clause-at_home c =
     let binding = c.args.checked.now.bound in
-    rw c.requires.homes.0 (All-weaker (IsAtHome (sounds_of binding) (homes_of binding)) (LiesAtHome (homes_of binding)) (λ p is. is.at_home)
-    (pieces_of c.args.intervals.now) c.requires.left.at_home)
+    rw c.requires.homes.0 (All-weaker (IsAtHome (sounds_of binding) (homes_of binding)) (LiesAtHome (homes_of binding))
+    (λ p is. is.at_home)
+    (pieces_of c.args.intervals) c.requires.left.at_home)
 
 pub returns-clause-linked : goal.returns-clause-linked
 returns-clause-linked c =
@@ -22,7 +23,8 @@ returns-clause-linked c =
       all_used = rw home at linked.all_used;
       no_fault = λ renewed indexes files.
           (rw home at linked.no_fault) renewed indexes
-          (have_channels (sounds_of binding) (homes_of binding) (pieces_of c.args.intervals.now) c.args.runs.now renewed.files
+          (have_channels (sounds_of binding) (homes_of binding) (pieces_of c.args.intervals)
+          c.args.runs.now renewed.files
           c.requires.left.at_home files);
       relinked = rw home at linked.same_mix;
     }

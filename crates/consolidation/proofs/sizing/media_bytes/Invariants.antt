@@ -6,4 +6,5 @@ use Rattle.consolidation.proofs.sizing.media_bytes.Given as goal
 
 -- the sum of those so far
 abbrev pub invariant-loop-run : goal.invariant-loop-run
-invariant-loop-run l = (homes : List Home) → l.sum ≡ in_64_bits (sum_by (medium_bytes l.sounds homes) (take l.run-index l.runs))
+invariant-loop-run l =
+    (homes : List Home) → l.sum ≡ in_64_bits (sum_by (medium_bytes l.sounds homes) (take l.run-index l.runs))

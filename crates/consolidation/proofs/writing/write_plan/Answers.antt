@@ -13,17 +13,23 @@ returns-in_err-write_media-clause-list_last g c = λ honest.
 
 pub returns-in-Ok-clause-filled : goal.returns-in-Ok-clause-filled
 returns-in-Ok-clause-filled g c = λ honest_shelf honest_bench.
-    let bench_now : IsTrue (g.B.Bench.honest c.write_media.new.bench) = rw c.write_media.ensures.only_writes.honest_same honest_bench in
-    all_still_filled c.args.plan.now.runs.items c.requires.few (g.B.Bench.stored c.write_media.new.bench) (g.B.Bench.stored c.write_list.new.bench)
-    (c.in-Ok.ensures.only_writes.others bench_now) c.args.sounds.now c.args.plan.now.homes.items (g.S.Shelf.stored c.args.shelf.now)
-    (rw (c.deref.ensures.value, c.deref-2.ensures.value) at (c.in_ok-write_media.ensures.filled honest_shelf honest_bench))
+    let bench_now : IsTrue (g.B.Bench.honest c.write_media.new.bench) =
+    rw c.write_media.ensures.only_writes.honest_same honest_bench in
+    all_still_filled c.args.plan.now.runs.items c.requires.few (g.B.Bench.stored c.write_media.new.bench)
+    (g.B.Bench.stored c.write_list.new.bench)
+    (c.in-Ok.ensures.only_writes.others bench_now) c.args.sounds.now c.args.plan.now.homes.items
+    (g.S.Shelf.stored c.args.shelf.now)
+    (rw (c.deref.ensures.value, c.deref-2.ensures.value) at
+    (c.in_ok-write_media.ensures.filled honest_shelf honest_bench))
 
 pub returns-in-Ok-clause-durable : goal.returns-in-Ok-clause-durable
 returns-in-Ok-clause-durable g c = λ honest.
-    let bench_now : IsTrue (g.B.Bench.honest c.write_media.new.bench) = rw c.write_media.ensures.only_writes.honest_same honest in
+    let bench_now : IsTrue (g.B.Bench.honest c.write_media.new.bench) =
+    rw c.write_media.ensures.only_writes.honest_same honest in
     let stored = g.B.Bench.stored c.write_list.new.bench in
     let may_leave = g.B.Bench.may_leave c.write_list.new.bench in
-    let safe = all_still_safe c.args.plan.now.runs.items c.requires.few (g.B.Bench.stored c.write_media.new.bench) stored
+    let safe =
+    all_still_safe c.args.plan.now.runs.items c.requires.few (g.B.Bench.stored c.write_media.new.bench) stored
     (g.B.Bench.may_leave c.write_media.new.bench) may_leave (c.in-Ok.ensures.only_writes.durable bench_now)
     (rw c.deref-2.ensures.value at (c.in_ok-write_media.ensures.durable honest)) in
     record {

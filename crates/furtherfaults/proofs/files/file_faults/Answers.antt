@@ -10,9 +10,11 @@ pub loop-source-preserved : goal.loop-source-preserved
 loop-source-preserved g c = elim c.if-contains.branch [
   | then-contains+in_ok-fault+in-Some+in_ok-push w ↦ rw (w.shelf-is, w.faults-is, w.in_ok-push.ensures.items) (record {
     read = read_on g.S.Shelf c.loop-source.invariant.read w.source_fault.ensures.only_read;
-    told = λ honest. one_more_file c.args.project.now (g.S.Shelf.stored c.args.shelf.now) c.loop-source.faults.items w.in-Some.fault
+    told = λ honest. one_more_file c.args.project.now (g.S.Shelf.stored c.args.shelf.now)
+        c.loop-source.faults.items w.in-Some.fault
         c.loop-source.source-index c.source-item.result (there c) (used c w.if-contains.true)
-        (rw (w.in-Some.is, c.loop-source.invariant.read.same) at (w.in_ok-fault.ensures.of_source (rw c.loop-source.invariant.read.honest_same honest)))
+        (rw (w.in-Some.is, c.loop-source.invariant.read.same) at
+        (w.in_ok-fault.ensures.of_source (rw c.loop-source.invariant.read.honest_same honest)))
         (c.loop-source.invariant.told honest);
   })
   | then-contains+in_ok-fault+in_default w ↦ rw (w.shelf-is, w.faults-is) (record {
@@ -23,7 +25,8 @@ loop-source-preserved g c = elim c.if-contains.branch [
 ]
   where
     -- the source is one of the project
-    there : (c : goal.Joined-is_behind g) → slice_get c.args.project.now.sources c.loop-source.source-index ≡ Some c.source-item.result
+    there : (c : goal.Joined-is_behind g)
+        → slice_get c.args.project.now.sources c.loop-source.source-index ≡ Some c.source-item.result
     there c =
         let items = c.sources-source-items.result.now in
         let i = c.loop-source.source-index in
@@ -31,5 +34,7 @@ loop-source-preserved g c = elim c.if-contains.branch [
         ∙ slice_get_read items (length items) i c.source-item.result refl c.loop-source-test.true c.source-item.is
 
     -- an entry names it
-    used : (c : goal.Joined-is_behind g) → c.contains.result ≡ true → is_used c.args.project.now.events c.source-item.result.number ≡ true
-    used c named = rw (c.number-number.ensures, c.in_ok-used.ensures, c.events.ensures.events) at (c.contains.ensures named)
+    used : (c : goal.Joined-is_behind g) → c.contains.result ≡ true
+        → is_used c.args.project.now.events c.source-item.result.number ≡ true
+    used c named =
+        rw (c.number-number.ensures, c.new-used.ensures, c.events.ensures.events) at (sym c.contains.ensures ∙ named)

@@ -17,7 +17,8 @@ loop-done-init g c =
           subst (λ (n : ℕ). IsFilled (g.S.Shelf.stored c.args.shelf.now c.args.sound.now.name)
           (c.args.sound.now.place + c.args.run.now.first * frame_length c.args.sound.now) (header_of info) n
           (data_size info + data_size info % 2) (g.B.Bench.stored c.args.bench.now c.args.name.now)) none
-          (not_filled _ _ (header_of info) (data_size info + data_size info % 2) _ (there ∙ ap Some (sym (laid info (header_of info) refl)))),
+          (not_filled _ _ (header_of info) (data_size info + data_size info % 2) _
+          (there ∙ ap Some (sym (laid info (header_of info) refl)))),
     )
 
 pub overflow_add-run : goal.overflow_add-run
@@ -51,7 +52,8 @@ loop-done-preserved g c =
     let pieces = whole_pieces (length c.args.buffer.now) frame count c.frame_of-frame.ensures.some.0 few in
     let more : done + count ≤ c.args.run.now.length = omega (arith, c.min-count.ensures, c.loop-done-test.true) in
     let read : length c.read_bytes.new.bytes ≡ count * frame =
-    c.read_bytes.auto.bytes ∙ length-take (count * frame) c.loop-done.buffer ∙ omega (arith, pieces, c.loop-done.invariant.3) in
+    c.read_bytes.auto.bytes ∙ length-take (count * frame) c.loop-done.buffer
+    ∙ omega (arith, pieces, c.loop-done.invariant.3) in
     let size : data_size info ≡ c.args.run.now.length * frame_length sound = ap data_size c.requires.info in
     let value = c.frame_of-frame.ensures.value in
     let built = c.loop-done.invariant.2 in
@@ -60,7 +62,9 @@ loop-done-preserved g c =
       search rules,
       record {
         others = λ honest n stays. wrote.others (rw built.honest_same honest) n stays ∙ built.others honest n stays;
-        durable = λ honest n stays safe. wrote.durable (rw built.honest_same honest) n stays (built.durable honest n stays safe);
+        durable =
+            λ honest n stays safe. wrote.durable (rw built.honest_same honest) n stays
+            (built.durable honest n stays safe);
         honest_same = wrote.honest_same ∙ built.honest_same;
         quiet = wrote.cause.left tt ∙ built.quiet;
         keeps = λ n failed. wrote.keeps n (built.keeps n failed);
@@ -69,13 +73,16 @@ loop-done-preserved g c =
           ∙ omega (arith, read, length-drop (count * frame) c.loop-done.buffer, pieces, c.loop-done.invariant.3),
       λ honest_shelf honest_bench there.
           let shelf_now : IsTrue (g.S.Shelf.honest c.loop-done.shelf) = rw kept.honest_same honest_shelf in
-          let bench_now : IsTrue (g.B.Bench.honest c.loop-done.bench) = rw c.loop-done.invariant.2.honest_same honest_bench in
+          let bench_now : IsTrue (g.B.Bench.honest c.loop-done.bench) =
+          rw c.loop-done.invariant.2.honest_same honest_bench in
           let so_far = c.loop-done.invariant.4 honest_shelf honest_bench there in
           let range = rw kept.same at (c.in-Ok.ensures.bytes shelf_now) in
-          next_frames sound c.args.run.now (g.S.Shelf.stored c.args.shelf.now sound.name) (header_of info) (data_size info) (data_size info % 2)
+          next_frames sound c.args.run.now (g.S.Shelf.stored c.args.shelf.now sound.name) (header_of info)
+          (data_size info) (data_size info % 2)
           done count _ _ c.read_bytes.new.bytes _ _ so_far range refl
           (ap (λ (f : ℕ). c.place_of-place.result + done * f) value
-          ∙ ap (λ (p : ℕ). p + done * frame_length sound) (c.place_of-place.ensures.place ∙ sym c.place_of-place.ensures.head))
+          ∙ ap (λ (p : ℕ). p + done * frame_length sound)
+          (c.place_of-place.ensures.place ∙ sym c.place_of-place.ensures.head))
           (read ∙ ap (λ (f : ℕ). count * f) value) size more (c.in_ok-write_at.ensures.written bench_now).here,
     )
 
@@ -84,13 +91,17 @@ returns-clause-copied g c = λ honest_shelf honest_bench there.
     let info = c.args.info.now in
     let sound = c.args.sound.now in
     let size : data_size info ≡ c.args.run.now.length * frame_length sound = ap data_size c.requires.info in
-    let all : c.loop-done.done ≡ c.args.run.now.length = omega (arith, c.loop-done.invariant.0, c.loop-done-test.false) in
-    let filled : c.loop-done.done * frame_length sound ≡ data_size info = ap (λ (n : ℕ). n * frame_length sound) all ∙ sym size in
+    let all : c.loop-done.done ≡ c.args.run.now.length =
+    omega (arith, c.loop-done.invariant.0, c.loop-done-test.false) in
+    let filled : c.loop-done.done * frame_length sound ≡ data_size info =
+    ap (λ (n : ℕ). n * frame_length sound) all ∙ sym size in
     is_medium sound (g.S.Shelf.stored c.args.shelf.now sound.name) c.args.base c.args.run.now _ info c.requires.info
     (some_frames c.args.run.now.length (frame_length sound) (data_size info) c.requires.some
     (omega (arith, c.frame_of-frame.ensures.some, c.frame_of-frame.ensures.value)) size)
     (λ name samples counted. c.place_of-place.ensures.reads_back name samples c.requires.fits counted)
     c.place_of-place.ensures.data_stands
-    (subst (λ (n : ℕ). IsFilled (g.S.Shelf.stored c.args.shelf.now sound.name) (sound.place + c.args.run.now.first * frame_length sound)
-    (header_of info) n (data_size info + data_size info % 2) (g.B.Bench.stored c.loop-done.bench c.args.name.now)) filled
+    (subst (λ (n : ℕ). IsFilled (g.S.Shelf.stored c.args.shelf.now sound.name)
+    (sound.place + c.args.run.now.first * frame_length sound)
+    (header_of info) n (data_size info + data_size info % 2) (g.B.Bench.stored c.loop-done.bench c.args.name.now))
+    filled
     (c.loop-done.invariant.4 honest_shelf honest_bench there))

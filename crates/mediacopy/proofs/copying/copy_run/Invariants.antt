@@ -15,7 +15,8 @@ invariant-loop-done g l =
     × (length l.buffer ≡ length l.initial.buffer)
     × (IsTrue (g.S.Shelf.honest l.initial.shelf) → IsTrue (g.B.Bench.honest l.initial.bench)
     → g.B.Bench.stored l.initial.bench l.name ≡ Some (laid_out l.info)
-    → IsFilled (g.S.Shelf.stored l.initial.shelf l.sound.name) (l.sound.place + l.run.first * frame_length l.sound) (header_of l.info)
+    → IsFilled (g.S.Shelf.stored l.initial.shelf l.sound.name) (l.sound.place + l.run.first * frame_length l.sound)
+    (header_of l.info)
     (l.done * frame_length l.sound) (data_size l.info + data_size l.info % 2) (g.B.Bench.stored l.bench l.name))
 
 abbrev pub decreases-loop-done : goal.decreases-loop-done

@@ -16,7 +16,8 @@ loop-left-preserved g c =
     let left = c.loop-left.left in
     let more = c.min-more.result in
     let few : more ≤ 65536 = omega (arith, c.min-more.ensures) in
-    let done : count - left + more ≡ count - (left - more) = omega (arith, c.min-more.ensures, c.loop-left.invariant.0) in (
+    let done : count - left + more ≡ count - (left - more) =
+    omega (arith, c.min-more.ensures, c.loop-left.invariant.0) in (
       omega (arith, c.loop-left.invariant.0),
       search rules,
       λ honest file there.

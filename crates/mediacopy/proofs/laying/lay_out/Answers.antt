@@ -5,8 +5,10 @@ use Rattle.mediacopy.proofs.laying.lay_out.Goals as goal
 
 pub returns-clause-laid : goal.returns-clause-laid
 returns-clause-laid g c = λ honest.
-    let created_honest : IsTrue (g.B.Bench.honest c.create.new.self) = rw c.create.ensures.only_writes.honest_same honest in
-    let headed_honest : IsTrue (g.B.Bench.honest c.append.new.self) = rw c.append.ensures.only_writes.honest_same created_honest in
+    let created_honest : IsTrue (g.B.Bench.honest c.create.new.self) =
+    rw c.create.ensures.only_writes.honest_same honest in
+    let headed_honest : IsTrue (g.B.Bench.honest c.append.new.self) =
+    rw c.append.ensures.only_writes.honest_same created_honest in
     let created = (c.in_ok-create.ensures.created honest).here in
     let head = c.deref.result.now in
     let headed : g.B.Bench.stored c.append.new.self c.args.name.now ≡ Some head =

@@ -6,15 +6,19 @@ use Rattle.mediaset.proofs.kept.runs.Goals as goal
 
 pub returns-then-len-gt-MOST_RUNS-clause-too_many : goal.returns-then-len-gt-MOST_RUNS-clause-too_many
 returns-then-len-gt-MOST_RUNS-clause-too_many c = λ told runs are.
-    let same = one_list (kept_of c.args.intervals.now c.args.homes.now c.args.handle) (place_by c.args.homes.now) runs c.in_ok-runs.runs.items are
+    let same =
+    one_list (kept_of c.args.intervals.now c.args.homes.now c.args.handle) (place_by c.args.homes.now)
+    runs c.in_ok-runs.runs.items are
     c.in_ok-runs.ensures.kept in
     omega (arith, ap length same, c.len.ensures, c.if-len-gt-MOST_RUNS.true)
 
 pub returns-clause-covers : goal.returns-clause-covers
 returns-clause-covers c = λ home file channel frame read.
-    covered c.args.homes.now c.args.handle c.args.intervals.now c.in_ok-runs.runs.items c.in_ok-runs.ensures.kept home file channel frame read
+    covered c.args.homes.now c.args.handle c.args.intervals.now c.in_ok-runs.runs.items c.in_ok-runs.ensures.kept home
+    file channel frame read
 
 pub returns-clause-one : goal.returns-clause-one
 returns-clause-one c = λ runs are.
-    one_list (kept_of c.args.intervals.now c.args.homes.now c.args.handle) (place_by c.args.homes.now) runs c.in_ok-runs.runs.items are
+    one_list (kept_of c.args.intervals.now c.args.homes.now c.args.handle) (place_by c.args.homes.now)
+    runs c.in_ok-runs.runs.items are
     c.in_ok-runs.ensures.kept

@@ -4,4 +4,5 @@ use Rattle.mediaset.specs.Spans.{span_of}
 use Rattle.mediaset.proofs.spans.push_spans.Given as goal
 
 abbrev pub invariant-loop-piece : goal.invariant-loop-piece
-invariant-loop-piece l = l.spans.items ≡ l.initial.spans.items ++ flat_map (span_of l.homes l.handle) (take l.piece-index l.pieces)
+invariant-loop-piece l =
+    l.spans.items ≡ l.initial.spans.items ++ flat_map (span_of l.homes l.handle) (take l.piece-index l.pieces)

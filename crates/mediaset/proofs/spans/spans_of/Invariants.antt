@@ -5,4 +5,5 @@ use Rattle.mediaset.specs.Spans.{span_of}
 use Rattle.mediaset.proofs.spans.spans_of.Given as goal
 
 abbrev pub invariant-loop-group : goal.invariant-loop-group
-invariant-loop-group l = l.spans.items ≡ flat_map (span_of l.homes l.handle) (pieces_of (take l.group-index l.group-items))
+invariant-loop-group l =
+    l.spans.items ≡ flat_map (span_of l.homes l.handle) (pieces_of (take l.group-index l.group-items))

@@ -7,10 +7,12 @@ use Rattle.opening.proofs.open.open_project.Goals as goal
 pub returns-in_err-project-2-clause-refusals : goal.returns-in_err-project-2-clause-refusals
 returns-in_err-project-2-clause-refusals g c = λ honest.
     let p = err_from_is_err_and c.from_residual-in_err-project-2.result c.from_residual-in_err-project-2.ensures.1 in
-    rw (p.1, p.2) (files_due (refusal_of c.in_err-project-2.field-0.0) c.in_ok-project.project c.args.list.now (g.S.Shelf.stored c.args.shelf.now)
+    rw (p.1, p.2) (files_due (refusal_of c.in_err-project-2.field-0.0) c.in_ok-project.project c.args.list.now
+    (g.S.Shelf.stored c.args.shelf.now)
     c.in_ok-project.ensures.spelt c.in_err-project-2.ensures.second (c.in_err-project-2.ensures.refused honest))
 
 pub returns-in_err-project-2-clause-own : goal.returns-in_err-project-2-clause-own
 returns-in_err-project-2-clause-own g c =
     let p = err_from_is_err_and c.from_residual-in_err-project-2.result c.from_residual-in_err-project-2.ensures.1 in
-    rw (p.1, p.2) (opening_own c.args.list.now c.in_ok-project.project c.in_err-project-2.field-0.0 c.in_ok-project.ensures.spelt c.in_err-project-2.ensures.own)
+    rw (p.1, p.2) (opening_own c.args.list.now c.in_ok-project.project c.in_err-project-2.field-0.0
+    c.in_ok-project.ensures.spelt c.in_err-project-2.ensures.own)

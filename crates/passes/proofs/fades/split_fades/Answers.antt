@@ -7,7 +7,8 @@ pub ordered-requires-clause-groups : goal.ordered-requires-clause-groups
 ordered-requires-clause-groups c = rw c.in_ok-pieces_alone.ensures (split_are c.args.intervals)
 
 pub ordered-requires-clause-pieces : goal.ordered-requires-clause-pieces
-ordered-requires-clause-pieces c = rw c.in_ok-pieces_alone.ensures (split_hold c.args.intervals c.groups.ensures.sound.pieces_ok)
+ordered-requires-clause-pieces c =
+    rw c.in_ok-pieces_alone.ensures (split_hold c.args.intervals c.groups.ensures.sound.pieces_ok)
 
 pub returns-clause-gives : goal.returns-clause-gives
 returns-clause-gives c =
@@ -15,11 +16,14 @@ returns-clause-gives c =
 
 pub returns-clause-keeps_mix : goal.returns-clause-keeps_mix
 returns-clause-keeps_mix c reading channel time =
-    c.in_ok-ordered.ensures.same_mix reading channel time ∙ rw c.in_ok-pieces_alone.ensures (mix_split reading c.args.intervals channel time)
+    c.in_ok-ordered.ensures.same_mix reading channel time
+    ∙ rw c.in_ok-pieces_alone.ensures (mix_split reading c.args.intervals channel time)
 
 pub returns-clause-keeps_whole : goal.returns-clause-keeps_whole
-returns-clause-keeps_whole c = c.in_ok-ordered.ensures.same_whole ∙ rw c.in_ok-pieces_alone.ensures (whole_split c.args.intervals)
+returns-clause-keeps_whole c =
+    c.in_ok-ordered.ensures.same_whole ∙ rw c.in_ok-pieces_alone.ensures (whole_split c.args.intervals)
 
 pub returns-clause-same_reads : goal.returns-clause-same_reads
 returns-clause-same_reads c file channel frame =
-    c.in_ok-ordered.ensures.same_reads file channel frame ∙ rw c.in_ok-pieces_alone.ensures (reads_split c.args.intervals file channel frame)
+    c.in_ok-ordered.ensures.same_reads file channel frame
+    ∙ rw c.in_ok-pieces_alone.ensures (reads_split c.args.intervals file channel frame)

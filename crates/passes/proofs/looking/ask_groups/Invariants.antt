@@ -8,4 +8,5 @@ abbrev pub invariant-loop-group : goal.invariant-loop-group
 invariant-loop-group g l =
     IsStill g.P.Samples l.initial.samples l.samples
     × (IsTrue (g.P.Samples.honest l.initial.samples)
-    → l.silent.items ≡ flat_map (silences_of (g.P.Samples.reading l.initial.samples)) (take l.group-index l.group-items))
+    → l.silent.items ≡ flat_map (silences_of (g.P.Samples.reading l.initial.samples))
+    (take l.group-index l.group-items))

@@ -7,4 +7,5 @@ abbrev pub invariant-loop-piece : goal.invariant-loop-piece
 invariant-loop-piece g l =
     IsStill g.P.Samples l.initial.samples l.samples
     × (IsTrue (g.P.Samples.honest l.initial.samples)
-    → l.silent.items ≡ l.initial.silent.items ++ silences_of (g.P.Samples.reading l.initial.samples) (take l.piece-index l.pieces))
+    → l.silent.items ≡ l.initial.silent.items ++ silences_of (g.P.Samples.reading l.initial.samples)
+    (take l.piece-index l.pieces))

@@ -7,4 +7,5 @@ returns-clause-answers g c honest =
     c.in_ok-silent.ensures.answers honest ∙ all_silences (g.P.Samples.reading c.args.samples.now) c.args.intervals.now
 
 pub returns-clause-agrees : goal.returns-clause-agrees
-returns-clause-agrees g c honest = rw (returns-clause-answers g c honest) (agrees (g.P.Samples.reading c.args.samples.now) c.args.intervals.now)
+returns-clause-agrees g c honest =
+    rw (returns-clause-answers g c honest) (agrees (g.P.Samples.reading c.args.samples.now) c.args.intervals.now)

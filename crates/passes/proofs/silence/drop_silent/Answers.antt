@@ -8,7 +8,9 @@ pub returns-clause-keeps_mix : goal.returns-clause-keeps_mix
 returns-clause-keeps_mix c = rw (c.of.ensures, c.in_ok-sounding.ensures) (same_mix c.args.intervals c.args.silent.now)
 
 pub returns-clause-keeps_whole : goal.returns-clause-keeps_whole
-returns-clause-keeps_whole c = rw (c.of.ensures, c.in_ok-sounding.ensures) (keeps_whole c.args.intervals c.args.silent.now)
+returns-clause-keeps_whole c =
+    rw (c.of.ensures, c.in_ok-sounding.ensures) (keeps_whole c.args.intervals c.args.silent.now)
 
 pub returns-clause-reads_no_more : goal.returns-clause-reads_no_more
-returns-clause-reads_no_more c file channel frame = rw (c.of.ensures, c.in_ok-sounding.ensures) (reads_no_more c.args.intervals c.args.silent.now file channel frame)
+returns-clause-reads_no_more c file channel frame =
+    rw (c.of.ensures, c.in_ok-sounding.ensures) (reads_no_more c.args.intervals c.args.silent.now file channel frame)

@@ -9,7 +9,8 @@ use Rattle.projectcheck.specs.Fault.{number_of, refusal_of}
 use Rattle.projectcheck.proofs.checked.check_entries.Goals as goal
 
 -- no fault of an entry is excused
-is_due : (entry : ℕ) (fault : EntryFault) (due : Option Refusal) → due ≡ Some (refusal_of (record { entry = entry; fault = fault }))
+is_due : (entry : ℕ) (fault : EntryFault) (due : Option Refusal)
+    → due ≡ Some (refusal_of (record { entry = entry; fault = fault }))
     → IsDue (refusal_of (record { entry = entry; fault = fault })) due
 is_due entry UnknownIndex due same = same
 is_due entry EndBeforeStart due same = same
@@ -18,9 +19,11 @@ is_due entry SourceChannel due same = same
 is_due entry SpanOutside due same = same
 
 -- the first entry's fault comes first
-fault_here : (binding : Binding) (event : Event) (events : List Event) (number : ℕ) → entry_fault binding event ≡ Some number
+fault_here : (binding : Binding) (event : Event) (events : List Event) (number : ℕ)
+    → entry_fault binding event ≡ Some number
     → event_fault binding (event ∷ events) ≡ Some (entry_refusal event number)
-fault_here binding event events number fault = ap (λ o. first_fault (option_map (entry_refusal event) o) (event_fault binding events)) fault
+fault_here binding event events number fault =
+    ap (λ o. first_fault (option_map (entry_refusal event) o) (event_fault binding events)) fault
 
 pub returns-in-Some : goal.returns-in-Some
 returns-in-Some c =
@@ -28,7 +31,9 @@ returns-in-Some c =
     let events = c.args.events.now in
     let event = c.event-item.result in
     let i = c.loop-event.event-index in
-    let here : drop i events ≡ event ∷ drop (i + 1) events = rw (add-one, c.event-item.is) (drop-cons events i event c.loop-event-test.true) in
-    let fault : entry_fault bound event ≡ Some (number_of c.in-Some.fault) = sym c.fault_of.ensures ∙ ap (option_map number_of) c.in-Some.is in
+    let here : drop i events ≡ event ∷ drop (i + 1) events =
+    rw (add-one, c.event-item.is) (drop-cons events i event c.loop-event-test.true) in
+    let fault : entry_fault bound event ≡ Some (number_of c.in-Some.fault) =
+    sym c.fault_of.ensures ∙ ap (option_map number_of) c.in-Some.is in
     is_due event.number c.in-Some.fault (event_fault bound events)
     (sym c.loop-event.invariant ∙ ap (event_fault bound) here ∙ fault_here bound event (drop (i + 1) events) _ fault)

@@ -10,8 +10,10 @@ use Rattle.projectcheck.proofs.sounding.from_checked.Goals as goal
 pub returns-clause-at_home : goal.returns-clause-at_home
 returns-clause-at_home c =
     let bound = c.args.checked.now.bound in
-    subst (λ (groups : List (List Piece)). All (IsAtHome (sounds_of bound) (homes_of bound)) (pieces_of groups)) (sym c.in_ok-intervals.ensures.order)
-    (lie_in_order (IsAtHome (sounds_of bound) (homes_of bound)) c.in_ok-groups.groups.items c.in_ok-groups.ensures.sound.lie)
+    subst (λ (groups : List (List Piece)). All (IsAtHome (sounds_of bound) (homes_of bound)) (pieces_of groups))
+    (sym c.in_ok-intervals.ensures.order)
+    (lie_in_order (IsAtHome (sounds_of bound) (homes_of bound))
+    c.in_ok-groups.groups.items c.in_ok-groups.ensures.sound.lie)
 
 pub returns-clause-bounded : goal.returns-clause-bounded
 returns-clause-bounded c =

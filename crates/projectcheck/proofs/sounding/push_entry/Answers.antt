@@ -19,7 +19,8 @@ push_group-requires c =
     let is = c.in-Some.ensures.bound in
     let found = sym c.in-Some.ensures.index in
     let span = sym (span_is binding event index is.file found is.there) ∙ c.requires.faultless in
-    is_playable index is.file.facts event (plays index is.file.facts event span) (has_numbers event c.requires.whole) is.addressable
+    is_playable index is.file.facts event (plays index is.file.facts event span) (has_numbers event c.requires.whole)
+    is.addressable
 
 pub returns-clause-sound : goal.returns-clause-sound
 returns-clause-sound c =
@@ -32,11 +33,14 @@ returns-clause-sound c =
     let span = sym (span_is binding event index is.file found is.there) ∙ c.requires.faultless in
     let played = plays index facts event span in
     let there : slice_get (sounds_of binding) index.file ≡ Some facts =
-    slice_get-map (λ (f : OpenedFile). f.facts) binding.files index.file ∙ ap (option_map (λ (f : OpenedFile). f.facts)) is.there in
+    slice_get-map (λ (f : OpenedFile). f.facts) binding.files index.file
+    ∙ ap (option_map (λ (f : OpenedFile). f.facts)) is.there in
     let frames : index.addressable ≤ facts.frames = omega (arith, is.addressable) in
     subst (λ o. SoundsAs binding event (parts_by o event)) (sym found) (record {
-      mix = λ reading channel time. c.push_group.ensures.mix reading channel time ∙ ap (λ o. contribution_at reading o event channel time) (sym found);
+      mix = λ reading channel time. c.push_group.ensures.mix reading channel time
+          ∙ ap (λ o. contribution_at reading o event channel time) (sym found);
       whole = c.push_group.ensures.whole;
-      lies = parts_lie (sounds_of binding) (homes_of binding) index facts event played (has_numbers event c.requires.whole) there frames c.in-Some.ensures.at_home;
+      lies = parts_lie (sounds_of binding) (homes_of binding) index facts event played
+          (has_numbers event c.requires.whole) there frames c.in-Some.ensures.at_home;
       once = λ time. parts_once index event time played.fades;
     })

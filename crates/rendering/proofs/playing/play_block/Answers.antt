@@ -21,11 +21,13 @@ run-requires-clause-inside g c =
 pub pack-requires-clause-fit : goal.pack-requires-clause-fit
 pack-requires-clause-fit g c =
     let plan = c.args.plan.now in
-    let channels : c.args.machine.now.channels ≡ plan.range.channels = ap (λ (e : Extent). e.channels) c.requires.machine in
-    let formed : IsBlockProgram (block_frames plan.range c.args.k) c.args.machine.now.channels plan.depth c.deref.result.now =
+    let channels : c.args.machine.now.channels ≡ plan.range.channels =
+    ap (λ (e : Extent). e.channels) c.requires.machine in
+    let frames = block_frames plan.range c.args.k in
+    let formed : IsBlockProgram frames c.args.machine.now.channels plan.depth c.deref.result.now =
     rw (channels, c.deref.ensures.value) c.in-Ok.ensures.formed in
     subst (λ (d : Depth). All (FitsDepth (bits_of d)) c.run.new.out) c.requires.depth
-    (c.in_ok-run.ensures.fit (block_frames plan.range c.args.k) plan.depth formed)
+    (c.in_ok-run.ensures.fit frames plan.depth formed)
 
 pub returns-clause-played : goal.returns-clause-played
 returns-clause-played g c = λ honest.
@@ -35,7 +37,8 @@ returns-clause-played g c = λ honest.
     let start : BlockState = record { frames = 0; sums = λ i channel. pos 0; out = [] } in
     let program = c.in-Ok.program.items in
     let channels : c.args.machine.now.channels ≡ range.channels = ap (λ (e : Extent). e.channels) c.requires.machine in
-    let full = subst (λ (lines : List Instruction). All (PlaysFull reading) lines) c.deref.ensures.value (c.in_ok-run.ensures.full honest) in
+    let full = subst (λ (lines : List Instruction). All (PlaysFull reading) lines) c.deref.ensures.value
+    (c.in_ok-run.ensures.full honest) in
     let ran : c.run.new.out ≡ (executed_all reading range.channels program start).out =
     c.in_ok-run.ensures.ran honest start
     ∙ ap (λ (n : ℕ). (executed_all reading n c.deref.result.now start).out) channels

@@ -19,8 +19,10 @@ returns-clause-prepared c =
     let plan = c.in_ok-plan.plan in
     let info = c.in_ok-info.info in
     let events = c.events.ensures.events ∙ ap (λ (p : ListProject). p.events) c.project.ensures.lent in
-    let chosen : range_of span.from span.to span.channels options.depth ≡ accepted.range_of project (values_of options) =
-    same_range project options c.events.result.now span.from span.to span.channels events told.from told.to told.channels in
+    let chosen : range_of span.from span.to span.channels options.depth
+    ≡ accepted.range_of project (values_of options) =
+    same_range project options c.events.result.now span.from span.to span.channels events told.from told.to
+    told.channels in
     let range : plan.range ≡ range_of span.from span.to span.channels options.depth = c.in_ok-plan.ensures.range in
     let fits : Fits info = not_above _ _ (λ not. let long = c.in_ok-head.ensures.too_long.1 not in absurd (cc)) in
     record {
@@ -29,7 +31,8 @@ returns-clause-prepared c =
         some = rw range c.in_ok-plan.ensures.some;
         told = ap (λ (r : Range). r.depth) range ∙ sym (ap bits_of c.in_ok-plan.ensures.depth);
         inside = c.in_ok-plan.ensures.inside;
-        channels = ap (λ (r : Range). r.channels) range ∙ sym (ap (λ (f : Format). f.channels) c.in_ok-room.ensures.made);
+        channels = ap (λ (r : Range). r.channels) range
+            ∙ sym (ap (λ (f : Format). f.channels) c.in_ok-room.ensures.made);
         depth = c.in_ok-plan.ensures.depth ∙ sym (ap (λ (f : Format). f.depth) c.in_ok-room.ensures.made);
         info = c.in_ok-info.ensures.info ∙ ap render_info (sym range);
         fits = fits;

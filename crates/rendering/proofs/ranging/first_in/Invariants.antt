@@ -5,4 +5,6 @@ use Rattle.rendering.proofs.ranging.first_in.Given as goal
 
 -- with the events that are left it is the least of all
 abbrev pub invariant-loop-event : goal.invariant-loop-event
-invariant-loop-event l = least_with (λ event. event.dest_in) l.least (drop l.event-index l.others) ≡ least_of (λ event. event.dest_in) l.fn.events
+invariant-loop-event l =
+    least_with (λ event. event.dest_in) l.least (drop l.event-index l.others)
+    ≡ least_of (λ event. event.dest_in) l.fn.events

@@ -6,4 +6,5 @@ use Rattle.rendering.proofs.ranging.last_out.Given as goal
 -- with the events that are left it is the greatest of all
 abbrev pub invariant-loop-event : goal.invariant-loop-event
 invariant-loop-event l =
-    max l.greatest (greatest_of (λ event. event.dest_out) (drop l.event-index l.events)) ≡ greatest_of (λ event. event.dest_out) l.events
+    max l.greatest (greatest_of (λ event. event.dest_out) (drop l.event-index l.events))
+    ≡ greatest_of (λ event. event.dest_out) l.events

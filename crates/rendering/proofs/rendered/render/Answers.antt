@@ -23,7 +23,8 @@ returns-clause-rendered g c = λ honest_shelf honest_bench.
     record {
       bytes = rendering_of plan.range heard;
       there = c.in_ok-write.ensures.written honest_shelf honest_bench
-          ∙ ap (λ (sounds : List SoundFacts). Some (rendering_of plan.range (sum_of (reading_by files sounds) plan.pieces)))
+          ∙ ap (λ (sounds : List SoundFacts).
+          Some (rendering_of plan.range (sum_of (reading_by files sounds) plan.pieces)))
           (c.sounds.ensures.sounds ∙ ap sounds_of c.bound.ensures);
       whole = whole;
       reads_back = subst (ReadsBack range mix) (sym whole) (is.reads_back mix);

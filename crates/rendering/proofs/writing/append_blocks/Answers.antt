@@ -25,9 +25,13 @@ loop-k-preserved g c =
           let bench_now : IsTrue (g.B.Bench.honest c.loop-k.bench) = rw built.honest_same honest_bench in
           let mix : ℕ → ℕ → ℤ = sum_of (reading_by (g.S.Shelf.stored c.args.shelf.now) sounds) plan.pieces in
           let front = first_frames plan.range mix (frames_before plan.range k) in
-          let step = subst (λ (files : Files). IsAppended (block_bytes plan.range (sum_of (reading_by files sounds) plan.pieces) k)
-          (g.B.Bench.stored c.loop-k.bench (codes "render.wav")) (g.B.Bench.stored c.append_block.new.bench (codes "render.wav")))
+          let step = subst (λ (files : Files).
+          IsAppended (block_bytes plan.range (sum_of (reading_by files sounds) plan.pieces) k)
+          (g.B.Bench.stored c.loop-k.bench (codes "render.wav"))
+          (g.B.Bench.stored c.append_block.new.bench (codes "render.wav")))
           quiet.same (c.in_ok-append_block.ensures.appended shelf_now bench_now) in
-          appended_to _ _ (file ++ front) (block_bytes plan.range mix k) _ step (c.loop-k.invariant.3 honest_shelf honest_bench file there)
-          (append_assoc file front (block_bytes plan.range mix k) ∙ ap (λ (bytes : List ℕ). file ++ bytes) (block_more plan.range mix k inside)),
+          appended_to _ _ (file ++ front) (block_bytes plan.range mix k) _ step
+          (c.loop-k.invariant.3 honest_shelf honest_bench file there)
+          (append_assoc file front (block_bytes plan.range mix k)
+          ∙ ap (λ (bytes : List ℕ). file ++ bytes) (block_more plan.range mix k inside)),
     )

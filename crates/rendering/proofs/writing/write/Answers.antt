@@ -12,15 +12,19 @@ pub returns-in_err-finish-clause-only_writes : goal.returns-in_err-finish-clause
 returns-in_err-finish-clause-only_writes g c =
     written_behind _ _ _ _ _ _ _ _ _ c.in_ok-begin.ensures.only_writes
     (written_behind _ _ _ _ _ _ _ _ _ c.in_ok-append_blocks.ensures.only_writes
-    (output_failed _ _ _ _ _ _ _ _ c.from_residual-in_err-finish.result c.in_err-finish.ensures.only_writes c.from_residual-in_err-finish.ensures.1))
+    (output_failed _ _ _ _ _ _ _ _ c.from_residual-in_err-finish.result c.in_err-finish.ensures.only_writes
+    c.from_residual-in_err-finish.ensures.1))
 
 pub returns-clause-written : goal.returns-clause-written
 returns-clause-written g c = λ honest_shelf honest_bench.
     let prepared = c.args.prepared in
     let range = prepared.plan.range in
-    let mix : ℕ → ℕ → ℤ = sum_of (reading_by (g.S.Shelf.stored c.args.shelf.now) c.args.sounds.now) prepared.plan.pieces in
-    let begun_honest : IsTrue (g.B.Bench.honest c.begin.new.bench) = rw c.begin.ensures.only_writes.honest_same honest_bench in
-    let blocks_honest : IsTrue (g.B.Bench.honest c.append_blocks.new.bench) = rw c.append_blocks.ensures.only_writes.honest_same begun_honest in
+    let mix : ℕ → ℕ → ℤ =
+    sum_of (reading_by (g.S.Shelf.stored c.args.shelf.now) c.args.sounds.now) prepared.plan.pieces in
+    let begun_honest : IsTrue (g.B.Bench.honest c.begin.new.bench) =
+    rw c.begin.ensures.only_writes.honest_same honest_bench in
+    let blocks_honest : IsTrue (g.B.Bench.honest c.append_blocks.new.bench) =
+    rw c.append_blocks.ensures.only_writes.honest_same begun_honest in
     let head = c.deref.result.now in
     let frames = first_frames range mix (range.to - range.from) in
     let pad = zeros (data_size prepared.info % 2) in

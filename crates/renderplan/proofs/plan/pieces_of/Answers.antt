@@ -9,4 +9,5 @@ pub returns-clause-sound : goal.returns-clause-sound
 returns-clause-sound c =
     let groups = c.groups-group-items.result.now in
     let all = rw (← c.groups-group-items.ensures.lent) at c.groups-group-items.ensures.sound.pieces_ok in
-    rw c.loop-group.invariant (all_pieces (take c.loop-group.group-index groups) (All-take (All IsPiece) c.loop-group.group-index groups all))
+    rw c.loop-group.invariant (all_pieces (take c.loop-group.group-index groups)
+    (All-take (All IsPiece) c.loop-group.group-index groups all))

@@ -12,7 +12,8 @@ returns-clause-opens g c = λ honest file there whole not_riff is.
     (ap (λ (files : Files). files c.args.name.now) kept.same ∙ there) in
     let held = c.if-not-holds_fields.ensures.0 refl in
     let within : c.in_ok-head.head.size ≤ length file - 20 = omega (arith, held.1) in
-    let sizes = sizes_there file c.read_at.new.buffer c.in_ok-head.head head held.0 within (omega arith) fields (omega arith) in
+    let sizes =
+    sizes_there file c.read_at.new.buffer c.in_ok-head.head head held.0 within (omega arith) fields (omega arith) in
     let found = sizes ∙ sym c.read_ds64.ensures ∙ c.in_ok-ds64.ensures.ok_part in
     let size = c.from-size.ensures in
     rf64_laid file c.args.end c.saturating_sub.result c.in_ok-ds64.ds64 c.in_ok-head.head not_riff is found head

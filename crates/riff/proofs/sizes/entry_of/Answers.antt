@@ -26,7 +26,8 @@ loop-i-preserved g c = record {
       subst (λ i. HasEntry file (48 + 12 * i) c.in_ok-entry.entry) c.from.ensures entry in
       c.loop-i.invariant.passed honest file there
       ∙ entry_missed file (48 + 12 * c.loop-i.i) (48 + 12 * (c.loop-i.i + 1)) (c.args.entries - c.loop-i.i)
-      (c.args.entries - (c.loop-i.i + 1)) c.args.id c.in_ok-entry.entry here (sym c.if-eq.ensures) (omega arith) (omega arith);
+      (c.args.entries - (c.loop-i.i + 1)) c.args.id c.in_ok-entry.entry here (sym c.if-eq.ensures) (omega arith)
+      (omega arith);
 }
 
 pub returns-clause-found : goal.returns-clause-found

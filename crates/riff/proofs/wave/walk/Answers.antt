@@ -1,9 +1,9 @@
 use Rattle.std.proofs.Common.{◌≡◌, ◌+◌, ◌*◌, ◌≤◌, length, subst, sym, ap, ◌∙◌, IsTrue}
 use Rattle.std.specs.Result.{IfOk}
+use Rattle.facts.specs.Tests.{same_some}
 use Rattle.work_terms.specs.Disk.{Files}
 use Rattle.riff.specs.Found.{EndInside}
 use Rattle.riff.specs.Walk.{chunks_view}
-use Rattle.riff.proofs.Reading.{same_some}
 use Rattle.riff.proofs.wave.walk.Goals as goal
 
 pub returns-clause-seen : goal.returns-clause-seen
@@ -28,4 +28,5 @@ pub returns-clause-inside : goal.returns-clause-inside
 returns-clause-inside g c = λ honest file there.
     let found = c.in_ok-end.ensures.found honest in
     let whole : length file ≡ c.in_ok-end.end = ap length (same_some (sym there ∙ found.1)) ∙ found.2 in
-    subst (λ n. IfOk c.walk_form.result (λ chunks. EndInside n (chunks_view chunks))) (sym whole) c.walk_form.ensures.ends
+    subst (λ n. IfOk c.walk_form.result (λ chunks. EndInside n (chunks_view chunks))) (sym whole)
+    c.walk_form.ensures.ends

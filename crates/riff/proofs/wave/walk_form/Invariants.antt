@@ -9,7 +9,8 @@ invariant-loop-left g l = record {
   sources : IsQuiet g.S.Shelf l.fn.shelf l.shelf;
   inside : IsInside l.end l.left l.found;
   walked : IsTrue (g.S.Shelf.honest l.fn.shelf) → (file : List ℕ) → g.S.Shelf.stored l.fn.shelf l.name ≡ Some file
-      → length file ≡ l.end → IsLaid file l.end l.form.sizes l.form.left → IsWalked file l.form.sizes l.end l.left l.found;
+      → length file ≡ l.end → IsLaid file l.end l.form.sizes l.form.left
+      → IsWalked file l.form.sizes l.end l.left l.found;
 }
 
 abbrev pub decreases-loop-left : goal.decreases-loop-left

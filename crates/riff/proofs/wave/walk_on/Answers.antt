@@ -19,14 +19,18 @@ returns-in_err-size-clause-walked g c = λ honest file there before.
     let ahead = ranged _ file _ _ (c.in_ok-read_at.ensures.read honest) there in
     let same : c.in_ok-rest.rest ≡ c.args.left = omega (arith, c.in_ok-rest.ensures.less) in
     let here : IsWalked file c.args.sizes.now c.args.end c.args.left c.walk_ahead.new.found =
-    subst (λ n. IsWalked file c.args.sizes.now c.args.end n c.walk_ahead.new.found) same (c.in_ok-rest.ensures.walked file ahead before) in
+    subst (λ n. IsWalked file c.args.sizes.now c.args.end n c.walk_ahead.new.found) same
+    (c.in_ok-rest.ensures.walked file ahead before) in
     let shorter = c.min-count.ensures in
     let enough : 8 ≤ length c.read_at.new.buffer = omega (arith, c.read_at.auto.buffer, length-take {A = ℕ}) in
-    let head = head_front file (c.args.end - c.args.left) _ c.of-head.result ahead enough c.of-head.ensures.id c.of-head.ensures.size in
+    let head =
+    head_front file (c.args.end - c.args.left)
+    _ c.of-head.result ahead enough c.of-head.ensures.id c.of-head.ensures.size in
     let told = c.in_err-size.ensures.told (subst IsTrue (sym kept.honest_same) honest) file
     (ap (λ (files : Files). files c.args.name.now) kept.same ∙ there) in
     let refused = refused_size file c.args.sizes.now c.of-head.result c.in_err-size.field-0.0 told
-    (λ none. walked_unknown file c.args.sizes.now c.args.end c.args.left _ here c.of-head.result c.requires.head head none) in
+    (λ none. walked_unknown file c.args.sizes.now c.args.end c.args.left _ here c.of-head.result c.requires.head head
+    none) in
     let p = err_from_is_err_and c.from_residual-in_err-size.result c.from_residual-in_err-size.ensures.1 in
     rw (p.1, p.2) refused
 
@@ -36,10 +40,13 @@ returns-in_err-rest-2-clause-walked g c = λ honest file there before.
     let ahead = ranged _ file _ _ (c.in_ok-read_at.ensures.read honest) there in
     let same : c.in_ok-rest.rest ≡ c.args.left = omega (arith, c.in_ok-rest.ensures.less) in
     let here : IsWalked file c.args.sizes.now c.args.end c.args.left c.walk_ahead.new.found =
-    subst (λ n. IsWalked file c.args.sizes.now c.args.end n c.walk_ahead.new.found) same (c.in_ok-rest.ensures.walked file ahead before) in
+    subst (λ n. IsWalked file c.args.sizes.now c.args.end n c.walk_ahead.new.found) same
+    (c.in_ok-rest.ensures.walked file ahead before) in
     let shorter = c.min-count.ensures in
     let enough : 8 ≤ length c.read_at.new.buffer = omega (arith, c.read_at.auto.buffer, length-take {A = ℕ}) in
-    let head = head_front file (c.args.end - c.args.left) _ c.of-head.result ahead enough c.of-head.ensures.id c.of-head.ensures.size in
+    let head =
+    head_front file (c.args.end - c.args.left)
+    _ c.of-head.result ahead enough c.of-head.ensures.id c.of-head.ensures.size in
     let told = c.in_ok-size.ensures.told (subst IsTrue (sym kept.honest_same) honest) file
     (ap (λ (files : Files). files c.args.name.now) kept.same ∙ there) in
     let cut = c.in_err-rest-2.ensures.walked file c.args.sizes.now here head told in
@@ -52,10 +59,13 @@ returns-clause-walked g c = λ honest file there before.
     let ahead = ranged _ file _ _ (c.in_ok-read_at.ensures.read honest) there in
     let same : c.in_ok-rest.rest ≡ c.args.left = omega (arith, c.in_ok-rest.ensures.less) in
     let here : IsWalked file c.args.sizes.now c.args.end c.args.left c.walk_ahead.new.found =
-    subst (λ n. IsWalked file c.args.sizes.now c.args.end n c.walk_ahead.new.found) same (c.in_ok-rest.ensures.walked file ahead before) in
+    subst (λ n. IsWalked file c.args.sizes.now c.args.end n c.walk_ahead.new.found) same
+    (c.in_ok-rest.ensures.walked file ahead before) in
     let shorter = c.min-count.ensures in
     let enough : 8 ≤ length c.read_at.new.buffer = omega (arith, c.read_at.auto.buffer, length-take {A = ℕ}) in
-    let head = head_front file (c.args.end - c.args.left) _ c.of-head.result ahead enough c.of-head.ensures.id c.of-head.ensures.size in
+    let head =
+    head_front file (c.args.end - c.args.left)
+    _ c.of-head.result ahead enough c.of-head.ensures.id c.of-head.ensures.size in
     let told = c.in_ok-size.ensures.told (subst IsTrue (sym kept.honest_same) honest) file
     (ap (λ (files : Files). files c.args.name.now) kept.same ∙ there) in
     c.in_ok-rest-2.ensures.walked file c.args.sizes.now here head told

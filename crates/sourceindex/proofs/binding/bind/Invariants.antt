@@ -9,7 +9,8 @@ use Rattle.sourceindex.proofs.binding.bind.Given as goal
 abbrev pub invariant-loop-place : goal.invariant-loop-place
 invariant-loop-place g l = record {
   so_far : IsTrue (g.S.Shelf.honest l.fn.shelf)
-      → with_sources (g.S.Shelf.stored l.fn.shelf) l.project.events nothing_bound (take l.place l.sources) ≡ Ok l.binder;
+      → with_sources (g.S.Shelf.stored l.fn.shelf) l.project.events nothing_bound (take l.place l.sources)
+      ≡ Ok l.binder;
   sound : IsBinding l.binder;
   read : IsQuiet g.S.Shelf l.fn.shelf l.shelf;
 }

@@ -15,7 +15,8 @@ loop-i-preserved c =
     let index : BoundIndex = get_or indexes i (record { number = 0; file = 0; base = 0; addressable = 0 }) in
     let before = take i indexes in
     let many : length before ≡ i = length-take-le i indexes (omega (arith, c.loop-i-test.true)) in
-    let here : take (i + 1) indexes ≡ before ++ index ∷ [] = ap (λ n. take n indexes) (add-one i) ∙ take-suc indexes i _ c.loop-i-test.true in
+    let here : take (i + 1) indexes ≡ before ++ index ∷ [] =
+    ap (λ n. take n indexes) (add-one i) ∙ take-suc indexes i _ c.loop-i-test.true in
     elim c.if-file-len.branch [
       | then-file-len w ↦
           let inside : index.file < length homes = omega (arith, w.if-file-len.true, c.len.ensures) in
@@ -27,7 +28,8 @@ loop-i-preserved c =
             count = rw w.homes-is (length-set homes index.file _ ∙ c.loop-i.invariant.count);
           }
       | else-file-len w ↦ record {
-        least = rw (here, w.homes-is) (least_skipped homes before index c.loop-i.invariant.least (omega (arith, w.if-file-len.false, c.len.ensures)));
+        least = rw (here, w.homes-is) (least_skipped homes before index c.loop-i.invariant.least
+            (omega (arith, w.if-file-len.false, c.len.ensures)));
         count = rw w.homes-is c.loop-i.invariant.count;
       }
     ]

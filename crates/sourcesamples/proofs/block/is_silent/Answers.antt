@@ -10,7 +10,8 @@ returns-in_default-clause-answer g c = λ honest.
     let sounds = c.args.sounds.now in
     let piece = c.args.piece.now in
     let past = c.in_default.ensures.lookup.0 in
-    silent_nowhere (g.S.Shelf.stored c.args.shelf.now) sounds piece (slice_get_past sounds piece.file (grind (arith, nat_tests)))
+    silent_nowhere (g.S.Shelf.stored c.args.shelf.now) sounds piece
+    (slice_get_past sounds piece.file (grind (arith, nat_tests)))
 
 pub returns-in-Ok-clause-answer : goal.returns-in-Ok-clause-answer
 returns-in-Ok-clause-answer g c = λ honest.
@@ -18,7 +19,8 @@ returns-in-Ok-clause-answer g c = λ honest.
     let piece = c.args.piece.now in
     let sound = c.in-Some.sound.now in
     let found = c.in-Some.ensures.lookup in
-    let there : slice_get sounds piece.file ≡ Some sound = slice_get_read sounds (length sounds) piece.file sound refl found.3.0 found.1 in
+    let there : slice_get sounds piece.file ≡ Some sound =
+    slice_get_read sounds (length sounds) piece.file sound refl found.3.0 found.1 in
     let told = c.in-Ok.ensures.answer honest in
     let rest = c.inside-part.ensures.rest (g.S.Shelf.stored c.args.shelf.now) in
     silent_by (g.S.Shelf.stored c.args.shelf.now) sounds piece sound c.in-Ok.zero there
@@ -30,7 +32,8 @@ returns-in-Err-clause-only_reads g c =
     let file = c.args.piece.now.file in
     let sound = c.in-Some.sound.now in
     let found = c.in-Some.ensures.lookup in
-    let there : slice_get sounds file ≡ Some sound = slice_get_read sounds (length sounds) file sound refl found.3.0 found.1 in
+    let there : slice_get sounds file ≡ Some sound =
+    slice_get_read sounds (length sounds) file sound refl found.3.0 found.1 in
     let only = c.in-Err.ensures.only_reads in
     let is = device_of c.in-Err.field-0 (λ missing. c.in-Err.ensures.not_missing (ap Err missing)) in
     record {

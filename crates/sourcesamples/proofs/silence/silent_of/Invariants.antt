@@ -9,4 +9,5 @@ abbrev pub invariant-loop-group : goal.invariant-loop-group
 invariant-loop-group g l =
     IsQuiet g.S.Shelf l.initial.shelf l.shelf
     × (IsTrue (g.S.Shelf.honest l.initial.shelf)
-    → l.silent.items ≡ silences (reading_by (g.S.Shelf.stored l.initial.shelf) l.sounds) (take l.group-index l.group-items))
+    → l.silent.items ≡ silences (reading_by (g.S.Shelf.stored l.initial.shelf) l.sounds)
+    (take l.group-index l.group-items))

@@ -15,6 +15,8 @@ returns-clause-answer g c = λ honest.
     let few = c.requires.few in
     let whole : length frames ≡ part.length * c.from-channels.result =
     c.read_frames.auto.frames ∙ omega (arith, length-take {A = ℤ}, ap (λ n. part.length * n) channels) in
-    let heard = read_zero files sound part file.0 frames file.1 read (whole ∙ ap (λ n. part.length * n) channels) c.requires.inside in
+    let heard =
+    read_zero files sound part file.0 frames file.1 read (whole ∙ ap (λ n. part.length * n) channels)
+    c.requires.inside in
     let told = rw (channels, c.from.ensures, c.from-2.ensures) at (c.are_zero.ensures part.length whole) in
     (λ zero. heard.0 (told.0 zero), λ silent. told.1 (heard.1 silent))

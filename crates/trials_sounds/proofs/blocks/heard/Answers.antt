@@ -11,6 +11,7 @@ run-requires-clause-fits c =
       4,
       c.args.depth,
       omega (arith, frames),
-      added_twice c.in_ok-machine.machine.channels c.args.first c.args.second c.args.depth channels c.requires.first c.requires.second,
+      added_twice c.in_ok-machine.machine.channels c.args.first c.args.second c.args.depth channels c.requires.first
+          c.requires.second,
       omega (arith, channels),
     )

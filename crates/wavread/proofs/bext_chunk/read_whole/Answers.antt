@@ -20,5 +20,6 @@ returns-clause-told g c = λ honest file there inside.
     let read = c.in_ok-history.ensures.history (subst IsTrue (sym kept.honest_same) honest) file
     (ap (λ (files : Files). files c.args.name.now) kept.same ∙ there) in
     whole_told file c.args.contents _ (omega arith) inside (c.in_ok-bext.ensures.fields honest file there)
-    (history_read file c.args.contents c.min-count.result c.in_ok-history.history.items (omega arith) (λ past. omega arith) (λ fits. omega arith) read) refl
+    (history_read file c.args.contents c.min-count.result c.in_ok-history.history.items (omega arith)
+    (λ past. omega arith) (λ fits. omega arith) read) refl
     (cut_told c.args.contents.length (omega arith))

@@ -14,7 +14,8 @@ returns-clause-reads_back c = λ name samples fits counted.
     reads_back name info samples is counted
 
 pub returns-clause-data_stands : goal.returns-clause-data_stands
-returns-clause-data_stands c = λ samples counted. samples_stand c.args.info.now samples c.channels.ensures.within.text_whole counted
+returns-clause-data_stands c =
+    λ samples counted. samples_stand c.args.info.now samples c.channels.ensures.within.text_whole counted
 
 pub returns-clause-rendered : goal.returns-clause-rendered
 returns-clause-rendered c = λ range mix fits same.

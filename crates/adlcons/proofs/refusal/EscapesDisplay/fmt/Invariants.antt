@@ -6,4 +6,6 @@ use Rattle.adlcons.proofs.refusal.EscapesDisplay.fmt.Given as goal
 
 abbrev pub invariant-loop-byte : goal.invariant-loop-byte
 invariant-loop-byte g l =
-    IsPlainFormatter l.initial.f → HasWritten g.W.Write.write_str_gives l.initial.f (flat_map percent_encode_byte (take l.byte-index l.byte-items)) l.f
+    IsPlainFormatter l.initial.f
+    → HasWritten g.W.Write.write_str_gives l.initial.f
+    (flat_map percent_encode_byte (take l.byte-index l.byte-items)) l.f

@@ -9,5 +9,6 @@ invariant_of-self-2 c =
     let number = c.args.number in
     record {
       flags = grind (arith, common_steps);
-      whole = rw c.in_ok-push.ensures.items (AreSources-push _ _ number c.args.self.now.whole (grind (arith, nat_tests, c.args.self.now.flags number)) (search rules) (search rules));
+      whole = rw c.in_ok-push.ensures.items (AreSources-push _ _ number c.args.self.now.whole
+          (grind (arith, nat_tests, c.args.self.now.flags number)) (search rules) (search rules));
     }

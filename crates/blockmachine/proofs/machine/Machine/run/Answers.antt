@@ -17,16 +17,21 @@ run_lines-requires-clause-formed g c =
     let block = fits.3 in
     let between = between_ends c.args.program.now block.lines (Start fits.0) (Emit fits.1) block.whole in
     let channels : c.self.inside.channels ≡ c.args.self.now.channels = ap (λ (e : Extent). e.channels) c.self.view_is in
-    let frames : fits.0 ≤ 4096 = subst (λ (n : ℕ). fits.0 ≤ n) (sym (ap (λ (e : Extent). e.frames) c.self.view_is)) fits.2 in
+    let frames : fits.0 ≤ 4096 =
+    subst (λ (n : ℕ). fits.0 ≤ n) (sym (ap (λ (e : Extent). e.frames) c.self.view_is)) fits.2 in
     let n = c.args.self.now.channels in
-    let longer = All-weaker (IsFormed fits.0 n) (IsFormed 4096 n) (λ line formed. formed_longer fits.0 4096 n frames line formed) block.lines block.formed in
+    let longer =
+    All-weaker (IsFormed fits.0 n) (IsFormed 4096 n) (λ line formed. formed_longer fits.0 4096 n frames line formed)
+    block.lines block.formed in
     let lines = subst (λ (l : List Instruction). All (IsFormed 4096 n) l) (sym between) longer in
-    subst (λ (m : ℕ). All (IsFormed 4096 m) (take (length c.args.program.now - 1 - 1) (drop 1 c.args.program.now))) (sym channels) lines
+    subst (λ (m : ℕ). All (IsFormed 4096 m) (take (length c.args.program.now - 1 - 1) (drop 1 c.args.program.now)))
+    (sym channels) lines
 
 pub run_lines-requires-clause-added : goal.run_lines-requires-clause-added
 run_lines-requires-clause-added g c =
     let block = c.requires.fits.3 in
-    let between = between_ends c.args.program.now block.lines (Start c.requires.fits.0) (Emit c.requires.fits.1) block.whole in
+    let between =
+    between_ends c.args.program.now block.lines (Start c.requires.fits.0) (Emit c.requires.fits.1) block.whole in
     subst (λ (l : List Instruction). All AddsOne l) (sym between) block.added
 
 pub run_lines-requires-clause-inside : goal.run_lines-requires-clause-inside
@@ -38,7 +43,8 @@ run_lines-requires-clause-inside g c =
 pub run_lines-requires-clause-whole : goal.run_lines-requires-clause-whole
 run_lines-requires-clause-whole g c =
     let fits = c.requires.fits in
-    let frames : fits.0 ≤ 4096 = subst (λ (n : ℕ). fits.0 ≤ n) (sym (ap (λ (e : Extent). e.frames) c.self.view_is)) fits.2 in
+    let frames : fits.0 ≤ 4096 =
+    subst (λ (n : ℕ). fits.0 ≤ n) (sym (ap (λ (e : Extent). e.frames) c.self.view_is)) fits.2 in
     let channels : c.self.inside.channels ≡ c.args.self.now.channels = ap (λ (e : Extent). e.channels) c.self.view_is in
     (fits.0, frames, fits.4 ∙ ap (λ n. fits.0 * n) (sym channels))
 

@@ -5,14 +5,18 @@ use Rattle.interval.proofs.GroupLength.{fall-le, length_in_day, rise-le}
 use Rattle.interval.proofs.group.Group.placed.Goals as goal
 
 pub length_of-requires : goal.length_of-requires
-length_of-requires c = rw c.pieces-pieces.ensures.lent (length_in_day c.args.self.now c.pieces-pieces.ensures.group c.pieces-pieces.ensures.sound)
+length_of-requires c =
+    rw c.pieces-pieces.ensures.lent (length_in_day c.args.self.now c.pieces-pieces.ensures.group
+    c.pieces-pieces.ensures.sound)
 
 pub rise_of-requires : goal.rise_of-requires
 rise_of-requires c =
-    let whole : length_of_group c.args.self.now ≤ day = length_in_day c.args.self.now c.pieces-pieces.ensures.group c.pieces-pieces.ensures.sound in
+    let whole : length_of_group c.args.self.now ≤ day =
+    length_in_day c.args.self.now c.pieces-pieces.ensures.group c.pieces-pieces.ensures.sound in
     rw c.pieces-pieces.ensures.lent (omega (arith, whole, rise-le c.args.self.now))
 
 pub fall_of-requires : goal.fall_of-requires
 fall_of-requires c =
-    let whole : length_of_group c.args.self.now ≤ day = length_in_day c.args.self.now c.pieces-pieces.ensures.group c.pieces-pieces.ensures.sound in
+    let whole : length_of_group c.args.self.now ≤ day =
+    length_in_day c.args.self.now c.pieces-pieces.ensures.group c.pieces-pieces.ensures.sound in
     rw c.pieces-pieces.ensures.lent (omega (arith, whole, fall-le c.args.self.now))

@@ -5,16 +5,21 @@ use Rattle.interval.proofs.SameMix.{mix_cut}
 use Rattle.interval.proofs.intervals.Intervals.cut_at.Goals as goal
 
 pub ordered-requires-clause-groups : goal.ordered-requires-clause-groups
-ordered-requires-clause-groups c = rw c.in_ok-sides.ensures (cut_are_groups c.get.result c.args.self c.groups.ensures.sound.groups_ok)
+ordered-requires-clause-groups c =
+    rw c.in_ok-sides.ensures (cut_are_groups c.get.result c.args.self c.groups.ensures.sound.groups_ok)
 
 pub ordered-requires-clause-pieces : goal.ordered-requires-clause-pieces
-ordered-requires-clause-pieces c = rw c.in_ok-sides.ensures (cut_hold_pieces c.get.result c.args.self c.groups.ensures.sound.pieces_ok)
+ordered-requires-clause-pieces c =
+    rw c.in_ok-sides.ensures (cut_hold_pieces c.get.result c.args.self c.groups.ensures.sound.pieces_ok)
 
 pub returns-clause-same_mix : goal.returns-clause-same_mix
-returns-clause-same_mix c reading channel time = rw (c.in_ok-ordered.ensures.order, c.in_ok-sides.ensures) (mix_cut reading c.get.result c.args.self channel time)
+returns-clause-same_mix c reading channel time =
+    rw (c.in_ok-ordered.ensures.order, c.in_ok-sides.ensures) (mix_cut reading c.get.result c.args.self channel time)
 
 pub returns-clause-apart : goal.returns-clause-apart
-returns-clause-apart c = rw (c.in_ok-ordered.ensures.order, c.in_ok-sides.ensures, ← c.get.ensures.samples) (cut_is_apart c.get.result c.args.self)
+returns-clause-apart c =
+    rw (c.in_ok-ordered.ensures.order, c.in_ok-sides.ensures, ← c.get.ensures.samples)
+    (cut_is_apart c.get.result c.args.self)
 
 pub returns-clause-same_reads : goal.returns-clause-same_reads
 returns-clause-same_reads c file channel frame =

@@ -21,10 +21,12 @@ invariant_of-result c = record {
 }
 
 pub returns-clause-same_mix : goal.returns-clause-same_mix
-returns-clause-same_mix c reading channel time = rw (returns-clause-order c) (mix_in_order reading c.args.groups.items channel time)
+returns-clause-same_mix c reading channel time =
+    rw (returns-clause-order c) (mix_in_order reading c.args.groups.items channel time)
 
 pub returns-clause-same_reads : goal.returns-clause-same_reads
-returns-clause-same_reads c file channel frame = rw (returns-clause-order c) (reads_in_order c.args.groups.items file channel frame)
+returns-clause-same_reads c file channel frame =
+    rw (returns-clause-order c) (reads_in_order c.args.groups.items file channel frame)
 
 pub returns-clause-same_whole : goal.returns-clause-same_whole
 returns-clause-same_whole c = rw (returns-clause-order c) (whole_in_order c.args.groups.items)

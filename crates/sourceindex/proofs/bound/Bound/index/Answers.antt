@@ -12,5 +12,6 @@ returns-clause-bound c =
 
 pub returns-clause-at_home : goal.returns-clause-at_home
 returns-clause-at_home c =
-    subst (λ (b : Binding). IfSome c.index.result (λ index. index.addressable ≤ addressable_by (homes_of b) index.file)) c.self.view_is
+    subst (λ (b : Binding). IfSome c.index.result (λ index. index.addressable ≤ addressable_by (homes_of b) index.file))
+    c.self.view_is
     (found_at_home c.self.inside.binder c.self.invariant c.args.number c.index.result c.index.ensures)

@@ -10,5 +10,7 @@ invariant_of-self-then-is_none c =
     let pushed : c.push.new.self.items ≡ indexes ++ index ∷ [] = c.in_ok-push.ensures.items in
     let place : c.len-place.result ≡ length indexes = omega (arith, c.self.inside.indexes.ok.0) in
     let below : index.number < length places = omega (arith, c.if-number-len.true, c.self.inside.places.ok.0) in
-    let free = read_as places index.number c.index.result.now None None below c.index.ensures (is_nothing c.index.result.now c.if-is_none.ensures) in
+    let free =
+    read_as places index.number c.index.result.now None None below c.index.ensures
+    (is_nothing c.index.result.now c.if-is_none.ensures) in
     rw (pushed, place) (place_added indexes places index c.self.invariant below free)

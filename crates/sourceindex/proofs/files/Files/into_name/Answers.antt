@@ -8,7 +8,15 @@ pub swap_remove-requires : goal.swap_remove-requires
 swap_remove-requires c =
     let many = length-opened_of c.self.inside.paths.items c.self.inside.sounds.items in
     let view = ap length c.self.view_is in
-    omega (arith, c.requires, many, view, c.self.invariant.together, c.self.inside.paths.ok.0, c.self.inside.sounds.ok.0)
+    omega (
+      arith,
+      c.requires,
+      many,
+      view,
+      c.self.invariant.together,
+      c.self.inside.paths.ok.0,
+      c.self.inside.sounds.ok.0,
+    )
 
 pub returns : goal.returns
 returns c = λ file there.
@@ -16,6 +24,9 @@ returns c = λ file there.
     let many = length-opened_of c.self.inside.paths.items sounds in
     let view = ap length c.self.view_is in
     let below : c.args.place < length sounds = omega (arith, c.requires, many, view, c.self.invariant.together) in
-    let at = opened_at c.self.inside.paths.items sounds c.args.place file c.self.invariant.together (ap (λ l. slice_get l c.args.place) c.self.view_is ∙ there) in
-    let read : slice_get sounds c.args.place ≡ Some c.swap_remove.result = slice_get_read sounds (length sounds) c.args.place c.swap_remove.result refl below c.swap_remove.ensures.value in
+    let at = opened_at c.self.inside.paths.items sounds c.args.place file c.self.invariant.together
+    (ap (λ l. slice_get l c.args.place) c.self.view_is ∙ there) in
+    let read : slice_get sounds c.args.place ≡ Some c.swap_remove.result =
+    slice_get_read sounds (length sounds)
+    c.args.place c.swap_remove.result refl below c.swap_remove.ensures.value in
     cc

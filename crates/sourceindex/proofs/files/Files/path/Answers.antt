@@ -8,7 +8,15 @@ pub index-requires : goal.index-requires
 index-requires c =
     let many = length-opened_of c.self.inside.paths.items c.self.inside.sounds.items in
     let view = ap length c.self.view_is in
-    omega (arith, c.requires, many, view, c.self.invariant.together, c.self.inside.paths.ok.0, c.self.inside.sounds.ok.0)
+    omega (
+      arith,
+      c.requires,
+      many,
+      view,
+      c.self.invariant.together,
+      c.self.inside.paths.ok.0,
+      c.self.inside.sounds.ok.0,
+    )
 
 pub returns : goal.returns
 returns c = λ file there.
@@ -16,7 +24,9 @@ returns c = λ file there.
     let many = length-opened_of paths c.self.inside.sounds.items in
     let view = ap length c.self.view_is in
     let below : c.args.place < length paths = omega (arith, c.requires, many, view, c.self.invariant.together) in
-    let at = opened_at paths c.self.inside.sounds.items c.args.place file c.self.invariant.together (ap (λ l. slice_get l c.args.place) c.self.view_is ∙ there) in
-    let read : slice_get paths c.args.place ≡ Some c.index.result.now = slice_get_read paths (length paths) c.args.place c.index.result.now refl below c.index.ensures in
+    let at = opened_at paths c.self.inside.sounds.items c.args.place file c.self.invariant.together
+    (ap (λ l. slice_get l c.args.place) c.self.view_is ∙ there) in
+    let read : slice_get paths c.args.place ≡ Some c.index.result.now =
+    slice_get_read paths (length paths) c.args.place c.index.result.now refl below c.index.ensures in
     let same : c.index.result.now ≡ file.path = cc in
     c.as_slice.ensures ∙ same

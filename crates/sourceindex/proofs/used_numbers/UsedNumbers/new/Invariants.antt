@@ -5,4 +5,5 @@ use Rattle.sourceindex.proofs.used_numbers.UsedNumbers.new.Given as goal
 
 -- the numbers that the entries so far name
 abbrev pub invariant-loop-event : goal.invariant-loop-event
-invariant-loop-event l = (n : ℕ) → n < length l.flags.items → slice_index_or l.flags.items n false ≡ is_used (take l.event-index l.events) n
+invariant-loop-event l =
+    (n : ℕ) → n < length l.flags.items → slice_index_or l.flags.items n false ≡ is_used (take l.event-index l.events) n

@@ -30,7 +30,8 @@ loop-done-preserved g c =
           let source = c.loop-done.invariant.sources in
           let there' = ap (λ (files : Files). files self.name) source.same ∙ there in
           let are = c.in_ok-read_frames.ensures.frames (subst IsTrue (sym source.honest_same) honest) file there' in
-          let channels : c.from-channels.result ≡ self.channels = c.from-channels.ensures ∙ c.channels.ensures.channels in
+          let channels : c.from-channels.result ≡ self.channels =
+          c.from-channels.ensures ∙ c.channels.ensures.channels in
           let room = fits_block count c.from-channels.result _ shorter in
           let taken : length frames ≡ count * c.from-channels.result =
           c.read_frames.auto.frames ∙ omega (arith, room, length-take {A = ℤ}) in
@@ -41,6 +42,7 @@ loop-done-preserved g c =
           (λ j below. c.pick.ensures j (omega arith)
           ∙ ap (λ m. get_or frames (j * m + (c.from.result - 1)) (pos 0)) channels
           ∙ ap (λ m. get_or frames (j * self.channels + (m - 1)) (pos 0)) c.from.ensures
-          ∙ sample_told file self.place self.channels self.depth c.args.from done j c.args.channel frames count are long below
+          ∙ sample_told file self.place self.channels self.depth c.args.from done j c.args.channel frames count are long
+          below
           c.requires.channel.0 c.requires.channel.1);
     }

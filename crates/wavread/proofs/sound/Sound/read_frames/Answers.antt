@@ -13,8 +13,16 @@ read_bytes-requires g c =
     let room : length frames * c.from.result ≤ length c.args.buffer.now =
     subst (λ (w : ℕ). length frames * w ≤ length c.args.buffer.now) (sym told) c.requires.room in
     let taken : length frames * c.from.result ≡ c.args.count * frame_length c.args.self.now =
-    ap (λ n. n * c.from.result) c.requires.whole ∙ ap (λ w. c.args.count * c.args.self.now.channels * w) told ∙ omega arith in
-    record { whole = (c.args.count, length-take (length frames * c.from.result) c.args.buffer.now ∙ omega (arith, room, taken), c.requires.inside) }
+    ap (λ n. n * c.from.result) c.requires.whole ∙ ap (λ w. c.args.count * c.args.self.now.channels * w) told
+    ∙ omega arith in
+    record {
+      whole = (
+        c.args.count,
+        length-take (length frames * c.from.result) c.args.buffer.now
+            ∙ omega (arith, room, taken),
+        c.requires.inside,
+      );
+    }
 
 pub returns-clause-frames : goal.returns-clause-frames
 returns-clause-frames g c = λ honest file there.
@@ -27,7 +35,8 @@ returns-clause-frames g c = λ honest file there.
     let room : length c.args.frames.now * c.from.result ≤ length c.args.buffer.now =
     subst (λ (w : ℕ). length c.args.frames.now * w ≤ length c.args.buffer.now) (sym told) c.requires.room in
     let read : length c.read_bytes.new.bytes ≡ length c.args.frames.now * c.from.result =
-    c.read_bytes.auto.bytes ∙ length-take (length c.args.frames.now * c.from.result) c.args.buffer.now ∙ omega (arith, room) in
+    c.read_bytes.auto.bytes ∙ length-take (length c.args.frames.now * c.from.result) c.args.buffer.now
+    ∙ omega (arith, room) in
     let count : length c.read_bytes.new.bytes ≡ length c.args.frames.now * (bits / 8) =
     read ∙ ap (λ w. length c.args.frames.now * w) width in
     subst (λ (b : ℕ). AreFrames file place b samples) c.depth-depth.ensures

@@ -1,0 +1,2 @@
+//! Laws on the words of std alone: tests, lists, digits. It has no code.
+#![tactic(auto)]
