@@ -11,7 +11,8 @@ from pathlib import Path
 from typing import Callable, Iterable, NamedTuple, Optional
 
 TOP = Path(__file__).resolve().parent.parent
-RUNS = 2
+MOST_RUNS = 3
+LONG_ENOUGH = 6
 SPOTS = 1000
 FULL_DEPTH = 48
 RATE = 48_000
@@ -54,11 +55,13 @@ class Bench(NamedTuple):
         return [self.program, command, *places, *options]
 
     def costs_of(self, jobs: dict) -> dict:
-        """The best cost of each job, by its name: they take turns, so that all meet the same machine."""
+        """The best cost of each job, by its name: they take turns, so that all meet the same machine. A job that has
+        taken long enough isn't run again."""
         costs = {name: [] for name in jobs}
-        for _ in range(RUNS):
+        for _ in range(MOST_RUNS):
             for name, job in jobs.items():
-                costs[name].append(self.cost_of(job))
+                if sum(cost.seconds for cost in costs[name]) < LONG_ENOUGH:
+                    costs[name].append(self.cost_of(job))
         return {
             name: Cost(min(cost.seconds for cost in each), max(cost.kilobytes for cost in each))
             for name, each in costs.items()
