@@ -2,10 +2,11 @@
 
 import random
 
-from measuring import Bench, Cut, Job, block_of, line, list_text, make_sound, sound_head, table
+from measuring import Bench, Cut, Job, block_of, bytes_read, line, list_text, make_sound, sound_head, table
 
 MANY = 32_767
 MOST_KEPT = 65_535
+FILES = 10_000
 HALF = MANY // 2
 GARBAGE = 50_000_000
 CHUNKS_SIZE = 3 * 2 ** 30
@@ -24,6 +25,12 @@ def over_files(count: int, many: int) -> str:
     """So many entries over so many files."""
     names = [f"S{number:05d}.wav" for number in range(count)]
     return list_text((Cut(0, 5 * place, 4, index=1 + place % count) for place in range(many)), names)
+
+
+def read_of_each(bench: Bench) -> int:
+    """How many bytes are read of each of many files that are checked."""
+    text = bench.put(over_files(FILES, FILES))
+    return (bytes_read(bench.words("check", text)) - text.stat().st_size) // FILES
 
 
 def longest_list() -> str:
@@ -50,14 +57,15 @@ def empty_chunks(bench: Bench) -> None:
 def rows(bench: Bench) -> list:
     block = block_of(200, 1, 16)
     make_sound(bench.media() / "A.wav", block, 1)
-    for number in range(10_000):
+    for number in range(FILES):
         make_sound(bench.media() / f"S{number:05d}.wav", block, 1)
     dice = random.Random(1)
     return [
         ("32,767 entries over one file", checked(bench, entries(MANY))),
         ("16,383 entries over one file", checked(bench, entries(HALF))),
         ("32,767 entries over 2,000 files", checked(bench, over_files(2000, MANY))),
-        ("10,000 entries over 10,000 files", checked(bench, over_files(10_000, 10_000))),
+        (f"10,000 entries over 10,000 files, of each of which {read_of_each(bench)} bytes are read",
+         checked(bench, over_files(FILES, FILES))),
         ("32,767 entries, 32,767 indexes, 65,535 kept lines", checked(bench, longest_list())),
         ("50 MB of no list", checked(bench, "".join(dice.choices("<ADL> \n\x01\x7f(", k=1000)) * (GARBAGE // 1000), 1)),
         ("50 MB of one line", checked(bench, "<ADL>\n<SEQUENCE>\n" + "x " * (GARBAGE // 2), 1)),

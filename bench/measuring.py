@@ -85,6 +85,16 @@ class Bench(NamedTuple):
         return Cost(seconds, int(peak.read_text()))
 
 
+def bytes_read(words: list) -> int:
+    """How many bytes a command reads, as the kernel counts them until it is waited for."""
+    process = subprocess.Popen(words, stdout=subprocess.DEVNULL, stderr=subprocess.DEVNULL)
+    os.waitid(os.P_PID, process.pid, os.WEXITED | os.WNOWAIT)
+    counts = dict(line.split(": ") for line in Path(f"/proc/{process.pid}/io").read_text().splitlines())
+    if process.wait():
+        sys.exit(f"bench: {' '.join(map(str, words[:3]))} .. ends with status {process.returncode}")
+    return int(counts["rchar"])
+
+
 def without_syncs(folder: Path) -> list:
     """The words in front of a command that let it sync nothing."""
     library = folder / "preload.so"

@@ -15,6 +15,8 @@ FRAME_SIZE = 6
 LAYERS = 16
 PARTS = 11
 PART = FRAMES // PARTS
+MANY = 32_767
+SHORT = 125
 
 
 class Mix(NamedTuple):
@@ -99,6 +101,22 @@ def jobs_of(bench: Bench, mix: Mix, source: Path, block: bytes) -> dict:
     return jobs
 
 
+def many_entries(bench: Bench) -> str:
+    """As many entries as there may be, one behind the other in 1,000 blocks, from places all over their file."""
+    frames = SHORT * MANY
+    block = block_of(frames, 1, 16)
+    make_sound(bench.media() / "A.wav", block, 1)
+    cuts = [Cut(SHORT * (place * 7919 % MANY), SHORT * place, SHORT) for place in range(MANY)]
+
+    def look(out: Path) -> None:
+        expect_size(out / "render.wav", HEAD + 2 * frames)
+        expect_mix(out / "render.wav", cuts, block, 1, 16)
+
+    words = bench.words("render", bench.put(list_text(cuts)), "--depth", "16")
+    cost = bench.costs_of({"one": Job(words, look)})["one"]
+    return line("32,767 entries in 1,000 blocks: 85 seconds, mono, 16 bits", cost, (None, None, None))
+
+
 def lines(bench: Bench) -> list:
     block = block_of(SECOND, 2, 24)
     source = bench.media() / "A.wav"
@@ -109,4 +127,4 @@ def lines(bench: Bench) -> list:
     for name, mix in MIXES.items():
         costs = bench.costs_of(jobs_of(bench, mix, source, block))
         rows.append(line(name, costs["render"], (costs["cp"], costs.get("sox"), costs["ffmpeg"])))
-    return rows
+    return [*rows, many_entries(bench)]

@@ -16,12 +16,15 @@ from harness import (
 )
 from tables import wave
 
-BLOCK = 4096
-BLOCKS = 40
+APPENDED = 16 * 4096
+APPENDS = 10
 STRETCHES = 20
 STRETCH = 100
+PIECES = 8
+PIECE = 131072
 EXACT = model.Options(handle=0)
 SLOW = {"SLOW": "60000"}
+SLOWER = {"SLOW": "300000"}
 LINE = rb"\r(\d+) %%: (\d+) of %d frames"
 CLEARED = rb"\r\x1b\[K"
 
@@ -70,9 +73,8 @@ def without_lines(shown: Shown, whole: int) -> bytes:
     return found.group(4)
 
 
-def put_sound(scene: Scene) -> int:
-    """A list that plays all of a file, whose rendering is written in some blocks; its frames."""
-    frames = BLOCKS * BLOCK
+def put_sound(scene: Scene, frames: int = APPENDS * APPENDED) -> int:
+    """A list that plays all of a file of so many frames, which are written some at once; these frames."""
     nothing = b"00.00.00.00/0000"
     text = model.list_text(
         [model.source_line(1, "A.wav", nothing)],
@@ -96,11 +98,11 @@ def put_stretches(scene: Scene) -> int:
 def rendering(scene: Scene) -> None:
     frames = put_sound(scene)
     line = f"rendered {frames} frames 1 channels"
-    shown = on_terminal(scene, words_of("render"), env=preloaded(scene, **SLOW))
+    shown = on_terminal(scene, words_of("render"), env=preloaded(scene, **SLOWER))
     rest = without_lines(shown, frames)
     same_outcome(shown.outcome._replace(error=rest), 0, line)
     scene.empty_out()
-    same_outcome(scene.run(*words_of("render"), env=preloaded(scene, **SLOW)), 0, line)
+    same_outcome(scene.run(*words_of("render"), env=preloaded(scene, **SLOWER)), 0, line)
 
 
 def consolidation(scene: Scene) -> None:
@@ -114,13 +116,24 @@ def consolidation(scene: Scene) -> None:
     same_outcome(scene.run(*words, env=preloaded(scene, **SLOW)), 0, line)
 
 
+def long_medium(scene: Scene) -> None:
+    """A single medium of several pieces is seen to come."""
+    frames = put_sound(scene, PIECES * PIECE)
+    shown = on_terminal(scene, words_of("consolidate", EXACT), env=preloaded(scene, **SLOWER))
+    rest = without_lines(shown, frames)
+    same_outcome(shown.outcome._replace(error=rest), 0, "written 1 media 1 entries")
+    counts = {int(done) for _, done in re.findall(LINE % frames, shown.outcome.error)} - {frames}
+    if len(counts) < 2:
+        raise Mismatch(f"a single medium of {PIECES} pieces shows {sorted(counts)} before its end")
+
+
 def refused(scene: Scene) -> None:
     """Where a device fails later on, the line is taken off before the refusal is explained."""
     frames = put_sound(scene)
-    size = 3 * BLOCK * (BLOCKS - 2)
+    size = 3 * APPENDED * (APPENDS - 2)
     limit = partial(resource.setrlimit, resource.RLIMIT_FSIZE, (size, size))
     shown = on_terminal(
-        scene, words_of("render"), env=preloaded(scene, **SLOW), preexec_fn=limit, restore_signals=False)
+        scene, words_of("render"), env=preloaded(scene, **SLOWER), preexec_fn=limit, restore_signals=False)
     rest = without_lines(shown, frames)
     same_shape("the explanation", rest, EXPLANATION % 62)
     same("standard output", shown.outcome.output, b"refused 62 at file render.wav\n")
@@ -139,5 +152,6 @@ def short(scene: Scene) -> None:
 def run(suite: Suite) -> None:
     suite.case("progress of a rendering", rendering)
     suite.case("progress of a consolidation", consolidation)
+    suite.case("progress within a medium", long_medium)
     suite.case("progress before a refusal", refused)
     suite.case("progress of short work", short)

@@ -3,6 +3,7 @@ use Rattle.std.proofs.Common.{◌≡◌, ◌∙◌, ℕ, ◌-◌, ◌/◌, ◌<�
 use Rattle.std.specs.Prelude.{nat_le, decimal, replicate, encode_utf8}
 use Rattle.std.specs.List.{All, flat_map, list_all}
 use Rattle.std.specs.Char.{is_control}
+use Rattle.std.proofs.lemmas.Bool.{and_parts}
 use Rattle.std.proofs.lemmas.Bool.Decides.{nat_tests}
 use Rattle.std.specs.Fmt.{digit_glyph, digits, digits_onto}
 use Rattle.std.proofs.lemmas.List.Elements.{All-nil, All-cons}
@@ -22,14 +23,6 @@ is_plain b = nat_le 32 b && nat_le b 126
 plain-bounds : (b : ℕ) → is_plain b ≡ true → (32 ≤ b) × (b ≤ 126)
 plain-bounds b h = (grind (arith, nat_tests), grind (arith, nat_tests))
 
-both-left : (x y : Bool) → (x && y) ≡ true → x ≡ true
-both-left true y h = refl
-both-left false y h = cc
-
-both-right : (x y : Bool) → (x && y) ≡ true → y ≡ true
-both-right true y h = h
-both-right false y h = cc
-
 both : (x y : Bool) → x ≡ true → y ≡ true → (x && y) ≡ true
 both x y one two = rw (one, two) refl
 
@@ -46,15 +39,15 @@ character-plain b h =
 characters-plain : (bs : List ℕ) → list_all is_plain bs ≡ true → flat_map printed_character bs ≡ bs
 characters-plain [] h = refl
 characters-plain (b ∷ bs) h =
-    let first = character-plain b (both-left (is_plain b) (list_all is_plain bs) h) in
-    let rest = characters-plain bs (both-right (is_plain b) (list_all is_plain bs) h) in
+    let first = character-plain b (and_parts (is_plain b) (list_all is_plain bs) h).0 in
+    let rest = characters-plain bs (and_parts (is_plain b) (list_all is_plain bs) h).1 in
     rw (first, rest) refl
 
 below : (bs : List ℕ) → list_all is_plain bs ≡ true → All (λ b. b < 128) bs
 below [] h = All-nil (λ b. b < 128)
 below (b ∷ bs) h =
-    let within = plain-bounds b (both-left (is_plain b) (list_all is_plain bs) h) in
-    All-cons (λ x. x < 128) b bs (omega arith) (below bs (both-right (is_plain b) (list_all is_plain bs) h))
+    let within = plain-bounds b (and_parts (is_plain b) (list_all is_plain bs) h).0 in
+    All-cons (λ x. x < 128) b bs (omega arith) (below bs (and_parts (is_plain b) (list_all is_plain bs) h).1)
 
 name-plain : (bs : List ℕ) → list_all is_plain bs ≡ true → printed_name bs ≡ bs
 name-plain bs h =

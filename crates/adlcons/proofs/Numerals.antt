@@ -3,7 +3,7 @@ use Rattle.std.proofs.Common.{◌≡◌, ℕ, ◌^◌, ◌<◌, ◌≤◌, ◌&&
 use Rattle.std.specs.Char.{digit_value}
 use Rattle.std.specs.List.{list_all}
 use Rattle.std.specs.Str.Parse.{AllDigits, IsNumeral, digits_value, without_leading_plus}
-use Rattle.std.proofs.lemmas.Bool.{lt-ltb}
+use Rattle.std.proofs.lemmas.Bool.{and_parts, lt-ltb}
 use Rattle.std.proofs.lemmas.Bool.Decides.{nat_tests}
 use Rattle.adlcons.specs.CommandLine.{is_numeral, number_in}
 
@@ -24,13 +24,9 @@ digits_all (d ∷ ds) are =
     let parts = first_and_rest d (list_all (λ digit. nat_lt (digit_value digit) 10) ds) are in
     (parts.0, digits_all ds parts.1)
 
-both_true : (x y : Bool) → (x && y) ≡ true → (x ≡ true) × (y ≡ true)
-both_true true y both = (refl, both)
-both_true false y both = absurd (cc)
-
 spelled : (ds : List ℕ) → is_numeral ds ≡ true → IsNumeral 10 ds
 spelled ds is =
-    let parts = both_true (nat_le 1 (length ds)) (list_all (λ digit. nat_lt (digit_value digit) 10) ds) is in
+    let parts = and_parts (nat_le 1 (length ds)) (list_all (λ digit. nat_lt (digit_value digit) 10) ds) is in
     let some = parts.0 in
     (grind (arith, nat_tests, some), digits_all ds parts.1)
 
@@ -60,7 +56,7 @@ number_unread low high text few not = by_digits (is_numeral (without_leading_plu
   by_bounds : (within : Bool) → (nat_le low value && nat_le value high) ≡ within
       → is_numeral (without_leading_plus text) ≡ true → number_in low high text ≡ None
   by_bounds true is digits =
-      let under = (both_true (nat_le low value) (nat_le value high) is).1 in
+      let under = (and_parts (nat_le low value) (nat_le value high) is).1 in
       let small : value < 2 ^ 64 = grind (arith, nat_tests, under, few) in
       absurd (not (spelled (without_leading_plus text) digits, small))
   by_bounds false is digits = rw (digits, is) refl

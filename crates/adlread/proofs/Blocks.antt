@@ -1,6 +1,6 @@
 -- A list is read as the project that it spells.
 use Rattle.std.proofs.Common.{◌≡◌, ℕ, Bool, true, false, List, [], ◌∷◌, ◌++◌, length, Option, None, Some, Ok, refl, ap, sym, subst, ◌∙◌, append_assoc, arith}
-use Rattle.std.specs.Prelude.{codes, flat_map, is_some, nat_le, unwrap_or, ◌==◌}
+use Rattle.std.specs.Prelude.{codes, flat_map, nat_le, unwrap_or, ◌==◌}
 use Rattle.std.specs.List.{list_all}
 use Rattle.std.proofs.lemmas.Bool.Decides.{nat_tests}
 use Rattle.std.proofs.Math.Bool.{and-false}
@@ -12,6 +12,7 @@ use Rattle.list_terms.specs.declared.Section.{Section}
 use Rattle.list_terms.specs.declared.Stage.TheVariants as stage
 use Rattle.list_terms.specs.Project.{Header, ListProject, Source}
 use Rattle.list_terms.specs.Steps.{err_map}
+use Rattle.list_terms.specs.HeaderLaws.{has_sequence}
 use Rattle.list_terms.specs.Lines.{lines_of}
 use Rattle.list_terms.specs.Tokens.{trimmed}
 use Rattle.list_terms.specs.Text.{Context, Entries, all_events, before_list, finished, is_behind, is_end, is_list_begin, is_opened, nothing_read, opened, opened_name, outside, project_of, section_of, tag_of, text_refusal, text_value, with_line}
@@ -138,12 +139,6 @@ same_project :
     → a.notices ≡ b.notices → a ≡ b
 same_project a b h r s e p n =
     λ i. record { header = h i; rate = r i; sources = s i; events = e i; separators = p i; notices = n i }
-
-has_sequence :
-    (sequence : Option (List (List ℕ))) → told_rates no_rates (lines_of_section sequence) ≡ Ok both_rates
-    → is_some sequence ≡ true
-has_sequence None h = let e : no_rates ≡ both_rates = cc in ap (λ (r : Rates). r.sample_rate) e
-has_sequence (Some lines) h = refl
 
 index_end : (has : Bool) (now all : List Source) → IndexFits has now [] all → (has ≡ true) × (now ≡ all)
 index_end true now all fits = (refl, fits.1)

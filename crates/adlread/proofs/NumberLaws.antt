@@ -1,17 +1,17 @@
 -- Digits spell the number that they print, with zeros in front.
 use Rattle.std.proofs.Common.{◌≡◌, ℕ, zero, suc, ◌+◌, ◌-◌, ◌*◌, ◌/◌, ◌%◌, ◌<◌, ◌≤◌, Bool, true, false, List, [], ◌∷◌, ◌++◌, length, Option, None, Some, refl, ap, sym, subst, ◌∙◌, append_assoc, length-append, ⊎_elim, arith}
-use Rattle.std.specs.Prelude.{decimal, if◌then◌else◌, nat_le, not, replicate, unwrap_or, ◌==◌, ◌&&◌}
-use Rattle.std.specs.List.{before_first, fold, list_all, prefix_len}
+use Rattle.std.specs.Prelude.{decimal, if◌then◌else◌, nat_le, replicate, unwrap_or, ◌==◌, ◌&&◌}
+use Rattle.std.specs.List.{before_first, fold, list_all}
 use Rattle.std.proofs.lemmas.Bool.{cases_lt}
 use Rattle.std.proofs.lemmas.Bool.Decides.{nat_tests}
 use Rattle.std.proofs.lemmas.Fmt.{decimal_digit, decimal_nonempty, decimal_step}
 use Rattle.std.proofs.lemmas.List.{append-nil}
 use Rattle.std.proofs.lemmas.List.Sums.{fold-append}
 use Rattle.facts.specs.Tests.{and_both, and_left, and_right}
-use Rattle.facts.specs.Prefixes.{take_more}
 use Rattle.sampletime.specs.TimeCode.{is_digit}
 use Rattle.sound_terms.specs.declared.Channels.{Channels}
 use Rattle.list_terms.specs.Fields.{are_digits, channel_range, channels_of, is_tilde, number_up_to, spelled}
+use Rattle.list_terms.specs.FieldLaws.{before_more, before_none, before_tilde, behind_none, behind_tilde}
 use Rattle.list_terms.specs.Names.{behind_byte}
 use Rattle.adlread.specs.LineGrammar.{ChannelRun, IsNumber, OneChannel, SpellsChannels}
 
@@ -199,47 +199,14 @@ number_digits limit n text low h =
 
 -- ---- channels
 
-no_tilde : (d : ℕ) → is_digit d ≡ true → (d == 126) ≡ false
-no_tilde d h = grind (arith, nat_tests)
-
-before_more :
-    (b : ℕ) (text : List ℕ) → (b == 126) ≡ false → before_first is_tilde (b ∷ text) ≡ b ∷ before_first is_tilde text
-before_more b text e = rw e (take_more (prefix_len (λ x. not (is_tilde x)) text) b text)
-
-before_run :
-    (front back : List ℕ) → list_all is_digit front ≡ true → before_first is_tilde (front ++ (126 ∷ back)) ≡ front
-before_run [] back h = refl
-before_run (d ∷ front) back h =
-    before_more d (front ++ (126 ∷ back)) (no_tilde d (and_left (is_digit d) (list_all is_digit front) h))
-    ∙ (ap (λ t. d ∷ t) (before_run front back (and_right (is_digit d) (list_all is_digit front) h)))
-
-behind_run :
-    (front back : List ℕ) → list_all is_digit front ≡ true → behind_byte 126 (front ++ (126 ∷ back)) ≡ Some back
-behind_run [] back h = refl
-behind_run (d ∷ front) back h =
-    rw (no_tilde d (and_left (is_digit d) (list_all is_digit front) h))
-    (behind_run front back (and_right (is_digit d) (list_all is_digit front) h))
-
-before_one : (text : List ℕ) → list_all is_digit text ≡ true → before_first is_tilde text ≡ text
-before_one [] h = refl
-before_one (d ∷ text) h =
-    before_more d text (no_tilde d (and_left (is_digit d) (list_all is_digit text) h))
-    ∙ (ap (λ t. d ∷ t) (before_one text (and_right (is_digit d) (list_all is_digit text) h)))
-
-behind_one : (text : List ℕ) → list_all is_digit text ≡ true → behind_byte 126 text ≡ None
-behind_one [] h = refl
-behind_one (d ∷ text) h =
-    rw (no_tilde d (and_left (is_digit d) (list_all is_digit text) h))
-    (behind_one text (and_right (is_digit d) (list_all is_digit text) h))
-
 pub channels_read :
     (text : List ℕ) (channels : Channels) → SpellsChannels text channels → channels_of text ≡ Some channels
 unfolding channels_of
 channels_read text channels (OneChannel t channel h) =
     let digits = number_digits 64 channel t (omega arith) h in
     rw (
-      before_one t digits,
-      behind_one t digits,
+      before_none t digits,
+      behind_none t digits,
       number_read 64 channel t (omega arith) h,
       is_up_to channel channel
           (omega arith),
@@ -247,8 +214,8 @@ channels_read text channels (OneChannel t channel h) =
 channels_read text channels (ChannelRun front back c a b order) =
     let digits = number_digits 64 c.first front (omega arith) a in
     rw (
-      before_run front back digits,
-      behind_run front back digits,
+      before_tilde front back digits,
+      behind_tilde front back digits,
       number_read 64 c.first front (omega arith) a,
       number_read 64 c.last back (omega arith) b,
       is_up_to c.first c.last order,

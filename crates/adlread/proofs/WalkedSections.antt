@@ -1,8 +1,8 @@
 -- A section that was read is spelled by its lines.
-use Rattle.std.proofs.Common.{◌≡◌, ℕ, Bool, true, false, List, [], ◌∷◌, ◌++◌, Option, None, Some, Result, Ok, Err, refl, ap, sym, subst, ◌∙◌, append_assoc}
-use Rattle.std.specs.Prelude.{flat_map, is_some, unwrap_or}
+use Rattle.std.proofs.Common.{◌≡◌, ℕ, Bool, true, false, List, [], ◌∷◌, ◌++◌, Some, Result, Ok, Err, refl, ap, sym, subst, ◌∙◌, append_assoc}
+use Rattle.std.specs.Prelude.{flat_map, unwrap_or}
 use Rattle.std.specs.List.{list_all}
-use Rattle.facts.specs.Tests.{and_both}
+use Rattle.facts.specs.Tests.{and_both, not_some}
 use Rattle.sampletime.specs.TimeCode.{default_separators}
 use Rattle.list_terms.specs.declared.Notice.{Notice}
 use Rattle.list_terms.specs.declared.Section.{Section}
@@ -58,10 +58,6 @@ pub record IsWalkedOver (c : Context) (n : ℕ) (s : Section) (name : List ℕ) 
       → Fits (outside_of last) blocks p
       → (notices : List Notice) × (Fits c (Titled (titled s name opening content ending notices) ∷ blocks) p
       × IsPassedOver s (titled s name opening content ending notices))
-
-not_some : {X : Type 0} (found : Option X) → is_some found ≡ false → found ≡ None
-not_some None h = refl
-not_some (Some x) h = absurd (cc)
 
 -- a section of the header
 header_over :

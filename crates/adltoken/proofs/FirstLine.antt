@@ -42,12 +42,7 @@ cut_lines-whole : (line : List ℕ) → 0 < length line → All IsNoLf line → 
 cut_lines-whole [] h all = absurd (omega arith)
 cut_lines-whole (b ∷ line) h all = cut_lines-last_line b line all
 
--- CR at the end goes, and every other text stays
-pub without_cr-cr : (text : List ℕ) → without_cr (text ++ (13 ∷ [])) ≡ text
-without_cr-cr [] = refl
-without_cr-cr (b ∷ []) = refl
-without_cr-cr (b ∷ c ∷ text) = ap (λ x. b ∷ x) (without_cr-cr (c ∷ text))
-
+-- a text without CR at its end stays
 pub without_cr-other : (text : List ℕ) → ((front : List ℕ) → text ≢ front ++ (13 ∷ [])) → without_cr text ≡ text
 without_cr-other [] h = refl
 without_cr-other (b ∷ []) h =

@@ -1,13 +1,13 @@
 -- What is written for a project is read as that project.
-use Rattle.std.proofs.Common.{◌≡◌, ℕ, ◌+◌, true, false, List, [], ◌∷◌, ◌++◌, Option, None, Some, Ok, MatchOption, refl, ap, sym, subst, append_assoc}
-use Rattle.std.specs.Prelude.{codes, flat_map, is_some, map, unwrap_or}
+use Rattle.std.proofs.Common.{◌≡◌, ℕ, ◌+◌, true, false, List, [], ◌∷◌, ◌++◌, Option, None, Some, Ok, MatchOption, refl, sym, subst, append_assoc}
+use Rattle.std.specs.Prelude.{codes, flat_map, map, unwrap_or}
 use Rattle.sampletime.specs.TimeCode.{default_separators}
-use Rattle.list_terms.specs.declared.Rates.{Rates}
 use Rattle.list_terms.specs.declared.Section.TheVariants as section
 use Rattle.list_terms.specs.declared.Stage.TheVariants.{Behind, Inside, Outside}
+use Rattle.list_terms.specs.HeaderLaws.{has_sequence}
 use Rattle.list_terms.specs.Project.{ListProject, Source}
 use Rattle.list_terms.specs.Text.{Entries, HeaderRead, all_events, before_list, finished, no_entry, no_header, nothing_read, opened, outside, section_of, text_value, with_line}
-use Rattle.list_terms.specs.WholeProject.{IsProject, both_rates, lines_of_section, no_rates, told_rates, without_notices}
+use Rattle.list_terms.specs.WholeProject.{IsProject, both_rates, without_notices}
 use Rattle.list_terms.specs.WrittenText.{event_lines, source_line, text_of_project}
 use Rattle.adlwrite.proofs.Events.{events_are_read}
 use Rattle.adlwrite.proofs.Head.{count, header_is_read}
@@ -39,13 +39,6 @@ list_ends :
     ≡ Ok (so_far Behind known header true sources true entries)
 unfolding with_line outside
 list_ends known header sources entries n = refl
-
--- SEQUENCE is there, since it tells both rates
-has_sequence :
-    (sequence : Option (List (List ℕ))) → told_rates no_rates (lines_of_section sequence) ≡ Ok both_rates
-    → is_some sequence ≡ true
-has_sequence None h = let e : no_rates ≡ both_rates = cc in ap (λ (r : Rates). r.sample_rate) e
-has_sequence (Some lines) h = refl
 
 -- the separators that were found are those of the project
 separators_again :

@@ -8,7 +8,8 @@ use Rattle.std.proofs.lemmas.List.{append-nil}
 use Rattle.facts.specs.Tests.{and_left, and_right}
 use Rattle.sampletime.specs.TimeCode.{are_separators, day, text_of}
 use Rattle.sound_terms.specs.declared.Event.{Event}
-use Rattle.list_terms.specs.Lines.{cut_lines, lines_in, lines_of, without_cr}
+use Rattle.list_terms.specs.LineLaws.{without_cr-cr}
+use Rattle.list_terms.specs.Lines.{cut_lines, lines_in, lines_of}
 use Rattle.list_terms.specs.Project.{ListProject, Source}
 use Rattle.list_terms.specs.TokenLaws.{is_word}
 use Rattle.list_terms.specs.Tokens.{is_word_byte}
@@ -28,11 +29,6 @@ cut_lines-line [] rest h = refl
 cut_lines-line (b ∷ text) rest h =
     let other : (b == 10) ≡ false = grind (arith, nat_tests) in
     rw (other, cut_lines-line text rest (and_right (is_line_byte b) (list_all is_line_byte text) h)) refl
-
-without_cr-cr : (text : List ℕ) → without_cr (text ++ (13 ∷ [])) ≡ text
-without_cr-cr [] = refl
-without_cr-cr (b ∷ []) = refl
-without_cr-cr (b ∷ c ∷ text) = ap (λ t. b ∷ t) (without_cr-cr (c ∷ text))
 
 lines_in-lines :
     (lines : List (List ℕ)) → list_all (list_all is_line_byte) lines ≡ true → lines_in (flat_map line lines) ≡ lines

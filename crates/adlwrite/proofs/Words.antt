@@ -1,13 +1,12 @@
 -- Numbers, channels and times are written as words that are read as those numbers, channels and times.
-use Rattle.std.proofs.Common.{◌≡◌, ℕ, ◌+◌, ◌/◌, ◌%◌, ◌<◌, ◌≤◌, Bool, true, false, List, [], ◌∷◌, ◌++◌, Option, None, Some, IsTrue, refl, ap, ◌∙◌, arith}
+use Rattle.std.proofs.Common.{◌≡◌, ℕ, ◌+◌, ◌/◌, ◌%◌, ◌<◌, ◌≤◌, Bool, true, false, List, [], ◌∷◌, ◌++◌, Option, Some, IsTrue, refl, ap, ◌∙◌, arith}
 use Rattle.std.specs.Prelude.{decimal, nat_le, ◌==◌, ◌&&◌}
-use Rattle.std.specs.List.{before_first, list_all, position_or_len}
+use Rattle.std.specs.List.{list_all}
 use Rattle.std.proofs.lemmas.Bool.Decides.{nat_tests}
-use Rattle.facts.specs.Prefixes.{take_more}
 use Rattle.sampletime.specs.TimeCode.{are_separators, day, is_digit, is_separator, text_of, text_of_parts}
 use Rattle.sound_terms.specs.declared.Channels.{Channels}
-use Rattle.list_terms.specs.Fields.{are_digits, channels_of, channel_range, is_tilde, number_up_to}
-use Rattle.list_terms.specs.Names.{behind_byte}
+use Rattle.list_terms.specs.Fields.{are_digits, channels_of, channel_range, number_up_to}
+use Rattle.list_terms.specs.FieldLaws.{before_none, before_tilde, behind_none, behind_tilde}
 use Rattle.list_terms.specs.Tokens.{is_word_byte}
 use Rattle.list_terms.specs.TokenLaws.{is_word}
 use Rattle.list_terms.specs.WholeProject.{are_channels, is_number}
@@ -48,33 +47,6 @@ is_word_append : (s t : List ℕ) → is_word s ≡ true → list_all is_word_by
 is_word_append [] t hs ht = absurd (cc)
 is_word_append (b ∷ s) t hs ht = words_append (b ∷ s) t hs ht
 
-before_tilde :
-    (digits rest : List ℕ) → list_all is_digit digits ≡ true → before_first is_tilde (digits ++ (126 ∷ rest)) ≡ digits
-before_tilde [] rest h = refl
-before_tilde (d ∷ digits) rest h =
-    let other : (d == 126) ≡ false = grind (arith, nat_tests) in
-    rw (other, take_more (position_or_len is_tilde (digits ++ (126 ∷ rest))) d (digits ++ (126 ∷ rest)))
-    (ap (λ t. d ∷ t) (before_tilde digits rest (grind (arith, nat_tests))))
-
-without_tilde : (digits : List ℕ) → list_all is_digit digits ≡ true → before_first is_tilde digits ≡ digits
-without_tilde [] h = refl
-without_tilde (d ∷ digits) h =
-    let other : (d == 126) ≡ false = grind (arith, nat_tests) in
-    rw (other, take_more (position_or_len is_tilde digits) d digits)
-    (ap (λ t. d ∷ t) (without_tilde digits (grind (arith, nat_tests))))
-
-behind_tilde :
-    (digits rest : List ℕ) → list_all is_digit digits ≡ true → behind_byte 126 (digits ++ (126 ∷ rest)) ≡ Some rest
-behind_tilde [] rest h = refl
-behind_tilde (d ∷ digits) rest h =
-    let other : (d == 126) ≡ false = grind (arith, nat_tests) in
-    rw other (behind_tilde digits rest (grind (arith, nat_tests)))
-
-no_tilde : (digits : List ℕ) → list_all is_digit digits ≡ true → behind_byte 126 digits ≡ None
-no_tilde [] h = refl
-no_tilde (d ∷ digits) h =
-    let other : (d == 126) ≡ false = grind (arith, nat_tests) in rw other (no_tilde digits (grind (arith, nat_tests)))
-
 range_is_read :
     (first last : ℕ) → nat_le first last ≡ true
     → channel_range (Some first) (Some last) ≡ Some (record { first = first; last = last })
@@ -87,8 +59,8 @@ one_is_read n low high =
     let digits = all_digits (decimal n) h.digits in
     let n-le : nat_le n n ≡ true = grind (arith, nat_tests) in
     rw (
-      no_tilde (decimal n) digits,
-      without_tilde (decimal n) digits,
+      behind_none (decimal n) digits,
+      before_none (decimal n) digits,
       number_up_to-spelled 64 n (decimal n) low high h,
       n-le,
     )

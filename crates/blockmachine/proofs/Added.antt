@@ -3,10 +3,13 @@ use Rattle.std.proofs.Common.{◌≡◌, ◌⊎◌, inl, inr, ℕ, suc, ◌+◌,
 use Rattle.std.specs.Prelude.{ℤ, pos, negsuc, neg_ℤ, ◌+ℤ◌, ◌&&◌, nat_le, nat_lt, if◌then◌else◌}
 use Rattle.std.specs.Int.{int_div_euclid}
 use Rattle.std.proofs.Math.IntN.{negsuc-*ℤ-pos, pos-*ℤ-pos}
+use Rattle.std.proofs.Math.Bool.{and-false}
 use Rattle.std.proofs.lemmas.Bool.{cases_lt}
 use Rattle.std.proofs.lemmas.List.{get_or-set_other, get_or-set_same}
 use Rattle.std.proofs.lemmas.Bool.Decides.{nat_tests}
 use borrow.Rule.Slice.PartMut.{put_mid}
+use Rattle.facts.specs.Parts.{length-put_mid}
+use Rattle.facts.specs.Tests.{otherwise}
 use Rattle.sound_terms.specs.declared.block.Stretch.{Stretch}
 use Rattle.sound_terms.specs.declared.piece.Shape.{Shape}
 use Rattle.sound_terms.specs.Mix.{Reading, full_scale, share_of}
@@ -14,7 +17,7 @@ use Rattle.sound_terms.specs.Groups.{fraction_of}
 use Rattle.sound_terms.specs.Blocks.{held, share_at, sums_with}
 use Rattle.blockmachine.specs.Playing.{Plays}
 use Rattle.blockmachine.specs.Sums.{AreSums, HasAdded, HasAddedTo, IsInside, channel_room}
-use Rattle.blockmachine.proofs.Places.{get_or-part, kept_elsewhere, length-put, written_here}
+use Rattle.blockmachine.proofs.Places.{get_or-part, kept_elsewhere, written_here}
 
 -- a stretch of no channel adds nothing
 pub no_channel : (reading : Reading) (stretch : Stretch) (shape : Shape) (before : ℕ → ℕ → ℤ) (i c : ℕ)
@@ -32,11 +35,7 @@ pub no_sample : (reading : Reading) (stretch : Stretch) (shape : Shape) (before 
     → sums_with reading (record stretch { length = 0 }) shape before i c ≡ before i c
 no_sample reading stretch shape before i c =
     let out : (nat_le stretch.at i && nat_lt i (stretch.at + 0)) ≡ false = grind (arith, nat_tests) in
-    off (nat_le stretch.dest c) (nat_lt c (stretch.dest + stretch.width)) _ _ _ out where
-      off : (p q h : Bool) (x y : ℤ) → h ≡ false → (if p && (q && h) then x else y) ≡ y
-      off true true h x y out = rw out refl
-      off true false h x y out = refl
-      off false q h x y out = refl
+    otherwise (nat_le stretch.dest c) (nat_lt c (stretch.dest + stretch.width)) _ _ _ out
 
 -- one sum more has its share
 pub added_more : (n : ℕ) (shape : Shape) (depth channels channel : ℕ) (frames old new : List ℤ) (v : ℤ) → n < length new
@@ -81,12 +80,7 @@ flat_share (negsuc n) = ap (λ z. int_div_euclid z (pos 1)) (negsuc-*ℤ-pos n 1
 same_on : (p q r e h : Bool) → (e && h) ≡ false → (e ≡ false → r ≡ q) → (p && (r && h)) ≡ (p && (q && h))
 same_on false q r e h out same = refl
 same_on true q r false h out same = rw (same refl) refl
-same_on true q r true false out same = both q r where
-  both : (q r : Bool) → (r && false) ≡ (q && false)
-  both true true = refl
-  both true false = refl
-  both false true = refl
-  both false false = refl
+same_on true q r true false out same = and-false r ∙ sym (and-false q)
 same_on true q r true true out same = cc
 
 -- the test of one channel more
@@ -135,8 +129,7 @@ module _ (reading : Reading) (stretch : Stretch) (shape : Shape) (before : ℕ �
         left = omega (
           arith,
           there,
-          length-put ((stretch.dest - 1 + j) * channel_room + stretch.at) k old new (pos 0)
-              fits whole,
+          length-put_mid ((stretch.dest - 1 + j) * channel_room + stretch.at) k old new fits whole,
         )
 
         place : c ≡ stretch.dest + j → stretch.at ≤ i

@@ -5,3 +5,4 @@ pub mod Fits
 pub mod Full
 pub mod Played
 pub mod Ran
+pub mod Filled

@@ -1,19 +1,11 @@
 -- What stands where after a part of a list was written.
-use Rattle.std.proofs.Common.{◌≡◌, ◌⊎◌, inl, inr, ℕ, ◌+◌, ◌-◌, ◌<◌, ◌≤◌, List, ◌++◌, length, take, drop, get_or, ap, ◌∙◌, arith, length-append, length-take, length-drop}
+use Rattle.std.proofs.Common.{◌≡◌, ◌⊎◌, inl, inr, ℕ, ◌+◌, ◌-◌, ◌<◌, ◌≤◌, List, ◌++◌, length, take, drop, get_or, ap, ◌∙◌, arith, length-take}
 use Rattle.std.proofs.lemmas.List.{get_or_append_left, get_or-append_right, get_or-take, get_or-drop}
 use borrow.Rule.Slice.PartMut.{post_of, put_mid}
 
 module _ {X : Type 0} (a k : ℕ) (old new : List X) (d : X) (inside : a + k ≤ length old) (whole : length new ≡ k) where
   length-front : length (take a old) ≡ a
   length-front = length-take a old ∙ omega arith
-
-  pub length-put : length (put_mid a k old new) ≡ length old
-  length-put =
-      let front = length-append (take a old) (new ++ post_of a k old) in
-      let back = length-append new (post_of a k old) in
-      let rest = length-drop k (drop a old) in
-      let behind = length-drop a old in
-      omega (arith, front, back, length-front, rest, behind)
 
   pub written_here : (n : ℕ) → a ≤ n → n < a + k → get_or (put_mid a k old new) n d ≡ get_or new (n - a) d
   written_here n low high =

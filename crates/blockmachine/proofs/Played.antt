@@ -1,17 +1,16 @@
 -- Frames that were read are what a stretch plays, and parts of a stretch are the whole of it.
-use Rattle.std.proofs.Common.{◌≡◌, ◌⊎◌, inl, inr, ℕ, ◌+◌, ◌-◌, ◌*◌, ◌/◌, ◌<◌, ◌≤◌, Bool, true, false, List, Option, None, Some, length, drop, refl, sym, ap, ◌∙◌, arith, IsSome}
+use Rattle.std.proofs.Common.{◌≡◌, ◌⊎◌, inl, inr, ℕ, ◌+◌, ◌-◌, ◌*◌, ◌/◌, ◌<◌, ◌≤◌, Bool, true, false, List, Some, length, drop, refl, sym, ap, ◌∙◌, arith}
 use Rattle.std.specs.Prelude.{ℤ, ◌+ℤ◌, ◌&&◌, nat_le, nat_lt, if◌then◌else◌, slice_get}
 use Rattle.std.proofs.lemmas.Bool.{cases_lt}
 use Rattle.std.proofs.lemmas.Bool.Decides.{nat_tests}
 use Rattle.sound_terms.specs.declared.block.Stretch.{Stretch}
 use Rattle.sound_terms.specs.declared.piece.Shape.{Shape}
-use Rattle.sound_terms.specs.declared.piece.Shape.TheVariants.{Flat, Rise, Fall}
 use Rattle.sound_terms.specs.Sounds.{SoundFacts}
 use Rattle.sound_terms.specs.Media.{frame_length}
 use Rattle.sound_terms.specs.Waves.{sample_of}
 use Rattle.sound_terms.specs.Mix.{Reading, full_scale}
-use Rattle.sound_terms.specs.Groups.{fraction_of}
 use Rattle.sound_terms.specs.Passes.{shape_behind}
+use Rattle.sound_terms.specs.GroupLaws.{fraction_behind}
 use Rattle.sound_terms.specs.Blocks.{held, share_at, sums_with}
 use Rattle.work_terms.specs.Disk.{Files}
 use Rattle.list_terms.specs.Heard.{reading_by}
@@ -19,10 +18,6 @@ use Rattle.shelf.specs.declared.fault.ShelfFault.{ShelfFault}
 use Rattle.shelf.specs.declared.fault.ShelfFault.TheVariants as shelf
 use Rattle.wavread.specs.Facts.{AreFrames}
 use Rattle.blockmachine.specs.Playing.{Plays}
-
-pub some_file : (stored : Option (List ℕ)) → IsSome stored → (file : List ℕ) × (stored ≡ Some file)
-some_file None there = cc
-some_file (Some file) there = (file, refl)
 
 pub device_of : (fault : ShelfFault) → (fault ≡ shelf.NotFound → ⊥) → fault ≡ shelf.Device
 device_of shelf.NotFound other = absurd (other refl)
@@ -58,11 +53,6 @@ plays_sound files sounds facts part file frames there stored are whole first las
     ap (full_scale facts.depth) (are k within ∙ ap (λ m. sample_of facts.depth (drop m file)) place)
     ∙ sym (heard_sample files sounds facts part.file (part.first + j) (part.frame + i) file there stored (omega arith)
     (omega arith) (omega arith))
-
-fraction_behind : (shape : Shape) (cut i : ℕ) → fraction_of (shape_behind cut shape) i ≡ fraction_of shape (cut + i)
-fraction_behind Flat cut i = refl
-fraction_behind (Rise offset den) cut i = let e : offset + cut + i ≡ offset + (cut + i) = omega arith in rw e refl
-fraction_behind (Fall offset den) cut i = let e : offset + cut + i ≡ offset + (cut + i) = omega arith in rw e refl
 
 abbrev front_of : Stretch → ℕ → Stretch
 front_of stretch done = record stretch { length = done }

@@ -1,16 +1,9 @@
 -- What a program does, line after line.
-use Rattle.std.proofs.Common.{◌≡◌, ℕ, ◌-◌, ◌≤◌, List, [], ◌∷◌, ◌++◌, length, take, drop, refl, arith, All, length-append}
+use Rattle.std.proofs.Common.{◌≡◌, ℕ, ◌-◌, ◌≤◌, List, [], ◌∷◌, ◌++◌, length, take, drop, arith, length-append}
 use Rattle.std.proofs.lemmas.List.{take_at}
-use Rattle.std.proofs.lemmas.List.Elements.{All-head, All-tail}
 use Rattle.sound_terms.specs.declared.block.Instruction.{Instruction}
 use Rattle.sound_terms.specs.declared.block.Instruction.TheVariants.{Start, Add, Emit}
-use Rattle.sound_terms.specs.Mix.{Reading}
-use Rattle.sound_terms.specs.Blocks.{AddsOne, BlockState, IsFormed, executed_all}
-
-pub executed_all-append : (reading : Reading) (channels : ℕ) (a b : List Instruction) (s : BlockState)
-    → executed_all reading channels (a ++ b) s ≡ executed_all reading channels b (executed_all reading channels a s)
-executed_all-append reading channels [] b s = refl
-executed_all-append reading channels (i ∷ a) b s = executed_all-append reading channels a b _
+use Rattle.sound_terms.specs.Blocks.{IsFormed}
 
 -- what stands between the first instruction and the last one
 pub between_ends : (program lines : List Instruction) (first last : Instruction)
@@ -39,11 +32,3 @@ formed_longer n m channels le (Add stretch shape) formed = (
   formed.1,
 )
 formed_longer n m channels le (Emit depth) formed = tt
-
-pub frames_kept : (reading : Reading) (channels : ℕ) (program : List Instruction) (s : BlockState) → All AddsOne program
-    → (executed_all reading channels program s).frames ≡ s.frames
-frames_kept reading channels [] s all = refl
-frames_kept reading channels (Start n ∷ program) s all = absurd (All-head AddsOne (Start n) program all)
-frames_kept reading channels (Add stretch shape ∷ program) s all =
-    frames_kept reading channels program _ (All-tail AddsOne (Add stretch shape) program all)
-frames_kept reading channels (Emit depth ∷ program) s all = absurd (All-head AddsOne (Emit depth) program all)

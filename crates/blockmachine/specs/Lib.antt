@@ -1,3 +1,4 @@
+pub mod Alone
 pub mod Fault
 pub mod Playing
 pub mod Sums

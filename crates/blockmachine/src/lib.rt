@@ -2,6 +2,7 @@
 #![tactic(auto)]
 
 mod adding;
+mod alone;
 mod emitting;
 mod fault;
 mod machine;

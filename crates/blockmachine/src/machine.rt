@@ -14,8 +14,9 @@ ghost use Rattle.blockmachine.specs.Sums.{AreSums, channel_room};
 
 use crate::MachineFault;
 use crate::adding::{CHANNEL_ROOM, clear};
+use crate::alone::fills_alone;
 use crate::emitting::emit;
-use crate::playing::{BYTES, SAMPLES, add_stretch};
+use crate::playing::{BYTES, SAMPLES, add_stretch, read_part};
 use shelf::Shelf;
 use sound_terms::{Depth, Instruction};
 use std::alloc::Global;
@@ -119,7 +120,8 @@ fn depth_of(program: &[Instruction]) -> Option<Depth>
     }
 }
 
-/// Adds what these instructions play to sums of zero, and hands the sums out.
+/// Adds what these instructions play to sums of zero, and hands the sums out. The frames of a file that fills the block
+/// as it is are handed out as they are read.
 fn run_lines<S: Shelf>(
     lines: &[Instruction],
     depth: Depth,
@@ -132,6 +134,7 @@ fn run_lines<S: Shelf>(
     out: &mut [i32],
 ) -> Result<(), MachineFault>
     requires some_channels { 1 ≤ channels }
+    requires few_channels { channels ≤ 64 }
     requires each { length sums.old ≡ channels * channel_room }
     requires formed { All (IsFormed 4096 channels) lines.now }
     requires added { All AddsOne lines.now }
@@ -152,6 +155,11 @@ fn run_lines<S: Shelf>(
         (λ fault failed. FailsAt sounds.now fault failed) }
 {
     let frames = out.len() / channels;
+    if out.len() <= samples.len() {
+        if let Some(stretch) = fills_alone(lines, frames, channels, depth, sounds) {
+            return read_part(&stretch, sounds, shelf, bytes, out);
+        }
+    }
     clear(sums);
     add_all(lines, sounds, shelf, bytes, samples, sums)?;
     emit(sums, frames, channels, depth, out);

@@ -25,7 +25,7 @@ pub const SAMPLES: usize = 16_384;
 pub const BYTES: usize = 4 * SAMPLES;
 
 /// Reads the frames of a stretch, with all channels of their file.
-fn read_part<S: Shelf>(
+pub fn read_part<S: Shelf>(
     part: &Stretch,
     sounds: &[Sound],
     shelf: &mut S,

@@ -70,7 +70,8 @@ fn consolidate_checked<S: Shelf, B: Bench, P: Progress>(
 /// The list is refused first, then a file in the order of the source index, then an entry in the order of the list,
 /// then more than 32,767 runs (53) or entries (55), then a medium that would be too long (61). All of these come before
 /// the first write; after it only a device (22, 62) or out of memory (63) fails the call. The list is written last, so
-/// an unfinished output has none. The progress is told the frames of the media that are filled.
+/// an unfinished output has none. The progress is told after each block how many frames of all
+/// media are there.
 pub fn consolidate<S: Shelf, B: Bench, P: Progress>(
     alloc: Global,
     list: &[u8],

@@ -58,9 +58,9 @@ fn render_checked<S: Shelf, B: Bench, P: Progress>(
 /// halves up, and clipped. A chosen number of channels has to be 1 to 64.
 ///
 /// The list is refused first, then a file in the order of the source index, then an entry in the order of the list,
-/// then an empty or too long range. All of these come before the first write; after it only a device (22, 62) or want
+/// then an empty or too long range. All of these come before the first write; after it only a device (22, 62) or out
 /// of memory (57) fails the call, and what is written is unfinished. Memory doesn't grow with the range. The progress
-/// is told frames.
+/// is told after each block how many frames are there.
 pub fn render<S: Shelf, B: Bench, P: Progress>(
     alloc: Global,
     list: &[u8],

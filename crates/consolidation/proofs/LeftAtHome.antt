@@ -3,29 +3,16 @@ use Rattle.std.proofs.Common.{◌≡◌, ◌∙◌, ℕ, ◌+◌, ◌-◌, ◌<�
 use Rattle.std.specs.Prelude.{◌||◌}
 use Rattle.std.specs.List.{list_any}
 use Rattle.std.proofs.lemmas.Bool.Decides.{nat_tests}
-use Rattle.std.proofs.lemmas.List.Elements.{All-append, All-get_or, All-head, All-nil, All-tail}
-use Rattle.std.proofs.lemmas.List.Folds.{list_any-append, list_any_at}
+use Rattle.std.proofs.lemmas.List.Elements.{All-get_or, All-head, All-tail}
+use Rattle.std.proofs.lemmas.List.Folds.{list_any_at}
 use Rattle.sound_terms.specs.declared.piece.Home.{Home}
 use Rattle.sound_terms.specs.declared.piece.Piece.{Piece}
 use Rattle.sound_terms.specs.Groups.{IsPiece, is_read, pieces_of, reads}
+use Rattle.sound_terms.specs.GroupLaws.{all_pieces, reads_pieces}
 use Rattle.sound_terms.specs.Homes.{addressable_by}
 use Rattle.sound_terms.specs.Media.{LiesInFile}
 use Rattle.sound_terms.specs.Sounds.{SoundFacts}
 use Rattle.projectcheck.specs.AtHome.{IsAtHome}
-
--- pieces that read a frame, whatever their groups are
-reads_pieces : (groups : List (List Piece)) (file channel frame : ℕ)
-    → reads groups file channel frame ≡ list_any (λ p. is_read p file channel frame) (pieces_of groups)
-reads_pieces [] file channel frame = refl
-reads_pieces (group ∷ groups) file channel frame =
-    ap (λ (b : Bool). list_any (λ p. is_read p file channel frame) group || b) (reads_pieces groups file channel frame)
-    ∙ sym (list_any-append (λ p. is_read p file channel frame) group (pieces_of groups))
-
-all_pieces : (groups : List (List Piece)) → All (All IsPiece) groups → All IsPiece (pieces_of groups)
-all_pieces [] all = All-nil IsPiece
-all_pieces (group ∷ groups) all =
-    All-append IsPiece group (pieces_of groups) (All-head (All IsPiece) group groups all)
-    (all_pieces groups (All-tail (All IsPiece) group groups all))
 
 -- an element that passes has what holds of all
 pub one_of : {X : Type 0} (test : X → Bool) (P : X → Type 0) (xs : List X) → list_any test xs ≡ true → All P xs
@@ -69,7 +56,7 @@ module _ (sounds : List SoundFacts) (homes : List Home) where
       → All (IsAtHome sounds homes) (pieces_of old) → All (IsAtHome sounds homes) (pieces_of new)
   still_at_home old new pieces no_more home k d below =
       let p = get_or (pieces_of new) k d in
-      let is : IsPiece p = All-get_or IsPiece (pieces_of new) k d below (all_pieces new pieces) in
+      let is : IsPiece p = All-get_or IsPiece (pieces_of new) k d below (all_pieces IsPiece new pieces) in
       let channel : ℕ = (p.first + p.width) - 1 in
       let frame : ℕ = (p.frame + p.length) - 1 in
       let read =

@@ -15,7 +15,7 @@ use Rattle.consolidation.specs.Filled.{IsFilled}
 use Rattle.consolidation.specs.Numbered.{HoldAll}
 use Rattle.consolidation.specs.Planned.{IsMediumRun}
 use Rattle.consolidation.specs.Work.{HasMedia, HasMedium}
-use Rattle.consolidation.proofs.Places.{holds_at}
+use Rattle.facts.specs.Lists.{holds_there}
 
 module _ (sources written : Files) (sounds : List SoundFacts) (homes : List Home) where
   has_medium : (number : ℕ) (run : Run) → IsMediumRun sounds homes run
@@ -40,7 +40,7 @@ module _ (sources written : Files) (sounds : List SoundFacts) (homes : List Home
       → HoldAll (IsFilled sounds homes sources written) runs
       → HasMedia sources written sounds homes runs
   has_media runs are filled k run there =
-      has_medium (1 + k) run (holds_at (IsMediumRun sounds homes) runs k run are there) (filled k run there)
+      has_medium (1 + k) run (holds_there (IsMediumRun sounds homes) runs k run are there) (filled k run there)
 
 -- byte for byte
 pub holds_medium : (binding : Binding) (sources written : Files) (number : ℕ) (run : Run)

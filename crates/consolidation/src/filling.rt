@@ -32,8 +32,24 @@ fn told_of(fault: CopyFault, number: u32, file: u32) -> ConsolidationFault
     }
 }
 
-/// Fills the laid out medium of a run, and syncs it. The buffer has room for a frame.
-fn fill_run<S: Shelf, B: Bench>(
+/// Tells the frames of one run behind those of the runs before it.
+#[derive(Drop)]
+struct Behind<'a, P: Progress> {
+    progress: &'a mut P,
+    before: u64,
+    whole: u64,
+}
+
+impl<P: Progress> Progress for Behind<'_, P> {
+    fn reached(&mut self, done: u64, _whole: u64) {
+        self.progress
+            .reached(self.before.saturating_add(done), self.whole);
+    }
+}
+
+/// Fills the laid out medium of a run, and syncs it. The buffer has room for a frame. After each block the progress is
+/// told how many frames of the run are there.
+fn fill_run<S: Shelf, B: Bench, P: Progress>(
     alloc: Global,
     sounds: &[Sound],
     homes: &[Home],
@@ -42,6 +58,7 @@ fn fill_run<S: Shelf, B: Bench>(
     shelf: &mut S,
     bench: &mut B,
     buffer: &mut [u8],
+    progress: &mut P,
 ) -> Result<(), ConsolidationFault>
     requires run { IsMediumRun sounds.now homes.now run.now }
     requires room { (256 ≤ length buffer.old) × (length buffer.old < 2 ^ 32) }
@@ -58,7 +75,17 @@ fn fill_run<S: Shelf, B: Bench>(
     let sound = &sounds[run.file as usize];
     let base = homes[run.file as usize].base;
     let name = medium.name.as_str();
-    if let Err(fault) = copy_run(shelf, sound, base, run, bench, name, &medium.info, buffer) {
+    if let Err(fault) = copy_run(
+        shelf,
+        sound,
+        base,
+        run,
+        bench,
+        name,
+        &medium.info,
+        buffer,
+        progress,
+    ) {
         return Err(told_of(fault, number, run.file));
     }
     match bench.sync(name) {
@@ -73,7 +100,8 @@ fn frames_of(runs: &[Run]) -> u64 {
         .fold(0, |sum: u64, run| sum.saturating_add(run.length))
 }
 
-/// Fills the laid out media of all runs, and syncs each. The progress is told the frames of those that are filled.
+/// Fills the laid out media of all runs, and syncs each. After each block the progress is told how many frames of all
+/// runs are there.
 fn fill_all<S: Shelf, B: Bench, P: Progress>(
     alloc: Global,
     sounds: &[Sound],
@@ -98,8 +126,13 @@ fn fill_all<S: Shelf, B: Bench, P: Progress>(
         bench.old bench.new result IsOutput FailsIn }
 {
     let whole = frames_of(runs);
-    let mut done: u64 = 0;
+    let mut before: u64 = 0;
     for (place, run) in runs.iter().enumerate() {
+        let mut behind = Behind {
+            progress: &mut *progress,
+            before,
+            whole,
+        };
         fill_run(
             alloc,
             sounds,
@@ -109,9 +142,9 @@ fn fill_all<S: Shelf, B: Bench, P: Progress>(
             shelf,
             bench,
             buffer,
+            &mut behind,
         )?;
-        done = done.saturating_add(run.length);
-        progress.reached(done, whole);
+        before = before.saturating_add(run.length);
     }
     Ok(())
 }

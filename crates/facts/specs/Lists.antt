@@ -1,7 +1,9 @@
 -- Lists all of whose items pass a test, or are so.
-use Rattle.std.specs.Prelude.{◌≡◌, Bool, true, List, [], ◌∷◌, ◌++◌, refl}
-use Rattle.std.specs.List.{All, list_all}
-use Rattle.std.proofs.lemmas.List.Elements.{All-cons, All-head, All-nil, All-tail}
+use Rattle.std.specs.Prelude.{◌≡◌, ℕ, Bool, true, List, [], ◌∷◌, ◌++◌, Some, refl}
+use Rattle.std.specs.List.{All, flat_map, list_all, slice_get}
+use Rattle.std.proofs.Common.{subst}
+use Rattle.std.proofs.lemmas.List.Elements.{All-append, All-cons, All-get_or, All-head, All-nil, All-tail}
+use Rattle.std.proofs.lemmas.Option.{get_or_from_slice_get, slice_get_within}
 use Rattle.facts.specs.Tests.{and_left, and_right}
 
 pub all_push :
@@ -20,3 +22,17 @@ all_front P (x ∷ xs) ys all =
 pub all_behind : {X : Type 0} (P : X → Type 0) (xs ys : List X) → All P (xs ++ ys) → All P ys
 all_behind P [] ys all = all
 all_behind P (x ∷ xs) ys all = all_behind P xs ys (All-tail P x (xs ++ ys) all)
+
+-- what holds of all holds of the one at a place
+pub holds_there :
+    {X : Type 0} (P : X → Type 0) (xs : List X) (i : ℕ) (x : X) → All P xs → slice_get xs i ≡ Some x → P x
+holds_there P xs i x all there =
+    subst P (get_or_from_slice_get xs i x x there) (All-get_or P xs i x (slice_get_within xs i x there) all)
+
+-- what holds of each part holds of all
+pub all_of_parts :
+    {X A : Type 0} (Q : X → Type 0) (P : A → Type 0) (f : X → List A) → ((x : X) → Q x → All P (f x)) → (xs : List X)
+    → All Q xs → All P (flat_map f xs)
+all_of_parts Q P f each [] all = All-nil P
+all_of_parts Q P f each (x ∷ xs) all =
+    All-append P (f x) (flat_map f xs) (each x (All-head Q x xs all)) (all_of_parts Q P f each xs (All-tail Q x xs all))

@@ -1,5 +1,5 @@
 -- What tests and options say that are put together of others.
-use Rattle.std.specs.Prelude.{◌≡◌, ◌&&◌, Bool, true, false, Some, MatchBool}
+use Rattle.std.specs.Prelude.{◌≡◌, ◌&&◌, ◌||◌, Bool, true, false, Option, None, Some, IsSome, is_some, MatchBool, if◌then◌else◌, refl}
 use Rattle.std.proofs.lemmas.Bool.{and_parts}
 
 pub and_left : (a b : Bool) → (a && b) ≡ true → a ≡ true
@@ -11,6 +11,25 @@ and_right a b h = (and_parts a b h).1
 pub and_both : (a b : Bool) → a ≡ true → b ≡ true → (a && b) ≡ true
 and_both a b h k = rw (h, k)
 
+-- the second of three tests may come first
+pub and_exchange : (a b c : Bool) → (a && (b && c)) ≡ (b && (a && c))
+and_exchange true true c = refl
+and_exchange true false c = refl
+and_exchange false true c = refl
+and_exchange false false c = refl
+
+pub or_exchange : (a b c : Bool) → (a || (b || c)) ≡ (b || (a || c))
+or_exchange true true c = refl
+or_exchange true false c = refl
+or_exchange false true c = refl
+or_exchange false false c = refl
+
+-- where the last of three tests fails
+pub otherwise : {X : Type 0} (a b c : Bool) (x y : X) → c ≡ false → (if a && (b && c) then x else y) ≡ y
+otherwise true true c x y fails = rw fails refl
+otherwise true false c x y fails = refl
+otherwise false b c x y fails = refl
+
 -- what holds anyway holds where a test wasn't passed
 pub unless : (b : Bool) (P : Type 0) → P → MatchBool b (Unit {0}) P
 unless true P holds = tt
@@ -18,3 +37,11 @@ unless false P holds = holds
 
 pub same_some : {X : Type 0} {a b : X} → Some a ≡ Some b → a ≡ b
 same_some same = cc
+
+pub not_some : {X : Type 0} (o : Option X) → is_some o ≡ false → o ≡ None
+not_some None none = refl
+not_some (Some x) none = cc
+
+pub some_there : {X : Type 0} (o : Option X) → IsSome o → (x : X) × (o ≡ Some x)
+some_there None there = cc
+some_there (Some x) there = (x, refl)

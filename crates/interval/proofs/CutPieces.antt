@@ -1,15 +1,16 @@
 -- Both sides of a group that is cut are groups of pieces.
-use Rattle.std.proofs.Common.{◌≡◌, ◌≢◌, ℕ, ◌+◌, ◌-◌, ◌<◌, ◌≤◌, Bool, true, false, List, [], ◌∷◌, ◌++◌, IsTrue, refl, arith, All}
+use Rattle.std.proofs.Common.{◌≡◌, ◌≢◌, ℕ, ◌+◌, ◌-◌, ◌<◌, ◌≤◌, Bool, true, false, List, [], ◌∷◌, IsTrue, refl, arith, All}
 use Rattle.std.specs.Prelude.{nat_le}
 use Rattle.std.specs.List.{flat_map}
 use Rattle.std.proofs.lemmas.Bool.Decides.{nat_tests}
-use Rattle.std.proofs.lemmas.List.Elements.{All-append, All-cons, All-tail}
+use Rattle.std.proofs.lemmas.List.Elements.{All-append, All-cons, All-head, All-nil, All-tail}
+use Rattle.facts.specs.Lists.{all_of_parts}
 use Rattle.sound_terms.specs.declared.piece.Piece.{Piece}
 use Rattle.sound_terms.specs.declared.piece.Shape.{Shape}
 use Rattle.sound_terms.specs.declared.piece.Shape.TheVariants.{Flat, Rise, Fall}
 use Rattle.sound_terms.specs.Groups.{IsGroup, IsPiece, IsRamp, may_follow, rank_of}
+use Rattle.sound_terms.specs.GroupLaws.{ramp_within}
 use Rattle.sound_terms.specs.Passes.{as_group, cut_group, piece_before, piece_behind, shape_behind}
-use Rattle.interval.proofs.PartPieces.{no_pieces}
 
 abbrev pub front : ℕ → List Piece → List Piece
 front time group = flat_map (piece_before time) group
@@ -21,11 +22,6 @@ ramp_shorter : (shape : Shape) (n m : ℕ) → m ≤ n → IsRamp shape n → Is
 ramp_shorter Flat n m le ramp = tt
 ramp_shorter (Rise offset den) n m le ramp = (omega arith, ramp.1)
 ramp_shorter (Fall offset den) n m le ramp = (omega arith, ramp.1)
-
-ramp_behind : (shape : Shape) (n cut : ℕ) → cut ≤ n → IsRamp shape n → IsRamp (shape_behind cut shape) (n - cut)
-ramp_behind Flat n cut le ramp = tt
-ramp_behind (Rise offset den) n cut le ramp = (omega arith, ramp.1)
-ramp_behind (Fall offset den) n cut le ramp = (omega arith, ramp.1)
 
 rank_behind : (shape : Shape) (cut : ℕ) → rank_of (shape_behind cut shape) ≡ rank_of shape
 rank_behind Flat cut = refl
@@ -41,8 +37,8 @@ before_is_piece : (time : ℕ) (p : Piece) → IsPiece p → All IsPiece (piece_
 before_is_piece time p ok = by_ends (nat_le time p.start) (nat_le (p.start + p.length) time) refl refl where
   by_ends : (none whole : Bool) → nat_le time p.start ≡ none → nat_le (p.start + p.length) time ≡ whole
       → All IsPiece (piece_before time p)
-  by_ends true whole e f = rw e no_pieces
-  by_ends false true e f = rw (e, f) (All-cons IsPiece p [] ok no_pieces)
+  by_ends true whole e f = rw e (All-nil IsPiece)
+  by_ends false true e f = rw (e, f) (All-cons IsPiece p [] ok (All-nil IsPiece))
   by_ends false false e f =
       let low : p.start < time = grind (arith, nat_tests) in
       let high : time < p.start + p.length = grind (arith, nat_tests) in
@@ -56,14 +52,14 @@ before_is_piece time p ok = by_ends (nat_le time p.start) (nat_le (p.start + p.l
         in_day = omega (arith, ok.in_day);
         source_in_day = omega (arith, ok.source_in_day);
         ramp = ramp_shorter p.shape p.length (time - p.start) (omega arith) ok.ramp;
-      }) no_pieces)
+      }) (All-nil IsPiece))
 
 behind_is_piece : (time : ℕ) (p : Piece) → IsPiece p → All IsPiece (piece_behind time p)
 behind_is_piece time p ok = by_ends (nat_le time p.start) (nat_le (p.start + p.length) time) refl refl where
   by_ends : (whole none : Bool) → nat_le time p.start ≡ whole → nat_le (p.start + p.length) time ≡ none
       → All IsPiece (piece_behind time p)
-  by_ends true none e f = rw e (All-cons IsPiece p [] ok no_pieces)
-  by_ends false true e f = rw (e, f) no_pieces
+  by_ends true none e f = rw e (All-cons IsPiece p [] ok (All-nil IsPiece))
+  by_ends false true e f = rw (e, f) (All-nil IsPiece)
   by_ends false false e f =
       let low : p.start < time = grind (arith, nat_tests) in
       let high : time < p.start + p.length = grind (arith, nat_tests) in
@@ -76,22 +72,19 @@ behind_is_piece time p ok = by_ends (nat_le time p.start) (nat_le (p.start + p.l
         some = omega arith;
         in_day = omega (arith, ok.in_day);
         source_in_day = omega (arith, ok.source_in_day);
-        ramp = ramp_behind p.shape p.length (time - p.start) (omega arith) ok.ramp;
-      }) no_pieces)
-
-first_is_piece : (p : Piece) (ps : List Piece) → All IsPiece (p ∷ ps) → IsPiece p
-first_is_piece p ps all = all 0 p (omega arith)
+        ramp = ramp_within p.shape (time - p.start) (p.length - (time - p.start)) p.length (omega arith) ok.ramp;
+      }) (All-nil IsPiece))
 
 pub front_pieces : (time : ℕ) (group : List Piece) → All IsPiece group → All IsPiece (front time group)
-front_pieces time [] all = no_pieces
+front_pieces time [] all = All-nil IsPiece
 front_pieces time (p ∷ ps) all =
-    All-append IsPiece _ _ (before_is_piece time p (first_is_piece p ps all))
+    All-append IsPiece _ _ (before_is_piece time p (All-head IsPiece p ps all))
     (front_pieces time ps (All-tail IsPiece p ps all))
 
 pub back_pieces : (time : ℕ) (group : List Piece) → All IsPiece group → All IsPiece (back time group)
-back_pieces time [] all = no_pieces
+back_pieces time [] all = All-nil IsPiece
 back_pieces time (p ∷ ps) all =
-    All-append IsPiece _ _ (behind_is_piece time p (first_is_piece p ps all))
+    All-append IsPiece _ _ (behind_is_piece time p (All-head IsPiece p ps all))
     (back_pieces time ps (All-tail IsPiece p ps all))
 
 -- nothing lies before the time where a group begins no earlier
@@ -187,39 +180,31 @@ back_group time (p ∷ q ∷ qs) group some =
           let rest = all_behind time q qs group.1 (omega arith) in
           rw (e, f) (rw rest (cut_goes_on time p q low high group.0, group.1))
 
--- both sides of each group are groups of pieces
-sides_are : (front back : List Piece) → (front ≢ [] → IsGroup front) → (back ≢ [] → IsGroup back)
-    → All IsGroup (as_group front ++ as_group back)
-sides_are [] [] first second = λ k d below. absurd (omega arith)
-sides_are [] (q ∷ qs) first second = All-cons IsGroup _ [] (second (λ none. cc)) (λ k d below. absurd (omega arith))
-sides_are (p ∷ ps) [] first second = All-cons IsGroup _ [] (first (λ none. cc)) (λ k d below. absurd (omega arith))
-sides_are (p ∷ ps) (q ∷ qs) first second =
-    All-cons IsGroup (p ∷ ps) ((q ∷ qs) ∷ []) (first (λ none. cc))
-    (All-cons IsGroup (q ∷ qs) [] (second (λ none. cc)) (λ k d below. absurd (omega arith)))
+-- what holds of a list that isn't empty holds of all groups that it makes
+of_group : (P : List Piece → Type 0) (pieces : List Piece) → (pieces ≢ [] → P pieces) → All P (as_group pieces)
+of_group P [] is = All-nil P
+of_group P (p ∷ ps) is = All-cons P (p ∷ ps) [] (is (λ none. cc)) (All-nil P)
 
-sides_hold : (front back : List Piece) → All IsPiece front → All IsPiece back
-    → All (All IsPiece) (as_group front ++ as_group back)
-sides_hold [] [] first second = λ k d below. absurd (omega arith)
-sides_hold [] (q ∷ qs) first second = All-cons (All IsPiece) _ [] second (λ k d below. absurd (omega arith))
-sides_hold (p ∷ ps) [] first second = All-cons (All IsPiece) _ [] first (λ k d below. absurd (omega arith))
-sides_hold (p ∷ ps) (q ∷ qs) first second =
-    All-cons (All IsPiece) (p ∷ ps) ((q ∷ qs) ∷ []) first
-    (All-cons (All IsPiece) (q ∷ qs) [] second (λ k d below. absurd (omega arith)))
+-- what holds of both sides of each group holds of all groups that are cut
+pub all_sides : (time : ℕ) (P Q : List Piece → Type 0)
+    → ((group : List Piece) → P group → (front time group ≢ [] → Q (front time group))
+    × (back time group ≢ [] → Q (back time group)))
+    → (groups : List (List Piece)) → All P groups → All Q (flat_map (cut_group time) groups)
+all_sides time P Q sides =
+    all_of_parts P Q (cut_group time) (λ group is.
+    let both = sides group is in
+    All-append Q (as_group (front time group)) (as_group (back time group)) (of_group Q (front time group) both.0)
+    (of_group Q (back time group) both.1))
 
 pub cut_are_groups : (time : ℕ) (groups : List (List Piece)) → All IsGroup groups
     → All IsGroup (flat_map (cut_group time) groups)
-cut_are_groups time [] all = λ k d below. absurd (omega arith)
-cut_are_groups time (group ∷ groups) all =
-    let first : IsGroup group = all 0 group (omega arith) in
-    All-append IsGroup _ _ (sides_are (front time group) (back time group) (front_group time group first)
-    (back_group time group first))
-    (cut_are_groups time groups (All-tail IsGroup group groups all))
+cut_are_groups time =
+    all_sides time IsGroup IsGroup (λ group is. (front_group time group is, back_group time group is))
 
 pub cut_hold_pieces : (time : ℕ) (groups : List (List Piece)) → All (All IsPiece) groups
     → All (All IsPiece) (flat_map (cut_group time) groups)
-cut_hold_pieces time [] all = λ k d below. absurd (omega arith)
-cut_hold_pieces time (group ∷ groups) all =
-    let first : All IsPiece group = all 0 group (omega arith) in
-    All-append (All IsPiece) _ _ (sides_hold (front time group) (back time group) (front_pieces time group first)
-    (back_pieces time group first))
-    (cut_hold_pieces time groups (All-tail (All IsPiece) group groups all))
+cut_hold_pieces time =
+    all_sides time (All IsPiece) (All IsPiece) (λ group all. (
+      (λ some. front_pieces time group all),
+      (λ some. back_pieces time group all),
+    ))

@@ -13,8 +13,8 @@ use Rattle.sound_terms.specs.declared.piece.Shape.{Shape}
 use Rattle.sound_terms.specs.declared.piece.Shape.TheVariants.{Flat, Rise, Fall}
 use Rattle.sound_terms.specs.Mix.{Reading, contribution_at, fade_fraction, share_of}
 use Rattle.sound_terms.specs.Groups.{fraction_of, is_whole, is_whole_shape, sum_of}
+use Rattle.sound_terms.specs.GroupLaws.{sum_of-append}
 use Rattle.sound_terms.specs.Entries.{IsPlayable, parts_of, stretch_of}
-use Rattle.interval.proofs.SameMix.{sum_of-append}
 
 alone : (w : ℤ) → pos 0 +ℤ (w +ℤ pos 0) ≡ w
 alone w = omega (arith, ints)

@@ -1,4 +1,3 @@
-pub mod Following
 pub mod StartOrder
 pub mod PartPieces
 pub mod CutPieces
@@ -7,4 +6,3 @@ pub mod OneSide
 pub mod SameReads
 pub mod GroupLength
 pub mod EntryMix
-pub mod SameWhole

@@ -2,7 +2,7 @@
 use Rattle.std.proofs.Common.{◌≡◌, ℕ, ◌+◌, ◌-◌, ◌<◌, ◌≤◌, Bool, true, false, [], refl, arith, All}
 use Rattle.std.specs.Prelude.{nat_lt}
 use Rattle.std.proofs.lemmas.Bool.Decides.{nat_tests}
-use Rattle.std.proofs.lemmas.List.Elements.{All-append, All-cons}
+use Rattle.std.proofs.lemmas.List.Elements.{All-append, All-cons, All-nil}
 use Rattle.sampletime.specs.TimeCode.{day}
 use Rattle.sound_terms.specs.declared.Event.{Event}
 use Rattle.sound_terms.specs.declared.BoundIndex.{BoundIndex}
@@ -10,9 +10,6 @@ use Rattle.sound_terms.specs.declared.piece.Shape.{Shape}
 use Rattle.sound_terms.specs.declared.piece.Shape.TheVariants.{Flat, Rise, Fall}
 use Rattle.sound_terms.specs.Groups.{IsPiece, IsRamp}
 use Rattle.sound_terms.specs.Entries.{IsPlayable, parts_of, stretch_of}
-
-pub no_pieces : All IsPiece []
-no_pieces k d below = absurd (omega arith)
 
 -- a stretch inside the event
 stretch_is_piece : (index : BoundIndex) (event : Event) (i n : ℕ) (shape : Shape) → IsPlayable index event
@@ -32,8 +29,8 @@ stretch_is_piece index event i n shape playable inside ramp = by_length (nat_lt 
         in_day = omega (arith, playable.in_day);
         source_in_day = omega (arith, playable.source_in_day);
         ramp = ramp;
-      }) no_pieces)
-  by_length false e = rw e no_pieces
+      }) (All-nil IsPiece))
+  by_length false e = rw e (All-nil IsPiece)
 
 pub parts_are_pieces : (index : BoundIndex) (event : Event) → IsPlayable index event
     → All IsPiece (parts_of index event)

@@ -1,52 +1,16 @@
--- What is put in order or cut adds what it added.
-use Rattle.std.proofs.Common.{◌≡◌, ◌⊎◌, inl, inr, ℕ, ◌+◌, ◌-◌, ◌<◌, ◌≤◌, Bool, true, false, List, [], ◌∷◌, ◌++◌, refl, ◌∙◌, arith}
+-- What is cut adds what it added.
+use Rattle.std.proofs.Common.{◌≡◌, ℕ, ◌+◌, ◌-◌, ◌<◌, ◌≤◌, Bool, true, false, List, [], ◌∷◌, ◌++◌, refl, ◌∙◌, arith}
 use Rattle.std.specs.Prelude.{ℤ, pos, ◌+ℤ◌, ◌&&◌, if◌then◌else◌, nat_le, nat_lt}
 use Rattle.std.specs.List.{flat_map}
 use Rattle.std.proofs.lemmas.Bool.Decides.{nat_tests}
-use Rattle.std.proofs.lemmas.Bool.{cases_lt}
 use Rattle.std.proofs.lemmas.Int.{ints}
+use Rattle.facts.specs.Stretches.{sums_joined}
 use Rattle.sound_terms.specs.declared.piece.Piece.{Piece}
-use Rattle.sound_terms.specs.declared.piece.Shape.{Shape}
-use Rattle.sound_terms.specs.declared.piece.Shape.TheVariants.{Flat, Rise, Fall}
 use Rattle.sound_terms.specs.Mix.{Reading, share_of}
-use Rattle.sound_terms.specs.Groups.{fraction_of, in_start_order, mix_of, part_of, pieces_of, put_by_start, start_of, sum_of}
+use Rattle.sound_terms.specs.Groups.{fraction_of, mix_of, part_of, pieces_of, sum_of}
+use Rattle.sound_terms.specs.GroupLaws.{fraction_behind, sum_of-append}
+use Rattle.sound_terms.specs.OrderLaws.{mix_in_order}
 use Rattle.sound_terms.specs.Passes.{as_group, cut_group, cut_groups, piece_before, piece_behind, shape_behind}
-
-pub sum_of-append : (r : Reading) (a b : List Piece) (channel time : ℕ)
-    → sum_of r (a ++ b) channel time ≡ sum_of r a channel time +ℤ sum_of r b channel time
-sum_of-append r [] b channel time = omega (arith, ints)
-sum_of-append r (p ∷ ps) b channel time = omega (arith, ints, sum_of-append r ps b channel time)
-
-mix_put : (r : Reading) (own : List Piece) (groups : List (List Piece)) (channel time : ℕ)
-    → mix_of r (put_by_start own groups) channel time ≡ mix_of r (own ∷ groups) channel time
-mix_put r own [] channel time = refl
-mix_put r own (group ∷ groups) channel time =
-    put_before (nat_le (start_of own) (start_of group)) refl (mix_put r own groups channel time) where
-      put_before : (b : Bool) → nat_le (start_of own) (start_of group) ≡ b
-          → mix_of r (put_by_start own groups) channel time ≡ mix_of r (own ∷ groups) channel time
-          → mix_of r (put_by_start own (group ∷ groups)) channel time ≡ mix_of r (own ∷ group ∷ groups) channel time
-      put_before true before same = rw before refl
-      put_before false before same =
-          let front = sum_of-append r group (pieces_of (put_by_start own groups)) channel time in
-          let whole = sum_of-append r own (group ++ pieces_of groups) channel time in
-          let rest = sum_of-append r group (pieces_of groups) channel time in
-          let put = sum_of-append r own (pieces_of groups) channel time in
-          rw before (omega (arith, ints, front, whole, rest, put, same))
-
-pub mix_in_order : (r : Reading) (groups : List (List Piece)) (channel time : ℕ)
-    → mix_of r (in_start_order groups) channel time ≡ mix_of r groups channel time
-mix_in_order r [] channel time = refl
-mix_in_order r (group ∷ groups) channel time =
-    let put = mix_put r group (in_start_order groups) channel time in
-    let ordered = sum_of-append r group (pieces_of (in_start_order groups)) channel time in
-    let given = sum_of-append r group (pieces_of groups) channel time in
-    omega (arith, ints, put, ordered, given, mix_in_order r groups channel time)
-
--- a shape goes on where it was
-fraction_behind : (shape : Shape) (cut i : ℕ) → fraction_of (shape_behind cut shape) i ≡ fraction_of shape (cut + i)
-fraction_behind Flat cut i = refl
-fraction_behind (Rise offset den) cut i = let e : offset + cut + i ≡ offset + (cut + i) = omega arith in rw e refl
-fraction_behind (Fall offset den) cut i = let e : offset + cut + i ≡ offset + (cut + i) = omega arith in rw e refl
 
 abbrev front_of : ℕ → Piece → Piece
 front_of cut p = record p { length = cut - p.start }
@@ -65,24 +29,13 @@ two_parts : (a b : Bool) (start cut length time : ℕ) (x y : ℤ) → start < c
     → (if a && (b && (nat_le start time && nat_lt time (start + (cut - start)))) then x else pos 0)
     +ℤ (if a && (b && (nat_le cut time && nat_lt time (cut + (length - (cut - start))))) then y else pos 0)
     ≡ (if a && (b && (nat_le start time && nat_lt time (start + length))) then x else pos 0)
-two_parts false b start cut length time x y low high same = refl
-two_parts true false start cut length time x y low high same = refl
-two_parts true true start cut length time x y low high same = by_time (cases_lt time cut) where
-  by_time : (time < cut) ⊎ (cut ≤ time)
-      → (if nat_le start time && nat_lt time (start + (cut - start)) then x else pos 0)
-      +ℤ (if nat_le cut time && nat_lt time (cut + (length - (cut - start))) then y else pos 0)
-      ≡ (if nat_le start time && nat_lt time (start + length) then x else pos 0)
-  by_time (inl before) =
-      let here : nat_lt time (start + (cut - start)) ≡ true = grind (arith, nat_tests) in
-      let whole : nat_lt time (start + length) ≡ true = grind (arith, nat_tests) in
-      let later : nat_le cut time ≡ false = grind (arith, nat_tests) in
-      rw (here, whole, later) (omega (arith, ints))
-  by_time (inr behind) =
-      let here : nat_lt time (start + (cut - start)) ≡ false = grind (arith, nat_tests) in
-      let begun : nat_le start time ≡ true = grind (arith, nat_tests) in
-      let later : nat_le cut time ≡ true = grind (arith, nat_tests) in
-      let ends : cut + (length - (cut - start)) ≡ start + length = omega arith in
-      rw (here, begun, later, ends, same behind) (omega (arith, ints))
+two_parts a b start cut length time x y low high same =
+    let at : start + (cut - start) ≡ cut = omega arith in
+    let whole : cut - start + (length - (cut - start)) ≡ length = omega arith in
+    let joined =
+    sums_joined start (cut - start) (length - (cut - start)) time x y x (λ from to. refl)
+    (λ from to. same (omega (arith, from))) a b in
+    rw at (rw (whole, at) at joined)
 
 -- both parts of a piece that is cut add what it adds
 part_cut : (r : Reading) (cut : ℕ) (p : Piece) (channel time : ℕ) → p.start < cut → cut < p.start + p.length
@@ -164,4 +117,4 @@ sum_cut r cut (group ∷ groups) channel time =
 pub mix_cut : (r : Reading) (cut : ℕ) (groups : List (List Piece)) (channel time : ℕ)
     → mix_of r (cut_groups cut groups) channel time ≡ mix_of r groups channel time
 mix_cut r cut groups channel time =
-    mix_in_order r (flat_map (cut_group cut) groups) channel time ∙ sum_cut r cut groups channel time
+    mix_in_order r channel time (flat_map (cut_group cut) groups) ∙ sum_cut r cut groups channel time

@@ -1,6 +1,7 @@
 -- Laws of the sections of a header: where their lines are kept, and which rates these tell.
 use Rattle.std.specs.Prelude.{◌≡◌, ℕ, Bool, true, false, List, [], ◌∷◌, ◌++◌, Option, None, Some, Result, Ok, Err, is_ok, is_some, not, refl}
 use Rattle.std.specs.List.{list_all}
+use Rattle.std.proofs.Common.{ap}
 use Rattle.facts.specs.Tests.{and_left, and_right}
 use Rattle.list_terms.specs.declared.Rates.{Rates}
 use Rattle.list_terms.specs.declared.Section.{Section}
@@ -10,7 +11,7 @@ use Rattle.list_terms.specs.EntryLines.{system_line}
 use Rattle.list_terms.specs.Project.{Header}
 use Rattle.list_terms.specs.Steps.{◌>>=◌}
 use Rattle.list_terms.specs.Text.{Context, in_header, in_section, is_opened, is_tag, keep, rates_with, sequence_rates, system_rates, with_lines, with_section}
-use Rattle.list_terms.specs.WholeProject.{is_system_line, told_rates}
+use Rattle.list_terms.specs.WholeProject.{both_rates, is_system_line, lines_of_section, no_rates, told_rates}
 
 -- the lines that a header keeps of this section
 abbrev pub lines_at : Section → Header → Option (List (List ℕ))
@@ -115,3 +116,10 @@ told_in-sequence rates (text ∷ lines) =
           → told_in section.Sequence rates (text ∷ lines) ≡ told_rates rates (text ∷ lines)
       by_first (Ok next) e ih = rw e (ih next)
       by_first (Err fault) e ih = rw e refl
+
+-- SEQUENCE is there, since it tells both rates
+pub has_sequence :
+    (sequence : Option (List (List ℕ))) → told_rates no_rates (lines_of_section sequence) ≡ Ok both_rates
+    → is_some sequence ≡ true
+has_sequence None h = let e : no_rates ≡ both_rates = cc in ap (λ (r : Rates). r.sample_rate) e
+has_sequence (Some lines) h = refl

@@ -3,9 +3,11 @@ pub mod Binding
 pub mod Bound
 pub mod BoundHomes
 pub mod EntryLines
+pub mod FieldLaws
 pub mod Fields
 pub mod HeaderLaws
 pub mod Heard
+pub mod LineLaws
 pub mod Lines
 pub mod MediaNames
 pub mod Names

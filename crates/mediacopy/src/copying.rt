@@ -6,14 +6,15 @@ ghost use Rattle.wavwrite.specs.Info.{Fits};
 ghost use Rattle.mediacopy.specs.Copied.{IsCopied, laid_out};
 
 use crate::CopyFault;
-use shelf::{Bench, Shelf};
+use shelf::{Bench, Progress, Shelf};
 use sound_terms::Run;
 use wavread::Sound;
 use wavwrite::{SoundInfo, place_of};
 
 /// Fills the laid out medium of a run with the frames of its source, in pieces of a buffer of at least one frame.
-/// `Source` where the source's device failed, `Output` where the medium's did.
-pub fn copy_run<S: Shelf, B: Bench>(
+/// `Source` where the source's device failed, `Output` where the medium's did. After each piece the progress is told how
+/// many frames of the run are there.
+pub fn copy_run<S: Shelf, B: Bench, P: Progress>(
     shelf: &mut S,
     sound: &Sound,
     base: u64,
@@ -22,6 +23,7 @@ pub fn copy_run<S: Shelf, B: Bench>(
     name: &str,
     info: &SoundInfo,
     buffer: &mut [u8],
+    progress: &mut P,
 ) -> Result<(), CopyFault>
     requires info { info.now ≡ medium_info sound.now base run.now }
     requires fits { Fits info.now }
@@ -49,6 +51,7 @@ pub fn copy_run<S: Shelf, B: Bench>(
         };
         bench.write_at(name, place + done * frame, bytes)?;
         done += count;
+        progress.reached(done, run.length);
     }
     Ok(())
 }

@@ -1,9 +1,12 @@
 -- Runs of kept frames, one behind the other.
 use Rattle.std.proofs.Common.{◌≡◌, ◌≢◌, ℕ, zero, suc, ◌+◌, ◌-◌, ◌<◌, ◌≤◌, Bool, true, false, List, [], ◌∷◌, Some, refl, sym, ap, subst, ◌∙◌, ◌⊎◌, ⊎_elim, arith}
 use Rattle.std.specs.Prelude.{◌==◌, ◌&&◌, ◌||◌, nat_le, nat_lt, Contains}
-use Rattle.std.specs.List.{All, slice_get}
+use Rattle.std.specs.List.{slice_get}
+use Rattle.std.proofs.Math.Bool.{or-true}
+use Rattle.std.proofs.lemmas.Bool.{false_from_ne_true, or_from}
 use Rattle.std.proofs.lemmas.Bool.Decides.{nat_tests}
-use Rattle.std.proofs.lemmas.List.Elements.{All-cons, All-head, All-nil, All-tail, All-weaker}
+use Rattle.std.proofs.lemmas.List.Elements.{All-cons, All-nil, All-weaker}
+use Rattle.facts.specs.Lists.{holds_there}
 use Rattle.sound_terms.specs.declared.piece.Run.{Run}
 use Rattle.sound_terms.specs.Kept.{AreRuns, HasFrame, IsMaximal, comes_before}
 
@@ -50,13 +53,6 @@ runs_alike kept other home runs same are = record {
 
 -- ---- one run more in front
 
-or_false : (a b : Bool) → a ≡ false → b ≡ false → (a || b) ≡ false
-or_false a b first second = rw (first, second) refl
-
-not_kept : (b : Bool) → (b ≡ true → ⊥) → b ≡ false
-not_kept true never = absurd (never refl)
-not_kept false never = refl
-
 other_file : (home : ℕ → ℕ) (a b : ℕ) → home a < home b → a ≢ b
 other_file home a b below same = let e = ap home same in omega (arith, below, e)
 
@@ -83,7 +79,7 @@ module _ (home : ℕ → ℕ) (run : Run) (kept : ℕ → ℕ → Bool) (stands 
   where
     -- no frame of its file up to its end is kept otherwise
     none_before : (frame : ℕ) → frame ≤ run.first + run.length → kept run.file frame ≡ false
-    none_before frame few = not_kept (kept run.file frame) (λ is. ⊎_elim
+    none_before frame few = false_from_ne_true (kept run.file frame) (λ is. ⊎_elim
         (λ later. omega (arith, later))
         (λ behind. omega (arith, behind.1, few))
         (stands run.file frame is))
@@ -92,9 +88,9 @@ module _ (home : ℕ → ℕ) (run : Run) (kept : ℕ → ℕ → Bool) (stands 
     own_maximal = record {
       some = some;
       inside = λ i below. rw (is_in_self run i below) refl;
-      before = λ first. or_false _ _ (not_in_before run run.file (run.first - 1) (omega (arith, first)))
+      before = λ first. or_from _ _ (not_in_before run run.file (run.first - 1) (omega (arith, first)))
           (none_before (run.first - 1) (omega arith));
-      behind = or_false _ _ (not_in_behind run run.file (run.first + run.length) (omega arith))
+      behind = or_from _ _ (not_in_behind run run.file (run.first + run.length) (omega arith))
           (none_before (run.first + run.length) (omega arith));
     }
 
@@ -109,21 +105,17 @@ module _ (home : ℕ → ℕ) (run : Run) (kept : ℕ → ℕ → Bool) (stands 
     still_maximal : (other : Run) → IsMaximal kept other → IsMaximal (with_run run kept) other
     still_maximal other is = record {
       some = is.some;
-      inside = λ i below. rw (is.inside i below) (or_true (is_in run other.file (other.first + i)));
-      before = λ first. or_false _ _ (⊎_elim
+      inside = λ i below. rw (is.inside i below) (or-true (is_in run other.file (other.first + i)));
+      before = λ first. or_from _ _ (⊎_elim
           (λ later. not_in_other run other.file (other.first - 1) (other_file home run.file other.file later))
           (λ behind. not_in_behind run other.file (other.first - 1) (omega (arith, behind.1)))
           (later_run other is)) (is.before first);
-      behind = or_false _ _ (⊎_elim
+      behind = or_from _ _ (⊎_elim
           (λ later. not_in_other run other.file (other.first + other.length)
           (other_file home run.file other.file later))
           (λ behind. not_in_behind run other.file (other.first + other.length) (omega (arith, behind.1)))
           (later_run other is)) is.behind;
     }
-      where
-        or_true : (b : Bool) → (b || true) ≡ true
-        or_true true = refl
-        or_true false = refl
 
     before_later : (other : Run) → IsMaximal kept other → comes_before home run other ≡ true
     before_later other is = ⊎_elim
@@ -131,13 +123,6 @@ module _ (home : ℕ → ℕ) (run : Run) (kept : ℕ → ℕ → Bool) (stands 
         (λ behind. let same : home run.file ≡ home other.file = ap home behind.0 in let far = behind.1 in
         grind (arith, nat_tests, same, far))
         (later_run other is)
-
-    maximal_at : (runs : List Run) (k : ℕ) (other : Run) → All (IsMaximal kept) runs → slice_get runs k ≡ Some other
-        → IsMaximal kept other
-    maximal_at [] k other all there = absurd (cc)
-    maximal_at (r ∷ runs) zero other all there = let e : r ≡ other = cc in
-        subst (IsMaximal kept) e (All-head (IsMaximal kept) r runs all)
-    maximal_at (r ∷ runs) (suc k) other all there = maximal_at runs k other (All-tail (IsMaximal kept) r runs all) there
 
     pub one_more : (runs : List Run) → AreRuns kept home runs → AreRuns (with_run run kept) home (run ∷ runs)
     one_more runs are = record {
@@ -165,5 +150,5 @@ module _ (home : ℕ → ℕ) (run : Run) (kept : ℕ → ℕ → Bool) (stands 
         in_order zero (suc j) a b below first second =
             let e : run ≡ a = cc in
             subst (λ (r : Run). comes_before home r b ≡ true) e
-            (before_later b (maximal_at runs j b are.maximal second))
+            (before_later b (holds_there (IsMaximal kept) runs j b are.maximal second))
         in_order (suc i) (suc j) a b below first second = are.order i j a b (omega (arith, below)) first second

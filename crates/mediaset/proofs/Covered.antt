@@ -4,21 +4,13 @@ use Rattle.std.specs.Prelude.{◌&&◌, ◌||◌, nat_lt}
 use Rattle.std.specs.List.{All, list_any}
 use Rattle.std.proofs.lemmas.Bool.Decides.{nat_tests}
 use Rattle.std.proofs.lemmas.List.Elements.{All-head, All-tail}
-use Rattle.std.proofs.lemmas.List.Folds.{list_any-append}
 use Rattle.sound_terms.specs.declared.piece.Home.{Home}
 use Rattle.sound_terms.specs.declared.piece.Piece.{Piece}
 use Rattle.sound_terms.specs.declared.piece.Run.{Run}
 use Rattle.sound_terms.specs.Groups.{is_read, pieces_of, reads}
+use Rattle.sound_terms.specs.GroupLaws.{reads_pieces}
 use Rattle.sound_terms.specs.Homes.{IsInRun, LiesAtHome, addressable_by, kept_of, place_by}
 use Rattle.sound_terms.specs.Kept.{AreRuns, is_near}
-
--- pieces that read a frame, whatever their groups are
-reads_pieces : (groups : List (List Piece)) (file channel frame : ℕ)
-    → reads groups file channel frame ≡ list_any (λ p. is_read p file channel frame) (pieces_of groups)
-reads_pieces [] file channel frame = refl
-reads_pieces (g ∷ gs) file channel frame =
-    ap (λ (b : Bool). list_any (λ p. is_read p file channel frame) g || b) (reads_pieces gs file channel frame)
-    ∙ sym (list_any-append (λ p. is_read p file channel frame) g (pieces_of gs))
 
 read_is_kept : (homes : List Home) (handle : ℕ) (pieces : List Piece) (file channel frame : ℕ)
     → All (LiesAtHome homes) pieces

@@ -3,7 +3,8 @@ use Rattle.std.proofs.Common.{◌≡◌, ◌≢◌, ℕ, ◌+◌, ◌-◌, ◌*�
 use Rattle.std.specs.Prelude.{◌==◌, ◌&&◌, ◌||◌, nat_le, nat_lt, max}
 use Rattle.std.specs.List.{All, list_any}
 use Rattle.std.proofs.lemmas.Bool.Decides.{nat_tests}
-use Rattle.std.proofs.lemmas.List.Elements.{All-cons, All-head, All-nil, All-tail, All-weaker}
+use Rattle.std.proofs.lemmas.List.Elements.{All-cons, All-contains, All-head, All-nil, All-tail, All-weaker}
+use Rattle.std.proofs.lemmas.List.Folds.{Any-from_list_any}
 use Rattle.sound_terms.specs.declared.piece.Home.{Home}
 use Rattle.sound_terms.specs.Homes.{AreHomes, place_by}
 use Rattle.sound_terms.specs.Kept.{AreRuns}
@@ -50,27 +51,17 @@ same_file homes are s later is other same = by_test (s.file == later.file) refl 
       let two : place_by homes later.file ≡ other.home.place = rw (other.there) refl in
       absurd (are.apart s.file later.file is.home other.home apart is.there other.there (sym one ∙ same ∙ two))
 
-any_first : {X : Type 0} (p : X → Bool) (Q : X → Type 0) (x : X) (test rest : Bool) → p x ≡ test → Q x
-    → (test || rest) ≡ true
-    → (rest ≡ true → (y : X) × Q y × (p y ≡ true)) → (y : X) × Q y × (p y ≡ true)
-any_first p Q x true rest here is any later = (x, is, here)
-any_first p Q x false rest here is any later = later any
-
 any_all : {X : Type 0} (p : X → Bool) (Q : X → Type 0) (xs : List X) → All Q xs → list_any p xs ≡ true
     → (x : X) × Q x × (p x ≡ true)
-any_all p Q [] all any = cc
-any_all p Q (x ∷ xs) all any =
-    any_first p Q x (p x) (list_any p xs) refl (All-head Q x xs all) any (any_all p Q xs (All-tail Q x xs all))
+any_all p Q xs all any =
+    let one = Any-from_list_any p xs any in
+    (one.1, All-contains Q xs one.1 all (one.0, one.2, one.3), one.4)
 
 -- ---- merged spans
 
 run_has : (s : Span) (file frame : ℕ) → s.first < s.end → is_in (run_of s) file frame ≡ has_frame file frame s
 run_has s file frame some =
     let whole : s.first + (s.end - s.first) ≡ s.end = omega (arith, some) in rw whole refl
-
-or_empty : (a : Bool) → (a || false) ≡ a
-or_empty true = refl
-or_empty false = refl
 
 module _ (homes : List Home) (are : AreHomes homes) where
   -- what is kept behind a span that the next one doesn't touch

@@ -4,6 +4,7 @@ use Rattle.std.specs.Prelude.{nat_lt, Contains}
 use Rattle.std.specs.List.{All, slice_get}
 use Rattle.std.proofs.lemmas.Bool.Decides.{nat_tests}
 use Rattle.std.proofs.lemmas.List.Elements.{All-contains}
+use Rattle.std.proofs.lemmas.Option.{slice_get-get_or}
 use Rattle.sound_terms.specs.declared.piece.Run.{Run}
 use Rattle.sound_terms.specs.Kept.{AreRuns, IsMaximal, comes_before}
 
@@ -76,9 +77,7 @@ module _ (kept : ℕ → ℕ → Bool) (home : ℕ → ℕ) where
   no_self a one = grind (arith, nat_tests, one)
 
   there : (runs : List Run) (run : Run) → (is : Contains runs run) → slice_get runs is.0 ≡ Some run
-  there [] run is = absurd (omega (arith, is.1))
-  there (r ∷ runs) run (zero, below, same) = ap Some same
-  there (r ∷ runs) run (suc k, below, same) = there runs run (k, omega (arith, below), same)
+  there runs run is = slice_get-get_or runs is.0 run is.1 ∙ ap Some is.2
 
   record InOrder (runs : List Run) : Type 0 where
     order : (i j : ℕ) (a b : Run) → i < j → slice_get runs i ≡ Some a → slice_get runs j ≡ Some b

@@ -2,6 +2,7 @@
 use Rattle.std.proofs.Common.{◌≡◌, ℕ, ◌+◌, ◌-◌, ◌*◌, ◌<◌, ◌≤◌, Bool, true, false, min, if◌then◌else◌, List, [], ◌∷◌, Option, None, Some, refl, sym, ap, ◌∙◌, arith}
 use Rattle.std.specs.Prelude.{◌==◌, ◌&&◌, ◌||◌, nat_le, nat_lt}
 use Rattle.std.specs.List.{All, flat_map, list_any, slice_get}
+use Rattle.std.proofs.Math.Bool.{and-false, and-or_distrib_left, or-false}
 use Rattle.std.proofs.lemmas.Bool.Decides.{nat_tests}
 use Rattle.std.proofs.lemmas.List.Elements.{All-append, All-cons, All-nil}
 use Rattle.std.proofs.lemmas.List.Folds.{list_any-append}
@@ -24,10 +25,7 @@ near false some frame h a at n same = grind (arith, nat_tests, same)
 
 one_span : (test : Bool) (s : Span) (file frame : ℕ)
     → any_has (if test then s ∷ [] else []) file frame ≡ (if test then has_frame file frame s else false)
-one_span true s file frame = or_empty (has_frame file frame s) where
-  or_empty : (b : Bool) → (b || false) ≡ b
-  or_empty true = refl
-  or_empty false = refl
+one_span true s file frame = or-false (has_frame file frame s)
 one_span false s file frame = refl
 
 -- of another file nothing is near
@@ -58,33 +56,21 @@ piece_kept homes handle p file frame = by_file (p.file == file) refl where
   by_file false here =
       one_span test span file frame
       ∙ near (p.file == file) (nat_lt 0 p.length) frame handle (addressable_by homes p.file) p.frame p.length refl
-      ∙ rw here (nothing (nat_lt frame (addressable_by homes p.file))
-      ∙ sym (nothing (nat_lt frame (addressable_by homes file))))
-    where
-      nothing : (b : Bool) → (b && false) ≡ false
-      nothing true = refl
-      nothing false = refl
-
-both : (c a b : Bool) → ((c && a) || (c && b)) ≡ (c && (a || b))
-both true a b = refl
-both false a b = refl
-
-none : (c : Bool) → false ≡ (c && false)
-none true = refl
-none false = refl
+      ∙ rw here (and-false (nat_lt frame (addressable_by homes p.file))
+      ∙ sym (and-false (nat_lt frame (addressable_by homes file))))
 
 -- all spans of pieces
 pub pieces_kept : (homes : List Home) (handle : ℕ) (pieces : List Piece) (file frame : ℕ)
     → any_has (flat_map (span_of homes handle) pieces) file frame
     ≡ (nat_lt frame (addressable_by homes file) && list_any (is_near handle file frame) pieces)
-pieces_kept homes handle [] file frame = none (nat_lt frame (addressable_by homes file))
+pieces_kept homes handle [] file frame = sym (and-false (nat_lt frame (addressable_by homes file)))
 pieces_kept homes handle (p ∷ ps) file frame =
     let within = nat_lt frame (addressable_by homes file) in
     list_any-append (has_frame file frame) (span_of homes handle p) (flat_map (span_of homes handle) ps)
     ∙ ap (λ (b : Bool). b || any_has (flat_map (span_of homes handle) ps) file frame)
     (piece_kept homes handle p file frame)
     ∙ ap (λ (b : Bool). (within && is_near handle file frame p) || b) (pieces_kept homes handle ps file frame)
-    ∙ both within (is_near handle file frame p) (list_any (is_near handle file frame) ps)
+    ∙ sym (and-or_distrib_left within (is_near handle file frame p) (list_any (is_near handle file frame) ps))
 
 -- ---- every span is one
 

@@ -1,21 +1,22 @@
 -- Cuts that are joined by marks, and what joining keeps.
 use Rattle.std.proofs.Common.{◌≡◌, ◌∙◌, ℕ, ◌+◌, ◌<◌, length, get_or, set, map, Bool, true, false, List, [], ◌∷◌, ◌++◌}
-use Rattle.std.proofs.Common.{refl, sym, ap, arith}
-use Rattle.std.specs.Prelude.{ℤ, pos, ◌+ℤ◌, ◌&&◌, ◌||◌, Option, Result, Ok, Err, OnOk, None, Some, is_some}
+use Rattle.std.proofs.Common.{refl, sym, arith}
+use Rattle.std.specs.Prelude.{pos, ◌+ℤ◌, ◌&&◌, ◌||◌, Option, Result, Ok, Err, OnOk, None, Some, is_some}
 use Rattle.std.specs.Prelude.{if◌then◌else◌}
-use Rattle.std.specs.List.{list_all, list_any}
-use Rattle.std.proofs.lemmas.Int.{ints}
+use Rattle.std.specs.List.{list_all}
+use Rattle.facts.specs.Tests.{and_exchange, or_exchange}
 use Rattle.sound_terms.specs.declared.piece.Piece.{Piece}
 use Rattle.sound_terms.specs.declared.piece.Shape.TheVariants.{Flat, Rise, Fall}
 use Rattle.sound_terms.specs.declared.piece.Shape.{Shape}
 use Rattle.sound_terms.specs.Mix.{Reading}
-use Rattle.sound_terms.specs.Groups.{are_whole, continues, is_read, is_whole, mix_of, pieces_of, reads, sum_of}
+use Rattle.sound_terms.specs.Groups.{are_whole, continues, is_whole, mix_of, reads}
+use Rattle.sound_terms.specs.OrderLaws.{mix_total, read_by, reads_total, sum_at, sums_exchange, whole_total}
 use Rattle.sound_terms.specs.Passes.{join_cuts, lengthened, put_to_first}
 use Rattle.passes.specs.declared.ends.End.{End}
 use Rattle.passes.specs.Ends.{IsFirst, end_before, end_of, flat_end, is_end}
-use Rattle.passes.proofs.Longer.{GoesOn, by_longer, longer_mix, longer_reads, longer_whole}
+use Rattle.passes.proofs.Longer.{BothFlat, by_longer, longer_mix, longer_reads, longer_whole}
 use Rattle.passes.proofs.Putting.{put_last, put_there, taken_there}
-use Rattle.passes.proofs.Totals.{total, total_joined}
+use Rattle.passes.proofs.Totals.{total_joined}
 
 -- a flat piece is taken by the groups with the mark that it looks for
 pub flat_agrees : (later : Piece) → later.shape ≡ Flat → (group : List Piece)
@@ -57,70 +58,36 @@ module _ (later : Piece) (flat : later.shape ≡ Flat) (groups : List (List Piec
 pub longer_end : (later : Piece) (group joined : List Piece) → lengthened later group ≡ Some joined
     → flat_end joined ≡ Some (end_of later)
 longer_end later = by_longer (λ group joined. flat_end joined ≡ Some (end_of later)) later same where
-  same : (p : Piece) → GoesOn p later
+  same : (p : Piece) → BothFlat p later
       → flat_end (record p { length = p.length + later.length } ∷ []) ≡ Some (end_of later)
-  same p on =
+  same p both =
+      let on = both.on in
       let starts : p.start + (p.length + later.length) ≡ p.start + p.length + later.length = omega arith in
       let frames : p.frame + (p.length + later.length) ≡ p.frame + p.length + later.length = omega arith in
-      rw (on.flat, on.flat_later, on.start, on.frame, on.file, on.first, on.dest, on.width, starts, frames) refl
+      rw (both.flat, both.flat_later, on.start, on.frame, on.file, on.first, on.dest, on.width, starts, frames) refl
 
 pub on_ok : {X E : Type 0} (result : Result X E) (P : Type 0) → P → OnOk result P
 on_ok (Ok x) P is = is
 on_ok (Err e) P is = tt
 
 module _ (r : Reading) (channel time : ℕ) where
-  abbrev pub sum_at : List Piece → ℤ
-  sum_at group = sum_of r group channel time
-
-  pub sum_of-append : (a b : List Piece) → sum_at (a ++ b) ≡ sum_at a +ℤ sum_at b
-  sum_of-append [] b = omega (arith, ints)
-  sum_of-append (p ∷ ps) b = omega (arith, ints, sum_of-append ps b)
-
-  pub mix_total : (groups : List (List Piece)) → mix_of r groups channel time ≡ total ◌+ℤ◌ (pos 0) sum_at groups
-  mix_total [] = refl
-  mix_total (group ∷ groups) = omega (arith, ints, sum_of-append group (pieces_of groups), mix_total groups)
-
-  pub sums_exchange : (a b c : ℤ) → a +ℤ (b +ℤ c) ≡ b +ℤ (a +ℤ c)
-  sums_exchange a b c = omega (arith, ints)
-
   pub mix_joined : (groups : List (List Piece))
       → mix_of r (join_cuts groups) channel time ≡ mix_of r groups channel time
   mix_joined groups =
-      mix_total (join_cuts groups) ∙ total_joined ◌+ℤ◌ (pos 0) sum_at sums_exchange (longer_mix r channel time) groups
-      ∙ sym (mix_total groups)
-
-pub whole_total : (groups : List (List Piece))
-    → are_whole groups ≡ total ◌&&◌ true (λ group. list_all is_whole group) groups
-whole_total [] = refl
-whole_total (group ∷ groups) = ap (λ rest. list_all is_whole group && rest) (whole_total groups)
-
-pub both_exchange : (a b c : Bool) → (a && (b && c)) ≡ (b && (a && c))
-both_exchange true true c = refl
-both_exchange true false c = refl
-both_exchange false true c = refl
-both_exchange false false c = refl
+      mix_total r channel time (join_cuts groups)
+      ∙ total_joined ◌+ℤ◌ (pos 0) (sum_at r channel time) (sums_exchange r channel time) (longer_mix r channel time)
+      groups
+      ∙ sym (mix_total r channel time groups)
 
 pub whole_joined : (groups : List (List Piece)) → are_whole (join_cuts groups) ≡ are_whole groups
 whole_joined groups =
-    whole_total (join_cuts groups) ∙ total_joined ◌&&◌ true (λ group. list_all is_whole group) both_exchange
+    whole_total (join_cuts groups) ∙ total_joined ◌&&◌ true (λ group. list_all is_whole group) and_exchange
     longer_whole groups ∙ sym (whole_total groups)
 
-pub either_exchange : (a b c : Bool) → (a || (b || c)) ≡ (b || (a || c))
-either_exchange true true c = refl
-either_exchange true false c = refl
-either_exchange false true c = refl
-either_exchange false false c = refl
-
 module _ (file channel frame : ℕ) where
-  abbrev pub read_by : List Piece → Bool
-  read_by group = list_any (λ p. is_read p file channel frame) group
-
-  pub reads_total : (groups : List (List Piece)) → reads groups file channel frame ≡ total ◌||◌ false read_by groups
-  reads_total [] = refl
-  reads_total (group ∷ groups) = ap (λ rest. read_by group || rest) (reads_total groups)
-
   pub reads_joined : (groups : List (List Piece))
       → reads (join_cuts groups) file channel frame ≡ reads groups file channel frame
   reads_joined groups =
-      reads_total (join_cuts groups) ∙ total_joined ◌||◌ false read_by either_exchange (longer_reads file channel frame)
-      groups ∙ sym (reads_total groups)
+      reads_total file channel frame (join_cuts groups)
+      ∙ total_joined ◌||◌ false (read_by file channel frame) or_exchange (longer_reads file channel frame) groups
+      ∙ sym (reads_total file channel frame groups)

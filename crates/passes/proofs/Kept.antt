@@ -3,7 +3,7 @@ use Rattle.std.proofs.Common.{◌≡◌, ℕ, ◌≤◌, Bool, true, false, List
 use Rattle.std.specs.Prelude.{Option, None, Some, if◌then◌else◌}
 use Rattle.std.specs.List.{fold}
 use Rattle.std.proofs.lemmas.List.{append-nil, append_assoc}
-use Rattle.std.proofs.lemmas.List.Elements.{All-append, All-cons, All-tail}
+use Rattle.std.proofs.lemmas.List.Elements.{All-cons, All-head, All-nil, All-push, All-tail}
 use Rattle.sound_terms.specs.declared.piece.Piece.{Piece}
 use Rattle.sound_terms.specs.Groups.{AreGroups, IsGroup, IsPiece, RiseFrom, start_of}
 use Rattle.sound_terms.specs.Passes.{chosen, is_flat, join_cuts, lengthened, put_joined, put_to_first}
@@ -12,9 +12,6 @@ use Rattle.passes.proofs.Longer.{by_longer, longer_is_piece}
 abbrev pub Put : Type 0
 Put = List (List Piece) → List Piece → List (List Piece)
 
-pub nothing : {X : Type 0} (P : X → Type 0) → All P []
-nothing P k d below = absurd (omega arith)
-
 module _ (P : List Piece → Type 0) where
   -- what a group is that another one is joined to
   abbrev pub Keeps : (List Piece → Option (List Piece)) → Type 0
@@ -22,34 +19,31 @@ module _ (P : List Piece → Type 0) where
 
   pub all_put : (takes : List Piece → Option (List Piece)) (own : List Piece) → Keeps takes → P own
       → (groups : List (List Piece)) → All P groups → All P (put_to_first takes own groups)
-  all_put takes own keeps is [] all = All-cons P own [] is (nothing P)
+  all_put takes own keeps is [] all = All-cons P own [] is (All-nil P)
   all_put takes own keeps is (group ∷ groups) all =
       by_take (takes group) refl (all_put takes own keeps is groups (All-tail P group groups all)) where
         by_take : (taken : Option (List Piece)) → takes group ≡ taken → All P (put_to_first takes own groups)
             → All P (chosen taken group (put_to_first takes own groups) groups)
-        by_take None e put = All-cons P group _ (all 0 group (omega arith)) put
-        by_take (Some joined) e put = All-cons P joined groups (keeps group joined e (all 0 group (omega arith)))
+        by_take None e put = All-cons P group _ (All-head P group groups all) put
+        by_take (Some joined) e put = All-cons P joined groups (keeps group joined e (All-head P group groups all))
             (All-tail P group groups all)
-
-  all_push : (own : List Piece) (groups : List (List Piece)) → P own → All P groups → All P (groups ++ own ∷ [])
-  all_push own groups is all = All-append P groups (own ∷ []) all (All-cons P own [] is (nothing P))
 
   pub all_fold : (put : Put) → ((out : List (List Piece)) (own : List Piece) → All P out → P own → All P (put out own))
       → (rest out : List (List Piece)) → All P out → All P rest → All P (fold put out rest)
   all_fold put keeps [] out all left = all
   all_fold put keeps (own ∷ rest) out all left =
-      all_fold put keeps rest (put out own) (keeps out own all (left 0 own (omega arith))) (All-tail P own rest left)
+      all_fold put keeps rest (put out own) (keeps out own all (All-head P own rest left)) (All-tail P own rest left)
 
   all_put_joined : ((p : Piece) → P (p ∷ []) → Keeps (lengthened p)) → (out : List (List Piece)) (own : List Piece)
       → All P out → P own → All P (put_joined out own)
-  all_put_joined keeps out [] all is = all_push [] out is all
+  all_put_joined keeps out [] all is = All-push P out [] all is
   all_put_joined keeps out (p ∷ []) all is = by_shape (is_flat p.shape) where
     by_shape : (flat : Bool) → All P (if flat then put_to_first (lengthened p) (p ∷ []) out else out ++ (p ∷ []) ∷ [])
     by_shape true = all_put (lengthened p) (p ∷ []) (keeps p is) is out all
-    by_shape false = all_push (p ∷ []) out is all
-  all_put_joined keeps out (p ∷ q ∷ ps) all is = all_push (p ∷ q ∷ ps) out is all
+    by_shape false = All-push P out (p ∷ []) all is
+  all_put_joined keeps out (p ∷ q ∷ ps) all is = All-push P out (p ∷ q ∷ ps) all is
 
-rise_more : (low high : ℕ) (groups : List (List Piece)) → low ≤ high → RiseFrom high groups → RiseFrom low groups
+pub rise_more : (low high : ℕ) (groups : List (List Piece)) → low ≤ high → RiseFrom high groups → RiseFrom low groups
 rise_more low high [] le rise = tt
 rise_more low high (group ∷ groups) le rise = (omega arith, rise.1)
 
@@ -104,14 +98,14 @@ rise_put_joined low out behind (p ∷ q ∷ ps) rise = rise_push low out behind 
 longer_holds : (later : Piece) → All IsPiece (later ∷ []) → Keeps (All IsPiece) (lengthened later)
 longer_holds later ok = by_longer (λ group joined. All IsPiece group → All IsPiece joined) later
     (λ p on all. All-cons IsPiece _ [] (longer_is_piece p later on (all 0 p (omega arith)) (ok 0 later (omega arith)))
-    (nothing IsPiece))
+    (All-nil IsPiece))
 
 pub joined_are : (groups : List (List Piece)) → AreGroups groups → AreGroups (join_cuts groups)
 joined_are groups are = record {
   groups_ok = all_fold IsGroup put_joined
       (all_put_joined IsGroup (λ p is. by_longer (λ group joined. IsGroup group → IsGroup joined) p (λ q on whole. tt)))
-      groups [] (nothing IsGroup) are.groups_ok;
+      groups [] (All-nil IsGroup) are.groups_ok;
   pieces_ok = all_fold (All IsPiece) put_joined (all_put_joined (All IsPiece) longer_holds) groups []
-      (nothing (All IsPiece)) are.pieces_ok;
+      (All-nil (All IsPiece)) are.pieces_ok;
   in_order = rise_fold put_joined rise_put_joined groups [] are.in_order;
 }

@@ -1,8 +1,9 @@
 -- What is silent adds nothing, so it may be left out.
-use Rattle.std.proofs.Common.{◌≡◌, ◌∙◌, ℕ, ◌-◌, ◌*◌, ◌/◌, ◌<◌, ◌≤◌, Bool, true, false, List, [], ◌∷◌, ◌++◌, length, take, drop, IsTrue, refl, ap, arith, All}
-use Rattle.std.specs.Prelude.{pos, ◌+ℤ◌, ◌&&◌, ◌||◌, nat_le, ⊤}
+use Rattle.std.proofs.Common.{◌≡◌, ◌∙◌, ℕ, ◌-◌, ◌*◌, ◌/◌, ◌<◌, Bool, true, false, List, [], ◌∷◌, ◌++◌, length, take, drop, IsTrue, refl, ap, arith, All}
+use Rattle.std.specs.Prelude.{pos, ◌&&◌, ◌||◌, nat_le, ⊤}
 use Rattle.std.specs.List.{list_all}
 use Rattle.std.proofs.Math.Nat.{zero-div}
+use Rattle.std.proofs.lemmas.Bool.{and_parts, or_right}
 use Rattle.std.proofs.lemmas.Bool.Decides.{nat_tests}
 use Rattle.std.proofs.lemmas.Int.{ints}
 use Rattle.std.proofs.lemmas.List.Elements.{All-cons, All-tail}
@@ -10,6 +11,8 @@ use Rattle.sound_terms.specs.declared.piece.Piece.{Piece}
 use Rattle.sound_terms.specs.Mix.{Reading, share_of}
 use Rattle.sound_terms.specs.Groups.{Agrees, AreGroups, IsGroup, IsPiece, IsSilent, RiseFrom, SameMix, are_whole, fraction_of, is_under, is_whole, mix_of, part_of, pieces_of, reads, start_of, sum_of}
 use Rattle.sound_terms.specs.Passes.{is_called, without_silent}
+use Rattle.sound_terms.specs.GroupLaws.{sum_of-append}
+use Rattle.passes.proofs.Kept.{rise_more}
 
 no_share : (fraction : ℕ × ℕ) → share_of (pos 0) fraction ≡ pos 0
 no_share fraction =
@@ -36,23 +39,18 @@ silent_sum r [] channel time silent = refl
 silent_sum r (p ∷ ps) channel time silent =
     rw (silent_part r p channel time silent.0, silent_sum r ps channel time silent.1) refl
 
-both_true : (a b : Bool) → (a && b) ≡ true → (a ≡ true) × (b ≡ true)
-both_true true true e = (refl, refl)
-both_true true false e = cc
-both_true false b e = cc
-
 -- pieces that are called silent are so, where the reading agrees
 called_silent : (r : Reading) (group rest : List Piece) (silent : List Bool) → Agrees r (group ++ rest) silent
     → is_called (length group) silent ≡ true → AllSilent r group
 called_silent r [] rest silent agrees called = tt
 called_silent r (p ∷ ps) rest [] agrees called =
     let short : nat_le (length (p ∷ ps)) 0 ≡ false = grind (arith, nat_tests) in
-    let parts = both_true (nat_le (length (p ∷ ps)) 0) _ called in cc
+    let parts = and_parts (nat_le (length (p ∷ ps)) 0) _ called in cc
 called_silent r (p ∷ ps) rest (b ∷ silent) agrees called =
     let parts =
-    both_true (nat_le (length (p ∷ ps)) (length (b ∷ silent)))
+    and_parts (nat_le (length (p ∷ ps)) (length (b ∷ silent)))
     (list_all (λ x. x) (take (length (p ∷ ps)) (b ∷ silent))) called in
-    let calls = both_true b (list_all (λ x. x) (take (length ps) silent)) parts.1 in
+    let calls = and_parts b (list_all (λ x. x) (take (length ps) silent)) parts.1 in
     let enough : nat_le (length ps) (length silent) ≡ true = grind (arith, nat_tests) in
     let rest_called : is_called (length ps) silent ≡ true = rw enough calls.1 in
     (agrees.0 calls.0, called_silent r ps rest silent agrees.1 rest_called)
@@ -63,11 +61,6 @@ agrees_behind r [] rest silent agrees = agrees
 agrees_behind r (p ∷ ps) [] [] agrees = tt
 agrees_behind r (p ∷ ps) (q ∷ qs) [] agrees = tt
 agrees_behind r (p ∷ ps) rest (b ∷ silent) agrees = agrees_behind r ps rest silent agrees.1
-
-sum_of-append : (r : Reading) (a b : List Piece) (channel time : ℕ)
-    → sum_of r (a ++ b) channel time ≡ sum_of r a channel time +ℤ sum_of r b channel time
-sum_of-append r [] b channel time = omega (arith, ints)
-sum_of-append r (p ∷ ps) b channel time = omega (arith, ints, sum_of-append r ps b channel time)
 
 -- what is left adds what all added
 pub same_mix : (groups : List (List Piece)) (silent : List Bool) → SameMix groups silent (without_silent groups silent)
@@ -88,10 +81,6 @@ same_mix (group ∷ groups) silent r agrees channel time =
           let left =
           sum_of-append r group (pieces_of (without_silent groups (drop (length group) silent))) channel time in
           rw e (omega (arith, ints, all, left, rest))
-
-or_right : (a b : Bool) → b ≡ true → (a || b) ≡ true
-or_right true b e = refl
-or_right false b e = e
 
 or_more : (a b c : Bool) → (b ≡ true → c ≡ true) → (a || b) ≡ true → (a || c) ≡ true
 or_more true b c more e = refl
@@ -126,7 +115,7 @@ keeps_whole (group ∷ groups) silent whole =
       by_call : (b : Bool) → is_called (length group) silent ≡ b
           → (IsTrue (are_whole groups) → IsTrue (are_whole (without_silent groups (drop (length group) silent))))
           → IsTrue (are_whole (without_silent (group ∷ groups) silent))
-      by_call true e rest = rw e (rest (both_true (list_all is_whole group) (are_whole groups) whole).1)
+      by_call true e rest = rw e (rest (and_parts (list_all is_whole group) (are_whole groups) whole).1)
       by_call false e rest = rw e (and_more (list_all is_whole group) (are_whole groups) _ rest whole)
 
 all_left : (P : List Piece → Type 0) (groups : List (List Piece)) (silent : List Bool) → All P groups
@@ -140,10 +129,6 @@ all_left P (group ∷ groups) silent all =
           → All P (without_silent (group ∷ groups) silent)
       by_call true e rest = rw e rest
       by_call false e rest = rw e (All-cons P group _ (all 0 group (omega arith)) rest)
-
-rise_more : (low high : ℕ) (groups : List (List Piece)) → low ≤ high → RiseFrom high groups → RiseFrom low groups
-rise_more low high [] le rise = tt
-rise_more low high (group ∷ groups) le rise = (omega arith, rise.1)
 
 rise_left : (low : ℕ) (groups : List (List Piece)) (silent : List Bool) → RiseFrom low groups
     → RiseFrom low (without_silent groups silent)

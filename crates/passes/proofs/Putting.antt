@@ -1,14 +1,11 @@
 -- A group that is put to the first one that takes it, where marks tell which do.
-use Rattle.std.proofs.Common.{◌≡◌, ◌∙◌, ℕ, zero, suc, ◌<◌, Bool, true, false, List, [], ◌∷◌, ◌++◌, length, get_or, set}
+use Rattle.std.proofs.Common.{◌≡◌, ◌∙◌, ℕ, zero, suc, ◌<◌, Bool, true, List, [], ◌∷◌, ◌++◌, length, get_or, set}
 use Rattle.std.proofs.Common.{map, refl, ap, arith}
 use Rattle.std.specs.Prelude.{Option, None, Some, is_some}
+use Rattle.facts.specs.Tests.{not_some}
 use Rattle.sound_terms.specs.declared.piece.Piece.{Piece}
 use Rattle.sound_terms.specs.Passes.{put_to_first}
 use Rattle.passes.specs.Ends.{IsFirst, holds_at}
-
-none_taken : {X : Type 0} (taken : Option X) → is_some taken ≡ false → taken ≡ None
-none_taken None e = refl
-none_taken (Some x) e = cc
 
 module _ {M : Type 0} (takes : List Piece → Option (List Piece)) (own : List Piece) (mark : List Piece → M)
     (test : M → Bool)
@@ -18,7 +15,7 @@ module _ {M : Type 0} (takes : List Piece → Option (List Piece)) (own : List P
       → put_to_first takes own groups ≡ groups ++ own ∷ []
   put_last [] none = refl
   put_last (group ∷ groups) none =
-      let here = none_taken (takes group) (agree group ∙ none 0) in
+      let here = not_some (takes group) (agree group ∙ none 0) in
       rw here (ap (λ (rest : List (List Piece)). group ∷ rest) (put_last groups (λ place. none (suc place))))
 
   -- the group of this place is the first that takes it
@@ -28,7 +25,7 @@ module _ {M : Type 0} (takes : List Piece → Option (List Piece)) (own : List P
   put_there [] place joined d first taken = cc
   put_there (group ∷ groups) zero joined d first taken = rw taken refl
   put_there (group ∷ groups) (suc place) joined d first taken =
-      let here = none_taken (takes group) (agree group ∙ first.1 0 (omega arith)) in
+      let here = not_some (takes group) (agree group ∙ first.1 0 (omega arith)) in
       rw here (ap (λ (rest : List (List Piece)). group ∷ rest)
       (put_there groups place joined d (first.0, λ k below. first.1 (suc k) (omega arith)) taken))
 

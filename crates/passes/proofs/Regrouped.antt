@@ -1,34 +1,31 @@
 -- Groups that are put together by marks, and what that keeps.
 use Rattle.std.proofs.Common.{◌≡◌, ◌∙◌, ℕ, zero, suc, ◌-◌, ◌<◌, length, get_or, set, map, Bool, true, false, refl}
 use Rattle.std.proofs.Common.{sym}
-use Rattle.std.proofs.Common.{arith, List, [], ◌∷◌, ◌++◌, IsTrue, All, ◌≤◌}
+use Rattle.std.proofs.Common.{arith, List, [], ◌∷◌, ◌++◌, All, ◌≤◌}
 use Rattle.std.specs.Prelude.{ℤ, pos, ◌+ℤ◌, ◌&&◌, ◌||◌, ◌==◌, nat_lt, Option, None, Some, is_some, slice_get}
 use Rattle.std.specs.Prelude.{if◌then◌else◌}
 use Rattle.std.specs.List.{list_all}
+use Rattle.std.proofs.Math.Bool.{and_assoc, and_comm, or-false, or-true, or_assoc}
 use Rattle.std.proofs.lemmas.Bool.Decides.{nat_tests}
 use Rattle.std.proofs.lemmas.Int.{ints}
-use Rattle.std.proofs.lemmas.List.Elements.{All-append}
+use Rattle.std.proofs.lemmas.List.Elements.{All-append, All-nil}
 use Rattle.std.proofs.lemmas.List.Folds.{list_all-append, list_any-append}
+use Rattle.facts.specs.Tests.{and_exchange, or_exchange}
 use Rattle.sound_terms.specs.declared.piece.Piece.{Piece}
 use Rattle.sound_terms.specs.declared.piece.Shape.TheVariants.{Flat, Rise, Fall}
 use Rattle.sound_terms.specs.Mix.{Reading}
 use Rattle.sound_terms.specs.Groups.{AreGroups, IsGroup, IsPiece, are_whole, continues, is_read, is_whole, mix_of}
 use Rattle.sound_terms.specs.Groups.{rank_of}
 use Rattle.sound_terms.specs.Groups.{RiseFrom, reads, start_of}
+use Rattle.sound_terms.specs.GroupLaws.{IsGroup-append, sum_of-append}
+use Rattle.sound_terms.specs.OrderLaws.{mix_total, read_by, reads_total, sum_at, sums_exchange, whole_total}
 use Rattle.sound_terms.specs.Passes.{extended, is_followed_by, put_grouped, regroup}
 use Rattle.passes.specs.declared.ends.End.{End}
 use Rattle.passes.specs.Ends.{IsFirst, earlier, end_before, follows, group_end, group_follows, holds_at, is_end}
 use Rattle.passes.specs.Ends.{last_piece}
-use Rattle.passes.proofs.JoinedCuts.{both_exchange, either_exchange, mix_total, read_by, reads_total, sum_at}
-use Rattle.passes.proofs.JoinedCuts.{sum_of-append}
-use Rattle.passes.proofs.JoinedCuts.{sums_exchange, whole_total}
-use Rattle.passes.proofs.Kept.{all_fold, all_put, nothing, rise_fold, rise_put}
+use Rattle.passes.proofs.Kept.{all_fold, all_put, rise_fold, rise_put}
 use Rattle.passes.proofs.Putting.{put_last, put_there, taken_there}
 use Rattle.passes.proofs.Totals.{Joins, total_regrouped}
-
-or_true : (a : Bool) → (a || true) ≡ true
-or_true true = refl
-or_true false = refl
 
 module _ {X : Type 0} where
   holds_same : (test other : X → Bool) → ((x : X) → test x ≡ other x) → (xs : List X) (k : ℕ)
@@ -58,7 +55,7 @@ module _ {X : Type 0} where
       → IsFirst (λ x. a x || b x) xs (earlier one other)
   first_either a b xs None None first second = λ k. rw (holds_either a b xs k, first k, second k) refl
   first_either a b xs None (Some j) first second = (
-    rw (holds_either a b xs j, second.0) (or_true (holds_at a xs j)),
+    rw (holds_either a b xs j, second.0) (or-true (holds_at a xs j)),
     λ k below. rw (holds_either a b xs k, first k, second.1 k below) refl,
   )
   first_either a b xs (Some i) None first second = (
@@ -69,7 +66,7 @@ module _ {X : Type 0} where
     by_order : (before : Bool) → nat_lt j i ≡ before → IsFirst (λ x. a x || b x) xs (if before then Some j else Some i)
     by_order true e =
         let order : j < i = grind (arith, nat_tests) in (
-          rw (holds_either a b xs j, second.0) (or_true (holds_at a xs j)),
+          rw (holds_either a b xs j, second.0) (or-true (holds_at a xs j)),
           λ k below. rw (holds_either a b xs k, first.1 k (omega arith), second.1 k below) refl,
         )
     by_order false e =
@@ -86,10 +83,7 @@ under_one (suc n) rest =
     rw (apart, over) refl
 
 under_two : (n : ℕ) (rest : Bool) → ((0 == n && rest) || (1 == n && rest)) ≡ (nat_lt n 2 && (n == n && rest))
-under_two zero rest = or_same rest where
-  or_same : (rest : Bool) → (rest || false) ≡ rest
-  or_same true = refl
-  or_same false = refl
+under_two zero rest = or-false rest
 under_two (suc zero) rest = refl
 under_two (suc (suc n)) rest =
     let none : (0 == suc (suc n)) ≡ false = grind (arith, nat_tests) in
@@ -130,12 +124,7 @@ last_is (p ∷ q ∷ ps) =
     let behind : length (p ∷ q ∷ ps) - 1 ≡ suc (length (q ∷ ps) - 1) = omega arith in rw behind (last_is (q ∷ ps))
 
 turned : (a b : Bool) (n : ℕ) → (a && b) ≡ (b && (n == n && a))
-turned a b n = let same : (n == n) ≡ true = grind (arith, nat_tests) in rw same (swapped a b) where
-  swapped : (a b : Bool) → (a && b) ≡ (b && a)
-  swapped true true = refl
-  swapped true false = refl
-  swapped false true = refl
-  swapped false false = refl
+turned a b n = let same : (n == n) ≡ true = grind (arith, nat_tests) in rw same (and_comm a b)
 
 followed_is : (group later : List Piece) → is_followed_by group later ≡ group_follows later (group_end group)
 followed_is [] [] = refl
@@ -204,20 +193,14 @@ module _ (later : List Piece) (groups : List (List Piece)) (ends : List (Option 
         put_there (extended later) later group_end (group_follows later) (group_agrees later) groups place joined d
         (rw marked at first) taken
 
-IsGroup-append : (a b : List Piece) → IsGroup a → IsGroup b → IsTrue (is_followed_by a b) → IsGroup (a ++ b)
-IsGroup-append [] b front back follows = absurd front
-IsGroup-append (p ∷ []) [] front back follows = absurd back
-IsGroup-append (p ∷ []) (q ∷ qs) front back follows = (follows, back)
-IsGroup-append (p ∷ next ∷ ps) b front back follows = (front.0, IsGroup-append (next ∷ ps) b front.1 back follows)
-
 same_start : (later group : List Piece) → is_followed_by group later ≡ true → start_of (group ++ later) ≡ start_of group
 same_start later [] follows = cc
 same_start later (p ∷ ps) follows = refl
 
 pub regrouped_are : (groups : List (List Piece)) → AreGroups groups → AreGroups (regroup groups)
 regrouped_are groups are = record {
-  groups_ok = all_fold IsGroup put_grouped put_groups groups [] (nothing IsGroup) are.groups_ok;
-  pieces_ok = all_fold (All IsPiece) put_grouped put_pieces groups [] (nothing (All IsPiece)) are.pieces_ok;
+  groups_ok = all_fold IsGroup put_grouped put_groups groups [] (All-nil IsGroup) are.groups_ok;
+  pieces_ok = all_fold (All IsPiece) put_grouped put_pieces groups [] (All-nil (All IsPiece)) are.pieces_ok;
   in_order = rise_fold put_grouped put_order groups [] are.in_order;
 } where
   put_groups : (out : List (List Piece)) (own : List Piece) → All IsGroup out → IsGroup own
@@ -245,7 +228,7 @@ mix_joins : (r : Reading) (channel time : ℕ) (own : List Piece)
 mix_joins r channel time own =
     let sum = sum_at r channel time in
     by_extended (λ group joined. (rest : ℤ) → sum joined +ℤ rest ≡ sum own +ℤ (sum group +ℤ rest)) own
-    (λ group on rest. omega (arith, ints, sum_of-append r channel time group own))
+    (λ group on rest. omega (arith, ints, sum_of-append r group own channel time))
 
 pub mix_regrouped : (r : Reading) (channel time : ℕ) (groups : List (List Piece))
     → mix_of r (regroup groups) channel time ≡ mix_of r groups channel time
@@ -255,30 +238,19 @@ mix_regrouped r channel time groups =
     groups
     ∙ sym (mix_total r channel time groups)
 
-and_turned : (a b rest : Bool) → ((a && b) && rest) ≡ (b && (a && rest))
-and_turned true true rest = refl
-and_turned true false rest = refl
-and_turned false true rest = refl
-and_turned false false rest = refl
-
 whole_joins : (own : List Piece) → Joins ◌&&◌ true (λ group. list_all is_whole group) (extended own) own
 whole_joins own =
     by_extended (λ group joined. (rest : Bool) → (list_all is_whole joined && rest)
     ≡ (list_all is_whole own && (list_all is_whole group && rest))) own
     (λ group on rest. rw (list_all-append is_whole group own)
-    (and_turned (list_all is_whole group) (list_all is_whole own) rest))
+    (and_assoc (list_all is_whole group) (list_all is_whole own) rest
+    ∙ and_exchange (list_all is_whole group) (list_all is_whole own) rest))
 
 pub whole_regrouped : (groups : List (List Piece)) → are_whole (regroup groups) ≡ are_whole groups
 whole_regrouped groups =
     whole_total (regroup groups)
-    ∙ total_regrouped ◌&&◌ true (λ group. list_all is_whole group) both_exchange whole_joins groups
+    ∙ total_regrouped ◌&&◌ true (λ group. list_all is_whole group) and_exchange whole_joins groups
     ∙ sym (whole_total groups)
-
-or_turned : (a b rest : Bool) → ((a || b) || rest) ≡ (b || (a || rest))
-or_turned true true rest = refl
-or_turned true false rest = refl
-or_turned false true rest = refl
-or_turned false false rest = refl
 
 reads_joins : (file channel frame : ℕ) (own : List Piece)
     → Joins ◌||◌ false (read_by file channel frame) (extended own) own
@@ -286,11 +258,11 @@ reads_joins file channel frame own =
     let read = read_by file channel frame in
     by_extended (λ group joined. (rest : Bool) → (read joined || rest) ≡ (read own || (read group || rest))) own
     (λ group on rest. rw (list_any-append (λ p. is_read p file channel frame) group own)
-    (or_turned (read group) (read own) rest))
+    (or_assoc (read group) (read own) rest ∙ or_exchange (read group) (read own) rest))
 
 pub reads_regrouped : (file channel frame : ℕ) (groups : List (List Piece))
     → reads (regroup groups) file channel frame ≡ reads groups file channel frame
 reads_regrouped file channel frame groups =
     reads_total file channel frame (regroup groups)
-    ∙ total_regrouped ◌||◌ false (read_by file channel frame) either_exchange (reads_joins file channel frame) groups
+    ∙ total_regrouped ◌||◌ false (read_by file channel frame) or_exchange (reads_joins file channel frame) groups
     ∙ sym (reads_total file channel frame groups)

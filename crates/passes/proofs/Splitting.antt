@@ -1,10 +1,12 @@
 -- Pieces that are groups of their own sound as their groups did.
-use Rattle.std.proofs.Common.{◌≡◌, ◌∙◌, ℕ, Bool, true, false, List, [], ◌∷◌, ◌++◌, refl, sym, ap, arith, All}
-use Rattle.std.specs.Prelude.{◌&&◌, ◌||◌}
+use Rattle.std.proofs.Common.{◌≡◌, ◌∙◌, ℕ, List, [], ◌∷◌, ◌++◌, refl, sym, ap, arith, All}
+use Rattle.std.specs.Prelude.{⊤}
 use Rattle.std.specs.List.{flat_map, list_all, list_any}
+use Rattle.std.proofs.Math.Bool.{and-true, or-false}
 use Rattle.std.proofs.lemmas.Int.{ints}
-use Rattle.std.proofs.lemmas.List.Elements.{All-append, All-cons, All-tail}
+use Rattle.std.proofs.lemmas.List.Elements.{All-cons, All-head, All-nil, All-tail}
 use Rattle.std.proofs.lemmas.List.Folds.{list_all-append, list_any-append}
+use Rattle.facts.specs.Lists.{all_of_parts}
 use Rattle.sound_terms.specs.declared.piece.Piece.{Piece}
 use Rattle.sound_terms.specs.Mix.{Reading}
 use Rattle.sound_terms.specs.Groups.{IsGroup, IsPiece, are_whole, is_read, is_whole, mix_of, pieces_of, reads, sum_of}
@@ -29,19 +31,11 @@ pub mix_split : (r : Reading) (groups : List (List Piece)) (channel time : ℕ)
     → mix_of r (flat_map each_alone groups) channel time ≡ mix_of r groups channel time
 mix_split r groups channel time = rw (all_alone groups) (mix_alone r (pieces_of groups) channel time)
 
-or_nothing : (a : Bool) → (a || false) ≡ a
-or_nothing true = refl
-or_nothing false = refl
-
-and_nothing : (a : Bool) → (a && true) ≡ a
-and_nothing true = refl
-and_nothing false = refl
-
 reads_alone : (file channel frame : ℕ) (pieces : List Piece)
     → reads (each_alone pieces) file channel frame ≡ list_any (λ p. is_read p file channel frame) pieces
 reads_alone file channel frame [] = refl
 reads_alone file channel frame (p ∷ ps) =
-    rw (or_nothing (is_read p file channel frame), reads_alone file channel frame ps) refl
+    rw (or-false (is_read p file channel frame), reads_alone file channel frame ps) refl
 
 pub reads_split : (groups : List (List Piece)) (file channel frame : ℕ)
     → reads (flat_map each_alone groups) file channel frame ≡ reads groups file channel frame
@@ -56,7 +50,7 @@ reads_split (group ∷ groups) file channel frame =
 
 whole_alone : (pieces : List Piece) → are_whole (each_alone pieces) ≡ list_all is_whole pieces
 whole_alone [] = refl
-whole_alone (p ∷ ps) = rw (and_nothing (is_whole p), whole_alone ps) refl
+whole_alone (p ∷ ps) = rw (and-true (is_whole p), whole_alone ps) refl
 
 pub whole_split : (groups : List (List Piece)) → are_whole (flat_map each_alone groups) ≡ are_whole groups
 whole_split [] = refl
@@ -67,26 +61,21 @@ whole_split (group ∷ groups) =
       whole_split groups,
     ) refl
 
-nothing : {X : Type 0} (P : X → Type 0) → All P []
-nothing P k d below = absurd (omega arith)
-
 alone_are : (pieces : List Piece) → All IsGroup (each_alone pieces)
-alone_are [] = nothing IsGroup
+alone_are [] = All-nil IsGroup
 alone_are (p ∷ ps) = All-cons IsGroup (p ∷ []) (each_alone ps) tt (alone_are ps)
 
 alone_hold : (pieces : List Piece) → All IsPiece pieces → All (All IsPiece) (each_alone pieces)
-alone_hold [] all = nothing (All IsPiece)
+alone_hold [] all = All-nil (All IsPiece)
 alone_hold (p ∷ ps) all =
-    All-cons (All IsPiece) (p ∷ []) (each_alone ps) (All-cons IsPiece p [] (all 0 p (omega arith)) (nothing IsPiece))
+    All-cons (All IsPiece) (p ∷ []) (each_alone ps)
+    (All-cons IsPiece p [] (All-head IsPiece p ps all) (All-nil IsPiece))
     (alone_hold ps (All-tail IsPiece p ps all))
 
 pub split_are : (groups : List (List Piece)) → All IsGroup (flat_map each_alone groups)
-split_are [] = nothing IsGroup
-split_are (group ∷ groups) = All-append IsGroup _ _ (alone_are group) (split_are groups)
+split_are groups =
+    all_of_parts (λ group. ⊤) IsGroup each_alone (λ group any. alone_are group) groups (λ i d below. tt)
 
 pub split_hold : (groups : List (List Piece)) → All (All IsPiece) groups
     → All (All IsPiece) (flat_map each_alone groups)
-split_hold [] all = nothing (All IsPiece)
-split_hold (group ∷ groups) all =
-    All-append (All IsPiece) _ _ (alone_hold group (all 0 group (omega arith)))
-    (split_hold groups (All-tail (All IsPiece) group groups all))
+split_hold = all_of_parts (All IsPiece) (All IsPiece) each_alone alone_hold

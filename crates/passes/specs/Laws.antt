@@ -1,18 +1,14 @@
 -- A piece is called silent exactly where it is.
-use Rattle.std.proofs.Common.{◌≡◌, ℕ, zero, suc, ◌+◌, ◌<◌, true, false, arith, refl}
-use Rattle.std.specs.Prelude.{Bool, ℤ, pos, ◌&&◌, ◌↔◌}
+use Rattle.std.proofs.Common.{◌≡◌, ℕ, zero, suc, ◌+◌, ◌<◌, true, arith, refl}
+use Rattle.std.specs.Prelude.{ℤ, pos, ◌↔◌}
 use Rattle.std.specs.Ordering.{int_eq}
+use Rattle.std.proofs.lemmas.Bool.{and_parts}
 use Rattle.std.proofs.lemmas.Int.{ints}
 use Rattle.sound_terms.specs.declared.piece.Piece.{Piece}
 use Rattle.sound_terms.specs.Mix.{Reading}
 use Rattle.sound_terms.specs.Groups.{IsSilent}
 use Rattle.sound_terms.specs.Passes.{are_zero, is_zero_channel}
 use Rattle.passes.specs.Silent.{is_silent_in}
-
-both_true : (a b : Bool) → (a && b) ≡ true → (a ≡ true) × (b ≡ true)
-both_true true true e = (refl, refl)
-both_true true false e = cc
-both_true false b e = cc
 
 is_zero : (z : ℤ) → int_eq z (pos 0) ≡ true → z ≡ pos 0
 is_zero z e = grind (arith, ints)
@@ -21,11 +17,11 @@ zero_channel : (r : Reading) (file channel frame n : ℕ) → is_zero_channel r 
     → (i : ℕ) → i < n → r file channel (frame + i) ≡ pos 0
 zero_channel r file channel frame zero e i below = absurd (omega arith)
 zero_channel r file channel frame (suc n) e zero below =
-    let parts = both_true (int_eq (r file channel frame) (pos 0)) (is_zero_channel r file channel (suc frame) n) e in
+    let parts = and_parts (int_eq (r file channel frame) (pos 0)) (is_zero_channel r file channel (suc frame) n) e in
     let here : frame + 0 ≡ frame = omega arith in
     rw here (is_zero (r file channel frame) parts.0)
 zero_channel r file channel frame (suc n) e (suc i) below =
-    let parts = both_true (int_eq (r file channel frame) (pos 0)) (is_zero_channel r file channel (suc frame) n) e in
+    let parts = and_parts (int_eq (r file channel frame) (pos 0)) (is_zero_channel r file channel (suc frame) n) e in
     let there : frame + suc i ≡ suc frame + i = omega arith in
     rw there (zero_channel r file channel (suc frame) n parts.1 i (omega arith))
 
@@ -33,11 +29,11 @@ zero_channels : (r : Reading) (file channel width frame n : ℕ) → are_zero r 
     → (j i : ℕ) → j < width → i < n → r file (channel + j) (frame + i) ≡ pos 0
 zero_channels r file channel zero frame n e j i wide below = absurd (omega arith)
 zero_channels r file channel (suc width) frame n e zero i wide below =
-    let parts = both_true (is_zero_channel r file channel frame n) (are_zero r file (suc channel) width frame n) e in
+    let parts = and_parts (is_zero_channel r file channel frame n) (are_zero r file (suc channel) width frame n) e in
     let here : channel + 0 ≡ channel = omega arith in
     rw here (zero_channel r file channel frame n parts.0 i below)
 zero_channels r file channel (suc width) frame n e (suc j) i wide below =
-    let parts = both_true (is_zero_channel r file channel frame n) (are_zero r file (suc channel) width frame n) e in
+    let parts = and_parts (is_zero_channel r file channel frame n) (are_zero r file (suc channel) width frame n) e in
     let there : channel + suc j ≡ suc channel + j = omega arith in
     rw there (zero_channels r file (suc channel) width frame n parts.1 j i (omega arith) below)
 

@@ -1,17 +1,19 @@
 -- One sample more is read, or written.
-use Rattle.std.proofs.Common.{◌≡◌, ℕ, ◌+◌, ◌*◌, ◌/◌, ◌^◌, ◌<◌, ◌≤◌, List, ◌++◌, length, take, drop, set, get_or, refl, sym, ap, ◌∙◌, arith, length-append}
+use Rattle.std.proofs.Common.{◌≡◌, ℕ, ◌+◌, ◌*◌, ◌/◌, ◌^◌, ◌<◌, ◌≤◌, List, [], ◌++◌, All, length, take, drop, set, get_or, refl, sym, ap, ◌∙◌, arith, length-append}
 use Rattle.std.specs.Prelude.{ℤ, pos, negsuc}
 use Rattle.std.specs.Int.{w16, w32, cast_signed, cast_unsigned}
 use Rattle.std.specs.List.{flat_map}
 use Rattle.std.proofs.lemmas.Bool.Decides.{nat_tests}
 use Rattle.std.proofs.lemmas.Int.{ints}
-use Rattle.std.proofs.lemmas.List.{append_assoc, append-nil, length-drop, length-take-le, take_at, take_more, take_more_set}
+use Rattle.std.proofs.lemmas.List.{append_assoc, append-nil, length-take-le, take_all, take_at, take_more, take_more_set}
 use Rattle.std.proofs.lemmas.List.Concat.{flat_map-append}
 use borrow.Rule.Slice.PartMut.{post_of, put_mid}
 use Rattle.byteorder.specs.Endian.{low_bytes, twos_complement}
+use Rattle.sound_terms.specs.declared.Depth.{Depth}
+use Rattle.sound_terms.specs.Depth.{bits_of}
 use Rattle.sound_terms.specs.Waves.{sample_bytes, sample_of}
 use Rattle.pcm.specs.Samples.{samples_in, FitsDepth}
-use Rattle.pcm.specs.Laws.{length-sample_bytes, samples_in_more}
+use Rattle.pcm.specs.Laws.{AreBytes, all_fit, bytes_again, length-sample_bytes, samples_again, samples_in_more}
 
 -- the two ways to read 16 bits as a signed number
 pub signed16 : (x : ℕ) → x < 256 ^ 2 → cast_signed w16 x ≡ twos_complement 2 x
@@ -57,13 +59,27 @@ one_written depth i k samples bytes new behind below room written before =
       append-nil,
     ) refl
 
--- a part that keeps its length keeps that of the whole
-pub length-put_mid : {X : Type 0} (a k : ℕ) (old new : List X) → a + k ≤ length old → length new ≡ k
-    → length (put_mid a k old new) ≡ length old
-length-put_mid a k old new inside whole =
-    let front = length-append (take a old) (new ++ post_of a k old) in
-    let back = length-append new (post_of a k old) in
-    let first = length-take-le a old (omega arith) in
-    let rest = length-drop k (drop a old) in
-    let behind = length-drop a old in
-    omega (arith, front, back, first, rest, behind)
+-- samples that were read one by one, all of them
+module _ (depth : Depth) (n : ℕ) (bytes : List ℕ) (samples : List ℤ) (small : AreBytes bytes) (all : length samples ≤ n)
+    (read : take n samples ≡ samples_in (bits_of depth) n bytes) where
+  whole : samples ≡ samples_in (bits_of depth) n bytes
+  whole = sym (take_all n samples all) ∙ read
+
+  pub read_fit : All (FitsDepth (bits_of depth)) samples
+  read_fit = rw whole (all_fit depth n bytes small)
+
+  pub read_again : length bytes ≡ n * (bits_of depth / 8) → flat_map (sample_bytes (bits_of depth)) samples ≡ bytes
+  read_again long = rw whole (bytes_again depth n bytes small long)
+
+-- samples of which all bytes were written are read again
+pub written_again : (depth : Depth) (n : ℕ) (samples : List ℤ) (bytes : List ℕ)
+    → All (FitsDepth (bits_of depth)) samples
+    → length bytes ≤ n * (bits_of depth / 8) → length samples ≤ n
+    → take (n * (bits_of depth / 8)) bytes ≡ flat_map (sample_bytes (bits_of depth)) (take n samples)
+    → samples_in (bits_of depth) (length samples) bytes ≡ samples
+written_again depth n samples bytes fit long count written =
+    let all : bytes ≡ flat_map (sample_bytes (bits_of depth)) samples ++ [] =
+    sym (take_all (n * (bits_of depth / 8)) bytes long) ∙ written
+    ∙ ap (flat_map (sample_bytes (bits_of depth))) (take_all n samples count)
+    ∙ sym (append-nil (flat_map (sample_bytes (bits_of depth)) samples)) in
+    rw all (samples_again depth samples [] fit)

@@ -1,7 +1,7 @@
 -- What is known of samples as bytes, for whoever reads or writes them.
 use Rattle.std.proofs.Common.{◌≡◌, ℕ, zero, suc, ◌+◌, ◌-◌, ◌*◌, ◌/◌, ◌%◌, ◌^◌, ◌<◌, ◌≤◌, List, [], ◌∷◌, ◌++◌, length, take, drop, get_or, slice_index, refl, sym, ap, ◌∙◌, add-one, arith}
 use Rattle.std.specs.Prelude.{ℤ, pos, negsuc}
-use Rattle.std.specs.Int.{w32}
+use Rattle.std.specs.Int.{saturate_to_bits, w32}
 use Rattle.std.specs.List.{All, flat_map}
 use Rattle.std.proofs.lemmas.List.{append_assoc, drop-drop, drop-take, drop_at, get_or-drop, length-drop, take-append-drop}
 use Rattle.std.proofs.lemmas.Bool.Decides.{nat_tests}
@@ -11,6 +11,7 @@ use Rattle.byteorder.specs.Numbers.{little_from-lt, little_from-take, little_num
 use Rattle.sound_terms.specs.declared.Depth.{Depth}
 use Rattle.sound_terms.specs.declared.Depth.TheVariants.{Sixteen, TwentyFour, ThirtyTwo}
 use Rattle.sound_terms.specs.Depth.{bits_of}
+use Rattle.sound_terms.specs.Mix.{quantized}
 use Rattle.sound_terms.specs.Waves.{sample_bytes, sample_of, sample_at}
 use Rattle.pcm.specs.Samples.{samples_in, FitsDepth}
 
@@ -147,6 +148,26 @@ fits_sample_of Sixteen bytes small = fits-twos16 (little_number 2 bytes) (little
 fits_sample_of TwentyFour bytes small = fits-twos24 (little_number 3 bytes) (little_from-lt 0 3 bytes small)
 fits_sample_of ThirtyTwo bytes small = fits-twos32 (little_number 4 bytes) (little_from-lt 0 4 bytes small)
 
+-- ---- sums as samples
+clipped16 : (z : ℤ) → FitsDepth 16 (saturate_to_bits 15 z)
+clipped16 (pos n) = grind (arith, ints)
+clipped16 (negsuc n) = grind (arith, ints)
+
+clipped24 : (z : ℤ) → FitsDepth 24 (saturate_to_bits 23 z)
+clipped24 (pos n) = grind (arith, ints)
+clipped24 (negsuc n) = grind (arith, ints)
+
+clipped32 : (z : ℤ) → FitsDepth 32 (saturate_to_bits 31 z)
+clipped32 (pos n) = grind (arith, ints)
+clipped32 (negsuc n) = grind (arith, ints)
+
+-- a rounded sum fits its depth
+pub fits_quantized : (depth : Depth) (sum : ℤ) → FitsDepth (bits_of depth) (quantized (bits_of depth) sum)
+fits_quantized Sixteen sum = clipped16 _
+fits_quantized TwentyFour sum = clipped24 _
+fits_quantized ThirtyTwo sum = clipped32 _
+
+-- ---- bytes, of samples and again
 -- the bytes of a sample give that sample, whatever follows them
 pub sample_of-sample_bytes : (depth : Depth) (sample : ℤ) (rest : List ℕ) → FitsDepth (bits_of depth) sample
     → sample_of (bits_of depth) (sample_bytes (bits_of depth) sample ++ rest) ≡ sample

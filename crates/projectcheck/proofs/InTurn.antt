@@ -1,16 +1,19 @@
 -- Entries as groups one after the other, and groups in order of their starts.
-use Rattle.std.proofs.Common.{◌≡◌, ◌∙◌, ℕ, ◌+◌, Bool, true, false, List, [], ◌∷◌, ◌++◌, length, All, refl, sym, ap, subst, arith, append_assoc, append-nil, length-append}
-use Rattle.std.specs.Prelude.{◌+ℤ◌, nat_le}
+use Rattle.std.proofs.Common.{◌≡◌, ◌∙◌, ℕ, ◌+◌, true, List, [], ◌∷◌, ◌++◌, All, refl, sym, ap, subst, arith, append_assoc, append-nil, length-append}
+use Rattle.std.specs.Prelude.{◌+ℤ◌}
 use Rattle.std.specs.List.{list_all}
+use Rattle.std.proofs.lemmas.Bool.{and_from}
 use Rattle.std.proofs.lemmas.Int.{ints}
-use Rattle.std.proofs.lemmas.List.{get_or-append-add, get_or_append_left}
-use Rattle.std.proofs.lemmas.List.Elements.{All-append, All-nil}
+use Rattle.std.proofs.lemmas.List.Folds.{list_all-append}
+use Rattle.std.proofs.lemmas.List.Elements.{All-append, All-cons, All-nil}
+use Rattle.facts.specs.Lists.{all_behind, all_front}
 use Rattle.sound_terms.specs.declared.Event.{Event}
 use Rattle.sound_terms.specs.declared.BoundIndex.{BoundIndex}
 use Rattle.sound_terms.specs.declared.piece.Piece.{Piece}
 use Rattle.sound_terms.specs.Mix.{Reading, contribution_of, index_of, mix_at}
-use Rattle.sound_terms.specs.GroupLaws.{sum_of-append}
-use Rattle.sound_terms.specs.Groups.{are_whole, holding, in_start_order, is_whole, pieces_of, put_by_start, start_of, sum_of}
+use Rattle.sound_terms.specs.GroupLaws.{all_pieces, sum_of-append}
+use Rattle.sound_terms.specs.Groups.{are_whole, holding, in_start_order, is_whole, pieces_of, sum_of}
+use Rattle.sound_terms.specs.OrderLaws.{all_in_order, total, total_in_order}
 use Rattle.sound_terms.specs.Passes.{as_group}
 use Rattle.sound_terms.specs.Entries.{groups_in_turn, parts_by}
 use Rattle.list_terms.specs.Binding.{Binding}
@@ -47,14 +50,9 @@ pieces_of-alone [] = refl
 pieces_of-alone (p ∷ ps) = append-nil (p ∷ ps)
 
 are_whole-append : (a b : List (List Piece)) → are_whole a ≡ true → are_whole b ≡ true → are_whole (a ++ b) ≡ true
-are_whole-append [] b first second = second
-are_whole-append (group ∷ groups) b first second =
-    by_group (are_whole-append groups b) (list_all is_whole group) refl where
-      by_group : (are_whole groups ≡ true → are_whole b ≡ true → are_whole (groups ++ b) ≡ true) → (w : Bool)
-          → list_all is_whole group ≡ w
-          → are_whole ((group ∷ groups) ++ b) ≡ true
-      by_group later true e = rw e (later (sym (rw e refl) ∙ first) second)
-      by_group later false e = let h : false ≡ true = sym (rw e refl) ∙ first in cc
+are_whole-append a b first second =
+    rw (list_all-append (λ (group : List Piece). list_all is_whole group) a b)
+    (and_from (are_whole a) (are_whole b) first second)
 
 alone_whole : (parts : List Piece) → list_all is_whole parts ≡ true → are_whole (as_group parts) ≡ true
 alone_whole [] whole = refl
@@ -99,55 +97,28 @@ one_more binding events event groups new so_far own pushed =
           omega (arith, held, before, once, longer);
     }
 
--- the front and the back of a list
-All-front : {X : Type 0} (P : X → Type 0) (a b : List X) → All P (a ++ b) → All P a
-All-front P a b all =
-    λ k d below. subst P (get_or_append_left a b d k below) (all k d (omega (arith, below, length-append a b)))
-
-All-back : {X : Type 0} (P : X → Type 0) (a b : List X) → All P (a ++ b) → All P b
-All-back P a b all =
-    λ k d below. subst P (get_or-append-add a b k d) (all (length a + k) d (omega (arith, below, length-append a b)))
-
-lie_put : (P : Piece → Type 0) (own : List Piece) (groups : List (List Piece)) → All P own → All P (pieces_of groups)
-    → All P (pieces_of (put_by_start own groups))
-lie_put P own [] mine all = All-append P own [] mine all
-lie_put P own (group ∷ groups) mine all =
-    by_start (lie_put P own groups mine) (nat_le (start_of own) (start_of group)) refl where
-      by_start : (All P (pieces_of groups) → All P (pieces_of (put_by_start own groups))) → (b : Bool)
-          → nat_le (start_of own) (start_of group) ≡ b
-          → All P (pieces_of (put_by_start own (group ∷ groups)))
-      by_start later true e = rw e (All-append P own (group ++ pieces_of groups) mine all)
-      by_start later false e =
-          rw e (All-append P group (pieces_of (put_by_start own groups)) (All-front P group (pieces_of groups) all)
-          (later (All-back P group (pieces_of groups) all)))
+-- what holds of all pieces holds of those of each group
+of_each : (P : Piece → Type 0) (groups : List (List Piece)) → All P (pieces_of groups) → All (All P) groups
+of_each P [] all = All-nil (All P)
+of_each P (group ∷ groups) all =
+    All-cons (All P) group groups (all_front P group (pieces_of groups) all)
+    (of_each P groups (all_behind P group (pieces_of groups) all))
 
 pub lie_in_order : (P : Piece → Type 0) (groups : List (List Piece)) → All P (pieces_of groups)
     → All P (pieces_of (in_start_order groups))
-lie_in_order P [] all = all
-lie_in_order P (group ∷ groups) all =
-    lie_put P group (in_start_order groups) (All-front P group (pieces_of groups) all)
-    (lie_in_order P groups (All-back P group (pieces_of groups) all))
+lie_in_order P groups all =
+    all_pieces P (in_start_order groups) (all_in_order (All P) groups (of_each P groups all))
 
-holding_put : (time : ℕ) (own : List Piece) (groups : List (List Piece))
-    → holding time (pieces_of (put_by_start own groups)) ≡ holding time own + holding time (pieces_of groups)
-holding_put time own [] = holding-append time own []
-holding_put time own (group ∷ groups) =
-    by_start (holding_put time own groups) (nat_le (start_of own) (start_of group)) refl where
-      by_start : holding time (pieces_of (put_by_start own groups)) ≡ holding time own + holding time (pieces_of groups)
-          → (b : Bool) → nat_le (start_of own) (start_of group) ≡ b
-          → holding time (pieces_of (put_by_start own (group ∷ groups)))
-          ≡ holding time own + holding time (group ++ pieces_of groups)
-      by_start later true e = rw e (holding-append time own (group ++ pieces_of groups))
-      by_start later false e =
-          let front = holding-append time group (pieces_of (put_by_start own groups)) in
-          let whole = holding-append time group (pieces_of groups) in
-          rw e (front ∙ omega (arith, later, whole))
+-- how many pieces hold a time is the total of the groups
+held_total : (time : ℕ) (groups : List (List Piece))
+    → holding time (pieces_of groups) ≡ total ◌+◌ 0 (holding time) groups
+held_total time [] = refl
+held_total time (group ∷ groups) =
+    holding-append time group (pieces_of groups) ∙ ap (λ n. holding time group + n) (held_total time groups)
 
 pub holding_in_order : (time : ℕ) (groups : List (List Piece))
     → holding time (pieces_of (in_start_order groups)) ≡ holding time (pieces_of groups)
-holding_in_order time [] = refl
-holding_in_order time (group ∷ groups) =
-    let rest = holding_in_order time groups in
-    let front = holding_put time group (in_start_order groups) in
-    let whole = holding-append time group (pieces_of groups) in
-    omega (arith, rest, front, whole)
+holding_in_order time groups =
+    held_total time (in_start_order groups)
+    ∙ total_in_order ◌+◌ 0 (holding time) (λ a b c. omega arith) groups
+    ∙ sym (held_total time groups)

@@ -1,18 +1,20 @@
 -- A whole group adds what its event adds.
-use Rattle.std.proofs.Common.{◌≡◌, ◌⊎◌, inl, inr, ℕ, ◌+◌, ◌-◌, ◌<◌, ◌≤◌, Bool, true, false, List, [], ◌∷◌, refl, sym, ap, ◌∙◌, arith, IsTrue}
+use Rattle.std.proofs.Common.{◌≡◌, ℕ, ◌+◌, ◌-◌, ◌<◌, ◌≤◌, Bool, true, false, List, [], ◌∷◌, refl, sym, ap, ◌∙◌, arith, IsTrue}
 use Rattle.std.specs.Prelude.{ℤ, pos, ◌+ℤ◌, ◌&&◌, if◌then◌else◌, nat_lt, nat_le}
 use Rattle.std.specs.List.{sum_by, list_all}
-use Rattle.std.proofs.lemmas.Bool.{cases_lt}
+use Rattle.std.proofs.lemmas.Bool.{and_parts}
 use Rattle.std.proofs.lemmas.Bool.Decides.{nat_tests}
 use Rattle.std.proofs.lemmas.Int.{ints}
 use Rattle.std.proofs.lemmas.List.Sums.{sum_by-cons}
+use Rattle.facts.specs.Stretches.{sums_joined}
 use Rattle.sound_terms.specs.declared.piece.Piece.{Piece}
 use Rattle.sound_terms.specs.declared.piece.Shape.{Shape}
 use Rattle.sound_terms.specs.declared.piece.Shape.TheVariants.{Flat, Rise, Fall}
 use Rattle.sound_terms.specs.Mix.{Reading, fade_fraction, share_of}
 use Rattle.sound_terms.specs.Groups.{IsGroup, fraction_of, is_whole, is_whole_shape, part_of, rank_of, sum_of}
+use Rattle.sound_terms.specs.GroupLaws.{GoesOn, length_more}
 use Rattle.sound_terms.specs.Entries.{falling_in, length_of_group, placed_by, placed_part, rising_in}
-use Rattle.relink.proofs.Stretching.{GoesOn, goes_on, length_more}
+use Rattle.relink.proofs.Stretching.{goes_on, ranks_rise}
 
 abbrev rising : List Piece → ℕ
 rising group = sum_by rising_in group
@@ -36,7 +38,7 @@ no_rise : (p : Piece) (ps : List Piece) → IsGroup (p ∷ ps) → 1 ≤ rank_of
 no_rise p [] is above = rising_more p [] ∙ omega (arith, no_rise_of p p.shape above)
 no_rise p (q ∷ qs) is above =
     rising_more p (q ∷ qs)
-    ∙ omega (arith, no_rise_of p p.shape above, no_rise q qs is.1 (omega (arith, (goes_on p q is.0).later)))
+    ∙ omega (arith, no_rise_of p p.shape above, no_rise q qs is.1 (omega (arith, ranks_rise p q is.0)))
 
 fall_of : (q : Piece) (shape : Shape) → 2 ≤ rank_of shape → falling_in (record q { shape = shape }) ≡ q.length
 fall_of q Flat above = absurd (omega (arith, above))
@@ -47,7 +49,7 @@ fall_of q (Fall offset den) above = refl
 all_fall : (p : Piece) (ps : List Piece) → IsGroup (p ∷ ps) → 1 ≤ rank_of p.shape → falling ps ≡ length_of_group ps
 all_fall p [] is above = refl
 all_fall p (q ∷ qs) is above =
-    let later = (goes_on p q is.0).later in
+    let later = ranks_rise p q is.0 in
     falling_more q qs ∙ omega (
       arith,
       fall_of q q.shape (omega (arith, above, later)),
@@ -58,7 +60,7 @@ all_fall p (q ∷ qs) is above =
 -- nothing stands behind a fall
 no_more : (p : Piece) (ps : List Piece) → IsGroup (p ∷ ps) → 2 ≤ rank_of p.shape → ps ≡ []
 no_more p [] is above = refl
-no_more p (q ∷ qs) is above = absurd (omega (arith, above, (goes_on p q is.0).later, last q.shape)) where
+no_more p (q ∷ qs) is above = absurd (omega (arith, above, ranks_rise p q is.0, last q.shape)) where
   last : (shape : Shape) → rank_of shape ≤ 2
   last Flat = omega arith
   last (Rise offset den) = omega arith
@@ -103,7 +105,7 @@ fits rise fall whole at j p ps is ramp stands below = by_shape p.shape is ramp s
       none_rises : (ps : List Piece) → IsGroup (record p { shape = Rise offset den } ∷ ps) → rising ps ≡ 0
       none_rises [] is = refl
       none_rises (q ∷ qs) is =
-          no_rise q qs is.1 (omega (arith, (goes_on (record p { shape = Rise offset den }) q is.0).later))
+          no_rise q qs is.1 (omega (arith, ranks_rise (record p { shape = Rise offset den }) q is.0))
   by_shape (Fall offset den) is ramp stands =
       let own : Piece = record p { shape = Fall offset den } in
       let risen : rise ≤ at = stands.rises.1 (omega arith) in
@@ -128,7 +130,7 @@ stands_next rise fall whole at p q qs is stands = by_shape p.shape is stands whe
       → Stands rise fall whole (at + p.length) q qs
   by_shape Flat is stands =
       let own : Piece = record p { shape = Flat } in
-      let later = (goes_on own q is.0).later in
+      let later = ranks_rise own q is.0 in
       let ends = stands.ends ∙ ap (λ (n : ℕ). at + n) (length_more own (q ∷ qs)) in
       record {
         rises = (
@@ -140,7 +142,7 @@ stands_next rise fall whole at p q qs is stands = by_shape p.shape is stands whe
       }
   by_shape (Rise offset den) is stands =
       let own : Piece = record p { shape = Rise offset den } in
-      let later = (goes_on own q is.0).later in
+      let later = ranks_rise own q is.0 in
       let ends = stands.ends ∙ ap (λ (n : ℕ). at + n) (length_more own (q ∷ qs)) in
       let risen =
       (stands.rises.0 refl).1 ∙ rising_more own (q ∷ qs)
@@ -153,45 +155,6 @@ stands_next rise fall whole at p q qs is stands = by_shape p.shape is stands whe
   by_shape (Fall offset den) is stands =
       let none : (q ∷ qs) ≡ [] = no_more (record p { shape = Fall offset den }) (q ∷ qs) is (omega arith) in cc
 
--- two stretches joined
-module _ (s n m t : ℕ) (x y w : ℤ) (first : s ≤ t → t < s + n → x ≡ w) (second : s + n ≤ t → t < s + n + m → y ≡ w)
-  where
-    joined : (a b : Bool)
-        → (if a && (b && (nat_le s t && nat_lt t (s + n))) then x else pos 0)
-        +ℤ (if a && (b && (nat_le (s + n) t && nat_lt t (s + n + m))) then y else pos 0)
-        ≡ (if a && (b && (nat_le s t && nat_lt t (s + (n + m)))) then w else pos 0)
-    joined false b = refl
-    joined true false = refl
-    joined true true = by_time (cases_lt t s) (cases_lt t (s + n)) (cases_lt t (s + n + m)) where
-      by_time : (t < s) ⊎ (s ≤ t) → (t < s + n) ⊎ (s + n ≤ t) → (t < s + n + m) ⊎ (s + n + m ≤ t)
-          → (if nat_le s t && nat_lt t (s + n) then x else pos 0)
-          +ℤ (if nat_le (s + n) t && nat_lt t (s + n + m) then y else pos 0)
-          ≡ (if nat_le s t && nat_lt t (s + (n + m)) then w else pos 0)
-      by_time (inl before) other last =
-          let a : nat_le s t ≡ false = grind (arith, nat_tests) in
-          let b : nat_le (s + n) t ≡ false = grind (arith, nat_tests) in
-          rw (a, b) refl
-      by_time (inr begun) (inl inside) last =
-          let a : nat_le s t ≡ true = grind (arith, nat_tests) in
-          let b : nat_lt t (s + n) ≡ true = grind (arith, nat_tests) in
-          let c : nat_le (s + n) t ≡ false = grind (arith, nat_tests) in
-          let d : nat_lt t (s + (n + m)) ≡ true = grind (arith, nat_tests) in
-          rw (a, b, c, d, first begun inside) (omega (arith, ints))
-      by_time (inr begun) (inr past) (inl inside) =
-          let a : nat_le s t ≡ true = grind (arith, nat_tests) in
-          let b : nat_lt t (s + n) ≡ false = grind (arith, nat_tests) in
-          let c : nat_le (s + n) t ≡ true = grind (arith, nat_tests) in
-          let d : nat_lt t (s + (n + m)) ≡ true = grind (arith, nat_tests) in
-          let e : nat_lt t (s + n + m) ≡ true = grind (arith, nat_tests) in
-          rw (a, b, c, d, e, second past inside) (omega (arith, ints))
-      by_time (inr begun) (inr past) (inr behind) =
-          let a : nat_le s t ≡ true = grind (arith, nat_tests) in
-          let b : nat_lt t (s + n) ≡ false = grind (arith, nat_tests) in
-          let c : nat_le (s + n) t ≡ true = grind (arith, nat_tests) in
-          let d : nat_lt t (s + (n + m)) ≡ false = grind (arith, nat_tests) in
-          let e : nat_lt t (s + n + m) ≡ false = grind (arith, nat_tests) in
-          rw (a, b, c, d, e) refl
-
 pub same_under : (a b : Bool) (s n t : ℕ) (x w : ℤ) → (s ≤ t → t < s + n → x ≡ w)
     → (if a && (b && (nat_le s t && nat_lt t (s + n))) then x else pos 0)
     ≡ (if a && (b && (nat_le s t && nat_lt t (s + n))) then w else pos 0)
@@ -203,11 +166,6 @@ same_under true true s n t x w same = by_tests (nat_le s t) (nat_lt t (s + n)) r
   by_tests true true e f = rw (e, f) (same (grind (arith, nat_tests)) (grind (arith, nat_tests)))
   by_tests true false e f = rw (e, f) refl
   by_tests false d e f = rw e refl
-
-pub both : (a b : Bool) → (a && b) ≡ true → (a ≡ true) × (b ≡ true)
-both true true h = (refl, refl)
-both true false h = cc
-both false b h = cc
 
 -- what so many samples of an event add, from its sample `at` on
 module _ (r : Reading) (rise fall whole channel time : ℕ) where
@@ -235,7 +193,7 @@ module _ (r : Reading) (rise fall whole channel time : ℕ) where
       +ℤ value p.file p.first p.dest p.width (p.start + p.length) (p.frame + p.length) more (at + p.length)
       ≡ value p.file p.first p.dest p.width p.start p.frame (p.length + more) at
   joined_value p more at =
-      joined p.start p.length more time _ _ _ (λ from to. refl)
+      sums_joined p.start p.length more time _ _ _ (λ from to. refl)
       (λ from to.
       let frames : p.frame + p.length + (time - (p.start + p.length)) ≡ p.frame + (time - p.start) = omega arith in
       let samples : at + p.length + (time - (p.start + p.length)) ≡ at + (time - p.start) = omega arith in
@@ -247,11 +205,11 @@ module _ (r : Reading) (rise fall whole channel time : ℕ) where
       → sum_of r (p ∷ ps) channel time
       ≡ value p.file p.first p.dest p.width p.start p.frame (length_of_group (p ∷ ps)) at
   tail_sum at p [] is ramps stands =
-      let own = own_value at p [] is (both (is_whole p) true ramps).0 stands in
+      let own = own_value at p [] is (and_parts (is_whole p) true ramps).0 stands in
       let long : length_of_group (p ∷ []) ≡ p.length = length_more p [] ∙ omega arith in
       rw long (omega (arith, ints, own))
   tail_sum at p (q ∷ qs) is ramps stands =
-      let split = both (is_whole p) (list_all is_whole (q ∷ qs)) ramps in
+      let split = and_parts (is_whole p) (list_all is_whole (q ∷ qs)) ramps in
       let own = own_value at p (q ∷ qs) is split.0 stands in
       let rest = tail_sum (at + p.length) q qs is.1 split.1 (stands_next rise fall whole at p q qs is stands)
       ∙ next_value p q (length_of_group (q ∷ qs)) (at + p.length) (goes_on p q is.0) in

@@ -4,8 +4,7 @@ use Rattle.std.specs.Prelude.{◌==◌, ◌&&◌, nat_lt}
 use Rattle.std.specs.List.{slice_get}
 use Rattle.std.proofs.lemmas.Bool.{cases_lt}
 use Rattle.std.proofs.lemmas.Bool.Decides.{nat_tests}
-use Rattle.std.proofs.lemmas.List.Elements.{All-get_or}
-use Rattle.std.proofs.lemmas.Option.{slice_get_within, get_or_from_slice_get}
+use Rattle.facts.specs.Lists.{holds_there}
 use Rattle.sampletime.specs.TimeCode.{day}
 use Rattle.sound_terms.specs.declared.piece.Home.{Home}
 use Rattle.sound_terms.specs.declared.piece.Run.{Run}
@@ -13,11 +12,6 @@ use Rattle.sound_terms.specs.Kept.{AreRuns, IsMaximal, comes_before}
 use Rattle.sound_terms.specs.Homes.{AreHomes, addressable_by, base_by, place_by}
 use Rattle.relink.specs.Apart.{AreApart, EndsBefore}
 use Rattle.relink.specs.Linked.{EndsInDay}
-
--- what holds of all holds of the one at a place
-pub holds_at : {X : Type 0} (P : X → Type 0) (xs : List X) (i : ℕ) (x : X) → All P xs → slice_get xs i ≡ Some x → P x
-holds_at P xs i x all there =
-    subst P (get_or_from_slice_get xs i x x there) (All-get_or P xs i x (slice_get_within xs i x there) all)
 
 -- a file that has a frame has a home
 home_of : (homes : List Home) (file frame : ℕ) → frame < addressable_by homes file
@@ -53,7 +47,7 @@ module _ (kept : ℕ → ℕ → Bool) (homes : List Home) (runs : List Run)
     (at_home : (file frame : ℕ) → kept file frame ≡ true → frame < addressable_by homes file)
     (are_homes : AreHomes homes) (are : AreRuns kept (place_by homes) runs) where
   pub maximal_at : (i : ℕ) (run : Run) → slice_get runs i ≡ Some run → IsMaximal kept run
-  maximal_at i run there = holds_at (IsMaximal kept) runs i run are.maximal there
+  maximal_at i run there = holds_there (IsMaximal kept) runs i run are.maximal there
 
   -- the frames of a run are kept
   run_kept : (run : Run) → IsMaximal kept run → (frame : ℕ) → run.first ≤ frame → frame < run.first + run.length

@@ -1,39 +1,23 @@
 -- What the event of a group keeps to, and that all its frames are in one run.
 use Rattle.std.proofs.Common.{◌≡◌, ℕ, suc, ◌+◌, ◌-◌, ◌<◌, ◌≤◌, Bool, true, false, List, [], ◌∷◌, length, refl, ap, arith, All}
 use Rattle.std.specs.Prelude.{nat_lt}
-use Rattle.std.specs.List.{sum_by, Contains}
+use Rattle.std.specs.List.{Contains}
 use Rattle.std.proofs.lemmas.Bool.Decides.{nat_tests}
 use Rattle.std.proofs.lemmas.List.Elements.{All-head, All-tail, All-cons, All-nil}
 use Rattle.std.proofs.lemmas.List.Folds.{list_any_at}
-use Rattle.std.proofs.lemmas.List.Sums.{sum_by-cons}
 use Rattle.sound_terms.specs.declared.piece.Home.{Home}
 use Rattle.sound_terms.specs.declared.piece.Piece.{Piece}
 use Rattle.sound_terms.specs.declared.piece.Placed.{Placed}
 use Rattle.sound_terms.specs.declared.piece.Run.{Run}
-use Rattle.sound_terms.specs.declared.piece.Shape.{Shape}
-use Rattle.sound_terms.specs.declared.piece.Shape.TheVariants.{Flat, Rise, Fall}
 use Rattle.sound_terms.specs.Groups.{IsGroup, IsPiece, pieces_of}
+use Rattle.sound_terms.specs.GroupLaws.{ends_in_day, fades_within, length_more}
 use Rattle.sound_terms.specs.Kept.{AreRuns, is_near}
 use Rattle.sound_terms.specs.Homes.{AreHomes, LiesAtHome, addressable_by, kept_of, place_by}
-use Rattle.sound_terms.specs.Entries.{falling_in, length_of_group, placed_by, placed_of, rising_in}
+use Rattle.sound_terms.specs.Entries.{length_of_group, placed_by, placed_of}
 use Rattle.relink.specs.Linked.{IsLinkable, IsPlaced, LiesInRun}
 use Rattle.relink.proofs.Maximal.{addressable_in_day, goes_on_to, maximal_at}
 use Rattle.relink.proofs.RunOf.{run_of}
-use Rattle.relink.proofs.Stretching.{OnFrames, ends_in_day, on_frames, length_more}
-
-faded : (p : Piece) → rising_in p + falling_in p ≤ p.length
-faded p = by_shape p.shape where
-  by_shape : (shape : Shape) → rising_in (record p { shape = shape }) + falling_in
-      (record p { shape = shape }) ≤ p.length
-  by_shape Flat = omega arith
-  by_shape (Rise offset den) = omega arith
-  by_shape (Fall offset den) = omega arith
-
-fades_within : (group : List Piece) → sum_by rising_in group + sum_by falling_in group ≤ length_of_group group
-fades_within [] = omega arith
-fades_within (p ∷ ps) =
-    rw (sum_by-cons rising_in p ps, sum_by-cons falling_in p ps, length_more p ps)
-    (omega (arith, faded p, fades_within ps))
+use Rattle.relink.proofs.Stretching.{OnFrames, on_frames}
 
 -- a kept frame can be addressed
 pub kept_at_home : (groups : List (List Piece)) (homes : List Home) (handle file frame : ℕ)
@@ -119,7 +103,7 @@ module _ (groups : List (List Piece)) (homes : List Home) (handle : ℕ) (runs :
         dest_from_one = first.ok.dest_from_one;
         dest_to_64 = first.ok.dest_to_64;
         some = some;
-        in_day = ends_in_day p ps is (λ i d below. (all i d below).ok);
+        in_day = ends_in_day (p ∷ ps) is (λ i d below. (all i d below).ok);
         fades = fades_within (p ∷ ps);
         source_in_day = omega (arith, some, last, inside);
       }

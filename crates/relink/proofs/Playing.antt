@@ -1,7 +1,7 @@
 -- The pieces of groups that lie in order, and what follows for the runs of what is kept near them.
 use Rattle.std.proofs.Common.{ℕ, List, [], ◌∷◌, get_or, All}
 use Rattle.std.specs.List.{Contains}
-use Rattle.std.proofs.lemmas.List.Elements.{All-head, All-tail, All-append, All-cons, All-nil, All-contains, Contains-append_left, Contains-append_right, Contains-get_or}
+use Rattle.std.proofs.lemmas.List.Elements.{All-head, All-tail, All-cons, All-nil, All-contains, Contains-append_left, Contains-append_right, Contains-get_or}
 use Rattle.sound_terms.specs.declared.piece.Home.{Home}
 use Rattle.sound_terms.specs.declared.piece.Piece.{Piece}
 use Rattle.sound_terms.specs.declared.piece.Run.{Run}
@@ -9,12 +9,6 @@ use Rattle.sound_terms.specs.Groups.{AreGroups, IsGroup, IsPiece, pieces_of}
 use Rattle.sound_terms.specs.Kept.{AreRuns}
 use Rattle.sound_terms.specs.Homes.{AreHomes, LiesAtHome, kept_of, place_by}
 use Rattle.relink.proofs.Placing.{ArePlayed}
-
-pub all_pieces : (gs : List (List Piece)) → All (All IsPiece) gs → All IsPiece (pieces_of gs)
-all_pieces [] all = All-nil IsPiece
-all_pieces (group ∷ gs) all =
-    All-append IsPiece group (pieces_of gs) (All-head (All IsPiece) group gs all)
-    (all_pieces gs (All-tail (All IsPiece) group gs all))
 
 module _ (groups : List (List Piece)) (homes : List Home) (handle : ℕ) (runs : List Run) (are_homes : AreHomes homes)
     (are : AreRuns (kept_of groups homes handle) (place_by homes) runs)

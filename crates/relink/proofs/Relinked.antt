@@ -1,9 +1,9 @@
 -- The entries over the media of runs sound as the groups over their sources.
-use Rattle.std.proofs.Common.{◌≡◌, ℕ, zero, suc, ◌+◌, ◌-◌, ◌≤◌, true, false, List, [], ◌∷◌, ◌++◌, Some, refl, sym, ap, ◌∙◌, arith, All, IsTrue}
-use Rattle.std.specs.Prelude.{ℤ, ◌+ℤ◌, ◌==◌, nat_lt, nat_le}
+use Rattle.std.proofs.Common.{◌≡◌, ℕ, zero, suc, ◌+◌, ◌-◌, ◌≤◌, true, false, List, [], ◌∷◌, Some, refl, sym, ap, ◌∙◌, arith, All, IsTrue}
+use Rattle.std.specs.Prelude.{ℤ, ◌==◌, nat_lt, nat_le}
 use Rattle.std.specs.List.{slice_get, list_all}
+use Rattle.std.proofs.lemmas.Bool.{and_parts}
 use Rattle.std.proofs.lemmas.Bool.Decides.{nat_tests}
-use Rattle.std.proofs.lemmas.Int.{ints}
 use Rattle.std.proofs.lemmas.List.Elements.{All-head, All-tail}
 use Rattle.sound_terms.specs.declared.piece.Home.{Home}
 use Rattle.sound_terms.specs.declared.piece.Piece.{Piece}
@@ -11,13 +11,14 @@ use Rattle.sound_terms.specs.declared.piece.Placed.{Placed}
 use Rattle.sound_terms.specs.declared.piece.Run.{Run}
 use Rattle.sound_terms.specs.Mix.{Reading, contribution_of, fade_fraction, index_of, mix_at, share_of}
 use Rattle.sound_terms.specs.Groups.{IsGroup, are_whole, is_whole, mix_of, pieces_of, sum_of}
+use Rattle.sound_terms.specs.GroupLaws.{sum_of-append}
 use Rattle.sound_terms.specs.Homes.{base_by, place_by}
 use Rattle.sound_terms.specs.Entries.{placed_by, placed_of, placed_part}
 use Rattle.sound_terms.specs.Media.{CopiesRuns}
 use Rattle.list_terms.specs.Renewed.{numbered, run_base, run_event, run_index, run_indexes}
 use Rattle.relink.specs.Apart.{AreApart}
 use Rattle.relink.specs.Linked.{IsLinkable}
-use Rattle.relink.proofs.GroupSum.{both, group_sum, same_under}
+use Rattle.relink.proofs.GroupSum.{group_sum, same_under}
 use Rattle.relink.proofs.NewLists.{number_there}
 
 -- the index of this number
@@ -38,11 +39,6 @@ index_behind homes number (suc k) (r ∷ runs) run there =
 pub index_there : (homes : List Home) (runs : List Run) (k : ℕ) (run : Run) → slice_get runs k ≡ Some run
     → index_of (run_indexes homes runs) (1 + k) ≡ Some (run_index homes (1 + k) run)
 index_there homes runs k run there = index_behind homes 1 k runs run there
-
-sum_of-append : (r : Reading) (a b : List Piece) (channel time : ℕ)
-    → sum_of r (a ++ b) channel time ≡ sum_of r a channel time +ℤ sum_of r b channel time
-sum_of-append r [] b channel time = omega (arith, ints)
-sum_of-append r (p ∷ ps) b channel time = omega (arith, ints, sum_of-append r ps b channel time)
 
 module _ (homes : List Home) (runs : List Run) (apart : AreApart (place_by homes) runs) (given copied : Reading)
     (copies : CopiesRuns given runs copied) (channel time : ℕ) where
@@ -82,7 +78,7 @@ module _ (homes : List Home) (runs : List Run) (apart : AreApart (place_by homes
   all_events number [] are_groups whole all = refl
   all_events number ([] ∷ gs) are_groups whole all = absurd (All-head IsGroup [] gs are_groups)
   all_events number ((p ∷ ps) ∷ gs) are_groups whole all =
-      let split = both (list_all is_whole (p ∷ ps)) (are_whole gs) whole in
+      let split = and_parts (list_all is_whole (p ∷ ps)) (are_whole gs) whole in
       let placed = placed_by p (p ∷ ps) in
       let here = one_event number placed (All-head (IsLinkable homes runs) placed (placed_of gs) all)
       ∙ group_sum given p ps channel time (All-head IsGroup (p ∷ ps) gs are_groups) split.0 in

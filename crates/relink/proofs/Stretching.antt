@@ -1,46 +1,19 @@
 -- The pieces of a group go on from one another.
 use Rattle.std.proofs.Common.{◌≡◌, ◌⊎◌, inl, inr, ℕ, ◌+◌, ◌<◌, ◌≤◌, List, [], ◌∷◌, refl, ◌∙◌, arith, subst, All, IsTrue}
-use Rattle.std.proofs.lemmas.Bool.{cases_lt}
+use Rattle.std.specs.Prelude.{nat_lt}
+use Rattle.std.proofs.lemmas.Bool.{and_parts, cases_lt}
 use Rattle.std.proofs.lemmas.Bool.Decides.{nat_tests}
 use Rattle.std.proofs.lemmas.List.Elements.{All-head, All-tail, All-cons, All-nil}
-use Rattle.std.proofs.lemmas.List.Sums.{sum_by-cons}
-use Rattle.sampletime.specs.TimeCode.{day}
 use Rattle.sound_terms.specs.declared.piece.Piece.{Piece}
-use Rattle.sound_terms.specs.Groups.{IsGroup, IsPiece, may_follow, rank_of}
+use Rattle.sound_terms.specs.Groups.{IsGroup, continues, may_follow, rank_of}
+use Rattle.sound_terms.specs.GroupLaws.{GoesOn, length_more, goes_on as next_to}
 use Rattle.sound_terms.specs.Entries.{length_of_group}
 
--- the later piece goes on where the earlier one ends
-pub record GoesOn (p q : Piece) : Type 0 where
-  pub start : q.start ≡ p.start + p.length
-  pub frame : q.frame ≡ p.frame + p.length
-  pub file : q.file ≡ p.file
-  pub first : q.first ≡ p.first
-  pub dest : q.dest ≡ p.dest
-  pub width : q.width ≡ p.width
-  pub later : rank_of p.shape < rank_of q.shape
-
 pub goes_on : (p q : Piece) → IsTrue (may_follow p q) → GoesOn p q
-goes_on p q follows = record {
-  start = grind (arith, nat_tests);
-  frame = grind (arith, nat_tests);
-  file = grind (arith, nat_tests);
-  first = grind (arith, nat_tests);
-  dest = grind (arith, nat_tests);
-  width = grind (arith, nat_tests);
-  later = grind (arith, nat_tests);
-}
+goes_on p q follows = next_to p q (and_parts (continues p q) (nat_lt (rank_of p.shape) (rank_of q.shape)) follows).0
 
-pub length_more : (p : Piece) (ps : List Piece) → length_of_group (p ∷ ps) ≡ p.length + length_of_group ps
-length_more p ps = sum_by-cons (λ (q : Piece). q.length) p ps
-
--- the group ends in the day
-pub ends_in_day : (p : Piece) (ps : List Piece) → IsGroup (p ∷ ps) → All IsPiece (p ∷ ps)
-    → p.start + length_of_group (p ∷ ps) ≤ day
-ends_in_day p [] is all = rw (length_more p []) (omega (arith, (All-head IsPiece p [] all).in_day))
-ends_in_day p (q ∷ qs) is all =
-    let next = goes_on p q is.0 in
-    let rest = ends_in_day q qs is.1 (All-tail IsPiece p (q ∷ qs) all) in
-    rw (length_more p (q ∷ qs)) (omega (arith, next.start, rest))
+pub ranks_rise : (p q : Piece) → IsTrue (may_follow p q) → rank_of p.shape < rank_of q.shape
+ranks_rise p q follows = grind (arith, nat_tests)
 
 -- what holds of each frame of each piece holds of each frame of the group
 abbrev pub OnFrames : (ℕ → ℕ → Type 0) → Piece → Type 0

@@ -1,10 +1,13 @@
 -- Every run is played by an entry.
-use Rattle.std.proofs.Common.{◌≡◌, ◌⊎◌, inl, inr, ℕ, zero, suc, ◌+◌, ◌<◌, ◌≤◌, Bool, true, false, List, [], ◌∷◌, length, Option, None, Some, refl, sym, subst, ◌∙◌, arith, All}
-use Rattle.std.specs.Prelude.{◌==◌, ◌&&◌, nat_lt}
-use Rattle.std.specs.List.{slice_get, list_any, Contains}
+use Rattle.std.proofs.Common.{◌≡◌, ◌⊎◌, inl, inr, ℕ, suc, ◌+◌, ◌<◌, ◌≤◌, Bool, true, List, [], ◌∷◌, length, get_or, None, Some, sym, subst, ◌∙◌, arith, All}
+use Rattle.std.specs.Prelude.{◌==◌, nat_lt}
+use Rattle.std.specs.List.{slice_get, Contains}
 use Rattle.std.proofs.lemmas.Bool.{or_left, or_right}
 use Rattle.std.proofs.lemmas.Bool.Decides.{nat_tests}
 use Rattle.std.proofs.lemmas.List.Elements.{All-head, All-tail, All-contains, Contains-append_cases}
+use Rattle.std.proofs.lemmas.List.Folds.{Any-from_list_any}
+use Rattle.std.proofs.lemmas.Option.{slice_get_cases}
+use Rattle.facts.specs.Tests.{and_right}
 use Rattle.sound_terms.specs.declared.piece.Home.{Home}
 use Rattle.sound_terms.specs.declared.piece.Piece.{Piece}
 use Rattle.sound_terms.specs.declared.piece.Run.{Run}
@@ -19,25 +22,6 @@ use Rattle.relink.proofs.Maximal.{comes_from, goes_on_to, maximal_at, runs_apart
 use Rattle.relink.proofs.Placing.{ArePlayed, IsPlayed, kept_at_home, near_kept, placed_lies}
 use Rattle.relink.proofs.RunOf.{run_number_of}
 use Rattle.relink.proofs.Stretching.{IsInside, all_inside}
-
--- the first of these that passes
-some_of : {X : Type 0} (test : X → Bool) (xs : List X) → list_any test xs ≡ true
-    → (x : X) × Contains xs x × (test x ≡ true)
-some_of test [] any = absurd (let no : false ≡ true = any in cc)
-some_of {X} test (x ∷ xs) any = by_test (test x) refl (λ h. some_of test xs h) any where
-  by_test : (b : Bool) → test x ≡ b → (list_any test xs ≡ true → (y : X) × Contains xs y × (test y ≡ true))
-      → list_any test (x ∷ xs) ≡ true
-      → (y : X) × Contains (x ∷ xs) y × (test y ≡ true)
-  by_test true e rest any = (x, (0, omega arith, refl), e)
-  by_test false e rest any =
-      let later = rest (rw e at any) in
-      let at = later.1 in
-      (later.0, (suc at.0, omega (arith, at.1), at.2), later.2)
-
-slice_get_past_no : {X : Type 0} (xs : List X) (k : ℕ) → k < length xs → slice_get xs k ≡ None → ⊥
-slice_get_past_no [] k below none = omega (arith, below)
-slice_get_past_no (x ∷ xs) zero below none = cc
-slice_get_past_no (x ∷ xs) (suc k) below none = slice_get_past_no xs k (omega (arith, below)) none
 
 module _ (groups : List (List Piece)) (homes : List Home) (handle : ℕ) (runs : List Run) (are_homes : AreHomes homes)
     (are : AreRuns (kept_of groups homes handle) (place_by homes) runs) where
@@ -145,21 +129,21 @@ module _ (groups : List (List Piece)) (homes : List Home) (handle : ℕ) (runs :
   reason run is =
       let counted : run.first + 0 ≡ run.first = omega arith in
       let first : kept run.file (run.first + 0) ≡ true = is.inside 0 is.some in
-      some_of (is_near handle run.file run.first) (pieces_of groups)
-      (right_of (nat_lt run.first (addressable_by homes run.file)) _
-      (subst (λ (f : ℕ). kept run.file f ≡ true) counted first)) where
-        right_of : (a b : Bool) → (a && b) ≡ true → b ≡ true
-        right_of true b h = h
-        right_of false b h = absurd (let no : false ≡ true = h in cc)
+      let any =
+      Any-from_list_any (is_near handle run.file run.first) (pieces_of groups)
+      (and_right (nat_lt run.first (addressable_by homes run.file)) _
+      (subst (λ (f : ℕ). kept run.file f ≡ true) counted first)) in
+      (any.1, (any.0, any.2, any.3), any.4)
 
   pub all_used_by : ((p : Piece) → Contains (pieces_of groups) p → p.frame < addressable_by homes p.file)
       → All (ArePlayed groups homes handle runs are_homes are) groups
       → (k : ℕ) → k < length runs → is_used (numbered (run_event homes runs) 1 (placed_of groups)) (1 + k) ≡ true
-  all_used_by at_home all k below = of_run (slice_get runs k) refl below where
-    of_run : (o : Option Run) → slice_get runs k ≡ o → k < length runs
+  all_used_by at_home all k below = of_run (slice_get_cases runs k).1 where
+    of_run : ((run : Run) × (k < length runs) × (slice_get runs k ≡ Some run) × (get_or runs k run ≡ run))
+        ⊎ ((length runs ≤ k) × (slice_get runs k ≡ None))
         → is_used (numbered (run_event homes runs) 1 (placed_of groups)) (1 + k) ≡ true
-    of_run None e below = absurd (let none = slice_get_past_no runs k below e in none)
-    of_run (Some run) e below =
+    of_run (inl (run, inside, e, same)) =
         let is = maximal_at kept homes runs (kept_at_home groups homes handle) are_homes are k run e in
         let why = reason run is in
         used_by k run e why.0 (starts_in run is why.0 why.1 why.2 (at_home why.0 why.1)) 1 groups all why.1
+    of_run (inr past) = absurd (omega (arith, past.0))

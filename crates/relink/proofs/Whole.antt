@@ -6,6 +6,7 @@ use Rattle.sound_terms.specs.declared.piece.Piece.{Piece}
 use Rattle.sound_terms.specs.declared.piece.Run.{Run}
 use Rattle.sound_terms.specs.Mix.{Reading, mix_at}
 use Rattle.sound_terms.specs.Groups.{AreGroups, IsPiece, are_whole, mix_of, pieces_of}
+use Rattle.sound_terms.specs.GroupLaws.{all_pieces}
 use Rattle.sound_terms.specs.Kept.{AreRuns}
 use Rattle.sound_terms.specs.Homes.{AreHomes, LiesAtHome, kept_of, place_by}
 use Rattle.sound_terms.specs.Entries.{placed_of}
@@ -18,7 +19,7 @@ use Rattle.relink.specs.Linked.{EndsInDay, HaveChannels, IsLinkable}
 use Rattle.relink.proofs.Maximal.{runs_apart, runs_end_in_day}
 use Rattle.relink.proofs.NoFault.{HasChannelsFor, no_event_fault}
 use Rattle.relink.proofs.Placing.{ArePlayed, IsPlayed, all_linkable, all_placed, kept_at_home}
-use Rattle.relink.proofs.Playing.{all_pieces, all_played}
+use Rattle.relink.proofs.Playing.{all_played}
 use Rattle.relink.proofs.Relinked.{relinked}
 use Rattle.relink.proofs.Used.{all_used_by}
 
@@ -67,6 +68,6 @@ module _ (groups : List (List Piece)) (homes : List Home) (handle : ℕ) (runs :
         all_used_by groups homes handle runs are_homes are
         (λ p has.
         let home : LiesAtHome homes p = All-contains (LiesAtHome homes) (pieces_of groups) p at_home has in
-        let ok : IsPiece p = All-contains IsPiece (pieces_of groups) p (all_pieces groups is.pieces_ok) has in
+        let ok : IsPiece p = All-contains IsPiece (pieces_of groups) p (all_pieces IsPiece groups is.pieces_ok) has in
         omega (arith, home, ok.some))
         played k below

@@ -1,6 +1,6 @@
 -- The bytes of blocks, one behind the other, are those of frames.
 use Rattle.std.proofs.Common.{◌≡◌, ℕ, zero, suc, ◌+◌, ◌-◌, ◌*◌, ◌/◌, ◌%◌, ◌<◌, ◌≤◌, List, [], ◌∷◌, ◌++◌, length, refl, sym, ap, ◌∙◌, arith, length-append}
-use Rattle.std.specs.Prelude.{ℤ, min, Option, Some, unwrap_or}
+use Rattle.std.specs.Prelude.{ℤ, Option, Some, unwrap_or}
 use Rattle.std.specs.List.{flat_map}
 use Rattle.std.proofs.lemmas.List.{append_assoc}
 use Rattle.std.proofs.lemmas.List.Concat.{flat_map-append}
@@ -10,7 +10,7 @@ use Rattle.sound_terms.specs.Mix.{quantized}
 use Rattle.sound_terms.specs.Render.{Range, frame_of, frames_of, render_info, rendering_of}
 use Rattle.sound_terms.specs.Waves.{SoundInfo, data_size, file_of, header_of, sample_bytes, zeros}
 use Rattle.work_terms.specs.Disk.{IsAppended}
-use Rattle.rendering.specs.Written.{block_bytes, first_frames}
+use Rattle.rendering.specs.Written.{block_bytes, first_frames, frames_before, bytes_of_blocks}
 
 -- ---- a block
 
@@ -54,28 +54,32 @@ frames_behind depth channels from (suc n) m mix =
     ∙ ap (λ (rest : List ℕ). first ++ rest) (frames_behind depth channels (suc from) n m mix)
     ∙ ap (λ (k : ℕ). frames_of depth mix channels from k) more
 
--- the frames before block k
-abbrev pub frames_before : Range → ℕ → ℕ
-frames_before range k = min (k * 4096) (range.to - range.from)
-
--- one block more
-pub block_more : (range : Range) (mix : ℕ → ℕ → ℤ) (k : ℕ) → k < block_count range
-    → first_frames range mix (frames_before range k) ++ block_bytes range mix k
-    ≡ first_frames range mix (frames_before range (k + 1))
-block_more range mix k inside =
-    let whole : frames_before range k ≡ k * 4096 = omega (arith, inside) in
-    let start : block_start range k + 0 ≡ range.from + k * 4096 = omega arith in
-    let more : k * 4096 + block_frames range k ≡ frames_before range (k + 1) = omega (arith, inside) in
-    ap (λ (n : ℕ). first_frames range mix n ++ block_bytes range mix k) whole
-    ∙ ap (λ (block : List ℕ). first_frames range mix (k * 4096) ++ block)
+-- a block behind others
+pub block_behind : (range : Range) (mix : ℕ → ℕ → ℤ) (first k : ℕ) → first ≤ k → k < block_count range
+    → bytes_of_blocks range mix first k ++ block_bytes range mix k ≡ bytes_of_blocks range mix first (k + 1)
+block_behind range mix first k behind inside =
+    let n = frames_before range k - frames_before range first in
+    let start : block_start range k + 0 ≡ block_start range first + n = omega (arith, behind, inside) in
+    let more : n + block_frames range k ≡ frames_before range (k + 1) - frames_before range first =
+    omega (arith, behind, inside) in
+    ap (λ (block : List ℕ). bytes_of_blocks range mix first k ++ block)
     (frames_packed range.depth (block_start range k) range.channels 0 (block_frames range k) mix
     ∙ ap (λ (time : ℕ). frames_of range.depth mix range.channels time (block_frames range k)) start)
-    ∙ frames_behind range.depth range.channels range.from (k * 4096) (block_frames range k) mix
-    ∙ ap (λ (n : ℕ). first_frames range mix n) more
+    ∙ frames_behind range.depth range.channels (block_start range first) n (block_frames range k) mix
+    ∙ ap (λ (n : ℕ). frames_of range.depth mix range.channels (block_start range first) n) more
 
--- all blocks
-pub all_blocks : (range : Range) (k : ℕ) → block_count range ≤ k → frames_before range k ≡ range.to - range.from
-all_blocks range k done = omega (arith, done)
+-- blocks behind all before them
+pub blocks_more : (range : Range) (mix : ℕ → ℕ → ℤ) (first last : ℕ) → first < last → last ≤ block_count range
+    → first_frames range mix (frames_before range first) ++ bytes_of_blocks range mix first last
+    ≡ first_frames range mix (frames_before range last)
+blocks_more range mix first last some inside =
+    let n = frames_before range last - frames_before range first in
+    let start : block_start range first ≡ range.from + frames_before range first = omega (arith, some, inside) in
+    let more : frames_before range first + n ≡ frames_before range last = omega (arith, some, inside) in
+    ap (λ (time : ℕ). first_frames range mix (frames_before range first)
+    ++ frames_of range.depth mix range.channels time n) start
+    ∙ frames_behind range.depth range.channels range.from (frames_before range first) n mix
+    ∙ ap (λ (n : ℕ). first_frames range mix n) more
 
 -- ---- the file
 

@@ -1,19 +1,16 @@
 -- What a block plays, and how it may fail.
-use Rattle.std.proofs.Common.{◌≡◌, ◌+◌, ℕ, true, List, ◌++◌, length, take, drop, refl, sym, ap, ◌∙◌, length-append}
+use Rattle.std.proofs.Common.{◌≡◌, ℕ, suc, ◌+◌, ◌-◌, ◌*◌, ◌≤◌, true, refl, ap, subst, arith}
 use Rattle.std.specs.Prelude.{◌≢◌, Result, Ok, Err, IsErrAnd}
-use Rattle.std.proofs.lemmas.List.{take-append-drop}
 use Rattle.rendering.specs.declared.fault.RenderFault.{RenderFault}
 use Rattle.rendering.specs.declared.fault.RenderFault.TheVariants.{Intervals, EmptyRange, Memory, TooLong, BlockMemory, Source, Output}
 use Rattle.rendering.specs.Fault.{IsOfBlock, is_late}
 
--- a part that was written over keeps the length of the whole
-pub length-written : {X : Type 0} (n : ℕ) (part old : List X) → length part ≡ length (take n old)
-    → length (part ++ drop n old) ≡ length old
-length-written n part old same =
-    length-append part (drop n old)
-    ∙ ap (λ (k : ℕ). k + length (drop n old)) same
-    ∙ sym (length-append (take n old) (drop n old))
-    ∙ ap length (take-append-drop n old)
+-- so many bytes of room are used by the blocks before the next one
+pub more_used : (first k size end next : ℕ) → first ≤ k → end ≤ (k - first) * size → next ≤ end + size
+    → next ≤ (k + 1 - first) * size
+more_used first k size end next behind used more =
+    let one : suc (k - first) ≡ k + 1 - first = omega arith in
+    subst (λ (n : ℕ). next ≤ n * size) one (omega arith)
 
 pub block_late : (fault : RenderFault) → IsOfBlock fault → is_late fault ≡ true
 block_late BlockMemory own = refl

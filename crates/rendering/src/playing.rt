@@ -1,27 +1,22 @@
 // Sums blocks, and writes their samples.
-ghost use Rattle.std.specs.Prelude.{◌≡◌, ◌*◌, ◌/◌, ◌<◌, ◌≤◌, true, codes, IfErr, IsTrue, OnOk, length};
+ghost use Rattle.std.specs.Prelude.{◌≡◌, ◌+◌, ◌-◌, ◌*◌, ◌/◌, ◌<◌, ◌≤◌, ◌++◌, IfErr, IfOk, IsTrue, OnOk, length, take};
 ghost use Rattle.std.specs.List.{All};
-ghost use Rattle.work_terms.specs.Disk.{IsAppended};
 ghost use Rattle.sound_terms.specs.Blocks.{block_count, block_frames};
 ghost use Rattle.sound_terms.specs.Depth.{bits_of};
 ghost use Rattle.sound_terms.specs.Groups.{sum_of};
 ghost use Rattle.sound_terms.specs.Media.{IsPieceOf};
 ghost use Rattle.list_terms.specs.Heard.{reading_by};
 ghost use Rattle.shelf.specs.Frame.{OnlyReads};
-ghost use Rattle.rendering.specs.Fault.{FailsAt, IsOfBlock, IsSource, is_late};
-ghost use Rattle.rendering.specs.Written.{WritesRendering, block_bytes};
-ghost use Rattle.rendering.specs.declared.fault.RenderFault.TheVariants.{Output};
+ghost use Rattle.rendering.specs.Fault.{FailsAt, IsOfBlock, IsSource};
+ghost use Rattle.rendering.specs.Written.{block_bytes, block_size, bytes_of_blocks};
 
 use crate::RenderFault;
 use blockmachine::Machine;
 use pcm::pack;
 use renderplan::Plan;
-use shelf::{Bench, Shelf};
+use shelf::Shelf;
 use sound_terms::{Depth, Format};
 use wavread::Sound;
-
-/// The name of the file that is rendered.
-pub const RENDERED: &str = "render.wav";
 
 /// Sums block k and writes its samples over `bytes`, which has room for just these. `samples` has room for as many.
 /// `BlockMemory` where no memory was left for its program, `Source` where a file can't be read.
@@ -57,19 +52,19 @@ fn play_block<S: Shelf>(
     Ok(())
 }
 
-/// Adds the samples of block k at the end of the rendered file. `samples` and `bytes` have room for any block.
-/// `BlockMemory`, `Source` or `Output` where that fails.
-pub fn append_block<S: Shelf, B: Bench>(
+/// Sums block k and writes its samples over `bytes` from `at` on, where there is room for them; gives where they end.
+/// `samples` has room for any block. `BlockMemory` or `Source` where that fails.
+fn play_block_at<S: Shelf>(
     plan: &Plan,
     k: u64,
     format: &Format,
     sounds: &[Sound],
     shelf: &mut S,
-    bench: &mut B,
     machine: &mut Machine,
     samples: &mut [i32],
     bytes: &mut [u8],
-) -> Result<(), RenderFault>
+    at: usize,
+) -> Result<usize, RenderFault>
     requires there { k < block_count plan.now.range }
     requires channels { plan.now.range.channels ≡ format.now.channels }
     requires depth { plan.now.depth ≡ format.now.depth }
@@ -78,19 +73,18 @@ pub fn append_block<S: Shelf, B: Bench>(
     requires few { format.now.channels ≤ 64 }
     requires machine { machine.old ≡ record { frames = 4096; channels = format.now.channels } }
     requires samples { length samples.old ≡ 4096 * format.now.channels }
-    requires bytes { length bytes.old ≡ 4096 * format.now.channels * (bits_of format.now.depth / 8) }
-    ensures appended { IsTrue (S.honest shelf.old) → IsTrue (B.honest bench.old) → OnOk result (IsAppended
-        (block_bytes plan.now.range (sum_of (reading_by (S.stored shelf.old) sounds.now) plan.now.pieces) k)
-        (B.stored bench.old (codes "render.wav")) (B.stored bench.new (codes "render.wav"))) }
+    requires bytes { at + block_size format.now ≤ length bytes.old }
+    ensures played { IsTrue (S.honest shelf.old) → IfOk result (λ end. take end bytes.new ≡ take at bytes.old
+        ++ block_bytes plan.now.range (sum_of (reading_by (S.stored shelf.old) sounds.now) plan.now.pieces) k) }
+    ensures within { IfOk result (λ end. end ≤ at + block_size format.now) }
     ensures ready { machine.new ≡ machine.old }
-    ensures late { IfErr result (λ fault. is_late fault ≡ true) }
+    ensures own { IfErr result IsOfBlock }
     ensures only_reads { OnlyReads S.Shelf shelf.old shelf.new result IsSource (FailsAt sounds.now) }
-    ensures only_writes { WritesRendering B.Bench bench.old bench.new result (λ fault. fault ≡ Output) }
 {
     let count = plan.frames_of(k) as usize * usize::from(format.channels);
-    let length = count * usize::from(format.depth.bits() / 8);
+    let end = at + count * usize::from(format.depth.bits() / 8);
     let samples = &mut samples[..count];
-    let bytes = &mut bytes[..length];
+    let bytes = &mut bytes[at..end];
     play_block(
         plan,
         k,
@@ -101,6 +95,43 @@ pub fn append_block<S: Shelf, B: Bench>(
         samples,
         bytes,
     )?;
-    bench.append(RENDERED, bytes)?;
-    Ok(())
+    Ok(end)
+}
+
+/// Sums the blocks from `first` on up to, and without, `last`, and writes their samples over the first of `bytes`,
+/// where there is room for as many whole blocks; gives where they end. `samples` has room for any block. `BlockMemory`
+/// or `Source` where that fails.
+pub fn play_blocks<S: Shelf>(
+    plan: &Plan,
+    first: u64,
+    last: u64,
+    format: &Format,
+    sounds: &[Sound],
+    shelf: &mut S,
+    machine: &mut Machine,
+    samples: &mut [i32],
+    bytes: &mut [u8],
+) -> Result<usize, RenderFault>
+    requires order { first ≤ last }
+    requires there { last ≤ block_count plan.now.range }
+    requires channels { plan.now.range.channels ≡ format.now.channels }
+    requires depth { plan.now.depth ≡ format.now.depth }
+    requires told { plan.now.range.depth ≡ bits_of format.now.depth }
+    requires inside { All (IsPieceOf sounds.now) plan.now.pieces }
+    requires few { format.now.channels ≤ 64 }
+    requires machine { machine.old ≡ record { frames = 4096; channels = format.now.channels } }
+    requires samples { length samples.old ≡ 4096 * format.now.channels }
+    requires bytes { (last - first) * block_size format.now ≤ length bytes.old }
+    ensures played { IsTrue (S.honest shelf.old) → IfOk result (λ end. take end bytes.new ≡ bytes_of_blocks
+        plan.now.range (sum_of (reading_by (S.stored shelf.old) sounds.now) plan.now.pieces) first last) }
+    ensures within { IfOk result (λ end. end ≤ length bytes.new) }
+    ensures ready { machine.new ≡ machine.old }
+    ensures own { IfErr result IsOfBlock }
+    ensures only_reads { OnlyReads S.Shelf shelf.old shelf.new result IsSource (FailsAt sounds.now) }
+{
+    let mut end = 0;
+    for k in first..last {
+        end = play_block_at(plan, k, format, sounds, shelf, machine, samples, bytes, end)?;
+    }
+    Ok(end)
 }

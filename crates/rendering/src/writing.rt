@@ -16,17 +16,16 @@ ghost use Rattle.rendering.specs.Written.{WritesRendering, first_frames};
 ghost use Rattle.rendering.specs.declared.fault.RenderFault.TheVariants.{Output};
 
 use crate::RenderFault;
-use crate::playing::RENDERED;
 use crate::preparing::Prepared;
-use crate::room::Room;
+use crate::room::{BLOCK_LENGTH, RENDERED, Room};
 use renderplan::Plan;
 use shelf::{Bench, DeviceFault, Progress, Shelf};
 use wavread::Sound;
 use wavwrite::{SoundInfo, data_length};
 
-/// Adds the samples of all blocks at the end of the rendered file, and tells after each how many of so many frames are
-/// there.
-fn append_blocks<S: Shelf, B: Bench, P: Progress>(
+/// Adds the samples of all blocks at the end of the rendered file, some at once, and tells after each append how many
+/// of so many frames are there.
+fn append_all<S: Shelf, B: Bench, P: Progress>(
     plan: &Plan,
     frames: u64,
     room: &mut Room,
@@ -49,11 +48,11 @@ fn append_blocks<S: Shelf, B: Bench, P: Progress>(
     ensures only_reads { OnlyReads S.Shelf shelf.old shelf.new result IsSource (FailsAt sounds.now) }
     ensures only_writes { WritesRendering B.Bench bench.old bench.new result (λ fault. fault ≡ Output) }
 {
-    let mut done: u64 = 0;
-    for k in 0..plan.blocks() {
-        room.append_block(plan, k, sounds, shelf, bench)?;
-        done = done.saturating_add(u64::from(plan.frames_of(k)));
-        progress.reached(done, frames);
+    let mut next: u64 = 0;
+    while next < plan.blocks() {
+        next = room.append_from(plan, next, sounds, shelf, bench)?;
+        let done = next.saturating_mul(BLOCK_LENGTH as u64);
+        progress.reached(done.min(frames), frames);
     }
     Ok(())
 }
@@ -122,7 +121,7 @@ pub fn write<S: Shelf, B: Bench, P: Progress>(
     } = prepared;
     begin(bench, &head)?;
     let frames = info.frames();
-    append_blocks(&plan, frames, &mut room, sounds, shelf, bench, progress)?;
+    append_all(&plan, frames, &mut room, sounds, shelf, bench, progress)?;
     finish(bench, &info)?;
     Ok(())
 }

@@ -1,37 +1,21 @@
 -- The programs of pieces are formed, and add nothing but what the pieces play.
-use Rattle.std.proofs.Common.{◌≡◌, ℕ, ◌+◌, ◌-◌, ◌<◌, ◌≤◌, Bool, true, false, List, [], ◌∷◌, refl, arith, All}
+use Rattle.std.proofs.Common.{◌≡◌, ℕ, ◌+◌, ◌-◌, ◌<◌, ◌≤◌, Bool, true, false, List, [], refl, arith, All}
 use Rattle.std.specs.Prelude.{max, min, nat_le, nat_lt}
 use Rattle.std.specs.List.{flat_map}
 use Rattle.std.proofs.lemmas.Bool.Decides.{nat_tests}
-use Rattle.std.proofs.lemmas.List.Elements.{All-append, All-cons, All-head, All-nil, All-tail}
+use Rattle.std.proofs.lemmas.List.Elements.{All-append, All-cons, All-nil}
+use Rattle.facts.specs.Lists.{all_of_parts}
 use Rattle.sound_terms.specs.declared.Depth.{Depth}
 use Rattle.sound_terms.specs.declared.block.Instruction.{Instruction}
 use Rattle.sound_terms.specs.declared.block.Instruction.TheVariants.{Start, Add, Emit}
 use Rattle.sound_terms.specs.declared.piece.Piece.{Piece}
-use Rattle.sound_terms.specs.declared.piece.Shape.{Shape}
-use Rattle.sound_terms.specs.declared.piece.Shape.TheVariants.{Flat, Rise, Fall}
 use Rattle.sound_terms.specs.Sounds.{SoundFacts}
 use Rattle.sound_terms.specs.Media.{IsPieceOf}
 use Rattle.sound_terms.specs.Render.{Range}
-use Rattle.sound_terms.specs.Groups.{IsPiece, IsRamp, pieces_of}
+use Rattle.sound_terms.specs.Groups.{IsPiece}
+use Rattle.sound_terms.specs.GroupLaws.{ramp_within}
 use Rattle.sound_terms.specs.Passes.{shape_behind}
 use Rattle.sound_terms.specs.Blocks.{AddsOne, IsBlockProgram, IsFormed, LiesInFiles, block_frames, block_start, lines_of, program_of, stretch_in}
-
--- what holds of each part holds of all
-pub all_of_parts : {X A : Type 0} (Q : X → Type 0) (P : A → Type 0) (f : X → List A) → ((x : X) → Q x → All P (f x))
-    → (xs : List X) → All Q xs → All P (flat_map f xs)
-all_of_parts Q P f each [] all = All-nil P
-all_of_parts Q P f each (x ∷ xs) all =
-    All-append P (f x) (flat_map f xs) (each x (All-head Q x xs all)) (all_of_parts Q P f each xs (All-tail Q x xs all))
-
-pub all_pieces : (groups : List (List Piece)) → All (All IsPiece) groups → All IsPiece (pieces_of groups)
-all_pieces groups all = all_of_parts (All IsPiece) IsPiece (λ group. group) (λ group pieces. pieces) groups all
-
-ramp_within : (shape : Shape) (cut n whole : ℕ) → cut + n ≤ whole → IsRamp shape whole
-    → IsRamp (shape_behind cut shape) n
-ramp_within Flat cut n whole inside ramp = tt
-ramp_within (Rise offset den) cut n whole inside ramp = (omega arith, ramp.1)
-ramp_within (Fall offset den) cut n whole inside ramp = (omega arith, ramp.1)
 
 module _ (from n channels : ℕ) where
   -- a line of a piece is the one of its stretch

@@ -4,14 +4,12 @@ use Rattle.std.specs.Prelude.{ℤ, pos, ◌+ℤ◌, ◌&&◌, max, min, nat_le, 
 use Rattle.std.specs.List.{flat_map}
 use Rattle.std.proofs.lemmas.Bool.Decides.{nat_tests}
 use Rattle.std.proofs.lemmas.Int.{ints}
-use Rattle.std.proofs.lemmas.List.Elements.{All-cons, All-head, All-nil, All-tail}
-use Rattle.facts.specs.Lists.{all_behind, all_front}
+use Rattle.std.proofs.lemmas.List.Elements.{All-head, All-tail}
+use Rattle.facts.specs.Lists.{all_behind, all_front, all_of_parts}
+use Rattle.facts.specs.Tests.{otherwise}
 use Rattle.sound_terms.specs.declared.Depth.{Depth}
-use Rattle.sound_terms.specs.declared.block.Instruction.{Instruction}
 use Rattle.sound_terms.specs.declared.block.Instruction.TheVariants.{Start, Add, Emit}
 use Rattle.sound_terms.specs.declared.piece.Piece.{Piece}
-use Rattle.sound_terms.specs.declared.piece.Shape.{Shape}
-use Rattle.sound_terms.specs.declared.piece.Shape.TheVariants.{Flat, Rise, Fall}
 use Rattle.sound_terms.specs.Depth.{bits_of}
 use Rattle.sound_terms.specs.Mix.{Reading, share_of}
 use Rattle.sound_terms.specs.Groups.{IsBounded, IsPiece, fraction_of, holding, is_under, part_of, sum_of}
@@ -20,7 +18,7 @@ use Rattle.sound_terms.specs.Render.{Range}
 use Rattle.sound_terms.specs.BlockLaws.{executed_all-append, frames_kept}
 use Rattle.sound_terms.specs.GroupLaws.{fraction_behind}
 use Rattle.sound_terms.specs.Blocks.{AddsOne, BlockState, block_frames, block_samples, block_start, executed_all, frame_samples, held, is_on, lines_of, mixed_block, program_of, share_at, stretch_in, PlaysFull}
-use Rattle.renderplan.proofs.Formed.{all_of_parts, line_adds}
+use Rattle.renderplan.proofs.Formed.{line_adds}
 use Rattle.renderplan.proofs.Shares.{IsWithin, held_few, holds, part_within, within_add}
 
 -- the same sums are handed out alike
@@ -47,11 +45,6 @@ abbrev share_in : Reading → Piece → ℕ → ℕ → ℤ
 share_in reading p channel time =
     share_of (reading p.file (p.first + (channel - p.dest)) (p.frame + (time - p.start)))
     (fraction_of p.shape (time - p.start))
-
-not_under : (a b h : Bool) (x y : ℤ) → h ≡ false → y ≡ (if a && (b && h) then x else y)
-not_under true true h x y none = rw none refl
-not_under true false h x y none = refl
-not_under false b h x y none = refl
 
 -- a sum that isn't too large is held as it is
 held_sum : (under : Bool) (m : ℕ) (x share : ℤ) → m ≤ 32767 → IsWithin m (x +ℤ (if under then share else pos 0))
@@ -95,7 +88,7 @@ module _ (reading : Reading) (from n channels : ℕ) where
         by_tests false there e f =
             let none : (nat_le p.start (from + i) && nat_lt (from + i) (p.start + p.length)) ≡ false =
             grind (arith, nat_tests) in
-            rw e (not_under (nat_le p.dest c) (nat_lt c (p.dest + p.width)) _ _ _ none)
+            rw e (sym (otherwise (nat_le p.dest c) (nat_lt c (p.dest + p.width)) _ _ _ none))
         by_tests true false e f = let none : nat_le p.dest c ≡ false = grind (arith, nat_tests) in rw (e, f, none) refl
         by_tests true true e f = by_place (is_under p c (from + i)) refl where
           there : p.dest ≤ channels

@@ -1,6 +1,7 @@
 -- How a sound file begins: RIFF, or RF64 with its `ds64`.
 use Rattle.std.proofs.Common.{◌≡◌, ℕ, ◌+◌, ◌-◌, ◌*◌, ◌%◌, ◌<◌, ◌≤◌, Bool, true, false, ◌&&◌, nat_le, List, Option, None, Some, Result, Err, length, take, drop, refl, sym, ap, ◌∙◌, arith, codes, bytes_eq, length-take, lit≤, option_map, le-leb}
 use Rattle.std.specs.Option.{ok_or}
+use Rattle.std.proofs.Math.Bool.{and-false}
 use Rattle.std.proofs.lemmas.Bool.Decides.{nat_tests}
 use Rattle.std.proofs.lemmas.List.{drop-take, take-take}
 use Rattle.std.proofs.lemmas.Slice.Eq.{bytes_eq-Decides}
@@ -95,10 +96,6 @@ sizes_there file fields head is_head id within enough ahead whole =
     le-leb (20 + ds64_size file) (length file) (omega arith) in
     let read : take 28 (drop 20 file) ≡ fields = sym (ahead.same ∙ ap (λ n. take n (drop 20 file)) whole) in
     rw (stands, inside) (ap (λ (bytes : List ℕ). ds64_of bytes (ds64_size file)) read ∙ ap (ds64_of fields) (sym size))
-
-and-false : (b : Bool) → (b && false) ≡ false
-and-false true = refl
-and-false false = refl
 
 pub no_room : (file : List ℕ) → length file < 20 → ds64_in file ≡ None
 no_room file few =

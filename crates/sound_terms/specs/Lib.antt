@@ -16,6 +16,7 @@ pub mod Kept
 pub mod Laws
 pub mod Media
 pub mod Mix
+pub mod OrderLaws
 pub mod Passes
 pub mod Render
 pub mod SoundFault

@@ -2,7 +2,7 @@
 use Rattle.std.proofs.Common.{◌≡◌, ◌≢◌, ◌∙◌, ℕ, ◌+◌, ◌<◌, ◌≤◌, Bool, true, false, cond, not, List, [], ◌∷◌, ◌++◌, length, Option, None, Some, refl, sym, ap, arith, eqb, ltb, nat_eq, get_or-set_other, length-append}
 use Rattle.std.proofs.Math.ListN.{length-set}
 use Rattle.std.specs.List.{find, position, position_or_len, slice_get, slice_index_or, slice_set}
-use Rattle.std.specs.Option.{is_some, option_or}
+use Rattle.std.specs.Option.{option_or}
 use Rattle.std.proofs.lemmas.Bool.{eq-eqb, eqb-true}
 use Rattle.std.proofs.lemmas.Bool.Decides.{nat_tests}
 use Rattle.std.proofs.lemmas.Grind.{get_or-set_at}
@@ -68,11 +68,6 @@ pub found_by_no_place : (indexes : List BoundIndex) (places : List (Option ℕ))
     → slice_index_or places number None ≡ None → index_of indexes number ≡ None
 found_by_no_place indexes places number table below held =
     find-no_position (λ (index : BoundIndex). nat_eq index.number number) indexes (sym (table number below) ∙ held)
-
--- an option that has nothing
-pub is_nothing : {X : Type 0} (o : Option X) → is_some o ≡ false → o ≡ None
-is_nothing None nothing = refl
-is_nothing (Some x) nothing = cc
 
 -- where one more index stands
 place_of-push : (indexes : List BoundIndex) (index : BoundIndex) (number : ℕ)

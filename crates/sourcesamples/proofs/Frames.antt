@@ -1,6 +1,6 @@
 -- Frames that were read are zero where the part of their file is that they were read from.
-use Rattle.std.proofs.Common.{◌≡◌, ℕ, zero, suc, ◌+◌, ◌-◌, ◌*◌, ◌/◌, ◌<◌, ◌≤◌, ◌^◌, List, Option, None, Some, length, take, drop}
-use Rattle.std.proofs.Common.{length-take, length-drop, get_or, All, true, refl, sym, ap, ◌∙◌, arith, IsSome}
+use Rattle.std.proofs.Common.{◌≡◌, ℕ, zero, suc, ◌+◌, ◌-◌, ◌*◌, ◌/◌, ◌<◌, ◌≤◌, ◌^◌, List, Some, length, take, drop}
+use Rattle.std.proofs.Common.{length-take, length-drop, get_or, All, true, refl, sym, ap, ◌∙◌, arith}
 use Rattle.std.specs.Prelude.{ℤ, pos, negsuc, neg_ℤ, ◌*ℤ◌, ◌↔◌, nat_le, nat_lt}
 use Rattle.std.proofs.Math.IntN.{negsuc-*ℤ-pos, pos-*ℤ-pos, zero-*ℤ}
 use Rattle.std.proofs.Math.Nat.{div-mul-le_self, mul-div_cancel}
@@ -17,10 +17,6 @@ use Rattle.work_terms.specs.Disk.{Files}
 use Rattle.wavread.specs.Facts.{AreFrames}
 use Rattle.sourcesamples.specs.declared.part.Part.{Part}
 use Rattle.sourcesamples.specs.Zero.{AreZero, IsZero, LiesIn, sound_by}
-
-pub some_file : (stored : Option (List ℕ)) → IsSome stored → (file : List ℕ) × (stored ≡ Some file)
-some_file None there = cc
-some_file (Some file) there = (file, refl)
 
 -- a sample is zero where it is at full scale
 none_of : (z : ℤ) (n : ℕ) → 0 < n → z *ℤ pos n ≡ pos 0 → z ≡ pos 0

@@ -1,8 +1,9 @@
 -- Parts of a sound that are zero: those behind one another, and those that reach out of it.
-use Rattle.std.proofs.Common.{◌≡◌, ◌⊎◌, inl, inr, ℕ, ◌+◌, ◌-◌, ◌<◌, ◌≤◌, Bool, true, false, List, [], ◌∷◌, Option, None, Some, refl, arith}
-use Rattle.std.specs.Prelude.{ℤ, pos, ◌&&◌, ◌↔◌, min, nat_le, nat_lt, if◌then◌else◌}
+use Rattle.std.proofs.Common.{◌≡◌, ◌⊎◌, inl, inr, ℕ, ◌+◌, ◌-◌, ◌<◌, ◌≤◌, false, List, [], ◌∷◌, Option, None, Some, refl, arith}
+use Rattle.std.specs.Prelude.{ℤ, pos, ◌↔◌, min, nat_le, nat_lt}
 use Rattle.std.proofs.lemmas.Bool.{cases_lt}
 use Rattle.std.proofs.lemmas.Bool.Decides.{nat_tests}
+use Rattle.facts.specs.Tests.{otherwise}
 use Rattle.sound_terms.specs.Sounds.{SoundFacts}
 use Rattle.work_terms.specs.Disk.{Files}
 use Rattle.list_terms.specs.Heard.{reading_by}
@@ -32,16 +33,11 @@ outside : (files : Files) (facts : SoundFacts) (channel frame : ℕ) → (facts.
     → sound_by files facts channel frame ≡ pos 0
 unfolding sound_by
 outside files facts channel frame there = by_file (files facts.name) refl where
-  off : (p q h : Bool) (x : ℤ) → h ≡ false → (if p && (q && h) then x else pos 0) ≡ pos 0
-  off true true h x out = rw out refl
-  off true false h x out = refl
-  off false q h x out = refl
-
   by_place : (bytes : List ℕ) → files facts.name ≡ Some bytes → (facts.channels < channel) ⊎ (facts.frames ≤ frame)
       → reading_by files (facts ∷ []) 0 channel frame ≡ pos 0
   by_place bytes stored (inl high) =
       let out : nat_le channel facts.channels ≡ false = grind (arith, nat_tests) in
-      rw stored (off (nat_lt frame facts.frames) (nat_le 1 channel) _ _ out)
+      rw stored (otherwise (nat_lt frame facts.frames) (nat_le 1 channel) _ _ _ out)
   by_place bytes stored (inr behind) =
       let out : nat_lt frame facts.frames ≡ false = grind (arith, nat_tests) in rw (stored, out) refl
 

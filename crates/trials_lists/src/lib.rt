@@ -1,8 +1,10 @@
-//! Tests of lists: their text, and projects that are bound to files.
+//! Tests of lists: their text, projects that are bound to files, and renderings of these.
 #![tactic(auto)]
 
 #[cfg(test)]
 mod bound_projects;
+#[cfg(test)]
+mod renderings;
 #[cfg(test)]
 mod whole_lists;
 #[cfg(test)]

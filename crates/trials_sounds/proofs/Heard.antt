@@ -1,10 +1,11 @@
--- A block of four frames on one channel, to which all four samples of a file are added twice.
+-- A block of four frames on one channel, to which all four samples of a file are added, once or twice.
 use Rattle.std.proofs.Common.{◌≡◌, ℕ, [], ◌∷◌, refl, arith}
 use Rattle.std.proofs.lemmas.List.Elements.{All-cons, All-nil}
 use Rattle.sound_terms.specs.declared.Depth.{Depth}
 use Rattle.sound_terms.specs.declared.block.Instruction.TheVariants.{Start, Add, Emit}
 use Rattle.sound_terms.specs.declared.block.Stretch.{Stretch}
 use Rattle.sound_terms.specs.declared.piece.Shape.{Shape}
+use Rattle.sound_terms.specs.declared.piece.Shape.TheVariants.{Flat}
 use Rattle.sound_terms.specs.Groups.{IsRamp}
 use Rattle.sound_terms.specs.Blocks.{AddsOne, FitsBlock, IsBlockProgram, IsFormed}
 
@@ -22,6 +23,16 @@ whole_fits channels one = record {
   dest_from_one = omega arith;
   dest_inside = omega arith;
   source_in_day = omega arith;
+}
+
+pub added_once : (channels : ℕ) (depth : Depth) → channels ≡ 1
+    → IsBlockProgram 4 channels depth (Start 4 ∷ Add whole Flat ∷ Emit depth ∷ [])
+added_once channels depth one = record {
+  lines = Add whole Flat ∷ [];
+  whole = refl;
+  formed = All-cons (IsFormed 4 channels) (Add whole Flat) [] (whole_fits channels one, tt)
+      (All-nil (IsFormed 4 channels));
+  added = All-cons AddsOne (Add whole Flat) [] tt (All-nil AddsOne);
 }
 
 pub added_twice : (channels : ℕ) (first second : Shape) (depth : Depth) → channels ≡ 1 → IsRamp first 4

@@ -67,6 +67,42 @@ fn heard(
     Ok(out)
 }
 
+/// What a block is handed out as that one file fills.
+fn alone(alloc: Global, samples: [i16; 4], depth: Depth) -> Result<[i32; 4], Fail> {
+    let mut shelf = four(alloc, samples)?;
+    let sounds = [open(alloc, &mut shelf, "A.wav")?];
+    if sounds[0].channels() != 1 || sounds[0].frames() != 4 {
+        return Err("another file".into());
+    }
+    let program = [
+        Instruction::Start { frames: 4 },
+        Instruction::Add {
+            stretch: WHOLE,
+            shape: Shape::Flat,
+        },
+        Instruction::Emit { depth },
+    ];
+    let mut machine = Machine::new(alloc, 1)?;
+    let mut out = [0; 4];
+    machine.run(&program, &sounds, &mut shelf, &mut out)?;
+    Ok(out)
+}
+
+#[test]
+fn a_file_alone_is_handed_out_as_it_is(rt: HostRuntime) -> Result<(), Fail> {
+    let alloc = rt.alloc();
+    let samples = [1000, -1, 32_767, -32_768];
+    assert_eq!(rt;
+        alone(alloc, samples, Depth::Sixteen)?,
+        [1000, -1, 32_767, -32_768]
+    );
+    assert_eq!(rt;
+        alone(alloc, samples, Depth::TwentyFour)?,
+        [256_000, -256, 8_388_352, -8_388_608]
+    );
+    Ok(())
+}
+
 #[test]
 fn two_equal_entries_are_twice_as_loud(rt: HostRuntime) -> Result<(), Fail> {
     let alloc = rt.alloc();

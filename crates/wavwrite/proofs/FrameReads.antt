@@ -1,38 +1,15 @@
 -- The samples of frames that were written, read where they stand.
 use Rattle.std.proofs.Common.{◌≡◌, ℕ, zero, suc, ◌+◌, ◌-◌, ◌*◌, ◌/◌, ◌%◌, ◌<◌, ◌≤◌, List, ◌++◌, length, drop, sym, ap, ◌∙◌, arith, length-append, subst}
 use Rattle.std.proofs.lemmas.List.{append_assoc, drop_at, drop-drop}
-use Rattle.std.specs.Prelude.{ℤ, pos, negsuc}
-use Rattle.std.specs.Int.{saturate_to_bits}
-use Rattle.std.proofs.lemmas.Int.{ints}
+use Rattle.std.specs.Prelude.{ℤ}
 use Rattle.sound_terms.specs.Waves.{zeros, SoundInfo, data_place, file_of, sample_at, sample_of, sample_bytes}
 use Rattle.sound_terms.specs.declared.Depth.{Depth}
-use Rattle.sound_terms.specs.declared.Depth.TheVariants.{Sixteen, TwentyFour, ThirtyTwo}
 use Rattle.sound_terms.specs.Depth.{bits_of}
 use Rattle.sound_terms.specs.Mix.{quantized}
 use Rattle.sound_terms.specs.Render.{frame_of, frames_of}
-use Rattle.pcm.specs.Samples.{FitsDepth}
-use Rattle.pcm.specs.Laws.{length-sample_bytes, sample_of-sample_bytes}
+use Rattle.pcm.specs.Laws.{fits_quantized, length-sample_bytes, sample_of-sample_bytes}
 use Rattle.wavwrite.proofs.FileInfo.{IsDepth, depth_named}
 use Rattle.wavwrite.proofs.FileReads.{sample_stands}
-
--- clipped sums fit
-fits16 : (z : ℤ) → FitsDepth 16 (saturate_to_bits 15 z)
-fits16 (pos n) = grind (arith, ints)
-fits16 (negsuc n) = grind (arith, ints)
-
-fits24 : (z : ℤ) → FitsDepth 24 (saturate_to_bits 23 z)
-fits24 (pos n) = grind (arith, ints)
-fits24 (negsuc n) = grind (arith, ints)
-
-fits32 : (z : ℤ) → FitsDepth 32 (saturate_to_bits 31 z)
-fits32 (pos n) = grind (arith, ints)
-fits32 (negsuc n) = grind (arith, ints)
-
--- a rounded sum fits its depth
-pub fits_quantized : (depth : Depth) (sum : ℤ) → FitsDepth (bits_of depth) (quantized (bits_of depth) sum)
-fits_quantized Sixteen sum = fits16 _
-fits_quantized TwentyFour sum = fits24 _
-fits_quantized ThirtyTwo sum = fits32 _
 
 -- so many samples of so many bytes
 pub length-frame_of : (depth : ℕ) (mix : ℕ → ℕ → ℤ) (time channel n : ℕ)

@@ -1,15 +1,12 @@
-use Rattle.std.proofs.Common.{◌≡◌, ◌*◌, ◌-◌, ◌++◌, [], ◌∙◌, ap, arith, drop, get_or, length, rules, subst, sym, take}
+use Rattle.std.proofs.Common.{◌≡◌, ◌*◌, ◌-◌, ◌++◌, ◌∙◌, ap, arith, drop, get_or, length, rules, subst, sym, take}
 use Rattle.std.specs.Prelude.{ℤ, pos}
 use Rattle.std.specs.Int.{w32}
-use Rattle.std.specs.List.{flat_map}
 use Rattle.std.proofs.lemmas.Int.{to_z-of_z}
-use Rattle.std.proofs.lemmas.List.{append-nil, take_all}
 use mir.Val.{SFits}
 use Rattle.sound_terms.specs.declared.Depth.TheVariants.{Sixteen}
 use Rattle.sound_terms.specs.Waves.{sample_bytes}
 use Rattle.pcm.specs.Samples.{FitsDepth}
-use Rattle.pcm.specs.Laws.{samples_again}
-use Rattle.pcm.proofs.Steps.{one_written}
+use Rattle.pcm.proofs.Steps.{one_written, written_again}
 use Rattle.pcm.proofs.pack_sixteen.Goals as goal
 
 pub write_sixteen-requires-clause-fit : goal.write_sixteen-requires-clause-fit
@@ -34,10 +31,5 @@ loop-i-preserved c =
 
 pub returns-clause-again : goal.returns-clause-again
 returns-clause-again c =
-    let samples = c.args.samples.now in
-    let all : c.loop-i.bytes ≡ flat_map (sample_bytes 16) samples ++ [] =
-    sym (take_all (c.loop-i.i * 2) c.loop-i.bytes (omega arith))
-    ∙ c.loop-i.invariant
-    ∙ ap (flat_map (sample_bytes 16)) (take_all c.loop-i.i samples (omega arith))
-    ∙ sym (append-nil (flat_map (sample_bytes 16) samples)) in
-    rw all (samples_again Sixteen samples [] c.requires.fit)
+    written_again Sixteen c.loop-i.i c.args.samples.now c.loop-i.bytes c.requires.fit (omega arith) (omega arith)
+    c.loop-i.invariant

@@ -6,10 +6,11 @@ use Rattle.std.proofs.lemmas.Int.{to_z-of_z}
 use Rattle.std.proofs.lemmas.List.{append-nil, take-append-drop, take_all}
 use borrow.Rule.Slice.PartMut.{put_mid}
 use mir.Val.{SFits}
+use Rattle.facts.specs.Parts.{length-put_mid}
 use Rattle.sound_terms.specs.declared.Depth.TheVariants.{TwentyFour}
 use Rattle.sound_terms.specs.Waves.{sample_bytes}
 use Rattle.pcm.specs.Laws.{samples_again}
-use Rattle.pcm.proofs.Steps.{length-put_mid, one_written}
+use Rattle.pcm.proofs.Steps.{one_written}
 use Rattle.pcm.proofs.pack_twenty_four.Goals as goal
 
 pub loop-i-preserved : goal.loop-i-preserved

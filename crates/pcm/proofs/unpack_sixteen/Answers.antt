@@ -1,13 +1,11 @@
-use Rattle.std.proofs.Common.{◌≡◌, ◌*◌, ◌∙◌, arith, drop, rules, sym, ap}
+use Rattle.std.proofs.Common.{◌≡◌, ◌*◌, ◌∙◌, arith, drop, rules, ap}
 use Rattle.std.specs.Int.{w32, cast_signed, cast_unsigned}
 use Rattle.std.proofs.lemmas.Int.{to_z-of_z}
-use Rattle.std.proofs.lemmas.List.{take_all, take_rest}
+use Rattle.std.proofs.lemmas.List.{take_rest}
 use mir.Val.{SFits}
 use Rattle.sound_terms.specs.declared.Depth.TheVariants.{Sixteen}
 use Rattle.sound_terms.specs.Waves.{sample_of}
-use Rattle.pcm.specs.Samples.{samples_in}
-use Rattle.pcm.specs.Laws.{all_fit, bytes_again}
-use Rattle.pcm.proofs.Steps.{one_read}
+use Rattle.pcm.proofs.Steps.{one_read, read_again, read_fit}
 use Rattle.pcm.proofs.unpack_sixteen.Goals as goal
 
 pub loop-i-preserved : goal.loop-i-preserved
@@ -21,12 +19,10 @@ loop-i-preserved c =
 
 pub returns-clause-fit : goal.returns-clause-fit
 returns-clause-fit c =
-    let all : c.loop-i.samples ≡ samples_in 16 c.loop-i.i c.args.bytes.now =
-    sym (take_all c.loop-i.i c.loop-i.samples (omega arith)) ∙ c.loop-i.invariant in
-    rw all (all_fit Sixteen c.loop-i.i c.args.bytes.now (λ k. omega (arith, c.type_inv.bytes k)))
+    read_fit Sixteen c.loop-i.i c.args.bytes.now c.loop-i.samples (λ k. omega (arith, c.type_inv.bytes k))
+    (omega arith) c.loop-i.invariant
 
 pub returns-clause-again : goal.returns-clause-again
 returns-clause-again c =
-    let all : c.loop-i.samples ≡ samples_in 16 c.loop-i.i c.args.bytes.now =
-    sym (take_all c.loop-i.i c.loop-i.samples (omega arith)) ∙ c.loop-i.invariant in
-    rw all (bytes_again Sixteen c.loop-i.i c.args.bytes.now (λ k. omega (arith, c.type_inv.bytes k)) (omega arith))
+    read_again Sixteen c.loop-i.i c.args.bytes.now c.loop-i.samples (λ k. omega (arith, c.type_inv.bytes k))
+    (omega arith) c.loop-i.invariant (omega arith)

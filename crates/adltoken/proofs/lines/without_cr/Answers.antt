@@ -3,7 +3,8 @@ use Rattle.std.specs.Prelude.{unwrap_or}
 use Rattle.std.proofs.lemmas.Bool.Decides.{Decides-eqb}
 use Rattle.std.proofs.lemmas.Slice.Eq.{strip_suffix_is}
 use Rattle.list_terms.specs.Lines.{without_cr}
-use Rattle.adltoken.proofs.FirstLine.{without_cr-cr, without_cr-other}
+use Rattle.list_terms.specs.LineLaws.{without_cr-cr}
+use Rattle.adltoken.proofs.FirstLine.{without_cr-other}
 use Rattle.adltoken.proofs.lines.without_cr.Goals as goal
 
 front_or_text :

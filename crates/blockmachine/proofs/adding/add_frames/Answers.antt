@@ -1,8 +1,8 @@
 use Rattle.std.proofs.Common.{◌≡◌, ◌≤◌, ◌+◌, ◌-◌, ◌*◌, length, arith, ◌∙◌, length-take, length-drop}
-use Rattle.std.specs.Prelude.{ℤ, pos}
+use Rattle.std.specs.Prelude.{ℤ}
 use Rattle.sound_terms.specs.Depth.{bits_of}
 use Rattle.blockmachine.proofs.Added.{channel_more}
-use Rattle.blockmachine.proofs.Places.{length-put}
+use Rattle.facts.specs.Parts.{length-put_mid}
 use Rattle.blockmachine.proofs.adding.add_frames.Goals as goal
 
 pub loop-j-preserved : goal.loop-j-preserved
@@ -19,7 +19,7 @@ loop-j-preserved c =
     let long : k ≡ stretch.length = omega arith in
     let whole : length new ≡ k = c.add_channel.auto.sums ∙ omega (arith, length-take {A = ℤ}, length-drop {A = ℤ}) in
     record {
-      same_length = length-put a k old new (pos 0) fits whole ∙ same;
+      same_length = length-put_mid a k old new fits whole ∙ same;
       added = λ reading plays before are.
           channel_more reading stretch c.args.shape before j k (bits_of c.args.depth)
           c.args.channels c.args.frames.now old new (omega arith) long

@@ -1,10 +1,10 @@
 use Rattle.std.proofs.Common.{◌≡◌, ◌≤◌, ◌+◌, ◌-◌, ◌*◌, ◌++◌, List, length, arith, sym, ap, ◌∙◌, zero-add, length-take, length-drop}
-use Rattle.std.specs.Prelude.{ℤ, pos}
+use Rattle.std.specs.Prelude.{ℤ}
 use Rattle.std.proofs.lemmas.Slice.{take-put_mid}
 use Rattle.sound_terms.specs.Depth.{bits_of}
 use Rattle.sound_terms.specs.Blocks.{block_samples, frame_samples}
 use Rattle.blockmachine.proofs.Emitted.{block_more}
-use Rattle.blockmachine.proofs.Places.{length-put}
+use Rattle.facts.specs.Parts.{length-put_mid}
 use Rattle.blockmachine.proofs.emitting.emit_frames.Goals as goal
 
 pub loop-i-preserved : goal.loop-i-preserved
@@ -22,7 +22,7 @@ loop-i-preserved c =
     let wide : k ≡ n = omega arith in
     let whole : length new ≡ k = c.emit_frame.auto.frame ∙ omega (arith, length-take {A = ℤ}, length-drop {A = ℤ}) in
     record {
-      same_length = length-put (i * n) k out new (pos 0) inside whole ∙ same;
+      same_length = length-put_mid (i * n) k out new inside whole ∙ same;
       handed = λ all are.
           take-put_mid (i * n) k out new ((i + 1) * n) (omega arith) (omega arith)
           ∙ ap (λ (l : List ℤ). l ++ new) (c.loop-i.invariant.handed all are)

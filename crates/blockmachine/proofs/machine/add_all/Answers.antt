@@ -8,7 +8,7 @@ use Rattle.sound_terms.specs.Blocks.{BlockState, executed, executed_all, PlaysFu
 use Rattle.work_terms.specs.Disk.{Files}
 use Rattle.list_terms.specs.Heard.{reading_by}
 use Rattle.blockmachine.specs.Sums.{AreSums}
-use Rattle.blockmachine.proofs.Ran.{executed_all-append}
+use Rattle.sound_terms.specs.BlockLaws.{executed_all-append}
 use Rattle.blockmachine.proofs.machine.add_all.Goals as goal
 
 pub loop-line-preserved : goal.loop-line-preserved

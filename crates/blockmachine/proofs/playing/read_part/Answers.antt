@@ -7,7 +7,8 @@ use Rattle.pcm.specs.Samples.{FitsDepth}
 use Rattle.sound_terms.specs.Mix.{Reading}
 use Rattle.blockmachine.specs.Playing.{Plays}
 use Rattle.blockmachine.proofs.Full.{full_frames}
-use Rattle.blockmachine.proofs.Played.{device_of, plays_sound, some_file}
+use Rattle.facts.specs.Tests.{some_there}
+use Rattle.blockmachine.proofs.Played.{device_of, plays_sound}
 use Rattle.blockmachine.proofs.playing.read_part.Goals as goal
 
 pub returns-in-Ok-clause-plays : goal.returns-in-Ok-clause-plays
@@ -21,7 +22,7 @@ returns-in-Ok-clause-plays g c = λ honest facts there.
     let same : sound ≡ facts = same_Some sound facts (sym found ∙ there) in
     let told = same_Some lies.facts facts (sym lies.there ∙ there) in
     let files = g.S.Shelf.stored c.args.shelf.now in
-    let file = some_file (files sound.name) (c.in-Ok.ensures.there honest) in
+    let file = some_there (files sound.name) (c.in-Ok.ensures.there honest) in
     let inside = lies.frames in
     let last = lies.channels in
     let frames = c.read_frames.new.frames in
@@ -44,7 +45,7 @@ returns-in-Ok-clause-full g c = λ honest.
     let told = same_Some lies.facts sound (sym lies.there ∙ found) in
     let files = g.S.Shelf.stored c.args.shelf.now in
     let reading : Reading = reading_by files c.args.sounds.now in
-    let file = some_file (files sound.name) (c.in-Ok.ensures.there honest) in
+    let file = some_there (files sound.name) (c.in-Ok.ensures.there honest) in
     let inside = lies.frames in
     let last = lies.channels in
     let frames = c.read_frames.new.frames in

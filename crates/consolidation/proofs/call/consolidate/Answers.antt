@@ -5,7 +5,7 @@ use Rattle.consolidation.specs.Filled.{IsFilled}
 use Rattle.consolidation.specs.Numbered.{HoldAll}
 use Rattle.consolidation.specs.Planned.{IsMediumRun}
 use Rattle.consolidation.proofs.MediaThere.{has_media, holds_medium}
-use Rattle.consolidation.proofs.Places.{holds_at}
+use Rattle.facts.specs.Lists.{holds_there}
 use Rattle.consolidation.proofs.SameSound.{sounds_the_same}
 use Rattle.consolidation.proofs.call.consolidate.Goals as goal
 
@@ -58,7 +58,7 @@ returns-clause-written g c = λ honest_shelf honest_bench.
       list = c.in_ok-write_plan.ensures.list honest_bench ∙ ap Some planned.text;
       media = λ k run there.
           holds_medium binding sources written (1 + k) run
-          (holds_at (IsMediumRun (sounds_of binding) (homes_of binding)) runs k run planned.media there)
+          (holds_there (IsMediumRun (sounds_of binding) (homes_of binding)) runs k run planned.media there)
           (filled k run there);
       others = c.in_ok-write_plan.ensures.only_writes.others honest_bench;
       media_count = search rules;

@@ -1,6 +1,7 @@
 use Rattle.std.proofs.Common.{◌≡◌, ◌*◌, length, length-take, arith, ap, ◌∙◌}
 use Rattle.std.specs.Prelude.{ℤ}
-use Rattle.sourcesamples.proofs.Frames.{read_zero, some_file}
+use Rattle.facts.specs.Tests.{some_there}
+use Rattle.sourcesamples.proofs.Frames.{read_zero}
 use Rattle.sourcesamples.proofs.zeros.is_block_zero.Goals as goal
 
 pub returns-clause-answer : goal.returns-clause-answer
@@ -9,7 +10,7 @@ returns-clause-answer g c = λ honest.
     let sound = c.args.sound.now in
     let part = c.args.part.now in
     let frames = c.read_frames.new.frames in
-    let file = some_file (files sound.name) (c.in_ok-read_frames.ensures.there honest) in
+    let file = some_there (files sound.name) (c.in_ok-read_frames.ensures.there honest) in
     let read = c.in_ok-read_frames.ensures.frames honest file.0 file.1 in
     let channels : c.from-channels.result ≡ sound.channels = c.from-channels.ensures ∙ c.channels.ensures.channels in
     let few = c.requires.few in

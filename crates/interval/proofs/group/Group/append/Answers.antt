@@ -1,8 +1,8 @@
 use Rattle.std.proofs.Common.{IsTrue}
 use Rattle.std.proofs.lemmas.List.Elements.{All-append}
 use Rattle.sound_terms.specs.Groups.{IsPiece}
+use Rattle.sound_terms.specs.GroupLaws.{IsGroup-append}
 use Rattle.sound_terms.specs.Passes.{is_followed_by}
-use Rattle.interval.proofs.Following.{IsGroup-append}
 use Rattle.interval.proofs.group.Group.append.Goals as goal
 
 pub invariant_of-self-2 : goal.invariant_of-self-2

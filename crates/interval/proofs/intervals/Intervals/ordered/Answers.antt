@@ -2,9 +2,7 @@ use Rattle.std.proofs.Common.{rules}
 use Rattle.std.specs.List.{All}
 use Rattle.std.proofs.lemmas.List.Sorted.{All-permutation, IsNonDecreasingBy-from_sort_by_key, answers_always}
 use Rattle.sound_terms.specs.Groups.{IsGroup, IsPiece, start_of}
-use Rattle.interval.proofs.SameMix.{mix_in_order}
-use Rattle.interval.proofs.SameReads.{reads_in_order}
-use Rattle.interval.proofs.SameWhole.{whole_in_order}
+use Rattle.sound_terms.specs.OrderLaws.{mix_in_order, reads_in_order, whole_in_order}
 use Rattle.interval.proofs.StartOrder.{order_rises, sorted_is_order}
 use Rattle.interval.proofs.intervals.Intervals.ordered.Goals as goal
 
@@ -22,11 +20,11 @@ invariant_of-result c = record {
 
 pub returns-clause-same_mix : goal.returns-clause-same_mix
 returns-clause-same_mix c reading channel time =
-    rw (returns-clause-order c) (mix_in_order reading c.args.groups.items channel time)
+    rw (returns-clause-order c) (mix_in_order reading channel time c.args.groups.items)
 
 pub returns-clause-same_reads : goal.returns-clause-same_reads
 returns-clause-same_reads c file channel frame =
-    rw (returns-clause-order c) (reads_in_order c.args.groups.items file channel frame)
+    rw (returns-clause-order c) (reads_in_order file channel frame c.args.groups.items)
 
 pub returns-clause-same_whole : goal.returns-clause-same_whole
 returns-clause-same_whole c = rw (returns-clause-order c) (whole_in_order c.args.groups.items)

@@ -1,5 +1,6 @@
 use Rattle.std.proofs.Common.{◌≡◌, ◌∷◌, ◌++◌, ◌<◌, [], None, arith, length}
-use Rattle.sourceindex.proofs.Places.{is_nothing, place_added, read_as}
+use Rattle.facts.specs.Tests.{not_some}
+use Rattle.sourceindex.proofs.Places.{place_added, read_as}
 use Rattle.sourceindex.proofs.bound_indexes.BoundIndexes.push.Goals as goal
 
 pub invariant_of-self-then-is_none : goal.invariant_of-self-then-is_none
@@ -12,5 +13,5 @@ invariant_of-self-then-is_none c =
     let below : index.number < length places = omega (arith, c.if-number-len.true, c.self.inside.places.ok.0) in
     let free =
     read_as places index.number c.index.result.now None None below c.index.ensures
-    (is_nothing c.index.result.now c.if-is_none.ensures) in
+    (not_some c.index.result.now c.if-is_none.ensures) in
     rw (pushed, place) (place_added indexes places index c.self.invariant below free)

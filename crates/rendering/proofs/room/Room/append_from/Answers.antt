@@ -1,11 +1,11 @@
 use Rattle.std.proofs.Common.{rules}
 use Rattle.rendering.proofs.Played.{not_output, told_output}
-use Rattle.rendering.proofs.playing.append_block.Goals as goal
+use Rattle.rendering.proofs.room.Room.append_from.Goals as goal
 
-pub returns-in_err-play_block-clause-only_writes :
-    goal.returns-in_err-play_block-clause-only_writes
-returns-in_err-play_block-clause-only_writes g c =
-    let not = not_output c.in_err-play_block.field-0.0 c.in_err-play_block.ensures.own in
+pub returns-in_err-end-clause-only_writes :
+    goal.returns-in_err-end-clause-only_writes
+returns-in_err-end-clause-only_writes g c =
+    let not = not_output c.in_err-end.field-0.0 c.in_err-end.ensures.own in
     search rules
 
 pub returns-in_err-append-clause-only_writes : goal.returns-in_err-append-clause-only_writes

@@ -1,0 +1,55 @@
+use Rattle.std.proofs.Common.{◌≡◌, ℕ, List, [], ◌∷◌, Some, length, get_or, refl, sym, ap, ◌∙◌, arith}
+use Rattle.std.specs.Prelude.{slice_get}
+use Rattle.std.proofs.lemmas.Bool.Decides.{nat_tests}
+use Rattle.std.proofs.lemmas.Option.{slice_get_read, slice_get_within}
+use Rattle.std.proofs.lemmas.List.Elements.{All-head}
+use Rattle.sound_terms.specs.declared.block.Stretch.{Stretch}
+use Rattle.sound_terms.specs.declared.block.Instruction.{Instruction}
+use Rattle.sound_terms.specs.declared.block.Instruction.TheVariants.{Start, Add}
+use Rattle.sound_terms.specs.declared.piece.Shape.TheVariants.{Flat}
+use Rattle.sound_terms.specs.Blocks.{LiesInFiles}
+use Rattle.sound_terms.specs.Media.{LiesInFile}
+use Rattle.blockmachine.specs.Alone.{filling}
+use Rattle.blockmachine.proofs.alone.fills_alone.Goals as goal
+
+-- a list of one
+alone : (lines : List Instruction) (line : Instruction) → length lines ≡ 1 → get_or lines 0 (Start 0) ≡ line
+    → lines ≡ line ∷ []
+alone [] line one is = absurd (omega (arith, one))
+alone (first ∷ []) line one is = ap (λ (l : Instruction). l ∷ []) is
+alone (first ∷ (second ∷ lines)) line one is = absurd (omega (arith, one))
+
+-- a stretch of these parts
+by_parts : (s : Stretch) (at length first dest width : ℕ) → s.at ≡ at → s.length ≡ length → s.first ≡ first
+    → s.dest ≡ dest → s.width ≡ width
+    → s ≡ record s { at = at; length = length; first = first; dest = dest; width = width }
+by_parts s at length first dest width a b c d e = rw (sym a, sym b, sym c, sym d, sym e) refl
+
+pub returns : goal.returns
+returns c =
+    let stretch = c.in_ok-stretch.stretch in
+    let same = c.if-ne.ensures in
+    let at : stretch.at ≡ 0 = grind (arith, nat_tests) in
+    let long : stretch.length ≡ c.args.frames = grind (arith, nat_tests) in
+    let first : stretch.first ≡ 1 = grind (arith, nat_tests) in
+    let dest : stretch.dest ≡ 1 = grind (arith, nat_tests) in
+    let wide : stretch.width ≡ c.args.channels = grind (arith, nat_tests) in
+    let sound = c.index-sounds-stretch.result in
+    let lines : c.args.lines.now ≡ Add stretch Flat ∷ [] =
+    alone c.args.lines.now (Add stretch Flat) (omega (arith, c.in-len1.len_at_least, c.in-len1.len_below))
+    c.in_ok-stretch.ensures in
+    let lies : LiesInFile c.args.sounds.now stretch.file stretch.first stretch.width stretch.frame stretch.length =
+    All-head (LiesInFiles c.args.sounds.now) (Add stretch Flat) [] (rw lines at c.requires.inside) in
+    let found : slice_get c.args.sounds.now stretch.file ≡ Some sound =
+    slice_get_read c.args.sounds.now (length c.args.sounds.now) stretch.file sound refl
+    (slice_get_within c.args.sounds.now stretch.file lies.facts lies.there) c.index-sounds-stretch.is in
+    let parts : stretch ≡ filling stretch.file stretch.frame c.args.frames c.args.channels =
+    by_parts stretch 0 c.args.frames 1 1 c.args.channels at long first dest wide in
+    record {
+      alone = lines ∙ ap (λ (s : Stretch). Add s Flat ∷ []) parts;
+      whole = refl;
+      facts = sound;
+      there = found;
+      channels_alike = sym c.channels.ensures.channels ∙ c.if-channels.false;
+      depth_alike = grind arith;
+    }

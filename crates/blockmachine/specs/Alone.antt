@@ -1,0 +1,31 @@
+-- A block that one file fills as it is.
+use Rattle.std.specs.Prelude.{◌≡◌, ℕ, List, [], ◌∷◌, Some, slice_get}
+use Rattle.sound_terms.specs.declared.Depth.{Depth}
+use Rattle.sound_terms.specs.declared.block.Stretch.{Stretch}
+use Rattle.sound_terms.specs.declared.block.Instruction.{Instruction}
+use Rattle.sound_terms.specs.declared.block.Instruction.TheVariants.{Add}
+use Rattle.sound_terms.specs.declared.piece.Shape.TheVariants.{Flat}
+use Rattle.sound_terms.specs.Depth.{bits_of}
+use Rattle.sound_terms.specs.Sounds.{SoundFacts}
+
+-- so many frames of a file, from this one on, on as many channels from the first on
+abbrev pub filling : (file frame frames channels : ℕ) → Stretch
+filling file frame frames channels = record {
+  at = 0;
+  length = frames;
+  frame = frame;
+  file = file;
+  first = 1;
+  dest = 1;
+  width = channels;
+}
+
+-- nothing but this stretch is added, without a fade: so many frames, with all channels of a file of this depth
+pub record FillsAlone (sounds : List SoundFacts) (frames channels : ℕ) (depth : Depth) (lines : List Instruction)
+    (stretch : Stretch) : Type 0 where
+  pub alone : lines ≡ Add stretch Flat ∷ []
+  pub whole : stretch ≡ filling stretch.file stretch.frame frames channels
+  pub facts : SoundFacts
+  pub there : slice_get sounds stretch.file ≡ Some facts
+  pub channels_alike : facts.channels ≡ channels
+  pub depth_alike : facts.depth ≡ bits_of depth

@@ -1,0 +1,59 @@
+// Blocks that one file fills as it is.
+ghost use Rattle.std.specs.Prelude.{◌≡◌, ◌≤◌, IfSome};
+ghost use Rattle.std.specs.List.{All};
+ghost use Rattle.sound_terms.specs.Blocks.{LiesInFiles};
+ghost use Rattle.sound_terms.specs.declared.block.Instruction.TheVariants.{Add};
+ghost use Rattle.sound_terms.specs.declared.piece.Shape.TheVariants.{Flat};
+ghost use Rattle.blockmachine.specs.Alone.{FillsAlone};
+
+use sound_terms::{Depth, Instruction, Shape, Stretch};
+use wavread::Sound;
+
+/// The stretch that an instruction adds without a fade.
+fn flat_stretch(line: &Instruction) -> Option<Stretch>
+    ensures { IfSome result (λ stretch. line.now ≡ Add stretch Flat) }
+{
+    match line {
+        Instruction::Add {
+            stretch,
+            shape: Shape::Flat,
+        } => Some(*stretch),
+        _ => None,
+    }
+}
+
+/// The flat stretch that alone fills a block of so many frames, with all channels of a file of this depth. `None` where
+/// more is to be done than to hand its frames out.
+pub fn fills_alone(
+    lines: &[Instruction],
+    frames: usize,
+    channels: usize,
+    depth: Depth,
+    sounds: &[Sound],
+) -> Option<Stretch>
+    requires few_frames { frames ≤ 4096 }
+    requires few_channels { channels ≤ 64 }
+    requires inside { All (LiesInFiles sounds.now) lines.now }
+    ensures { IfSome result (FillsAlone sounds.now frames channels depth lines.now) }
+{
+    let [line] = lines else {
+        return None;
+    };
+    let stretch = flat_stretch(line)?;
+    let filling = Stretch {
+        at: 0,
+        length: frames as u32,
+        first: 1,
+        dest: 1,
+        width: channels as u8,
+        ..stretch
+    };
+    let sound = &sounds[stretch.file as usize];
+    if stretch != filling {
+        return None;
+    }
+    if sound.channels() as usize != channels || sound.depth().bits() != depth.bits() {
+        return None;
+    }
+    Some(filling)
+}

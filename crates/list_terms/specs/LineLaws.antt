@@ -1,0 +1,10 @@
+-- Laws of the ends of lines.
+use Rattle.std.specs.Prelude.{◌≡◌, ℕ, List, [], ◌∷◌, ◌++◌, refl}
+use Rattle.std.proofs.Common.{ap}
+use Rattle.list_terms.specs.Lines.{without_cr}
+
+-- CR at the end goes
+pub without_cr-cr : (text : List ℕ) → without_cr (text ++ (13 ∷ [])) ≡ text
+without_cr-cr [] = refl
+without_cr-cr (b ∷ []) = refl
+without_cr-cr (b ∷ c ∷ text) = ap (λ t. b ∷ t) (without_cr-cr (c ∷ text))
