@@ -10,6 +10,7 @@ CUT_FRAMES = 50_000
 SECOND = 48_000
 SECONDS = 1800
 MANY = 32_767
+MOST_SECONDS = 60
 
 
 def medium(number: int) -> str:
@@ -31,8 +32,8 @@ def sox_cutting(source: Path, target: Path) -> list:
     return ["sox", source, target, "trim", "0", f"{CUT_FRAMES}s", ":", "newfile", ":", "restart"]
 
 
-def thousand_cuts(bench: Bench) -> list:
-    """One source of 100 MB in 1,000 media, each of which leaves out a frame."""
+def thousand_cuts(bench: Bench) -> tuple:
+    """One source of 100 MB in 1,000 media, each of which leaves out a frame; and the seconds that a sync takes."""
     block = block_of(CUT_FRAMES, 1, 16)
     source = bench.media() / "A.wav"
     make_sound(source, block, CUTS)
@@ -48,7 +49,8 @@ def thousand_cuts(bench: Bench) -> list:
     })
     price = costs["synced"].seconds / costs["unsynced"].seconds
     peers = costs["cp"], costs["sox"]
-    return [
+    each = (costs["synced"].seconds - costs["unsynced"].seconds) / (2 * CUTS)
+    return each, [
         line("`consolidate`: 100 MB in 1,000 media", costs["synced"], peers),
         line(f"the same without syncs: with them it takes {price:.1f} times as long", costs["unsynced"], peers),
         line("`cp` of the source", costs["cp"], (None, None)),
@@ -72,7 +74,7 @@ def half_hour(bench: Bench) -> list:
     ]
 
 
-def many_entries(bench: Bench) -> list:
+def many_entries(bench: Bench, sync_seconds: float) -> list:
     """As many entries as there may be: that join to one, lie apart, lie on one moment, or make as many media; and the
     memory of each entry beyond a list of one."""
     frames = 4 * MANY
@@ -86,7 +88,7 @@ def many_entries(bench: Bench) -> list:
     }
     least = cost_over(bench, [Cut(0, 0, 4)]).kilobytes
     lines = [entries_line(kind, cost_over(bench, cuts), least) for kind, cuts in kinds.items()]
-    return lines + many_media(bench, least)
+    return lines + many_media(bench, least, sync_seconds)
 
 
 def cost_over(bench: Bench, cuts: list):
@@ -100,19 +102,20 @@ def entries_line(kind: str, cost, least: int) -> str:
     return line(f"`consolidate`: 32,767 entries {kind}, {each} bytes each", cost, (None, None))
 
 
-def many_media(bench: Bench, least: int) -> list:
-    """Each entry in a medium of its own. With syncs it runs once, since that takes long."""
+def many_media(bench: Bench, least: int, sync_seconds: float) -> list:
+    """Each entry in a medium of its own. It runs once, with syncs not at all where these take too long."""
     text = bench.put(list_text(Cut(4 * place, 5 * place, 3) for place in range(MANY)))
     words = bench.words("consolidate", text, "--handle", "0")
     log = bench.folder / "syncs"
     look = look_at_count(MANY)
-    unsynced = bench.costs_of({"one": Job([*bench.unsynced, *words], look)})["one"]
-    bench.cost_of(Job(["env", f"SYNC_LOG={log}", *bench.unsynced, *words], look))
+    unsynced = bench.cost_of(Job(["env", f"SYNC_LOG={log}", *bench.unsynced, *words], look))
     syncs = sum(told.startswith("sync ") for told in log.read_text().splitlines())
-    return [
-        entries_line("in as many media, without syncs", unsynced, least),
-        entries_line(f"in as many media, {syncs:,} syncs", bench.cost_of(Job(words, look)), least),
-    ]
+    lines = [entries_line("in as many media, without syncs", unsynced, least)]
+    if syncs * sync_seconds > MOST_SECONDS:
+        more = f"some {syncs * sync_seconds:.0f} seconds more at this disk's pace"
+        told = f"the same with {syncs:,} syncs, left out: {more}"
+        return [*lines, f"| {told} |  |  |  |  |"]
+    return [*lines, entries_line(f"in as many media, {syncs:,} syncs", bench.cost_of(Job(words, look)), least)]
 
 
 def look_at_count(media: int):
@@ -123,7 +126,9 @@ def look_at_count(media: int):
 
 
 def lines(bench: Bench) -> list:
+    half = half_hour(bench)
+    sync_seconds, thousand = thousand_cuts(bench)
     return [
         *table("Job", "Seconds", "Peak memory, KB", "Time to `cp`", "Time to `sox`"),
-        *half_hour(bench), *thousand_cuts(bench), *many_entries(bench),
+        *half, *thousand, *many_entries(bench, sync_seconds),
     ]

@@ -12,7 +12,7 @@ from typing import Callable, Iterable, NamedTuple, Optional
 
 TOP = Path(__file__).resolve().parent.parent
 MOST_RUNS = 3
-LONG_ENOUGH = 6
+LONG_ENOUGH = 3
 SPOTS = 1000
 FULL_DEPTH = 48
 RATE = 48_000
