@@ -140,12 +140,12 @@ def on_small_disk(body: Callable[[Scene], None]):
 
 def full_disk_rendered(scene: Scene) -> None:
     put_long(scene, 1)
-    same_outcome(scene.run("render", LIST, MEDIA, OUT), 1, "refused 62 at file render.wav")
+    same_outcome(scene.run("render", LIST, MEDIA, OUT), 1, "refused 66 at job 2")
 
 
 def full_disk_consolidated(scene: Scene) -> None:
     put_long(scene, 2)
-    same_outcome(scene.run("consolidate", LIST, MEDIA, OUT), 1, "refused 62 at file M00001.wav")
+    same_outcome(scene.run("consolidate", LIST, MEDIA, OUT), 1, "refused 66 at job 0")
     if "consolidated.adl" in scene.files():
         raise Mismatch("there is a list on a full disk")
 

@@ -11,6 +11,7 @@ from harness import Mismatch, Scene, Skipped, Suite, same, same_bytes
 
 TOP = Path(__file__).resolve().parent.parent
 DOCS = TOP / "docs"
+SHARE = TOP / "share"
 PAGES = (TOP / "README.md", *sorted(DOCS.glob("*.md")), *sorted((TOP / "examples").glob("*/README.txt")))
 TIMEOUT = 60
 
@@ -80,7 +81,7 @@ def distinct(words: list) -> list:
 def man_page(scene: Scene) -> None:
     """The page knows each command and each option that help names, and no other."""
     options = helped(scene)
-    page = (DOCS / "adlcons.1").read_text().replace("\\-", "-")
+    page = (SHARE / "adlcons.1").read_text().replace("\\-", "-")
     same("the commands of the man page", re.findall(r"^\.B adlcons ([a-z]+)$", page, re.M), list(options))
     synopsis = page[page.index(".SH SYNOPSIS"):page.index(".SH DESCRIPTION")]
     for command, part in zip(options, synopsis.split(".B adlcons ")[1:]):
@@ -94,7 +95,7 @@ def man_page(scene: Scene) -> None:
 def man_shows_page(_: Scene) -> None:
     if not shutil.which("man"):
         raise Skipped("man isn't installed (Debian package man-db)")
-    done = subprocess.run(["man", "--warnings", "-l", DOCS / "adlcons.1"], capture_output=True, timeout=TIMEOUT)
+    done = subprocess.run(["man", "--warnings", "-l", SHARE / "adlcons.1"], capture_output=True, timeout=TIMEOUT)
     same("what man warns of", (done.returncode, done.stderr), (0, b""))
 
 
@@ -107,7 +108,7 @@ def completed(scene: Scene, *words: str) -> list:
     script = 'PATH="$1:$PATH"; . "$2"; shift 2; COMP_WORDS=("$@"); COMP_CWORD=$(($# - 1)); _adlcons; ' \
              'printf "%s\\n" "${COMPREPLY[@]}"'
     done = subprocess.run(
-        ["bash", "-c", script, "bash", path, DOCS / "adlcons.bash", "adlcons", *words], cwd=scene.folder,
+        ["bash", "-c", script, "bash", path, SHARE / "adlcons.bash", "adlcons", *words], cwd=scene.folder,
         check=True, capture_output=True, timeout=TIMEOUT)
     return done.stdout.decode().split()
 
@@ -139,6 +140,21 @@ def named_files(_: Scene) -> None:
                 raise Mismatch(f"{page.relative_to(TOP)} names {name}, which isn't there")
 
 
+def wrong_bodies(_: Scene) -> None:
+    """Each wrong body beside the gate changes a text that stands once in its crate."""
+    for edit in sorted((TOP / "tests/wrong").glob("*/*.edit")):
+        text = ""
+        for line in edit.read_text().splitlines():
+            word, _, rest = line.partition(": ")
+            if word == "file":
+                text = (TOP / "crates" / edit.parent.name / rest).read_text()
+            elif word == "old":
+                same(f"how often the text of {edit.parent.name}/{edit.name} stands", text.count(rest), 1)
+                old = rest
+            elif word == "new":
+                text = text.replace(old, rest)
+
+
 def run(suite: Suite) -> None:
     suite.case("the transcript of README.md", transcript)
     suite.case("the commands of MANY_MACHINES.md", many_machines)
@@ -147,3 +163,4 @@ def run(suite: Suite) -> None:
     suite.case("man shows the page", man_shows_page)
     suite.case("the completion", completion)
     suite.case("the files that pages name", named_files)
+    suite.case("the wrong bodies beside the gate", wrong_bodies)

@@ -1,11 +1,13 @@
 """Entries that are refused by number, and the empty range."""
 
 import resource
+import shutil
 from functools import partial
 
 import model
 from harness import (
-    Scene, Suite, expect_done, expect_line, expect_refused, same, same_files, same_outcome, words_of,
+    OUT, Scene, Skipped, Suite, expect_done, expect_line, expect_refused, same, same_bytes, same_outcome,
+    words_of,
 )
 from tables import FIRST_LIST, data_chunk, format_chunk, riff_file, wave
 
@@ -17,6 +19,11 @@ MEDIA = {
     "C.wav": riff_file(format_chunk(channels=3), data_chunk([1, 20, 300, -1, -20, -300, 2, 40, 600])),
 }
 LONGEST_AT_16_BITS = 2_147_483_306
+
+# How a mono file of one frame more begins: RF64 with its `ds64` (EBU Tech 3306), then `bext`.
+RF64_HEAD = bytes.fromhex(
+    "52463634 ffffffff 57415645 64733634 1c000000 0000000001000000 56fdffff00000000 abfeff7f00000000 00000000"
+    "62657874 5a020000")
 
 
 def sample(value: int) -> bytes:
@@ -128,14 +135,23 @@ def empty_range(scene: Scene) -> None:
         expect_line(scene, "consolidate", text, MEDIA, "written 0 media 0 entries")
 
 
-def too_long(scene: Scene) -> None:
-    """One frame more than a RIFF file can tell is 61, also where there is no memory for so many sums."""
-    begin = LONGEST_AT_16_BITS + 1
-    scene.put(over(MIDNIGHT, entry(1, 0, 0, 0), entry(2, 0, begin, begin)), MEDIA)
+def past_4_gb(scene: Scene) -> None:
+    """One frame more than the size field of RIFF can tell is written as RF64, byte for byte as its table has it."""
+    frames = LONGEST_AT_16_BITS + 1
+    if shutil.disk_usage(scene.folder).free < 3 * frames:
+        raise Skipped("the disk has no room for a file past 4 GB")
+    scene.put(over(MIDNIGHT, entry(1, 0, 0, 4), entry(2, 0, frames - 4, frames)), MEDIA)
     limit = partial(resource.setrlimit, resource.RLIMIT_AS, (MEMORY_LIMIT, MEMORY_LIMIT))
     got = scene.run(*words_of("render", model.Options(depth=16)), preexec_fn=limit)
-    same_outcome(got, 1, "refused 61")
-    same_files(scene.files(), {})
+    same_outcome(got, 0, f"rendered {frames} frames 1 channels")
+    with open(scene.folder / OUT / "render.wav", "rb") as file:
+        head = file.read(690)
+        same("the sound's first bytes", file.read(10), bytes.fromhex("e803 18fc ff7f 0080 0000"))
+        file.seek(-10, 2)
+        same("its last bytes", file.read(), bytes.fromhex("0000 e803 18fc ff7f 0080"))
+        same("the length", file.tell(), 690 + 2 * frames)
+    same_bytes("the head", head[:56], RF64_HEAD)
+    same_bytes("the head of the samples", head[682:], bytes.fromhex("64617461 ffffffff"))
 
 
 def further_faults(scene: Scene) -> None:
@@ -169,6 +185,6 @@ def run(suite: Suite) -> None:
     for name, text in ACCEPTED.items():
         suite.case(f"entry accepted: {name}", accepted(text))
     suite.case("an empty range", empty_range)
-    suite.case("a file too long for RIFF", too_long)
+    suite.case("a file past 4 GB", past_4_gb)
     suite.case("the order of refusals", list_before_files)
     suite.case("further faults", further_faults)

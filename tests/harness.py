@@ -97,15 +97,25 @@ FURTHER = r"%s(?:: [^\n]+)?\n"
 SAVED = r"of (\d+) bytes of samples in the sources (\d+) are kept; (\d+) bytes were written\n"
 
 
+NOTICE = r"notice %d: [^\n]+ \(adlcons explain notice %d\)\n"
+
+
+def meanings_of(notices: tuple) -> str:
+    """What standard error says of notices: each kind once, in a line."""
+    kinds = sorted({int(notice.split()[1]) for notice in notices})
+    return "".join(NOTICE % (kind, kind) for kind in kinds)
+
+
 def same_outcome(got: Outcome, status: int, line: str, notices: tuple = (), further: tuple = ()) -> None:
     """Notices and one line on standard output. On standard error one line that explains the refusal, with one for each
-    further fault, or one that tells what a consolidation saved; else nothing."""
+    further fault; or one that tells what a consolidation saved, and one for each kind of notice."""
     same("standard output", got.output.decode(), "".join(f"{each}\n" for each in (*notices, line)))
     if status == 1:
         told = "".join(FURTHER % re.escape(each) for each in further)
         same_shape(f"the explanation of {line}", got.error, EXPLANATION % int(line.split()[1]) + told)
     else:
-        same_shape("standard error", got.error, SAVED if line.startswith("written") else "")
+        saved = SAVED if line.startswith("written") else ""
+        same_shape("standard error", got.error, saved + meanings_of(notices))
     same("the status", got.status, status)
 
 
@@ -118,7 +128,7 @@ def same_answer(got: Outcome, wanted: model.Answer) -> None:
     """What was printed, and the status."""
     same_outcome(got, wanted.status, wanted.line, wanted.notices, wanted.further)
     if wanted.saved is not None:
-        told = tuple(map(int, re.fullmatch(SAVED, got.error.decode()).groups()))
+        told = tuple(map(int, re.match(SAVED, got.error.decode()).groups()))
         same("the bytes of samples in the sources, those kept, and all that were written", told, wanted.saved)
 
 

@@ -94,8 +94,6 @@ def long_day(scene: Scene) -> None:
     got = scene.run(*words_of("consolidate", model.Options(handle=model.DAY)))
     same_outcome(got, 0, "written 1 media 2 entries")
     same_outcome(scene.run("render", LIST, MEDIA, MEDIA), 1, f"refused 20 at file {MEDIA}")
-    scene.empty_out()
-    same_outcome(scene.run(*words_of("render")), 1, "refused 61")
     if processor_seconds() - before > 2:
         raise Mismatch("a long day takes long")
 

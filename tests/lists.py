@@ -99,6 +99,7 @@ FURTHER_LINES = {
     "another sample rate": (3, b"(SEQ_SAMPLE_RATE) S44100", "12 at line 4"),
     "no sample rate told": (3, b"(SEQ_SAMPLE_RATE)", "10 at line 4"),
     "another frame rate": (4, b"(SEQ_FRAME_RATE) 25.01", "12 at line 5"),
+    "a second frame rate": (4, b"(SEQ_FRAME_RATE) 24", "12 at line 5"),
     "an empty frame rate": (4, b'(SEQ_FRAME_RATE) ""', "12 at line 5"),
     "an index again": (7, SOURCE, "14 at line 8 index 1"),
     "an index's number again": (7, b"(Index) 1 broken", "14 at line 8 index 1"),
@@ -154,6 +155,10 @@ ACCEPTED = {
     "an identifier": changed(7, SOURCE.replace(b'" _', b'" "a (take) \xe9"')),
     "a frame rate with a point": changed(4, b"(SEQ_FRAME_RATE) 25."),
     "a frame rate with zeros": changed(4, b"(SEQ_FRAME_RATE) 25.000"),
+    "24 frames": changed(4, b"(SEQ_FRAME_RATE) 24"),
+    "30 frames, told twice": changed(4, b"(SEQ_FRAME_RATE) 30.\n(SEQ_FRAME_RATE) 30.00"),
+    "the last time of a second at 30 frames": changed(4, b"(SEQ_FRAME_RATE) 30").replace(
+        MIDNIGHT + b" _", b"00.00.04.29/1590 _").replace(b" " + MIDNIGHT + b" 01", b" 00.00.04.29/1590 01"),
     "no letter before the sample rate": changed(3, b"(SEQ_SAMPLE_RATE) 48000"),
     "blank lines": b"\n \n" + FIRST_LIST.replace(b"\n", b"\n\t\n"),
     "remarks before and behind entries": with_line_after(9, b"(Rem) reel 1").replace(ENTRY, ENTRY + b"\n(rem) (x) 1"),
@@ -254,7 +259,7 @@ def dropped_lines(scene: Scene) -> None:
 def columns(scene: Scene) -> None:
     """Standard error tells the column of a fault, counted from 1 in bytes, and what stands there."""
     for text, line, at in (
-        (changed(4, b"(SEQ_FRAME_RATE) 24"), 4, b"24"),
+        (changed(4, b"(SEQ_FRAME_RATE) 29.97"), 4, b"29.97"),
         (changed(7, SOURCE.replace(b"URL:file://localhost", b"http://a")), 7, b'"http://a/A.wav"'),
         (changed(7, SOURCE.replace(MIDNIGHT, b"00.00.00.25/0000")), 7, b"00.00.00.25/0000"),
         (changed(7, SOURCE[:-1] + b"4"), 7, b"4"),

@@ -6,7 +6,7 @@ import subprocess
 from pathlib import Path
 
 import model
-from dice import Dice
+from random_projects import Dice
 from harness import LIST, MEDIA, Mismatch, Scene, Skipped, Suite, same, same_bytes
 
 MAKEFILE = Path(__file__).resolve().parent.parent / "examples" / "many_machines" / "Makefile"

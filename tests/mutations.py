@@ -3,7 +3,7 @@
 import re
 
 import model
-from dice import Dice
+from random_projects import Dice
 from harness import Scene, Suite, expect_answer
 
 MUTATIONS = 40

@@ -151,9 +151,11 @@ def missing_media(scene: Scene) -> None:
     prepared(scene)
     for words in (("check", LIST, "none"), ("render", LIST, "none", OUT), ("consolidate", LIST, "none", OUT)):
         got = scene.run(*words)
-        told, _, explained = got.error.partition(b"\n")
+        explained, told = got.error.splitlines(keepends=True)
         same_outcome(Outcome(got.status, got.output, explained), 1, "refused 21 at index 1 file A.wav")
-        same_shape("what is told of the folder", told, r"[^\n]*none[^\n]*No such file or directory[^\n]*")
+        same_shape("what is told of the folder", told, r"[^\n]*none[^\n]*No such file or directory[^\n]*\n")
+    late = scene.run("render", LIST, "none", OUT, "--from=1")
+    same("a bad time first", late, Outcome(2, b"", b"bad time: --from\n"))
     same_files(scene.files(), {})
 
 

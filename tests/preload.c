@@ -1,7 +1,7 @@
 /* Loaded before the program. It syncs nothing; SYNC_LOG names a file where syncs and prints are written down, and SYNC_FAILS
    is the sync that fails, from 1. INPUT says how standard input is read: 'slow' a byte at a time, with an interruption before
    each, 'broken' so and failing at the tenth byte, 'endless' as spaces that never end. SLOW is how many microseconds each
-   write at a place of a file takes. */
+   write at a place of a file takes, and WRITE_FAILS the first of these writes that fails, as all behind it do. */
 #define _GNU_SOURCE
 #include <dlfcn.h>
 #include <errno.h>
@@ -78,6 +78,9 @@ ssize_t pwrite(int fd, const void *bytes, size_t count, off_t place) {
     const char *slow = getenv("SLOW");
     if (!next) next = (ssize_t (*)(int, const void *, size_t, off_t))dlsym(RTLD_NEXT, "pwrite");
     if (slow) usleep((useconds_t)atoi(slow));
+    const char *fails = getenv("WRITE_FAILS");
+    static int writes;
+    if (fails && ++writes >= atoi(fails)) return failed(EIO);
     return next(fd, bytes, count, place);
 }
 

@@ -3,11 +3,9 @@
 import os
 import pty
 import re
-import resource
 import select
 import subprocess
 import time
-from functools import partial
 from typing import NamedTuple
 
 import model
@@ -16,8 +14,8 @@ from harness import (
 )
 from tables import wave
 
-APPENDED = 16 * 4096
-APPENDS = 10
+BLOCK = 4096
+BLOCKS = 10
 STRETCHES = 20
 STRETCH = 100
 PIECES = 8
@@ -73,8 +71,8 @@ def without_lines(shown: Shown, whole: int) -> bytes:
     return found.group(4)
 
 
-def put_sound(scene: Scene, frames: int = APPENDS * APPENDED) -> int:
-    """A list that plays all of a file of so many frames, which are written some at once; these frames."""
+def put_sound(scene: Scene, frames: int = BLOCKS * BLOCK) -> int:
+    """A list that plays all of a file of so many frames, few enough that each block is a job; these frames."""
     nothing = b"00.00.00.00/0000"
     text = model.list_text(
         [model.source_line(1, "A.wav", nothing)],
@@ -128,15 +126,13 @@ def long_medium(scene: Scene) -> None:
 
 
 def refused(scene: Scene) -> None:
-    """Where a device fails later on, the line is taken off before the refusal is explained."""
+    """Where a job fails later on, the line is taken off before the refusal is explained."""
     frames = put_sound(scene)
-    size = 3 * APPENDED * (APPENDS - 2)
-    limit = partial(resource.setrlimit, resource.RLIMIT_FSIZE, (size, size))
-    shown = on_terminal(
-        scene, words_of("render"), env=preloaded(scene, **SLOWER), preexec_fn=limit, restore_signals=False)
+    shown = on_terminal(scene, words_of("render"), env=preloaded(scene, WRITE_FAILS=str(BLOCKS), **SLOWER))
     rest = without_lines(shown, frames)
-    same_shape("the explanation", rest, EXPLANATION % 62)
-    same("standard output", shown.outcome.output, b"refused 62 at file render.wav\n")
+    same_shape("the explanation", rest, EXPLANATION % 66)
+    if not re.fullmatch(rb"refused 66 at job \d+\n", shown.outcome.output):
+        raise Mismatch(f"standard output: {shown.outcome.output!r}")
     same("the status", shown.outcome.status, 1)
 
 

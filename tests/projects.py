@@ -1,7 +1,7 @@
 """Random projects against the model, and what consolidation promises: the same sums over the new media."""
 
 import model
-from dice import Dice
+from random_projects import Dice
 from harness import MEDIA, Mismatch, Scene, Suite, expect_answer, same, same_bytes, same_files, words_of
 from tables import FIRST_LIST, wave
 
@@ -32,8 +32,9 @@ def same_sums(text: bytes, media: dict, new_text: bytes, new_media: dict) -> Non
 
 def whole_range(text: bytes, media: dict, options: model.Options) -> model.Options:
     """The same options with the list's own range and channels told, so that another list is rendered to the same."""
-    part = model.range_of(model.accepted(text, media)[0], options)
-    begin, end = (model.time_text(value).decode() for value in (part.begin, part.end))
+    project = model.accepted(text, media)[0]
+    part = model.range_of(project, options)
+    begin, end = (model.time_text(value, rate=project.rate).decode() for value in (part.begin, part.end))
     return options._replace(begin=begin, end=end, channels=part.channels)
 
 

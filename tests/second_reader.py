@@ -4,6 +4,7 @@ It goes over each line by one expression for a token, and over each kind of line
 """
 
 import re
+from functools import partial
 from typing import NamedTuple, Optional
 
 TOKEN = re.compile(rb"""[ \t]*(?: "(?P<quoted>[^"\r]*)" | \((?P<keyword>[!#-'*-~]+)\) | (?P<word>[!#-'*-~]+) )""", re.X)
@@ -90,22 +91,22 @@ def number_in(token: Piece) -> Optional[int]:
     return int(says) if is_one else None
 
 
-def time_in(token: Piece) -> Optional[tuple]:
-    """The samples since midnight, and the four separators."""
+def time_in(token: Piece, rate: int) -> Optional[tuple]:
+    """The samples since midnight, and the four separators, at so many frames a second."""
     parts = re.split(rb"([:;.,|=/])", token.says)
     if list(map(len, parts)) != [2, 1, 2, 1, 2, 1, 2, 1, 4] or not b"".join(parts[::2]).isdigit():
         return None
     clock = [int(part) for part in parts[::2]]
-    if any(part >= limit for part, limit in zip(clock, (24, 60, 60, 25, 1920))) and clock != [24, 0, 0, 0, 0]:
+    if any(part >= limit for part, limit in zip(clock, (24, 60, 60, rate, 48_000 // rate))) and clock != [24, 0, 0, 0, 0]:
         return None
     samples = 0
-    for part, size in zip(clock, (1, 60, 60, 25, 1920)):
+    for part, size in zip(clock, (1, 60, 60, rate, 48_000 // rate)):
         samples = samples * size + part
     return samples, b"".join(parts[1::2])
 
 
-def time_or_none(token: Piece) -> Optional[tuple]:
-    return (None, b"") if token.says == b"_" else time_in(token)
+def time_or_none(token: Piece, rate: int) -> Optional[tuple]:
+    return (None, b"") if token.says == b"_" else time_in(token, rate)
 
 
 def channels_in(token: Piece) -> Optional[tuple]:
@@ -144,7 +145,10 @@ def in_parentheses(name: bytes):
 class Reading:
     """A list as far as it was read. `place` is what a refusal tells behind the line."""
 
-    def __init__(self):
+    def __init__(self, rate: int):
+        self.rate = rate
+        self.time = partial(time_in, rate=rate)
+        self.time_or_none = partial(time_or_none, rate=rate)
         self.held, self.sources, self.entries, self.notices = {}, {}, {}, []
         self.opened, self.rates, self.faded = set(), set(), set()
         self.separators, self.place, self.last_entry = b".../", "", None
@@ -183,7 +187,7 @@ class Reading:
             raise Stop(stop.args[0], number) from stop
 
     def system(self, head: Piece, row: Row, _: int) -> None:
-        fits = {b"SYS_SRC_OFFSET": lambda token: token.says == b"_" or (time_in(token) or (1,))[0] == 0,
+        fits = {b"SYS_SRC_OFFSET": lambda token: token.says == b"_" or (self.time(token) or (1,))[0] == 0,
                 b"SYS_GAIN": lambda token: ZEROS.fullmatch(token.says)}.get(head.says.upper())
         if head.is_keyword and fits:
             token = row.token()
@@ -191,7 +195,7 @@ class Reading:
                 raise Stop(13)
 
     def sequence(self, head: Piece, row: Row, _: int) -> None:
-        rates = {b"SEQ_SAMPLE_RATE": rb"[sS]?48000", b"SEQ_FRAME_RATE": rb"25(\.0*)?"}
+        rates = {b"SEQ_SAMPLE_RATE": rb"[sS]?48000", b"SEQ_FRAME_RATE": rb"%d(\.0*)?" % self.rate}
         if head.is_keyword and head.says.upper() in rates:
             rate = re.compile(rates[head.says.upper()])
             row.fields((lambda token: rate.fullmatch(token.says), 12))
@@ -207,8 +211,8 @@ class Reading:
         if number in self.sources:
             raise Stop(14)
         _, url, uid, start, length = row.fields(
-            (in_parentheses(b"F"), 13), (url_in, 9), (lambda token: token.stands, 0), (time_or_none, 6),
-            (time_or_none, 6))
+            (in_parentheses(b"F"), 13), (url_in, 9), (lambda token: token.stands, 0),
+            (self.time_or_none, 6), (self.time_or_none, 6))
         row.rest()
         self.sources[number] = number, url, uid, start[0], length[0]
 
@@ -232,7 +236,7 @@ class Reading:
         _, _, index, source = row.fields(
             (in_parentheses(b"CUT"), 13), (exactly(b"I"), 13), (number_in, 7), (channels_in, 8))
         dest, source_in, dest_in, dest_out = row.fields(
-            (lambda token: of_width(channels_in(token), source), 8), (time_in, 6), (time_in, 6), (time_in, 6))
+            (lambda token: of_width(channels_in(token), source), 8), (self.time, 6), (self.time, 6), (self.time, 6))
         row.rest()
         if not self.entries:
             self.separators = dest_in[1]
@@ -242,7 +246,7 @@ class Reading:
     def fade(self, name: bytes, row: Row) -> None:
         if (name, self.last_entry) in self.faded:
             raise Stop(17)
-        (length, _), = row.fields((time_or_none, 6))
+        (length, _), = row.fields((self.time_or_none, 6))
         if length:
             row.fields((lambda token: token.says.upper() == b"LIN" or None, 13))
         row.rest()
@@ -294,11 +298,49 @@ def open_section(reading: Reading, name: bytes, line: int) -> None:
         reading.notices.append((1, line))
 
 
+def rate_in(lines: list) -> int:
+    """The first rate of frames that a line of SEQUENCE tells; 25 where a line in front of it can't stand or be cut."""
+    section, begun, opened = None, False, set()
+    for line in lines:
+        bare = line.strip(b" \t").upper()
+        if section is None:
+            opening = re.fullmatch(rb"<([A-Z0-9_]+)>", bare)
+            if begun and opening and bare != b"</ADL>":
+                section = opening[1]
+                if section in opened:
+                    break
+                if section in HELD or section in (b"SOURCE_INDEX", b"EVENT_LIST"):
+                    opened.add(section)
+            elif not begun and bare == b"<ADL>":
+                begun = True
+            elif bare:
+                break
+        elif bare == b"</" + section + b">":
+            section = None
+        elif section in (b"SYSTEM", b"SEQUENCE", b"SOURCE_INDEX", b"EVENT_LIST"):
+            if bare[:1] == b"<":
+                break
+            row = Row(line)
+            try:
+                head = row.token()
+                if section == b"SEQUENCE" and head and head.is_named(b"SEQ_FRAME_RATE"):
+                    told = row.token()
+                    rate = told and re.fullmatch(rb"(24|25|30)(\.0*)?", told.says)
+                    if rate:
+                        return int(rate[1])
+                row.rest()
+            except Stop:
+                break
+        elif section not in HELD and bare and re.search(rb"GAIN|AUTOMATION|PAN|MUTE|FADE", section):
+            break
+    return 25
+
+
 def read(text: bytes):
     """The list that a text spells, or the line by which it is refused."""
     lines = text.removeprefix(b"\xef\xbb\xbf").split(b"\n")
     lines = [line.removesuffix(b"\r") for line in (lines if lines[-1] else lines[:-1])]
-    reading = Reading()
+    reading = Reading(rate_in(lines))
     try:
         end = sections(reading, lines)
         reading.place = ""

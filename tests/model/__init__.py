@@ -9,7 +9,7 @@ from .refusal import Refused
 from .sounds import BadFile, Sound, chunks_of, packed, read_sound, written_sound
 from .spelling import entry_line, fade_line, list_text, source_line
 from .text import read_list
-from .times import DAY, time_text, time_value
+from .times import DAY, USUAL_RATE, time_text, time_value
 
 __all__ = [
     "COMMANDS", "DAY", "STANDARD", "WRITING", "Answer", "BadFile", "Options", "Refused", "Sound", "accepted", "answer",

@@ -8,7 +8,7 @@ from .groups import FALL, RISE, Run, runs_of, standard_groups
 from .mixing import Range, rendered
 from .project import STANDARD_SEPARATORS, Entry, Project, Source
 from .refusal import Refused
-from .sounds import MOST_SIZE, Sound, packed, written_size, written_sound
+from .sounds import Sound, packed, written_sound
 from .spelling import project_text
 from .text import read_list
 from .times import time_value
@@ -78,9 +78,9 @@ def range_of(project: Project, options: Options) -> Range:
     begin = min((entry.dest_in for entry in project.entries), default=0)
     end = max((entry.dest_out for entry in project.entries), default=0)
     if options.begin is not None:
-        begin = time_value(options.begin.encode())
+        begin = time_value(options.begin.encode(), project.rate)
     if options.end is not None:
-        end = time_value(options.end.encode())
+        end = time_value(options.end.encode(), project.rate)
     channels = options.channels or max((entry.dest.last for entry in project.entries), default=1)
     return Range(begin, end, channels)
 
@@ -90,8 +90,6 @@ def render(text: bytes, media: dict, options: Options) -> Answer:
     part = range_of(project, options)
     if part.frames() <= 0:
         raise Refused(58)
-    if written_size(part.frames() * part.channels * options.depth // 8) > MOST_SIZE:
-        raise Refused(61)
     data = packed(options.depth, rendered(project, bound, part, options.depth))
     sound = Sound(part.channels, options.depth, data, time_reference=part.begin)
     line = f"rendered {part.frames()} frames {part.channels} channels"
@@ -125,7 +123,8 @@ def renewed(project: Project, bound: Bound, groups: list, runs: list) -> Project
         entry_of(number, group, run_of(group, begins[group[0].name]), bases[group[0].name])
         for number, group in enumerate(groups, 1)
     ]
-    return Project(project.header, sources, entries, project.separators if entries else STANDARD_SEPARATORS)
+    separators = project.separators if entries else STANDARD_SEPARATORS
+    return Project(project.header, sources, entries, separators, rate=project.rate)
 
 
 def run_of(group: list, begins: list) -> int:

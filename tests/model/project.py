@@ -77,9 +77,11 @@ class Entry(NamedTuple):
 
 
 class Project(NamedTuple):
-    """The kept lines by section, the indexes and entries in order of lines, the separators of times, the notices."""
+    """The kept lines by section, the indexes and entries in order of lines, the separators of times, the notices,
+    the rate of frames."""
     header: dict
     sources: list
     entries: list
     separators: bytes
     notices: tuple = ()
+    rate: int = 25

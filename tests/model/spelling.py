@@ -3,7 +3,7 @@
 from typing import Iterable
 
 from .project import KEPT, Entry, Project, Source
-from .times import time_text
+from .times import USUAL_RATE, time_text
 
 SEQUENCE = (b"<SEQUENCE>", b"(SEQ_SAMPLE_RATE) S48000", b"(SEQ_FRAME_RATE) 25", b"</SEQUENCE>")
 
@@ -29,26 +29,27 @@ def entry_line(
     return b"(Entry) %04d (Cut) I %04d %s %s %s %s %s" % (number, index, source, dest, source_in, dest_in, dest_out)
 
 
-def fade_line(keyword: bytes, length: int, separators: bytes = b".../") -> bytes:
-    return b"(%s) %s LIN _ _ _" % (keyword, time_text(length, separators))
+def fade_line(keyword: bytes, length: int, separators: bytes = b".../", rate: int = USUAL_RATE) -> bytes:
+    return b"(%s) %s LIN _ _ _" % (keyword, time_text(length, separators, rate))
 
 
 def section(name: bytes, lines: Iterable) -> list:
     return [b"<%s>" % name, *lines, b"</%s>" % name]
 
 
-def source_text(source: Source, separators: bytes) -> bytes:
-    start, length = (b"_" if value is None else time_text(value, separators) for value in (source.start, source.length))
+def source_text(source: Source, separators: bytes, rate: int) -> bytes:
+    start, length = (
+        b"_" if value is None else time_text(value, separators, rate) for value in (source.start, source.length))
     return b'(Index) %04d (F) "%s" %s %s %s' % (source.number, source.url, source.uid, start, length)
 
 
-def entry_texts(entry: Entry, separators: bytes) -> list:
+def entry_texts(entry: Entry, separators: bytes, rate: int) -> list:
     """The entry's line, and those of its fades."""
-    times = (time_text(value, separators) for value in (entry.source_in, entry.dest_in, entry.dest_out))
+    times = (time_text(value, separators, rate) for value in (entry.source_in, entry.dest_in, entry.dest_out))
     lines = [entry_line(entry.number, entry.index, *times, entry.source.text(), entry.dest.text())]
     for keyword, length in ((b"Infade", entry.rise), (b"Outfade", entry.fall)):
         if length:
-            lines.append(fade_line(keyword, length, separators))
+            lines.append(fade_line(keyword, length, separators, rate))
     return lines
 
 
@@ -58,7 +59,9 @@ def project_text(project: Project) -> bytes:
     for name in KEPT:
         if name in project.header:
             lines += section(name.encode(), project.header[name])
-    lines += section(b"SOURCE_INDEX", [source_text(source, project.separators) for source in project.sources])
-    entry_lines = [line for entry in project.entries for line in entry_texts(entry, project.separators)]
+    lines += section(b"SOURCE_INDEX", [
+        source_text(source, project.separators, project.rate) for source in project.sources])
+    entry_lines = [
+        line for entry in project.entries for line in entry_texts(entry, project.separators, project.rate)]
     lines += section(b"EVENT_LIST", entry_lines)
     return b"".join(line + b"\r\n" for line in [*lines, b"</ADL>"])

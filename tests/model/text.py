@@ -6,7 +6,7 @@ from typing import Iterator, Optional
 
 from .project import KEPT, STANDARD_SEPARATORS, Channels, Entry, Project, Source, place_of
 from .refusal import Notice, Refused
-from .times import separators_of, time_value
+from .times import USUAL_RATE, separators_of, time_value
 from .tokens import BLANK, BadToken, Kind, Token, tokens_of
 
 MOST_NUMBER = 32_767
@@ -19,7 +19,7 @@ SECTION = re.compile(rb"<(\w+)>", re.ASCII)
 NUMBER = re.compile(rb"\d{1,6}")
 CHANNELS = re.compile(rb"(\d{1,6})(?:~(\d{1,6}))?")
 ZERO = re.compile(rb"_|[+-]?0+(?:\.0*)?")
-FRAME_RATE = re.compile(rb"25(?:\.0*)?")
+FRAME_RATE = re.compile(rb"(24|25|30)(?:\.0*)?")
 RATES = (b"s48000", b"48000")
 
 
@@ -34,8 +34,9 @@ class Fault(Exception):
 class Fields:
     """The tokens of a line, taken from the left."""
 
-    def __init__(self, line: bytes):
+    def __init__(self, line: bytes, rate: int = USUAL_RATE):
         self.tokens = tokens_of(line)
+        self.rate = rate
 
     def next(self) -> Optional[Token]:
         return next(self.tokens, None)
@@ -62,7 +63,7 @@ class Fields:
 
     def time_and_separators(self) -> tuple:
         content = self.need().content
-        value = time_value(content)
+        value = time_value(content, self.rate)
         if value is None:
             raise Fault(6)
         return value, separators_of(content)
@@ -71,7 +72,7 @@ class Fields:
         content = self.need().content
         if content == b"_":
             return None
-        value = time_value(content)
+        value = time_value(content, self.rate)
         if value is None:
             raise Fault(6)
         return value
@@ -101,9 +102,10 @@ def lines_of(text: bytes) -> list:
 
 
 class Reader:
-    """What was read so far."""
+    """What was read so far of a list at this rate of frames."""
 
-    def __init__(self):
+    def __init__(self, rate: int):
+        self.rate = rate
         self.header = {}
         self.seen = set()
         self.rates = set()
@@ -118,7 +120,8 @@ class Reader:
 
     def project(self) -> Project:
         return Project(
-            self.header, list(self.sources.values()), list(self.entries.values()), self.separators, tuple(self.notices))
+            self.header, list(self.sources.values()), list(self.entries.values()), self.separators, tuple(self.notices),
+            self.rate)
 
     def open(self, name: bytes, number: int) -> str:
         """A section begins at this line."""
@@ -146,7 +149,7 @@ class Reader:
             raise Fault(3)
         if section == "EVENT_LIST" and self.entry is not None:
             self.at = f" entry {self.entry}"
-        fields = Fields(line)
+        fields = Fields(line, self.rate)
         head = fields.next()
         if head is not None:
             {"SYSTEM": self.system, "SEQUENCE": self.sequence, "SOURCE_INDEX": self.source_index,
@@ -162,7 +165,7 @@ class Reader:
     def system(self, head: Token, fields: Fields, _: int) -> None:
         if head.is_keyword(b"SYS_SRC_OFFSET"):
             token = fields.next()
-            if token and token.content != b"_" and time_value(token.content) != 0:
+            if token and token.content != b"_" and time_value(token.content, self.rate) != 0:
                 raise Fault(13)
         elif head.is_keyword(b"SYS_GAIN"):
             token = fields.next()
@@ -175,7 +178,8 @@ class Reader:
                 raise Fault(12)
             self.rates.add("SEQ_SAMPLE_RATE")
         elif head.is_keyword(b"SEQ_FRAME_RATE"):
-            if not FRAME_RATE.fullmatch(fields.need().content):
+            found = FRAME_RATE.fullmatch(fields.need().content)
+            if not found or int(found[1]) != self.rate:
                 raise Fault(12)
             self.rates.add("SEQ_FRAME_RATE")
 
@@ -255,8 +259,8 @@ def spelt(token: Token) -> bytes:
 @lru_cache(maxsize=4)
 def read_list(text: bytes) -> Project:
     """The project that a text spells; raises its first fault. It is the same one each time, and nobody changes it."""
-    reader = Reader()
     lines = lines_of(text)
+    reader = Reader(rate_of(lines))
     end = read_lines(reader, enumerate(lines, 1))
     if end is None:
         raise Refused(3, f" at line {max(1, len(lines))}")
@@ -265,6 +269,42 @@ def read_list(text: bytes) -> Project:
     if missing:
         raise Refused(missing[0], f" at line {end}")
     return reader.project()
+
+
+class RateTold(Exception):
+    """A line of SEQUENCE tells the rate."""
+
+
+class Outline(Reader):
+    """Looks for the rate of frames: at sections and at tokens, and at nothing else that lines say."""
+
+    def take(self, section: str, number: int, line: bytes) -> None:
+        trimmed = line.strip(BLANK)
+        if section not in SECTIONS and trimmed and any(word.decode() in section for word in FORBIDDEN):
+            raise Fault(13)
+        if section not in CUT:
+            return
+        if trimmed.startswith(b"<"):
+            raise Fault(3)
+        fields = Fields(line)
+        head = fields.next()
+        if section == "SEQUENCE" and head is not None and head.is_keyword(b"SEQ_FRAME_RATE"):
+            token = fields.next()
+            found = token and FRAME_RATE.fullmatch(token.content)
+            if found:
+                raise RateTold(int(found[1]))
+        fields.finish()
+
+
+def rate_of(lines: list) -> int:
+    """The rate of frames of a list: the first that SEQUENCE tells, before any line that can't stand or isn't cut."""
+    try:
+        read_lines(Outline(USUAL_RATE), enumerate(lines, 1))
+    except RateTold as told:
+        return told.args[0]
+    except Refused:
+        pass
+    return USUAL_RATE
 
 
 def read_lines(reader: Reader, lines: Iterator) -> Optional[int]:

@@ -1,31 +1,33 @@
-"""Times of day: hours, minutes, seconds, frames of 1920 samples, and a remainder of samples."""
+"""Times of day: hours, minutes, seconds, frames at a rate, and a remainder of samples."""
 
 import re
 from typing import Optional
 
 DAY = 4_147_200_000
-FRAMES_A_SECOND = 25
-SAMPLES_A_FRAME = 1920
+SAMPLES_A_SECOND = 48_000
+RATES = (24, 25, 30)
+USUAL_RATE = 25
 
 SEPARATOR = rb"[:;.,|=/]"
 TIME = re.compile(SEPARATOR.join([rb"(\d\d)"] * 4 + [rb"(\d{4})"]))
 
 
-def time_value(text: bytes) -> Optional[int]:
+def time_value(text: bytes, rate: int = USUAL_RATE) -> Optional[int]:
     """The samples since midnight that a text tells; None where it is no time of day."""
     found = TIME.fullmatch(text)
     if not found:
         return None
     hours, minutes, seconds, frames, rest = map(int, found.groups())
-    value = (((hours * 60 + minutes) * 60 + seconds) * FRAMES_A_SECOND + frames) * SAMPLES_A_FRAME + rest
-    in_the_day = hours < 24 and minutes < 60 and seconds < 60 and frames < FRAMES_A_SECOND and rest < SAMPLES_A_FRAME
+    frame = SAMPLES_A_SECOND // rate
+    value = (((hours * 60 + minutes) * 60 + seconds) * rate + frames) * frame + rest
+    in_the_day = hours < 24 and minutes < 60 and seconds < 60 and frames < rate and rest < frame
     at_its_end = (hours, minutes, seconds, frames, rest) == (24, 0, 0, 0, 0)
     return value if in_the_day or at_its_end else None
 
 
-def time_text(value: int, separators: bytes = b".../") -> bytes:
-    frames, rest = divmod(value, SAMPLES_A_FRAME)
-    seconds, frames = divmod(frames, FRAMES_A_SECOND)
+def time_text(value: int, separators: bytes = b".../", rate: int = USUAL_RATE) -> bytes:
+    frames, rest = divmod(value, SAMPLES_A_SECOND // rate)
+    seconds, frames = divmod(frames, rate)
     minutes, seconds = divmod(seconds, 60)
     hours, minutes = divmod(minutes, 60)
     digits = f"{hours:02d}:{minutes:02d}:{seconds:02d}:{frames:02d}:{rest:04d}".encode()

@@ -1,3 +1,2 @@
-pub mod CommandLineLaws
-pub mod Names
-pub mod Numerals
+mod Requests
+mod Rates

@@ -1,16 +1,22 @@
 -- What the program prints and answers of a command.
-use Rattle.std.specs.Prelude.{◌≡◌, ℕ, IsOk, ◌+◌, ◌^◌, ◌<◌, List, [], ◌∷◌, ◌++◌, Option, Result, Ok, Err}
-use Rattle.std.specs.Io.KnownBytes.{Appends}
-use Rattle.work_terms.specs.Refusals.{Refusal}
+use Rattle.std.specs.Prelude.{◌≡◌, ℕ, Bool, true, false, IsOk, IsErr, ⊤, List, [], ◌∷◌, ◌++◌, Result, Ok, Err}
+use Rattle.work_terms.specs.Refusals.{Refusal, Where, Index, IndexFile}
 use Rattle.opening.specs.declared.checking.Accepted.{Accepted}
 use Rattle.shelf.specs.declared.source.Shelf as source
-use Rattle.furtherfaults.specs.Further.{WasRead}
-use Rattle.consolidate.specs.Commands.{IsChecking}
+use Rattle.opening.specs.Further.{WasRead}
+use Rattle.shelf.specs.declared.bench.Bench as output
+use Rattle.list_terms.specs.Accepted.{OptionValues}
+use Rattle.list_terms.specs.Text.{rate_of}
+use Rattle.consolidate.specs.Commands.{IsChecking, IsRendering}
 use Rattle.consolidate.specs.Fault.{refusal_of}
 use Rattle.consolidate.specs.declared.Fault.{Fault}
 use Rattle.consolidate.specs.declared.Rendered.{Rendered}
 use Rattle.consolidate.specs.declared.Written.{Written}
-use Rattle.adlcons.specs.Lines.{accepted_text, notices_text, refusal_text, rendered_text, written_text}
+use Rattle.commandline.specs.CommandLine.{Asked, Chosen, Check, Render, Consolidate, Explain, ExplainNotice}
+use Rattle.console.specs.declared.console.Console as console
+use Rattle.console.specs.Lines.{accepted_text, notices_text, refusal_text, rendered_text, written_text}
+use Rattle.console.specs.Printing.{Prints}
+use Rattle.adlcons.specs.Times.{values_of}
 
 -- the notices and the line of a list that was checked
 abbrev pub accepted_lines : Accepted → List ℕ
@@ -24,32 +30,38 @@ rendered_lines told = (notices_text told.notices.items ++ rendered_text told.fra
 abbrev pub written_lines : Written → List ℕ
 written_lines told = (notices_text told.notices.items ++ written_text told.media told.entries) ++ 10 ∷ []
 
+-- the place of a refusal as it is told: without the name of an index's file, where no memory was left for it
+abbrev pub place_told : (is_named : Bool) → Where → Where
+place_told true place = place
+place_told false (IndexFile index name) = Index index
+place_told false place = place
+
 -- the line of a refusal
-abbrev pub refusal_line : Refusal → List ℕ
-refusal_line refusal = refusal_text refusal.number refusal.place ++ 10 ∷ []
+abbrev pub refusal_line : (is_named : Bool) → Refusal → List ℕ
+refusal_line is_named refusal = refusal_text refusal.number (place_told is_named refusal.place) ++ 10 ∷ []
 
 -- the lines of an outcome
-abbrev pub lines_of : {X : Type 0} → (X → List ℕ) → Result X Fault → List ℕ
-lines_of report_lines (Ok report) = report_lines report
-lines_of report_lines (Err fault) = refusal_line (refusal_of fault)
+abbrev pub lines_of : {X : Type 0} → (X → List ℕ) → (is_named : Bool) → Result X Fault → List ℕ
+lines_of report_lines is_named (Ok report) = report_lines report
+lines_of report_lines is_named (Err fault) = refusal_line is_named (refusal_of fault)
 
 -- 0 done, 1 refused
 abbrev pub status_of : {X : Type 0} → Result X Fault → ℕ
 status_of (Ok report) = 0
 status_of (Err fault) = 1
 
--- no print has failed: the count of failures stayed below its last value
-abbrev pub NoneFailed : ℕ → ℕ → Type 0
-NoneFailed before now = (before + 1 < 2 ^ 64) × (now ≡ before)
+-- this text was printed, unless a print failed
+abbrev pub Tells : {O : Type 0} → console.Ghosts O → O → O → List ℕ → Type 0
+Tells out = Prints out.contents out.failures
 
--- A command was called; its status is the answer, and its lines are what was printed, where no print has failed.
+-- A command was called; its status is the answer, and its lines were printed.
 pub record IsAnswered {X O : Type 0} (call : Result X Fault → Type 0) (report_lines : X → List ℕ)
-    (contents : O → Option (List ℕ)) (failures : O → ℕ) (old new : O) (status : ℕ) : Type 0 where
+    (out : console.Ghosts O) (old new : O) (status : ℕ) : Type 0 where
   pub outcome : Result X Fault
   pub called : call outcome
   pub status_is : status ≡ status_of outcome
-  pub printed : NoneFailed (failures old) (failures new)
-      → Appends (contents old) (contents new) (lines_of report_lines outcome)
+  pub is_named : Bool
+  pub printed : Tells out old new (lines_of report_lines is_named outcome)
 
 -- the list was checked over these sources, which were only read then, and not at all where it was accepted
 pub record IsChecked {S : Type 0} (shelf : source.Ghosts S) (list : List ℕ) (old new : S)
@@ -58,3 +70,18 @@ pub record IsChecked {S : Type 0} (shelf : source.Ghosts S) (list : List ℕ) (o
   pub checking : IsChecking shelf list old between result
   pub read : WasRead shelf between new
   pub accepted : IsOk result → new ≡ between
+
+-- the list was rendered by what the words choose, whose times are read at its own rate of frames
+pub record RendersBy {S B : Type 0} (shelf : source.Ghosts S) (bench : output.Ghosts B) (chosen : Chosen)
+    (list : List ℕ) (shelf_old shelf_new : S) (bench_old bench_new : B) (result : Result Rendered Fault) : Type 0 where
+  pub values : OptionValues
+  pub read : values_of (rate_of list) chosen ≡ Ok values
+  pub rendering : IsRendering shelf bench list values shelf_old shelf_new bench_old bench_new result
+
+-- what is asked for can't be done: a time that can't be read, or a number that nothing has
+abbrev pub MayBeMistaken : ℕ → Asked → Type 0
+MayBeMistaken rate (Check list media) = ⊥
+MayBeMistaken rate (Render list media out chosen) = IsErr (values_of rate chosen)
+MayBeMistaken rate (Consolidate list media out handle) = ⊥
+MayBeMistaken rate (Explain number) = ⊤
+MayBeMistaken rate (ExplainNotice number) = ⊤

@@ -1,8 +1,5 @@
 pub mod Answers
 pub mod BadTime
-pub mod Channels
-pub mod CommandLine
-pub mod Lines
-pub mod Places
-pub mod Request
-pub mod Vectors
+pub mod Openings
+pub mod Reading
+pub mod Times

@@ -1,31 +1,13 @@
 // What else is told of a list that is refused: its further faults, each in a line.
-ghost use Rattle.furtherfaults.specs.Further.{WasRead};
+ghost use Rattle.opening.specs.Further.{WasRead};
 
-use crate::console::Console;
-use crate::meanings::meaning_at;
-use crate::refusal::Refusal;
+use crate::refusal::put_project_place;
+use console::{Console, put_counted};
 use consolidate::Fault;
-use furtherfaults::further_faults;
+use explanations::further_meaning;
+use opening::further_faults;
 use shelf::Shelf;
 use std::alloc::Global;
-use std::fmt;
-use std::fmt::Display;
-
-/// A further fault: its number, its place, and what the number means there.
-#[derive(Clone, Copy)]
-struct Also<'a>(Refusal<'a>);
-
-impl fmt::Display for Also<'_> {
-    fn fmt<W: fmt::Write>(&self, f: &mut fmt::Formatter<W>) -> fmt::Result {
-        let number = self.0.number;
-        let place = self.0.place;
-        write!(f, "also {number}{place}")?;
-        match meaning_at(number, place.spot()) {
-            Some(meaning) => write!(f, ": {}", meaning.meaning),
-            None => Ok(()),
-        }
-    }
-}
 
 /// Prints the further faults of a list that is refused by this first one, and how many more there are. Nothing is
 /// printed where they can't be found.
@@ -45,9 +27,20 @@ pub fn tell_further<S: Shelf, E: Console>(
         return;
     };
     for fault in &further.faults {
-        let _ = err.print_line(Also(Refusal::of_project(alloc, fault)));
+        tell_also(alloc, fault, err);
     }
     if further.more > 0 {
-        let _ = err.print_line(format_args!("and {} more", further.more));
+        err.print_line(format_args!("and {} more", further.more));
     }
+}
+
+/// Prints a further fault: its number, its place, and what the number means there.
+fn tell_also<E: Console>(alloc: Global, fault: &opening::Fault, err: &mut E) {
+    put_counted(err, "also ", u64::from(fault.number()));
+    let _ = put_project_place(alloc, fault, err);
+    if let Some(meaning) = further_meaning(fault) {
+        err.put(b": ");
+        err.put(meaning.as_bytes());
+    }
+    err.end_line();
 }

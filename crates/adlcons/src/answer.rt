@@ -1,33 +1,34 @@
-// The program's answer to its words.
-ghost use Rattle.std.specs.Prelude.{◌≡◌, ◌≢◌, ◌≤◌, ◌++◌, ◌∷◌, [], ℕ, Err, Ok, Option, Some, None, true, false, IfSome};
-ghost use Rattle.std.specs.Fmt.{with_newline};
-ghost use Rattle.std.specs.Io.KnownBytes.{Appends};
-ghost use Rattle.clap.specs.Walk.{Text, texts};
+// The program's answer to a request.
+ghost use Rattle.std.specs.Prelude.{◌≡◌, ◌≢◌, ◌≤◌, ℕ, Err, Ok, Option, false};
+ghost use Rattle.clap.specs.Walk.{Text};
 ghost use Rattle.clap.specs.Words.{kind_of};
-ghost use Rattle.list_terms.specs.Accepted.{OptionValues};
 ghost use Rattle.consolidate.specs.Commands.{IsConsolidation, IsRendering};
+ghost use Rattle.consolidate.specs.Fault.{refusal_of};
 ghost use Rattle.rendering.specs.Rendering as rendering;
 ghost use Rattle.rendering.specs.Rendering.{HaveChannels};
-ghost use Rattle.adlcons.specs.Answers.{IsAnswered, IsChecked, NoneFailed, accepted_lines, rendered_lines, written_lines};
-ghost use Rattle.adlcons.specs.CommandLine.{asks_for_help, is_shown, request_of, values_of};
-ghost use Rattle.adlcons.specs.CommandLine as asked;
-ghost use Rattle.adlcons.specs.Lines.{refusal_text};
-ghost use Rattle.adlcons.specs.Places.{where_of};
+ghost use Rattle.commandline.specs.CommandLine as asked;
+ghost use Rattle.commandline.specs.CommandLine.{is_shown};
+ghost use Rattle.commandline.specs.Request.{asked_of};
+ghost use Rattle.console.specs.Printing.{Prints};
+ghost use Rattle.list_terms.specs.Text.{rate_of as rate_at};
+ghost use Rattle.adlcons.specs.Answers.{IsAnswered, IsChecked, MayBeMistaken, RendersBy, accepted_lines, refusal_line, rendered_lines, written_lines};
+ghost use Rattle.adlcons.specs.BadTime.{name_of};
+ghost use Rattle.adlcons.specs.Times.{bad_time_line, values_of};
 
 use crate::also::tell_further;
-use crate::chosen::{BadTime, options_of};
-use crate::console::Console;
-use crate::explanation::{Explanation, Findings};
-use crate::meanings::{NoSuchNumber, meanings_of};
+use crate::chosen::{BadTime, options_of, tell_bad_time};
 use crate::meter::Meter;
-use crate::refusal::Refusal;
-use crate::report::{Notices, Saved};
-use crate::request::{Request, parse};
+use crate::refusal::put_fault;
+use crate::report::{tell_done, tell_meanings};
+use adlread::rate_of;
 use clap::Error;
-use consolidate::{Options, check_project, consolidate, render};
-use shelf::{Bench, Reasons, Shelf};
+use commandline::Request;
+use console::{Console, Counts};
+use consolidate::{Fault, Options, check_project, consolidate, render};
+use explanations::{Explanation, Saved, meanings_of, notice_meanings_of};
+use shelf::{Bench, Shelf};
 use std::alloc::Global;
-use std::fmt::Display;
+use stores::Reasons;
 
 /// The status of a command that is done, or of a text that was asked for.
 const DONE: u8 = 0;
@@ -35,17 +36,17 @@ const DONE: u8 = 0;
 /// The status of a command that is refused.
 const REFUSED: u8 = 1;
 
-/// The status of words that ask for nothing.
-const MISTAKE: u8 = 2;
+/// The status of a request that asks for nothing.
+pub const MISTAKE: u8 = 2;
 
-/// Runs the command that the words ask for over the list, the shelf and the bench, prints the notices and one line, and
-/// answers the status: 0 done, 1 refused, 2 where the words ask for no command, name a time that can't be read, or
-/// there is no memory to read them. Then the text of the fault is printed on `err`. A refusal is explained there too,
-/// in a line of its own; behind that of a check stand the list's further faults. Help, the version and what numbers
-/// mean are printed on `out`, with 0.
+/// Runs the command that is asked for over the list, the shelf and the bench, prints the notices and one line, and
+/// answers the status: 0 done, 1 refused, 2 where a time can't be read, which is told on `err`. A refusal is explained
+/// there too, in a line of its own; behind that of a check stand the list's further faults. What numbers mean is printed
+/// on `out`, with 0, or with 2 where nothing has the number.
+#[tactic(auto, using(crate::proofs::Rates::answered_by))]
 pub fn answer<S: Shelf + Reasons, B: Bench + Reasons, O: Console, E: Console, M: Meter>(
     alloc: Global,
-    words: &[&str],
+    request: Request<'_>,
     list: &[u8],
     shelf: &mut S,
     bench: &mut B,
@@ -53,46 +54,43 @@ pub fn answer<S: Shelf + Reasons, B: Bench + Reasons, O: Console, E: Console, M:
     err: &mut E,
     meter: &mut M,
 ) -> u8
-    // The words ask for a command: it was called over the list, and its answer is printed.
-    ensures checked { (place media : Text) → request_of (texts words.now) ≡ Some (asked.Check place media) → result ≢ 2
-        → IsAnswered (IsChecked S.Shelf list.now shelf.old shelf.new)
-        accepted_lines O.contents O.failures out.old out.new result }
-    ensures rendered { (place media target : Text) (chosen : asked.Chosen) (values : OptionValues)
-        → request_of (texts words.now) ≡ Some (asked.Render place media target chosen) → values_of chosen ≡ Ok values
-        → result ≢ 2
-        → IsAnswered (IsRendering S.Shelf B.Bench list.now values shelf.old shelf.new bench.old bench.new)
-        rendered_lines O.contents O.failures out.old out.new result }
+    // A command was called over the list, and its answer is printed.
+    ensures checked { (place media : Text) → asked_of request.entry ≡ asked.Check place media
+        → IsAnswered (IsChecked S.Shelf list.now shelf.old shelf.new) accepted_lines O.Console out.old out.new result }
+    ensures rendered { (place media target : Text) (chosen : asked.Chosen)
+        → asked_of request.entry ≡ asked.Render place media target chosen → result ≢ 2
+        → IsAnswered (RendersBy S.Shelf B.Bench chosen list.now shelf.old shelf.new bench.old bench.new)
+        rendered_lines O.Console out.old out.new result }
     ensures consolidated { (place media target : Text) (handle : ℕ)
-        → request_of (texts words.now) ≡ Some (asked.Consolidate place media target handle) → result ≢ 2
+        → asked_of request.entry ≡ asked.Consolidate place media target handle
         → IsAnswered (IsConsolidation S.Shelf B.Bench list.now handle shelf.old shelf.new bench.old bench.new)
-        written_lines O.contents O.failures out.old out.new result }
-    ensures explained { (number : Option Text) → request_of (texts words.now) ≡ Some (asked.Explain number)
-        → (result ≢ 1) × (shelf.new ≡ shelf.old) × (bench.new ≡ bench.old) }
-    // They name a time that can't be read.
+        written_lines O.Console out.old out.new result }
+    // It names a time that can't be read.
     ensures bad_time { (place media target : Text) (chosen : asked.Chosen) (option : Text)
-        → request_of (texts words.now) ≡ Some (asked.Render place media target chosen) → values_of chosen ≡ Err option
-        → result ≡ 2 }
-    // They ask for none, or there was no memory to read them.
-    ensures refused_words { request_of (texts words.now) ≡ None → asks_for_help (texts words.now) ≡ false → result ≡ 2 }
-    ensures help { asks_for_help (texts words.now) ≡ true
+        → asked_of request.entry ≡ asked.Render place media target chosen
+        → values_of (rate_at list.now) chosen ≡ Err option
+        → (result ≡ 2) × Prints E.contents E.failures err.old err.new (bad_time_line option) }
+    ensures explained { (number : Option Text) → asked_of request.entry ≡ asked.Explain number
         → (result ≢ 1) × (shelf.new ≡ shelf.old) × (bench.new ≡ bench.old) }
-    ensures no_command { request_of (texts words.now) ≡ None → (shelf.new ≡ shelf.old) × (bench.new ≡ bench.old) }
+    ensures explained_notice { (number : Option Text) → asked_of request.entry ≡ asked.ExplainNotice number
+        → (result ≢ 1) × (shelf.new ≡ shelf.old) × (bench.new ≡ bench.old) }
     ensures statuses { result ≤ 2 }
+    ensures mistake { result ≡ 2 → MayBeMistaken (rate_at list.now) (asked_of request.entry) }
     ensures two { result ≡ 2 → (shelf.new ≡ shelf.old) × (bench.new ≡ bench.old) × (out.new ≡ out.old) }
-    ensures check_writes_nothing { (place media : Text) → request_of (texts words.now) ≡ Some (asked.Check place media)
+    ensures check_writes_nothing { (place media : Text) → asked_of request.entry ≡ asked.Check place media
         → bench.new ≡ bench.old }
 {
-    match parse(alloc, words) {
-        Ok(Request::Check(_, _)) => answer_check(alloc, list, shelf, out, err),
-        Ok(Request::Render(_, chosen)) => match options_of(chosen) {
+    match request {
+        Request::Check(_, _) => answer_check(alloc, list, shelf, out, err),
+        Request::Render(_, chosen) => match options_of(chosen, rate_of(list)) {
             Ok(options) => answer_render(alloc, list, &options, shelf, bench, out, err, meter),
             Err(bad) => refuse_time(bad, err),
         },
-        Ok(Request::Consolidate(_, handle)) => {
+        Request::Consolidate(_, handle) => {
             answer_consolidate(alloc, list, handle, shelf, bench, out, err, meter)
         }
-        Ok(Request::Explain(number)) => explain(number, out, err),
-        Err(error) => answer_error(error, out, err),
+        Request::Explain(number) => explain(number, out, err),
+        Request::ExplainNotice(number) => explain_notice(number, out, err),
     }
 }
 
@@ -106,25 +104,32 @@ fn answer_check<S: Shelf + Reasons, O: Console, E: Console>(
     err: &mut E,
 ) -> u8
     ensures answered { IsAnswered (IsChecked S.Shelf list.now shelf.old shelf.new)
-        accepted_lines O.contents O.failures out.old out.new result }
+        accepted_lines O.Console out.old out.new result }
     ensures statuses { result ≤ 1 }
 {
     match check_project(alloc, list, shelf) {
         Ok(accepted) => {
-            let notices = Notices(accepted.notices.as_slice());
-            let entries = accepted.entries;
-            let indexes = accepted.indexes;
-            tell(
+            let words = Counts {
+                before: "accepted ",
+                between: " entries ",
+                behind: " indexes",
+            };
+            let notices = accepted.notices.as_slice();
+            tell_done(
                 out,
-                format_args!("{notices}accepted {entries} entries {indexes} indexes"),
+                notices,
+                words,
+                accepted.entries as u64,
+                accepted.indexes as u64,
             );
+            tell_meanings(notices, err);
             DONE
         }
         Err(fault) => {
-            let findings = Findings::of(&fault, list, shelf.reason(), None);
-            let status = refuse(Refusal::of(alloc, &fault), findings, out, err);
+            let explanation = Explanation::of(&fault, list, shelf.reason(), None);
+            let _ = refuse(alloc, &fault, explanation, out, err);
             tell_further(alloc, list, shelf, &fault, err);
-            status
+            REFUSED
         }
     }
 }
@@ -143,25 +148,28 @@ fn answer_render<S: Shelf + Reasons, B: Bench + Reasons, O: Console, E: Console,
     requires { HaveChannels options.now }
     ensures answered { IsAnswered
         (IsRendering S.Shelf B.Bench list.now (rendering.values_of options.now) shelf.old shelf.new bench.old bench.new)
-        rendered_lines O.contents O.failures out.old out.new result }
+        rendered_lines O.Console out.old out.new result }
     ensures statuses { result ≤ 1 }
 {
     let outcome = render(alloc, list, options, shelf, bench, meter);
     meter.clear();
     match outcome {
         Ok(rendered) => {
-            let notices = Notices(rendered.notices.as_slice());
-            let frames = rendered.frames;
-            let channels = rendered.channels;
-            tell(
-                out,
-                format_args!("{notices}rendered {frames} frames {channels} channels"),
-            );
+            let words = Counts {
+                before: "rendered ",
+                between: " frames ",
+                behind: " channels",
+            };
+            let notices = rendered.notices.as_slice();
+            let channels = u64::from(rendered.channels);
+            tell_done(out, notices, words, rendered.frames, channels);
+            tell_meanings(notices, err);
             DONE
         }
         Err(fault) => {
-            let findings = Findings::of(&fault, list, shelf.reason(), bench.reason());
-            refuse(Refusal::of(alloc, &fault), findings, out, err)
+            let explanation = Explanation::of(&fault, list, shelf.reason(), bench.reason());
+            let _ = refuse(alloc, &fault, explanation, out, err);
+            REFUSED
         }
     }
 }
@@ -179,35 +187,61 @@ fn answer_consolidate<S: Shelf + Reasons, B: Bench + Reasons, O: Console, E: Con
 ) -> u8
     ensures answered { IsAnswered
         (IsConsolidation S.Shelf B.Bench list.now handle shelf.old shelf.new bench.old bench.new)
-        written_lines O.contents O.failures out.old out.new result }
+        written_lines O.Console out.old out.new result }
     ensures statuses { result ≤ 1 }
 {
     let outcome = consolidate(alloc, list, handle, shelf, bench, meter);
     meter.clear();
     match outcome {
         Ok(written) => {
-            let notices = Notices(written.notices.as_slice());
-            let media = written.media;
-            let entries = written.entries;
-            tell(
+            let words = Counts {
+                before: "written ",
+                between: " media ",
+                behind: " entries",
+            };
+            let notices = written.notices.as_slice();
+            tell_done(
                 out,
-                format_args!("{notices}written {media} media {entries} entries"),
+                notices,
+                words,
+                u64::from(written.media),
+                u64::from(written.entries),
             );
-            tell(err, Saved(written.sizes));
+            err.print_line(Saved(written.sizes));
+            tell_meanings(notices, err);
             DONE
         }
         Err(fault) => {
-            let findings = Findings::of(&fault, list, shelf.reason(), bench.reason());
-            refuse(Refusal::of(alloc, &fault), findings, out, err)
+            let explanation = Explanation::of(&fault, list, shelf.reason(), bench.reason());
+            let _ = refuse(alloc, &fault, explanation, out, err);
+            REFUSED
         }
     }
 }
 
+/// Prints the line of a refusal on `out` and its explanation on `err`. It is false where no memory was left for the name
+/// of an index's file, which the line is without.
+fn refuse<O: Console, E: Console>(
+    alloc: Global,
+    fault: &Fault,
+    explanation: Explanation<'_>,
+    out: &mut O,
+    err: &mut E,
+) -> bool
+    ensures { Prints O.contents O.failures out.old out.new (refusal_line result (refusal_of fault.now)) }
+{
+    let is_named = put_fault(alloc, fault, out);
+    out.end_line();
+    err.print_line(explanation);
+    is_named
+}
+
 /// Prints which option's time can't be read, and answers the status.
 fn refuse_time<E: Console>(bad: BadTime, err: &mut E) -> u8
-    ensures { result ≡ 2 }
+    ensures status { result ≡ 2 }
+    ensures told { Prints E.contents E.failures err.old err.new (bad_time_line (name_of bad)) }
 {
-    tell(err, bad);
+    tell_bad_time(bad, err);
     MISTAKE
 }
 
@@ -220,18 +254,37 @@ pub fn explain<O: Console, E: Console>(number: Option<&str>, out: &mut O, err: &
 {
     match meanings_of(number) {
         Ok(rows) => {
-            let _ = out.print(rows);
+            out.print(rows);
             DONE
         }
-        Err(NoSuchNumber) => {
-            tell(err, NoSuchNumber);
+        Err(unknown) => {
+            err.print_line(unknown);
             MISTAKE
         }
     }
 }
 
-/// Prints why the words ask for no command, and answers the status: 2 for a mistake and where memory ran out, which
-/// stand on `err`, and 0 for help and the version, on `out`.
+/// Prints what this number of a notice means, or all of them, and answers the status: 2 where no notice has the number,
+/// which is told on `err`.
+pub fn explain_notice<O: Console, E: Console>(number: Option<&str>, out: &mut O, err: &mut E) -> u8
+    ensures shown { result ≢ 1 }
+    ensures statuses { result ≤ 2 }
+    ensures two { result ≡ 2 → out.new ≡ out.old }
+{
+    match notice_meanings_of(number) {
+        Ok(rows) => {
+            out.print(rows);
+            DONE
+        }
+        Err(unknown) => {
+            err.print_line(unknown);
+            MISTAKE
+        }
+    }
+}
+
+/// Prints why words ask for no command, and answers the status: 2 for a mistake and where memory ran out, which stand on
+/// `err`, and 0 for help and the version, on `out`.
 pub fn answer_error<O: Console, E: Console>(error: Error, out: &mut O, err: &mut E) -> u8
     ensures mistake { is_shown (kind_of error) ≡ false → result ≡ 2 }
     ensures shown { result ≢ 1 }
@@ -239,35 +292,10 @@ pub fn answer_error<O: Console, E: Console>(error: Error, out: &mut O, err: &mut
     ensures two { result ≡ 2 → out.new ≡ out.old }
 {
     if error.use_stderr() {
-        let _ = err.print(error);
+        err.print(error);
         MISTAKE
     } else {
-        let _ = out.print(error);
+        out.print(error);
         DONE
     }
-}
-
-/// Prints a refusal on `out` and its explanation on `err`, and answers its status.
-pub fn refuse<O: Console, E: Console>(
-    refusal: Refusal<'_>,
-    findings: Findings<'_>,
-    out: &mut O,
-    err: &mut E,
-) -> u8
-    ensures status { result ≡ 1 }
-    ensures printed { NoneFailed (O.failures out.old) (O.failures out.new)
-        → Appends (O.contents out.old) (O.contents out.new)
-        (refusal_text refusal.entry.number (where_of refusal.entry.place) ++ 10 ∷ []) }
-{
-    tell(out, refusal);
-    tell(err, Explanation { refusal, findings });
-    REFUSED
-}
-
-/// Prints a line. A print that fails changes nothing else.
-fn tell<C: Console, D: Display + Drop>(console: &mut C, line: D)
-    ensures { NoneFailed (C.failures console.old) (C.failures console.new)
-        → IfSome (with_newline (D.output line)) (Appends (C.contents console.old) (C.contents console.new)) }
-{
-    let _ = console.print_line(line);
 }

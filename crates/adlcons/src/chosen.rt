@@ -1,15 +1,17 @@
 // What the words choose of a rendering, as its options.
 ghost use Rattle.std.specs.Prelude.{◌≡◌, Err, IfErr, IfOk, Ok, option_map};
+ghost use Rattle.sampletime.specs.FrameRate.{frames_per_second};
 ghost use Rattle.rendering.specs.Rendering as rendering;
 ghost use Rattle.rendering.specs.Rendering.{HaveChannels};
 ghost use Rattle.adlcons.specs.BadTime.{name_of};
-ghost use Rattle.adlcons.specs.CommandLine.{time_in, values_of};
-ghost use Rattle.adlcons.specs.Request.{chosen_of};
+ghost use Rattle.adlcons.specs.Times.{bad_time_line, time_in, values_of};
+ghost use Rattle.commandline.specs.Request.{chosen_of};
+ghost use Rattle.console.specs.Printing.{Prints};
 
-use crate::choice::Chosen;
+use commandline::Chosen;
+use console::Console;
 use consolidate::Options;
-use sampletime::{SampleTime, parse_time};
-use std::fmt;
+use sampletime::{Rate, SampleTime, parse_time};
 
 /// The option whose time can't be read.
 #[derive(Clone, Copy, Debug, PartialEq, Eq)]
@@ -18,28 +20,28 @@ pub enum BadTime {
     To,
 }
 
-impl fmt::Display for BadTime {
-    ghost use Rattle.std.specs.Prelude.{◌++◌, Some, codes};
-    ghost use Rattle.adlcons.specs.BadTime.{name_of};
-
-    ghost output = { λ bad. Some (codes "bad time: " ++ name_of bad) };
-
-    fn fmt<W: fmt::Write>(&self, f: &mut fmt::Formatter<W>) -> fmt::Result {
-        f.write_str(match self {
-            BadTime::From => "bad time: --from",
-            BadTime::To => "bad time: --to",
-        })
-    }
+/// Prints which option's time can't be read, in a line.
+pub fn tell_bad_time<C: Console>(bad: BadTime, console: &mut C)
+    ensures { Prints C.contents C.failures console.old console.new (bad_time_line (name_of bad)) }
+{
+    console.put(b"bad time: ");
+    console.put(match bad {
+        BadTime::From => b"--from",
+        BadTime::To => b"--to",
+    });
+    console.end_line();
 }
 
-/// The options of a rendering by what the words choose. `--from` is looked at before `--to`.
-pub fn options_of(chosen: Chosen<'_>) -> Result<Options, BadTime>
-    ensures read { IfOk result (λ options. values_of (chosen_of chosen.entry) ≡ Ok (rendering.values_of options)) }
+/// The options of a rendering by what the words choose, with times at this rate. `--from` is looked at before `--to`.
+pub fn options_of(chosen: Chosen<'_>, rate: Rate) -> Result<Options, BadTime>
+    ensures read { IfOk result (λ options. values_of (frames_per_second rate) (chosen_of chosen.entry)
+        ≡ Ok (rendering.values_of options)) }
     ensures channels { IfOk result HaveChannels }
-    ensures bad { IfErr result (λ bad. values_of (chosen_of chosen.entry) ≡ Err (name_of bad)) }
+    ensures bad { IfErr result (λ bad. values_of (frames_per_second rate) (chosen_of chosen.entry)
+        ≡ Err (name_of bad)) }
 {
-    let from = time_of(chosen.from).ok_or(BadTime::From)?;
-    let to = time_of(chosen.to).ok_or(BadTime::To)?;
+    let from = time_of(chosen.from, rate).ok_or(BadTime::From)?;
+    let to = time_of(chosen.to, rate).ok_or(BadTime::To)?;
     Ok(Options {
         from,
         to,
@@ -48,13 +50,13 @@ pub fn options_of(chosen: Chosen<'_>) -> Result<Options, BadTime>
     })
 }
 
-/// The time that a text spells, where there is a text.
-fn time_of(text: Option<&str>) -> Option<Option<SampleTime>>
-    ensures { result ≡ time_in (option_map (λ text. text.now) text.entry) }
+/// The time that a text spells at this rate, where there is a text.
+fn time_of(text: Option<&str>, rate: Rate) -> Option<Option<SampleTime>>
+    ensures { result ≡ time_in (frames_per_second rate) (option_map (λ text. text.now) text.entry) }
 {
     match text {
         None => Some(None),
-        Some(text) => match parse_time(text.as_bytes()) {
+        Some(text) => match parse_time(text.as_bytes(), rate) {
             Some((time, _)) => Some(Some(time)),
             None => None,
         },

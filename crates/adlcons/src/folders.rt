@@ -1,20 +1,25 @@
 // The program over the file system.
-ghost use Rattle.std.specs.Prelude.{◌≡◌, ◌≢◌, ◌≤◌, None, true, false, IfErr, IfOk};
-ghost use Rattle.clap.specs.Walk.{texts};
-ghost use Rattle.adlcons.specs.CommandLine.{asks_for_help, request_of};
+ghost use Rattle.std.specs.Prelude.{◌≡◌, ◌≢◌, ◌≤◌, ◌⊎◌, ℕ, codes, None, Some, Err, Ok, true, false, IfOk, OnErr};
+ghost use Rattle.clap.specs.Walk.{Text, texts};
+ghost use Rattle.consolidate.specs.Commands.{IsConsolidation};
+ghost use Rattle.commandline.specs.CommandLine as asked;
+ghost use Rattle.commandline.specs.CommandLine.{asks_for_help, request_of};
+ghost use Rattle.commandline.specs.Request.{asked_of};
+ghost use Rattle.console.specs.Places.{where_of};
+ghost use Rattle.adlcons.specs.Answers.{RendersBy, rendered_lines, written_lines};
+ghost use Rattle.adlcons.specs.Openings.{ChecksFolder, IsKeptOut, WorksInFolders, refusal_of_opening};
 
-use crate::answer::{answer, answer_error, explain, refuse};
-use crate::console::Console;
-use crate::explanation::Findings;
+use crate::answer::{MISTAKE, answer, answer_error, explain, explain_notice};
 use crate::meter::Meter;
 use crate::reading::{ReadFault, read_list};
-use crate::refusal::Refusal;
-use crate::request::{Places, Request, parse};
-use shelf::{Bench, FolderBench, FolderShelf, MemoryBench, Overwrite, Reasons};
+use commandline::{Places, Request, parse};
+use console::{Console, Refusal, put_refusal};
+use explanations::Explanation;
 use std::alloc::AllocError;
 use std::fs::Files;
 use std::os::unix::fs::FileExt;
 use std::{fs, io};
+use stores::{FolderBench, FolderShelf, MemoryBench, Overwrite};
 
 /// Why a command didn't come to its stores.
 #[derive(Clone, Copy, Debug)]
@@ -31,7 +36,10 @@ pub enum OpenFault {
 
 impl OpenFault {
     /// The refusal of a command over this list that writes to this folder.
-    fn refusal<'a>(self, list: &'a str, out: &'a str) -> Refusal<'a> {
+    fn refusal<'a>(self, list: &'a str, out: &'a str) -> Refusal<'a>
+        ensures number { result.number ≡ (refusal_of_opening self list.entry.now out.entry.now).number }
+        ensures place { where_of result.place ≡ (refusal_of_opening self list.entry.now out.entry.now).place }
+    {
         match self {
             OpenFault::List(fault) => fault.refusal(list),
             OpenFault::Unlisted(_) | OpenFault::NotEmpty => Refusal::of_file(20, out),
@@ -73,50 +81,84 @@ pub fn answer_words<R, O: Console, E: Console, M: Meter>(
 where
     R: Files + Input + AllocGlobal + Clone + Drop,
     R::File: FileExt,
+    // A command was called over a list and folders, and its answer is printed; or what kept it from them is.
+    ensures checked { (list media : Text) → request_of (texts words.now) ≡ Some (asked.Check list media) → result ≢ 2
+        → IsKeptOut O.Console list (codes "") out.old out.new result
+        ⊎ ChecksFolder ⟦<FolderShelf<R> as shelf::Shelf>⟧ O.Console media out.old out.new result }
+    ensures rendered { (list media target : Text) (chosen : asked.Chosen)
+        → request_of (texts words.now) ≡ Some (asked.Render list media target chosen) → result ≢ 2
+        → IsKeptOut O.Console list target out.old out.new result
+        ⊎ WorksInFolders
+        (RendersBy ⟦<FolderShelf<R> as shelf::Shelf>⟧ ⟦<FolderBench<R> as shelf::Bench>⟧ chosen)
+        rendered_lines O.Console media target out.old out.new result }
+    ensures consolidated { (list media target : Text) (handle : ℕ)
+        → request_of (texts words.now) ≡ Some (asked.Consolidate list media target handle) → result ≢ 2
+        → IsKeptOut O.Console list target out.old out.new result
+        ⊎ WorksInFolders
+        (λ list. IsConsolidation ⟦<FolderShelf<R> as shelf::Shelf>⟧ ⟦<FolderBench<R> as shelf::Bench>⟧ list handle)
+        written_lines O.Console media target out.old out.new result }
     ensures statuses { result ≤ 2 }
     ensures help { asks_for_help (texts words.now) ≡ true → result ≢ 1 }
     ensures refused_words { request_of (texts words.now) ≡ None → asks_for_help (texts words.now) ≡ false → result ≡ 2 }
 {
     match parse(rt.alloc(), words) {
         Ok(Request::Explain(number)) => explain(number, out, err),
-        Ok(Request::Check(list, media)) => {
-            let outcome = try_check(rt, words, list, media, out, err, meter);
-            status_of(outcome, list, "", out, err)
+        Ok(Request::ExplainNotice(number)) => explain_notice(number, out, err),
+        Ok(Request::Check(list, media)) => check_folder(rt, list, media, out, err, meter),
+        Ok(Request::Render(places, chosen)) => {
+            let request = Request::Render(places, chosen);
+            work_in_folders(rt, request, places, out, err, meter)
         }
-        Ok(Request::Render(places, _) | Request::Consolidate(places, _)) => {
-            let outcome = try_places(rt, words, places, out, err, meter);
-            status_of(outcome, places.list, places.out, out, err)
+        Ok(Request::Consolidate(places, handle)) => {
+            let request = Request::Consolidate(places, handle);
+            work_in_folders(rt, request, places, out, err, meter)
         }
         Err(error) => answer_error(error, out, err),
     }
 }
 
-/// The status of a command over this list that writes to this folder. Why it didn't come to its stores is printed.
-fn status_of<O: Console, E: Console>(
-    outcome: Result<u8, OpenFault>,
+/// The status of a command over this list that writes to this folder and doesn't come to its stores. Why is printed.
+fn keep_out<O: Console, E: Console>(
+    fault: OpenFault,
     list: &str,
     folder: &str,
     out: &mut O,
     err: &mut E,
 ) -> u8
-    ensures done { IfOk outcome (λ status. result ≡ status) }
-    ensures refused { IfErr outcome (λ _. result ≡ 1) }
+    ensures { IsKeptOut O.Console list.now folder.now out.old out.new result }
 {
-    match outcome {
+    let refusal = fault.refusal(list, folder);
+    put_refusal(out, refusal);
+    out.end_line();
+    err.print_line(Explanation::by(refusal.number, fault.reason()));
+    1
+}
+
+/// Checks this list over this folder, and answers the status.
+fn check_folder<R, O: Console, E: Console, M: Meter>(
+    rt: &R,
+    list: &str,
+    media: &str,
+    out: &mut O,
+    err: &mut E,
+    meter: &mut M,
+) -> u8
+where
+    R: Files + Input + AllocGlobal + Clone + Drop,
+    R::File: FileExt,
+    ensures answered { IsKeptOut O.Console list.now (codes "") out.old out.new result
+        ⊎ ChecksFolder ⟦<FolderShelf<R> as shelf::Shelf>⟧ O.Console media.now out.old out.new result }
+    ensures statuses { result ≤ 1 }
+{
+    match try_check(rt, list, media, out, err, meter) {
         Ok(status) => status,
-        Err(fault) => refuse(
-            fault.refusal(list, folder),
-            Findings::by(fault.reason()),
-            out,
-            err,
-        ),
+        Err(fault) => keep_out(fault, list, "", out, err),
     }
 }
 
-/// Answers the words, which ask for a check of this list over this folder.
+/// Checks this list over this folder, where both can be opened.
 fn try_check<R, O: Console, E: Console, M: Meter>(
     rt: &R,
-    words: &[&str],
     list: &str,
     media: &str,
     out: &mut O,
@@ -126,18 +168,67 @@ fn try_check<R, O: Console, E: Console, M: Meter>(
 where
     R: Files + Input + AllocGlobal + Clone + Drop,
     R::File: FileExt,
-    ensures { IfOk result (λ status. status ≤ 2) }
+    ensures answered { IfOk result
+        (λ status. ChecksFolder ⟦<FolderShelf<R> as shelf::Shelf>⟧ O.Console media.now out.old out.new status) }
+    ensures statuses { IfOk result (λ status. status ≤ 1) }
+    ensures nothing { OnErr result (out.new ≡ out.old) }
 {
+    let request = Request::Check(list, media);
     let list = read_list(rt, list)?;
+    let mut shelf = FolderShelf::new(rt.alloc(), rt.clone()?, media)?;
     let mut bench = MemoryBench::new(rt.alloc());
-    answer_over(rt, words, &list, media, &mut bench, out, err, meter)
+    let unlisted = unlisted_reason(rt, media);
+    let status = answer(
+        rt.alloc(),
+        request,
+        &list,
+        &mut shelf,
+        &mut bench,
+        out,
+        err,
+        meter,
+    );
+    tell_unlisted(media, unlisted, err);
+    Ok(status)
 }
 
-/// Answers the words, which ask for a command over these places. A list that can't be read is refused first, then an
-/// output that isn't an empty folder.
+/// Answers a request for a command that writes, over these places, with a status.
+fn work_in_folders<R, O: Console, E: Console, M: Meter>(
+    rt: &R,
+    request: Request<'_>,
+    places: Places<'_>,
+    out: &mut O,
+    err: &mut E,
+    meter: &mut M,
+) -> u8
+where
+    R: Files + Input + AllocGlobal + Clone + Drop,
+    R::File: FileExt,
+    ensures rendered { (list media target : Text) (chosen : asked.Chosen)
+        → asked_of request.entry ≡ asked.Render list media target chosen → result ≢ 2
+        → IsKeptOut O.Console places.entry.list.now places.entry.out.now out.old out.new result
+        ⊎ WorksInFolders
+        (RendersBy ⟦<FolderShelf<R> as shelf::Shelf>⟧ ⟦<FolderBench<R> as shelf::Bench>⟧ chosen)
+        rendered_lines O.Console places.entry.media.now places.entry.out.now out.old out.new result }
+    ensures consolidated { (list media target : Text) (handle : ℕ)
+        → asked_of request.entry ≡ asked.Consolidate list media target handle
+        → IsKeptOut O.Console places.entry.list.now places.entry.out.now out.old out.new result
+        ⊎ WorksInFolders
+        (λ list. IsConsolidation ⟦<FolderShelf<R> as shelf::Shelf>⟧ ⟦<FolderBench<R> as shelf::Bench>⟧ list handle)
+        written_lines O.Console places.entry.media.now places.entry.out.now out.old out.new result }
+    ensures statuses { result ≤ 2 }
+{
+    match try_places(rt, request, places, out, err, meter) {
+        Ok(status) => status,
+        Err(fault) => keep_out(fault, places.list, places.out, out, err),
+    }
+}
+
+/// Answers such a request where its places can be opened. A list that can't be read is refused first, then an output
+/// that isn't an empty folder.
 fn try_places<R, O: Console, E: Console, M: Meter>(
     rt: &R,
-    words: &[&str],
+    request: Request<'_>,
     places: Places<'_>,
     out: &mut O,
     err: &mut E,
@@ -146,37 +237,56 @@ fn try_places<R, O: Console, E: Console, M: Meter>(
 where
     R: Files + Input + AllocGlobal + Clone + Drop,
     R::File: FileExt,
-    ensures { IfOk result (λ status. status ≤ 2) }
+    ensures rendered { (list media target : Text) (chosen : asked.Chosen)
+        → asked_of request.entry ≡ asked.Render list media target chosen
+        → IfOk result (λ status. status ≢ 2 → WorksInFolders
+        (RendersBy ⟦<FolderShelf<R> as shelf::Shelf>⟧ ⟦<FolderBench<R> as shelf::Bench>⟧ chosen)
+        rendered_lines O.Console places.entry.media.now places.entry.out.now out.old out.new status) }
+    ensures consolidated { (list media target : Text) (handle : ℕ)
+        → asked_of request.entry ≡ asked.Consolidate list media target handle
+        → IfOk result (λ status. WorksInFolders
+        (λ list. IsConsolidation ⟦<FolderShelf<R> as shelf::Shelf>⟧ ⟦<FolderBench<R> as shelf::Bench>⟧ list handle)
+        written_lines O.Console places.entry.media.now places.entry.out.now out.old out.new status) }
+    ensures statuses { IfOk result (λ status. status ≤ 2) }
+    ensures nothing { OnErr result (out.new ≡ out.old) }
 {
     let list = read_list(rt, places.list)?;
     require_empty_folder(rt, places.out)?;
-    let mut bench = FolderBench::new(rt.alloc(), rt, places.out, Overwrite::Never)?;
-    answer_over(rt, words, &list, places.media, &mut bench, out, err, meter)
+    let mut bench = FolderBench::new(rt.alloc(), rt.clone()?, places.out, Overwrite::Never)?;
+    let mut shelf = FolderShelf::new(rt.alloc(), rt.clone()?, places.media)?;
+    let unlisted = unlisted_reason(rt, places.media);
+    let status = answer(
+        rt.alloc(),
+        request,
+        &list,
+        &mut shelf,
+        &mut bench,
+        out,
+        err,
+        meter,
+    );
+    if status != MISTAKE {
+        tell_unlisted(places.media, unlisted, err);
+    }
+    Ok(status)
 }
 
-/// Answers the words over this list, the media of this folder, and the bench. Where the folder can't be listed, which
-/// is told, it is as an empty one.
-fn answer_over<R, B: Bench + Reasons, O: Console, E: Console, M: Meter>(
+/// Why a folder of media can't be listed, if it can't. It is as an empty one then.
+fn unlisted_reason<R: Files + AllocGlobal + Clone + Drop>(
     rt: &R,
-    words: &[&str],
-    list: &[u8],
     media: &str,
-    bench: &mut B,
-    out: &mut O,
-    err: &mut E,
-    meter: &mut M,
-) -> Result<u8, OpenFault>
-where
-    R: Files + Input + AllocGlobal + Clone + Drop,
-    R::File: FileExt,
-    ensures { IfOk result (λ status. status ≤ 2) }
-{
-    if let Err(error) = fs::read_dir(rt, media) {
-        let _ = err.print_line(format_args!("the folder {media} can't be read: {error}"));
+) -> Option<io::Error> {
+    match fs::read_dir(rt, media) {
+        Ok(_) => None,
+        Err(error) => Some(error),
     }
-    let alloc = rt.alloc();
-    let mut shelf = FolderShelf::new(alloc, rt, media)?;
-    Ok(answer(alloc, words, list, &mut shelf, bench, out, err, meter))
+}
+
+/// Tells why a folder of media can't be listed, if it can't.
+fn tell_unlisted<E: Console>(media: &str, reason: Option<io::Error>, err: &mut E) {
+    if let Some(reason) = reason {
+        err.print_line(format_args!("the folder {media} can't be read: {reason}"));
+    }
 }
 
 /// Fails where the folder of this path can't be listed or isn't empty.

@@ -4,27 +4,19 @@
 
 mod also;
 mod answer;
-mod choice;
 mod chosen;
-mod column;
-mod command;
-mod console;
 mod example;
-mod explanation;
 mod folders;
-mod meanings;
 mod meter;
-mod printer;
 mod reading;
 mod refusal;
 mod report;
-mod request;
 mod stored;
 
 use anyhow::Result;
+use console::Printer;
 use folders::answer_words;
 use meter::ProgressLine;
-use printer::Printer;
 use std::io::IsTerminal;
 use std::process::ExitCode;
 use std::rt::Env;

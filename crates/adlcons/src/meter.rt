@@ -1,13 +1,13 @@
 // How far a command has come, shown on a terminal while it runs.
 ghost use Rattle.std.specs.Prelude.{◌≤◌};
 
-use crate::console::Console;
-use shelf::Progress;
+use console::Console;
+use shelf::Watch;
 use std::fmt::Display;
 use std::time::{Clock, Duration, Instant};
 
 /// Shows how far a command has come, until that is taken off again.
-pub trait Meter: Progress {
+pub trait Meter: Watch {
     /// Takes off what is shown.
     fn clear(&mut self);
 }
@@ -47,14 +47,13 @@ impl<'a, C: Clock, O: Console + Drop> ProgressLine<'a, C, O> {
     }
 }
 
-impl<C: Clock, O: Console + Drop> Progress for ProgressLine<'_, C, O> {
+impl<C: Clock, O: Console + Drop> Watch for ProgressLine<'_, C, O> {
     fn reached(&mut self, done: u64, whole: u64) {
         if !self.is_due() {
             return;
         }
         let percent = percent_of(done, whole);
-        let _ = self
-            .console
+        self.console
             .print(format_args!("\r{percent} %: {done} of {whole} frames"));
         self.is_shown = true;
         self.next = time_after(self.clock, Duration::from_millis(100));
@@ -65,7 +64,7 @@ impl<C: Clock, O: Console + Drop> Meter for ProgressLine<'_, C, O> {
     /// Empties the line, and leaves the cursor where it begins.
     fn clear(&mut self) {
         if self.is_shown {
-            let _ = self.console.print("\r\x1b[K");
+            self.console.print("\r\x1b[K");
             self.is_shown = false;
         }
     }

@@ -1,8 +1,10 @@
 // Reads the list that the words name.
 ghost use Rattle.std.specs.Prelude.{◌≡◌, IfSome, IfOk, vec_len};
-ghost use Rattle.adlcons.specs.Places.{number_of_read, place_of_read, reason_of_read, where_of};
+ghost use Rattle.adlcons.specs.Openings.{refusal_of_read};
+ghost use Rattle.adlcons.specs.Reading.{reason_of_read};
+ghost use Rattle.console.specs.Places.{where_of};
 
-use crate::refusal::Refusal;
+use console::Refusal;
 use std::alloc::{AllocError, Global};
 use std::fs::Files;
 use std::io::{ErrorKind, Read};
@@ -28,8 +30,8 @@ pub enum ReadFault {
 impl ReadFault {
     /// The refusal of the list of this path.
     pub fn refusal<'a>(self, path: &'a str) -> Refusal<'a>
-        ensures number { result.number ≡ number_of_read self }
-        ensures place { where_of result.place ≡ place_of_read self path.entry.now }
+        ensures number { result.number ≡ (refusal_of_read self path.entry.now).number }
+        ensures place { where_of result.place ≡ (refusal_of_read self path.entry.now).place }
     {
         match self {
             ReadFault::Unreadable(_) | ReadFault::Endless => Refusal::of_file(21, path),

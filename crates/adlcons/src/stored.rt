@@ -2,7 +2,8 @@
 use crate::example;
 use anyhow::{Context, Result};
 use consolidate::{Depth, Options, render};
-use shelf::{MemoryBench, MemoryShelf, Unwatched};
+use shelf::Unwatched;
+use stores::{MemoryBench, MemoryShelf};
 
 /// Renders the stored example, and prints the length of the file and the samples in it.
 pub fn run_stored(rt: &(impl AllocGlobal + Print)) -> Result<()> {

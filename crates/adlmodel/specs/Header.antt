@@ -1,5 +1,7 @@
 -- What a project and its header stand for.
 use Rattle.std.specs.Prelude.{ℕ, List}
+use Rattle.sampletime.specs.FrameRate.{frames_per_second}
+use Rattle.sampletime.specs.declared.frame_rate.Rate.{Rate}
 use Rattle.sound_terms.specs.declared.Event.{Event}
 use Rattle.list_terms.specs.declared.Notice.{Notice}
 use Rattle.list_terms.specs.Project as list
@@ -14,11 +16,11 @@ header_view header = record {
   track_list = header.track_list;
 }
 
--- the project of these parts, at 25 frames a second
-abbrev pub project_of : Header → List list.Source → List Event → List ℕ → List Notice → list.ListProject
-project_of header sources events separators notices = record {
+-- the project of these parts
+abbrev pub project_of : Header → Rate → List list.Source → List Event → List ℕ → List Notice → list.ListProject
+project_of header rate sources events separators notices = record {
   header = header_view header;
-  rate = 25;
+  rate = frames_per_second rate;
   sources = sources;
   events = events;
   separators = separators;

@@ -1,7 +1,9 @@
 // The whole project.
 ghost use Rattle.std.specs.Prelude.{slice_get, ◌≡◌, ◌≤◌, [], IfOk, IsTrue, length};
 ghost use Rattle.std.specs.List.{list_all};
+ghost use Rattle.sampletime.specs.FrameRate.{frames_per_second, is_rate};
 ghost use Rattle.sampletime.specs.TimeCode.{default_separators};
+ghost use Rattle.list_terms.specs.Renewed as renewed;
 ghost use Rattle.list_terms.specs.Renewed.{with_lists};
 ghost use Rattle.list_terms.specs.WholeProject.{AreDistinct, AreEvents, AreSources, IsHeader, IsProject, entry_numbers, index_numbers, is_event, is_source};
 ghost use Rattle.adlmodel.specs.Header.{header_view, project_of};
@@ -9,16 +11,17 @@ ghost use Rattle.adlmodel.specs.Header.{header_view, project_of};
 use crate::header::Header;
 use crate::source::Source;
 use list_terms::Notice;
-use sampletime::Separators;
+use sampletime::{Rate, Separators};
 use sound_terms::Event;
 use std::alloc::AllocError;
 use std::marker::Model;
 
-/// What an audio decision list spells: its header, its sources and events in the order of their lines, the separators
-/// of its times, and notices of what was passed over.
+/// What an audio decision list spells: its header, the rate of frames and the separators of its times, its sources and
+/// events in the order of their lines, and notices of what was passed over.
 #[derive(Debug, Drop)]
 pub struct Project {
     header: Header,
+    rate: Rate,
     sources: Vec<Source>,
     events: Vec<Event>,
     separators: Separators,
@@ -32,30 +35,32 @@ impl Model for Project {
 
     ghost Value = { ListProject };
 
-    ghost view = { λ p. project_of p.header p.sources.items p.events.items p.separators p.notices.items };
+    ghost view = { λ p. project_of p.header p.rate p.sources.items p.events.items p.separators p.notices.items };
 
-    ghost invariant = { λ p. IsProject (project_of p.header p.sources.items p.events.items p.separators p.notices.items) };
+    ghost invariant = { λ p. IsProject (project_of p.header p.rate p.sources.items p.events.items p.separators p.notices.items) };
 }
 
 impl Project {
-    /// The project of these parts, at 48000 samples and 25 frames a second. One without an event has the standard
-    /// separators.
+    /// The project of these parts, at 48000 samples a second and this rate of frames. One without an event has the
+    /// standard separators.
     pub fn new(
         header: Header,
+        rate: Rate,
         sources: Vec<Source>,
         events: Vec<Event>,
         separators: Separators,
         notices: Vec<Notice>,
     ) -> Self
-        requires header { IsHeader (header_view header) }
+        requires header { IsHeader (frames_per_second rate) (header_view header) }
         requires sources { AreSources sources.items }
         requires events { AreEvents events.items }
         requires standard { events.items ≡ [] → separators ≡ default_separators }
-        ensures { result ≡ project_of header sources.items events.items separators notices.items }
+        ensures { result ≡ project_of header rate sources.items events.items separators notices.items }
     {
         let _ = separators.bytes();
         Project {
             header,
+            rate,
             sources,
             events,
             separators,
@@ -63,21 +68,17 @@ impl Project {
         }
     }
 
-    /// The project of these sources and events under the header of this one, without a notice. Its separators are those
-    /// of this one, or the standard ones where it has no event.
+    /// The project of these sources and events under the header and at the rate of this one, without a notice. Its
+    /// separators are those of this one, or the standard ones where it has no event.
     pub fn with(&self, sources: Vec<Source>, events: Vec<Event>) -> Result<Project, AllocError>
         requires sources { AreSources sources.items }
         requires events { AreEvents events.items }
         ensures renewed { IfOk result (λ project. project ≡ with_lists self.now sources.items events.items) }
     {
         let header = self.header.try_copy()?;
-        let separators = if events.is_empty() {
-            Separators::DEFAULT
-        } else {
-            self.separators
-        };
+        let separators = separators_for(&events, self.separators);
         let notices = Vec::new(*self.notices.allocator());
-        Ok(Project::new(header, sources, events, separators, notices))
+        Ok(Project::new(header, self.rate, sources, events, separators, notices))
     }
 
     /// A copy.
@@ -88,7 +89,7 @@ impl Project {
         let sources = copied(&self.sources)?;
         let events = Vec::from_slice(*self.events.allocator(), self.events.as_slice())?;
         let notices = Vec::from_slice(*self.notices.allocator(), self.notices.as_slice())?;
-        Ok(Project::new(header, sources, events, self.separators, notices))
+        Ok(Project::new(header, self.rate, sources, events, self.separators, notices))
     }
 
     /// The kept lines of its header.
@@ -119,6 +120,14 @@ impl Project {
         self.events.as_slice()
     }
 
+    /// The rate of frames that its times are written at.
+    pub fn rate(&self) -> Rate
+        ensures rate { frames_per_second result ≡ self.now.rate }
+        ensures known { IsTrue (is_rate self.now.rate) }
+    {
+        self.rate
+    }
+
     /// The separators that its times are written with.
     pub fn separators(&self) -> Separators
         ensures { result ≡ self.now.separators }
@@ -143,6 +152,18 @@ impl Project {
         } else {
             None
         }
+    }
+}
+
+/// These separators, or the standard ones where there is no event.
+fn separators_for(events: &Vec<Event>, separators: Separators) -> Separators
+    ensures chosen { result ≡ renewed.separators_for events.now.items separators }
+    ensures standard { events.now.items ≡ [] → result ≡ default_separators }
+{
+    if events.is_empty() {
+        Separators::DEFAULT
+    } else {
+        separators
     }
 }
 

@@ -11,32 +11,19 @@ use Rattle.list_terms.specs.declared.Rates.{Rates}
 use Rattle.list_terms.specs.declared.Section.{Section}
 use Rattle.list_terms.specs.declared.Stage.TheVariants as stage
 use Rattle.list_terms.specs.Project.{Header, ListProject, Source}
-use Rattle.list_terms.specs.Steps.{err_map}
 use Rattle.list_terms.specs.HeaderLaws.{has_sequence}
 use Rattle.list_terms.specs.Lines.{lines_of}
 use Rattle.list_terms.specs.Tokens.{trimmed}
-use Rattle.list_terms.specs.Text.{Context, Entries, all_events, before_list, finished, is_behind, is_end, is_list_begin, is_opened, nothing_read, opened, opened_name, outside, project_of, section_of, tag_of, text_refusal, text_value, with_line}
+use Rattle.list_terms.specs.RateLaws.{rate_of-read}
+use Rattle.list_terms.specs.Text.{Context, Entries, all_events, before_list, finished, is_behind, is_end, is_list_begin, is_opened, nothing_read, opened, opened_name, outside, project_of, read_from, section_of, tag_of, text_value, with_line}
 use Rattle.list_terms.specs.WholeProject.{both_rates, lines_of_section, no_rates, told_rates}
 use Rattle.adlread.specs.CutLines.{NumberedLine, is_empty, with_numbers, texts}
-use Rattle.adlread.specs.Spells.{AreBlocks, BlankBlock, Block, NoBlocks, SectionBlock, Spells, Titled, lines_of_block}
+use Rattle.adlread.specs.Spells.{AreBlocks, BlankBlock, Block, NoBlocks, SectionBlock, Spells, SpellsAtRate, Titled, lines_of_block}
 use Rattle.adlread.proofs.FieldLaws.{ok_same}
 use Rattle.adlread.proofs.Fits.{Continues, EventsFit, Fits, IndexFits, IsCounted, IsSound, begun, section_walked}
 use Rattle.adlread.proofs.LineLaws.{lines_are_cut}
 use Rattle.adlread.proofs.SettingLines.{both_read, settings_read}
 use Rattle.adlread.proofs.Stages.{outside_of, read_all, read_from-all, read_inside, read_last, read_step}
-
--- ---- lines between sections
-
-outside_known :
-    (c : Context) (n : ℕ) (text : List ℕ) → with_line 25 (outside_of c) n text ≡ outside (outside_of c) n (trimmed text)
-unfolding with_line
-outside_known c n text = refl
-
-pub outside_line_is :
-    (c : Context) (n : ℕ) (text : List ℕ) → c.stage ≡ stage.Outside → with_line 25 c n text ≡ outside c n (trimmed text)
-outside_line_is c n text is =
-    let same : c ≡ outside_of c = ap (λ st. record c { stage = st }) is in
-    subst (λ d. with_line 25 d n text ≡ outside d n (trimmed text)) (sym same) (outside_known c n text)
 
 not_empty : (byte : ℕ) (text : List ℕ) → (length (byte ∷ text) == 0) ≡ false
 not_empty byte text = grind (arith, nat_tests)
@@ -79,21 +66,6 @@ pub opened_begun :
 unfolding opened
 opened_begun c n name s is free = rw (is, free) refl
 
--- ---- lines before the list
-
-before_known :
-    (c : Context) (n : ℕ) (text : List ℕ) → with_line 25 (record c { stage = stage.Before }) n text
-    ≡ before_list (record c { stage = stage.Before }) n (trimmed text)
-unfolding with_line
-before_known c n text = refl
-
-pub before_line_is :
-    (c : Context) (n : ℕ) (text : List ℕ) → c.stage ≡ stage.Before
-    → with_line 25 c n text ≡ before_list c n (trimmed text)
-before_line_is c n text is =
-    let same : c ≡ record c { stage = stage.Before } = ap (λ st. record c { stage = st }) is in
-    subst (λ d. with_line 25 d n text ≡ before_list d n (trimmed text)) (sym same) (before_known c n text)
-
 pub before_blank : (c : Context) (n : ℕ) (text : List ℕ) → is_empty text ≡ true → before_list c n (trimmed text) ≡ Ok c
 unfolding before_list
 before_blank c n text h = rw h refl
@@ -103,22 +75,6 @@ pub before_begin :
 unfolding before_list
 before_begin c n [] h = absurd (cc)
 before_begin c n (byte ∷ text) h = rw (not_empty byte text, h) refl
-
-read_before :
-    (before : List NumberedLine) (c : Context) (n : ℕ) (begin : NumberedLine) (rest : List NumberedLine)
-    → c.stage ≡ stage.Before
-    → list_all is_empty (texts before) ≡ true → is_list_begin (trimmed begin.text) ≡ true
-    → read_all c n (before ++ (begin ∷ rest)) ≡ read_all (outside_of c) begin.number rest
-read_before [] c n begin rest is blank begins =
-    read_step c (outside_of c) n begin rest
-    (before_line_is c begin.number begin.text is ∙ before_begin c begin.number (trimmed begin.text) begins) refl
-read_before (line ∷ before) c n begin rest is blank begins =
-    read_step c c n line (before ++ (begin ∷ rest))
-    (before_line_is c line.number line.text is
-    ∙ before_blank c line.number line.text (and_left (is_empty line.text) (list_all is_empty (texts before)) blank))
-    (ap is_behind is)
-    ∙ read_before before c line.number begin rest is
-    (and_right (is_empty line.text) (list_all is_empty (texts before)) blank) begins
 
 -- ---- the end of a list
 
@@ -140,17 +96,6 @@ same_project :
 same_project a b h r s e p n =
     λ i. record { header = h i; rate = r i; sources = s i; events = e i; separators = p i; notices = n i }
 
-index_end : (has : Bool) (now all : List Source) → IndexFits has now [] all → (has ≡ true) × (now ≡ all)
-index_end true now all fits = (refl, fits.1)
-index_end false now all fits = absurd (let one = fits.1.1.0 in cc)
-
-events_end :
-    (has : Bool) (now : Entries) (events : List Event) (separators : List ℕ) → EventsFit has now [] events separators
-    → (has ≡ true) ×
-    ((all_events now.events now.entry ≡ events) × (unwrap_or now.separators default_separators ≡ separators))
-events_end true now events separators fits = (refl, fits.1)
-events_end false now events separators fits = absurd (let one = fits.1.1.1.0 in cc)
-
 no_more_notices : {X : Type 0} (now all : List X) → now ++ [] ≡ all → now ≡ all
 no_more_notices [] all e = e
 no_more_notices (x ∷ now) [] e = absurd (cc)
@@ -159,97 +104,160 @@ no_more_notices (x ∷ now) (y ∷ all) e =
     let others : now ++ [] ≡ all = cc in
     λ i. same i ∷ no_more_notices now all others i
 
-read_end :
-    (c : Context) (p : ListProject) (n : ℕ) → IsSound p → Fits c [] p → IsCounted c.header
-    → finished 25 (record c { stage = stage.Behind }) n ≡ Ok p
-unfolding finished
-read_end c p n sound fits counts =
-    let sequence = continues_end c.header.lines.sequence p.header.sequence fits.header.sequence in
-    let header = same_header c.header.lines p.header
-    (continues_end c.header.lines.version p.header.version fits.header.version)
-    (continues_end c.header.lines.project p.header.project fits.header.project)
-    (continues_end c.header.lines.system p.header.system fits.header.system)
-    sequence (continues_end c.header.lines.track_list p.header.track_list fits.header.track_list) in
-    let told : told_rates no_rates (lines_of_section c.header.lines.sequence) ≡ Ok both_rates =
-    subst (λ ls. told_rates no_rates (lines_of_section ls) ≡ Ok both_rates) (sym sequence) sound.rates in
-    let rates : c.header.rates ≡ both_rates = ok_same _ _ (sym counts.told ∙ told) in
-    let index = index_end c.has_index c.sources p.sources fits.index in
-    let events = events_end c.has_events c.entries p.events p.separators fits.events in
-    let notices = no_more_notices c.notices p.notices fits.notices in
-    let there = has_sequence c.header.lines.sequence told in
-    let same = same_project (project_of 25 c) p header (sym sound.rate) index.1 events.1.0 events.1.1 notices in
-    rw (there, index.0, events.0, ap (λ (r : Rates). r.sample_rate) rates, ap (λ (r : Rates). r.frame_rate) rates)
-    (ap Ok same)
+module _ (rate : ℕ) where
+  -- ---- lines between sections
 
--- ---- sections, one after another
+  outside_known :
+      (c : Context) (n : ℕ) (text : List ℕ) → with_line rate (outside_of c) n text ≡ outside (outside_of c) n (trimmed text)
+  unfolding with_line
+  outside_known c n text = refl
 
-read_blocks :
-    {blocks : List Block} → AreBlocks blocks → (p : ListProject) → IsSound p
-    → (c : Context) (n : ℕ) (end : NumberedLine) (behind : List NumberedLine)
-    → c.stage ≡ stage.Outside → Fits c blocks p → IsCounted c.header → is_end (codes "ADL") (trimmed end.text) ≡ true
-    → read_all c n (flat_map lines_of_block blocks ++ (end ∷ behind)) ≡ Ok p
-read_blocks NoBlocks p sound c n end behind is fits counts ends =
-    read_last c (record c { stage = stage.Behind }) n end behind
-    (outside_line_is c end.number end.text is ∙ outside_end c end.number (trimmed end.text) ends) refl
-    ∙ read_end c p end.number sound fits counts
-read_blocks (BlankBlock line {blocks} empty others) p sound c n end behind is fits counts ends =
-    read_step c c n line (flat_map lines_of_block blocks ++ (end ∷ behind))
-    (outside_line_is c line.number line.text is ∙ outside_blank c line.number line.text empty) (ap is_behind is)
-    ∙ read_blocks others p sound c line.number end behind is
-    (record { header = fits.header; index = fits.index; events = fits.events; notices = fits.notices }) counts ends
-read_blocks (SectionBlock s {blocks} h others) p sound c n end behind is fits counts ends =
-    let w = section_walked p sound blocks c s.name s.opening s.content s.ending s.notices counts s.meaning fits
-    h.noticed in
-    let begin = begun c s.opening.number s.meaning s.name in
-    let rest = flat_map lines_of_block blocks ++ (end ∷ behind) in
-    let apart : flat_map lines_of_block (Titled s ∷ blocks) ++ (end ∷ behind)
-    ≡ s.opening ∷ (s.content ++ (s.ending ∷ rest)) =
-    ap (λ ls. s.opening ∷ ls)
-    (append_assoc (s.content ++ (s.ending ∷ [])) (flat_map lines_of_block blocks) (end ∷ behind)
-    ∙ append_assoc s.content (s.ending ∷ []) rest) in
-    ap (read_all c n) apart
-    ∙ (read_step c begin n s.opening (s.content ++ (s.ending ∷ rest))
-    (outside_line_is c s.opening.number s.opening.text is
-    ∙ (outside_opens c s.opening.number s.name (trimmed s.opening.text) h.opens
-    ∙ opened_begun c s.opening.number s.name s.meaning h.meant w.0)) refl
-    ∙ (read_inside s.meaning s.content begin w.1.last s.opening.number s.ending rest refl h.inside h.ends w.1.walked
-    ∙ read_blocks others p sound (outside_of w.1.last) s.ending.number end behind refl w.1.fits w.1.counts ends))
+  pub outside_line_is :
+      (c : Context) (n : ℕ) (text : List ℕ) → c.stage ≡ stage.Outside → with_line rate c n text ≡ outside c n (trimmed text)
+  outside_line_is c n text is =
+      let same : c ≡ outside_of c = ap (λ st. record c { stage = st }) is in
+      subst (λ d. with_line rate d n text ≡ outside d n (trimmed text)) (sym same) (outside_known c n text)
 
--- ---- the whole list
+  -- ---- lines before the list
+
+  before_known :
+      (c : Context) (n : ℕ) (text : List ℕ) → with_line rate (record c { stage = stage.Before }) n text
+      ≡ before_list (record c { stage = stage.Before }) n (trimmed text)
+  unfolding with_line
+  before_known c n text = refl
+
+  pub before_line_is :
+      (c : Context) (n : ℕ) (text : List ℕ) → c.stage ≡ stage.Before
+      → with_line rate c n text ≡ before_list c n (trimmed text)
+  before_line_is c n text is =
+      let same : c ≡ record c { stage = stage.Before } = ap (λ st. record c { stage = st }) is in
+      subst (λ d. with_line rate d n text ≡ before_list d n (trimmed text)) (sym same) (before_known c n text)
+
+  read_before :
+      (before : List NumberedLine) (c : Context) (n : ℕ) (begin : NumberedLine) (rest : List NumberedLine)
+      → c.stage ≡ stage.Before
+      → list_all is_empty (texts before) ≡ true → is_list_begin (trimmed begin.text) ≡ true
+      → read_all rate c n (before ++ (begin ∷ rest)) ≡ read_all rate (outside_of c) begin.number rest
+  read_before [] c n begin rest is blank begins =
+      read_step rate c (outside_of c) n begin rest
+      (before_line_is c begin.number begin.text is ∙ before_begin c begin.number (trimmed begin.text) begins) refl
+  read_before (line ∷ before) c n begin rest is blank begins =
+      read_step rate c c n line (before ++ (begin ∷ rest))
+      (before_line_is c line.number line.text is
+      ∙ before_blank c line.number line.text (and_left (is_empty line.text) (list_all is_empty (texts before)) blank))
+      (ap is_behind is)
+      ∙ read_before before c line.number begin rest is
+      (and_right (is_empty line.text) (list_all is_empty (texts before)) blank) begins
+
+  index_end : (has : Bool) (now all : List Source) → IndexFits rate has now [] all → (has ≡ true) × (now ≡ all)
+  index_end true now all fits = (refl, fits.1)
+  index_end false now all fits = absurd (let one = fits.1.1.0 in cc)
+
+  events_end :
+      (has : Bool) (now : Entries) (events : List Event) (separators : List ℕ) → EventsFit rate has now [] events separators
+      → (has ≡ true) ×
+      ((all_events now.events now.entry ≡ events) × (unwrap_or now.separators default_separators ≡ separators))
+  events_end true now events separators fits = (refl, fits.1)
+  events_end false now events separators fits = absurd (let one = fits.1.1.1.0 in cc)
+
+  read_end :
+      (c : Context) (p : ListProject) (n : ℕ) → IsSound rate p → Fits rate c [] p → IsCounted rate c.header
+      → finished rate (record c { stage = stage.Behind }) n ≡ Ok p
+  unfolding finished
+  read_end c p n sound fits counts =
+      let sequence = continues_end c.header.lines.sequence p.header.sequence fits.header.sequence in
+      let header = same_header c.header.lines p.header
+      (continues_end c.header.lines.version p.header.version fits.header.version)
+      (continues_end c.header.lines.project p.header.project fits.header.project)
+      (continues_end c.header.lines.system p.header.system fits.header.system)
+      sequence (continues_end c.header.lines.track_list p.header.track_list fits.header.track_list) in
+      let told : told_rates rate no_rates (lines_of_section c.header.lines.sequence) ≡ Ok both_rates =
+      subst (λ ls. told_rates rate no_rates (lines_of_section ls) ≡ Ok both_rates) (sym sequence) sound.rates in
+      let rates : c.header.rates ≡ both_rates = ok_same _ _ (sym counts.told ∙ told) in
+      let index = index_end c.has_index c.sources p.sources fits.index in
+      let events = events_end c.has_events c.entries p.events p.separators fits.events in
+      let notices = no_more_notices c.notices p.notices fits.notices in
+      let there = has_sequence rate c.header.lines.sequence told in
+      let same = same_project (project_of rate c) p header (sym sound.same_rate) index.1 events.1.0 events.1.1 notices in
+      rw (there, index.0, events.0, ap (λ (r : Rates). r.sample_rate) rates, ap (λ (r : Rates). r.frame_rate) rates)
+      (ap Ok same)
+
+  -- ---- sections, one after another
+
+  read_blocks :
+      {blocks : List Block} → AreBlocks blocks → (p : ListProject) → IsSound rate p
+      → (c : Context) (n : ℕ) (end : NumberedLine) (behind : List NumberedLine)
+      → c.stage ≡ stage.Outside → Fits rate c blocks p → IsCounted rate c.header → is_end (codes "ADL") (trimmed end.text) ≡ true
+      → read_all rate c n (flat_map lines_of_block blocks ++ (end ∷ behind)) ≡ Ok p
+  read_blocks NoBlocks p sound c n end behind is fits counts ends =
+      read_last rate c (record c { stage = stage.Behind }) n end behind
+      (outside_line_is c end.number end.text is ∙ outside_end c end.number (trimmed end.text) ends) refl
+      ∙ read_end c p end.number sound fits counts
+  read_blocks (BlankBlock line {blocks} empty others) p sound c n end behind is fits counts ends =
+      read_step rate c c n line (flat_map lines_of_block blocks ++ (end ∷ behind))
+      (outside_line_is c line.number line.text is ∙ outside_blank c line.number line.text empty) (ap is_behind is)
+      ∙ read_blocks others p sound c line.number end behind is
+      (record { header = fits.header; index = fits.index; events = fits.events; notices = fits.notices }) counts ends
+  read_blocks (SectionBlock s {blocks} h others) p sound c n end behind is fits counts ends =
+      let w = section_walked rate p sound blocks c s.name s.opening s.content s.ending s.notices counts s.meaning fits
+      h.noticed in
+      let begin = begun c s.opening.number s.meaning s.name in
+      let rest = flat_map lines_of_block blocks ++ (end ∷ behind) in
+      let apart : flat_map lines_of_block (Titled s ∷ blocks) ++ (end ∷ behind)
+      ≡ s.opening ∷ (s.content ++ (s.ending ∷ rest)) =
+      ap (λ ls. s.opening ∷ ls)
+      (append_assoc (s.content ++ (s.ending ∷ [])) (flat_map lines_of_block blocks) (end ∷ behind)
+      ∙ append_assoc s.content (s.ending ∷ []) rest) in
+      ap (read_all rate c n) apart
+      ∙ (read_step rate c begin n s.opening (s.content ++ (s.ending ∷ rest))
+      (outside_line_is c s.opening.number s.opening.text is
+      ∙ (outside_opens c s.opening.number s.name (trimmed s.opening.text) h.opens
+      ∙ opened_begun c s.opening.number s.name s.meaning h.meant w.0)) refl
+      ∙ (read_inside rate s.meaning s.content begin w.1.last s.opening.number s.ending rest refl h.inside h.ends w.1.walked
+      ∙ read_blocks others p sound (outside_of w.1.last) s.ending.number end behind refl w.1.fits w.1.counts ends))
+
+  -- ---- the whole list
+
+  read_at :
+      (text : List ℕ) (p : ListProject) → p.rate ≡ rate → SpellsAtRate rate text p
+      → read_from rate nothing_read 0 (lines_of text) ≡ Ok p
+  read_at text p same_rate h =
+      let sound : IsSound rate p = record {
+        few = h.header.few;
+        settings = settings_read rate h.header.settings.cut h.header.settings.each;
+        rates = both_read rate (lines_of_section p.header.sequence) h.header.rates;
+        indexes = h.index.distinct;
+        entries = h.events.distinct;
+        same_rate = same_rate;
+      } in
+      let first = outside_of nothing_read in
+      let fits : Fits rate first h.blocks p = record {
+        header = record {
+          version = h.header.version;
+          project = h.header.project;
+          system = h.header.system;
+          sequence = h.header.sequence;
+          track_list = h.header.track_list;
+        };
+        index = (refl, (h.index.part, (h.index.once, h.index.lines)));
+        events = (
+          refl,
+          (
+            h.events.part,
+            (h.events.entries, (h.events.once, (h.events.lines, (h.events.events_are, h.events.separators_are)))),
+          ),
+        );
+        notices = sym h.notices;
+      } in
+      let counts : IsCounted rate first.header = record { counted = refl; told = refl } in
+      let rest = flat_map lines_of_block h.blocks ++ (h.end ∷ h.behind) in
+      read_from-all rate nothing_read 0 (lines_of text)
+      ∙ (ap (read_all rate nothing_read 0) (ap (with_numbers 1) (lines_are_cut text h.all h.cut) ∙ h.lines)
+      ∙ (read_before h.before nothing_read 0 h.begin rest refl h.blank h.begins
+      ∙ read_blocks h.are_blocks p sound first h.begin.number h.end h.behind refl fits counts h.ends))
 
 pub value_of : (text : List ℕ) (p : ListProject) → Spells text p → text_value text ≡ Ok p
 unfolding text_value
 value_of text p h =
-    let sound : IsSound p = record {
-      few = h.header.few;
-      settings = settings_read h.header.settings.cut h.header.settings.each;
-      rates = both_read (lines_of_section p.header.sequence) h.header.rates;
-      indexes = h.index.distinct;
-      entries = h.events.distinct;
-      rate = h.rate;
-    } in
-    let first = outside_of nothing_read in
-    let fits : Fits first h.blocks p = record {
-      header = record {
-        version = h.header.version;
-        project = h.header.project;
-        system = h.header.system;
-        sequence = h.header.sequence;
-        track_list = h.header.track_list;
-      };
-      index = (refl, (h.index.part, (h.index.once, h.index.lines)));
-      events = (
-        refl,
-        (
-          h.events.part,
-          (h.events.entries, (h.events.once, (h.events.lines, (h.events.events_are, h.events.separators_are)))),
-        ),
-      );
-      notices = sym h.notices;
-    } in
-    let counts : IsCounted first.header = record { counted = refl; told = refl } in
-    let rest = flat_map lines_of_block h.blocks ++ (h.end ∷ h.behind) in
-    ap (err_map text_refusal) (read_from-all nothing_read 0 (lines_of text)
-    ∙ (ap (read_all nothing_read 0) (ap (with_numbers 1) (lines_are_cut text h.all h.cut) ∙ h.lines)
-    ∙ (read_before h.before nothing_read 0 h.begin rest refl h.blank h.begins
-    ∙ read_blocks h.are_blocks p sound first h.begin.number h.end h.behind refl fits counts h.ends)))
+    let read = read_at p.rate text p refl h.spelled in
+    rw (rate_of-read p.rate text p read, read) refl

@@ -1,16 +1,15 @@
 -- A line that is cut into tokens is cut one token after another, and the other way round.
-use Rattle.std.proofs.Common.{◌≡◌, ℕ, ◌<◌, Bool, true, false, List, [], ◌∷◌, ◌++◌, length, drop, Option, None, Some, Result, Ok, Err, refl, ap, sym, ◌∙◌, append_assoc, length-append, arith}
+use Rattle.std.proofs.Common.{◌≡◌, ℕ, ◌<◌, Bool, true, false, List, [], ◌∷◌, ◌++◌, length, drop, None, Some, Ok, Err, refl, ap, sym, ◌∙◌, length-append, arith}
 use Rattle.std.specs.Prelude.{◌==◌}
 use Rattle.std.specs.List.{list_all, prefix_len, take_while}
-use Rattle.std.proofs.lemmas.Bool.Decides.{nat_tests}
 use Rattle.std.proofs.lemmas.List.{append-nil}
 use Rattle.facts.specs.Prefixes.{drop_more, list_all-take_while, take_while-drop}
 use Rattle.facts.specs.Tests.{and_left, and_right}
 use Rattle.list_terms.specs.declared.TokenKind.{TokenKind}
-use Rattle.list_terms.specs.declared.TokenKind.TheVariants.{Quoted, Keyword, Word}
-use Rattle.list_terms.specs.declared.TextFault.{TextFault}
-use Rattle.list_terms.specs.Tokens.{Cut, TokenText, behind_blanks, byte_fault, closed, is_blank, is_quoted_byte, is_word_byte, keyword, open_fault, token_at, token_from, token_text, word}
-use Rattle.list_terms.specs.TokenLaws.{is_content, token_at-front, token_at-text}
+use Rattle.list_terms.specs.declared.TokenKind.TheVariants.{Quoted, Keyword}
+use Rattle.list_terms.specs.Tokens.{TokenText, behind_blanks, byte_fault, closed, is_blank, is_quoted_byte, is_word_byte, keyword, open_fault, token_at, token_from, token_text, word}
+pub use Rattle.list_terms.specs.EndLaws.{one_byte, rest_shorter}
+use Rattle.list_terms.specs.TokenLaws.{token_at-front, token_at-text}
 use Rattle.adlread.specs.CutLines.{CutsTo, OnlyBlanks, NextToken}
 use Rattle.adlread.proofs.TokenRun.{token_at-nil}
 
@@ -27,14 +26,6 @@ behind_blanks-front (b ∷ blanks) line h =
 token_at-blanks : (blanks line : List ℕ) → list_all is_blank blanks ≡ true → token_at (blanks ++ line) ≡ token_at line
 unfolding token_at
 token_at-blanks blanks line h = ap token_from (behind_blanks-front blanks line h)
-
-one_byte :
-    (kind : TokenKind) (content : List ℕ) → is_content kind content ≡ true
-    → 0 < length (token_text (record { kind = kind; content = content }))
-one_byte Quoted content h = omega arith
-one_byte Keyword content h = omega arith
-one_byte Word [] h = absurd (cc)
-one_byte Word (first ∷ content) h = omega arith
 
 -- the first token of a line, and how the rest is cut
 pub record IsCutBehind (line : List ℕ) (token : TokenText) (tokens : List TokenText) : Type 0 where
@@ -109,11 +100,3 @@ cut_none line e =
     let whole : line ≡ blanks = take_while-drop is_blank line
     ∙ ap (λ t. blanks ++ t) (token_from-none (behind_blanks line) e) ∙ append-nil blanks in
     rw whole (OnlyBlanks blanks (list_all-take_while is_blank line))
-
-pub rest_shorter :
-    (line rest : List ℕ) (token : TokenText) → token_at line ≡ Ok (Some (token, rest)) → length rest < length line
-rest_shorter line rest token e =
-    let front = token_at-front line rest token e in
-    let some = one_byte token.kind token.content front.content in
-    let blanks = length-append (take_while is_blank line) (token_text token ++ rest) in
-    omega (arith, ap length front.whole, blanks, length-append (token_text token) rest)

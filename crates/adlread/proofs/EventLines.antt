@@ -54,205 +54,14 @@ faded entry rise fall =
 abbrev pub events_of : List SpelledEntry → List Event
 events_of entries = map (λ entry. entry.event) entries
 
--- ---- one line as it is read
-
--- a line that isn't an `(Entry)` line
-further_read :
-    (c : Context) (n : ℕ) (text rest : List ℕ) (token : TokenText) (old new : Entries) → is_tag text ≡ false
-    → token_at text ≡ Ok (Some (token, rest)) → is_keyword (codes "Entry") token ≡ false
-    → further_line 25 old token rest ≡ Ok new
-    → in_event_list 25 (with_entries c old) n text ≡ Ok (with_entries c new)
-unfolding in_event_list
-further_read c n text rest token old new untagged at other f = rw (untagged, at, other, f) refl
-
-blank_read : (c : Context) (n : ℕ) (text : List ℕ) → HasTokens text [] → in_event_list 25 c n text ≡ Ok c
-unfolding in_event_list
-blank_read c n text h = rw (h.untagged, no_cut h.cut) refl
-
-remark_read :
-    (c : Context) (n : ℕ) (text : List ℕ) (tokens : List TokenText) (events : List Event) (entry : OpenEntry)
-    (separators : List ℕ)
-    → HasTokens text tokens → IsTrue (is_remark tokens)
-    → in_event_list 25 (with_entries c (behind events entry separators)) n text
-    ≡ Ok (with_entries c (behind events entry separators))
-unfolding further_line entry_with
-remark_read c n text [] events entry separators h is =
-    blank_read (with_entries c (behind events entry separators)) n text h
-remark_read c n text (token ∷ tokens) events entry separators h is =
-    let f = first_cut h.cut in
-    further_read c n text f.rest token (behind events entry separators) (behind events entry separators) h.untagged f.at
-    (other_keyword (codes "Rem") (codes "Entry") token refl is)
-    (rw (
-      other_keyword (codes "Rem") (codes "Infade") token refl is,
-      other_keyword (codes "Rem") (codes "Outfade") token refl is,
-      is,
-      is_end_of f.rest tokens f.cut,
-    ) refl)
-
-gain_read :
-    (c : Context) (n : ℕ) (text : List ℕ) (tokens : List TokenText) (events : List Event) (entry : OpenEntry)
-    (separators : List ℕ)
-    → HasTokens text tokens → IsTrue (is_zero_gain tokens)
-    → in_event_list 25 (with_entries c (behind events entry separators)) n text
-    ≡ Ok (with_entries c (behind events entry separators))
-unfolding further_line entry_with
-gain_read c n text [] events entry separators h is = absurd (cc)
-gain_read c n text (token ∷ tokens) events entry separators h both =
-    let f = first_cut h.cut in
-    let is = and_left (is_keyword (codes "Gain") token) _ both in
-    let zeros = and_right (is_keyword (codes "Gain") token) _ both in
-    further_read c n text f.rest token (behind events entry separators) (behind events entry separators) h.untagged f.at
-    (other_keyword (codes "Gain") (codes "Entry") token refl is)
-    (rw (
-      other_keyword (codes "Gain") (codes "Infade") token refl is,
-      other_keyword (codes "Gain") (codes "Outfade") token refl is,
-      other_keyword (codes "Gain") (codes "Rem") token refl is,
-      is,
-      all_cut (λ t. is_zero t.content) (length f.rest) f.rest tokens (omega arith) f.cut zeros,
-    ) refl)
-
-rise_read :
-    (c : Context) (n : ℕ) (text : List ℕ) (fade : ℕ) (events : List Event) (entry : OpenEntry) (separators : List ℕ)
-    → SpellsFade (codes "Infade") text fade → entry.has_rise ≡ false
-    → in_event_list 25 (with_entries c (behind events entry separators)) n text
-    ≡ Ok (with_entries c (behind events (with_rise entry fade) separators))
-unfolding further_line entry_with
-rise_read c n text fade events entry separators h free =
-    let f = read_fade (codes "Infade") text fade h in
-    further_read c n text f.r f.keyword (behind events entry separators)
-    (behind events (with_rise entry fade) separators) h.cut.untagged f.at
-    (other_keyword (codes "Infade") (codes "Entry") f.keyword refl f.is_fade) (rw (f.is_fade, free, f.fields) refl)
-
-fall_read :
-    (c : Context) (n : ℕ) (text : List ℕ) (fade : ℕ) (events : List Event) (entry : OpenEntry) (separators : List ℕ)
-    → SpellsFade (codes "Outfade") text fade → entry.has_fall ≡ false
-    → in_event_list 25 (with_entries c (behind events entry separators)) n text
-    ≡ Ok (with_entries c (behind events (with_fall entry fade) separators))
-unfolding further_line entry_with
-fall_read c n text fade events entry separators h free =
-    let f = read_fade (codes "Outfade") text fade h in
-    further_read c n text f.r f.keyword (behind events entry separators)
-    (behind events (with_fall entry fade) separators) h.cut.untagged f.at
-    (other_keyword (codes "Outfade") (codes "Entry") f.keyword refl f.is_fade)
-    (rw (other_keyword (codes "Outfade") (codes "Infade") f.keyword refl f.is_fade, f.is_fade, free, f.fields) refl)
-
-entry_read :
-    (c : Context) (n : ℕ) (text : List ℕ) (entry : SpelledEntry) (entries : Entries) → SpellsEntry text entry
-    → list_any (λ other. other.number == entry.event.number) (all_events entries.events entries.entry) ≡ false
-    → in_event_list 25 (with_entries c entries) n text
-    ≡ Ok (with_entries c (with_event entries (without_fades entry.event) entry.separators))
-unfolding in_event_list entry_line entry_of
-entry_read c n text entry entries h free =
-    let f = read_entry text entry h in
-    rw (h.cut.untagged, f.at, f.is_entry, f.numbered, free, f.fields) refl
-
--- a remark before the first entry
-first_remark_read :
-    (c : Context) (n : ℕ) (text : List ℕ) (tokens : List TokenText) → HasTokens text tokens → IsTrue (is_remark tokens)
-    → in_event_list 25 (with_entries c nothing) n text ≡ Ok (with_entries c nothing)
-unfolding further_line remark
-first_remark_read c n text [] h is = blank_read (with_entries c nothing) n text h
-first_remark_read c n text (token ∷ tokens) h is =
-    let f = first_cut h.cut in
-    further_read c n text f.rest token nothing nothing h.untagged f.at
-    (other_keyword (codes "Rem") (codes "Entry") token refl is)
-    (rw (is, is_end_of f.rest tokens f.cut) refl)
-
--- ---- all lines, as they are read
-
-pub record AreRead (lines : List NumberedLine) (c : Context) (old : Entries) (all : List Event)
-    (separators : Option (List ℕ)) : Type 0 where
-  pub last : Entries
-  pub walked : walk section.EventList (with_entries c old) lines ≡ Ok (with_entries c last)
-  pub all_are : all_events last.events last.entry ≡ all
-  pub separators_are : last.separators ≡ separators
-
-one_more :
-    (line : NumberedLine) (lines : List NumberedLine) (c : Context) (old middle : Entries) (all : List Event)
-    (separators : Option (List ℕ))
-    → in_event_list 25 (with_entries c old) line.number line.text ≡ Ok (with_entries c middle)
-    → AreRead lines c middle all separators → AreRead (line ∷ lines) c old all separators
-unfolding in_section
-one_more line lines c old middle all separators e r = record {
-  last = r.last;
-  walked = walk_step section.EventList (with_entries c old) (with_entries c middle) line lines e ∙ r.walked;
-  all_are = r.all_are;
-  separators_are = r.separators_are;
-}
-
-same_event : (entry : SpelledEntry) (rise fall : Option ℕ) → HasFades entry.event rise fall
-    → faded (opened_entry (without_fades entry.event)) rise fall ≡ entry.event
-same_event entry rise fall h = rw (← h.rise_is, ← h.fall_is) refl
-
 is_free : (fade : Option ℕ) → IsFree fade false
 is_free None = tt
 is_free (Some fade) = refl
-
-read_behind :
-    {lines : List NumberedLine} {rise fall : Option ℕ} {entries : List SpelledEntry}
-    → SpellsBehind lines rise fall entries
-    → (c : Context) (events : List Event) (entry : OpenEntry) (separators : List ℕ) → IsFree rise entry.has_rise
-    → IsFree fall entry.has_fall
-    → AreDistinct (entry_numbers (events ++ faded entry rise fall ∷ events_of entries))
-    → AreRead lines c (behind events entry separators) (events ++ faded entry rise fall ∷ events_of entries)
-    (Some separators)
-read_behind EntriesEnd c events entry separators r f distinct =
-    record { last = behind events entry separators; walked = refl; all_are = refl; separators_are = refl }
-read_behind (RemarkBehind line {lines} {rise} {fall} {entries} h others) c events entry separators r f distinct =
-    one_more line lines c (behind events entry separators) (behind events entry separators) _ _
-    (remark_read c line.number line.text h.tokens events entry separators h.cut h.passes)
-    (read_behind others c events entry separators r f distinct)
-read_behind (GainLine line {lines} {rise} {fall} {entries} h others) c events entry separators r f distinct =
-    one_more line lines c (behind events entry separators) (behind events entry separators) _ _
-    (gain_read c line.number line.text h.tokens events entry separators h.cut h.passes)
-    (read_behind others c events entry separators r f distinct)
-read_behind (RiseLine line fade {lines} {fall} {entries} h others) c events entry separators r f distinct =
-    one_more line lines c (behind events entry separators) (behind events (with_rise entry fade) separators) _ _
-    (rise_read c line.number line.text fade events entry separators h r)
-    (read_behind others c events (with_rise entry fade) separators tt f distinct)
-read_behind (FallLine line fade {lines} {rise} {entries} h others) c events entry separators r f distinct =
-    one_more line lines c (behind events entry separators) (behind events (with_fall entry fade) separators) _ _
-    (fall_read c line.number line.text fade events entry separators h f)
-    (read_behind others c events (with_fall entry fade) separators r tt distinct)
-read_behind (NextEntry line next {lines} {rise} {fall} {entries} h fades others) c events entry separators r f
-    distinct =
-    let front = events ++ entry.event ∷ [] in
-    let new = opened_entry (without_fades next.event) in
-    let same = same_event next rise fall fades in
-    let all : front ++ faded new rise fall ∷ events_of entries
-    ≡ events ++ entry.event ∷ next.event ∷ events_of entries =
-    ap (λ e. front ++ e ∷ events_of entries) same
-    ∙ append_assoc events (entry.event ∷ []) (next.event ∷ events_of entries) in
-    let free = not_taken (λ e. e.number) front next.event (events_of entries)
-    (moved (λ e. e.number) events entry.event (next.event ∷ events_of entries) distinct) in
-    let later = read_behind others c front new separators (is_free rise) (is_free fall)
-    (subst (λ es. AreDistinct (entry_numbers es)) (sym all) distinct) in
-    one_more line lines c (behind events entry separators) (behind front new separators) _ _
-    (entry_read c line.number line.text next (behind events entry separators) h free)
-    (subst (λ es. AreRead lines c (behind front new separators) es (Some separators)) all later)
 
 -- the separators of the first entry
 abbrev pub first_separators : List SpelledEntry → Option (List ℕ)
 first_separators [] = None
 first_separators (entry ∷ entries) = Some entry.separators
-
-pub read_entries :
-    {lines : List NumberedLine} {entries : List SpelledEntry} → SpellsEntries lines entries
-    → (c : Context) → AreDistinct (entry_numbers (events_of entries))
-    → AreRead lines c nothing (events_of entries) (first_separators entries)
-read_entries NoEntries c distinct = record { last = nothing; walked = refl; all_are = refl; separators_are = refl }
-read_entries (RemarkLine line {lines} {entries} h others) c distinct =
-    one_more line lines c nothing nothing _ _ (first_remark_read c line.number line.text h.tokens h.cut h.passes)
-    (read_entries others c distinct)
-read_entries (FirstEntry line first {lines} {rise} {fall} {entries} h fades others) c distinct =
-    let new = opened_entry (without_fades first.event) in
-    let all : faded new rise fall ∷ events_of entries ≡ first.event ∷ events_of entries =
-    ap (λ e. e ∷ events_of entries) (same_event first rise fall fades) in
-    let later = read_behind others c [] new first.separators (is_free rise) (is_free fall)
-    (subst (λ es. AreDistinct (entry_numbers es)) (sym all) distinct) in
-    one_more line lines c nothing (behind [] new first.separators) _ _
-    (entry_read c line.number line.text first nothing h refl)
-    (subst (λ es. AreRead lines c (behind [] new first.separators) es (Some first.separators)) all later)
 
 -- ---- one line that was read
 
@@ -266,234 +75,6 @@ line_of text rest token tokens test untagged at cut passes =
       cut = record { untagged = untagged; cut = cut_next text rest token tokens at cut };
       passes = passes;
     }
-
--- what a line behind an entry says of it
-data IsFurther (text : List ℕ) (entry : OpenEntry) : OpenEntry → Type 0 where
-  Remark : IsLineOf is_remark text → IsFurther text entry entry
-  Gain : IsLineOf is_zero_gain text → IsFurther text entry entry
-  Rise : (fade : ℕ) → SpellsFade (codes "Infade") text fade → entry.has_rise ≡ false
-      → IsFurther text entry (with_rise entry fade)
-  Fall : (fade : ℕ) → SpellsFade (codes "Outfade") text fade → entry.has_fall ≡ false
-      → IsFurther text entry (with_fall entry fade)
-
-rise_is :
-    (text rest : List ℕ) (token : TokenText) (entry new : OpenEntry) → is_tag text ≡ false
-    → token_at text ≡ Ok (Some (token, rest))
-    → is_keyword (codes "Infade") token ≡ true → told_rise 25 entry rest ≡ Ok new → IsFurther text entry new
-rise_is text rest token entry new untagged at is e =
-    let free = unless_ok entry.has_rise RepeatedFade _ new e in
-    let f = chain (fade_fields 25 rest) (λ length. Ok (with_rise entry length)) new free.1 in
-    let s = spelled_fade (codes "Infade") text rest token f.value untagged at is f.is in
-    rw (← ok_same _ _ f.others) (Rise f.value s free.0)
-
-fall_is :
-    (text rest : List ℕ) (token : TokenText) (entry new : OpenEntry) → is_tag text ≡ false
-    → token_at text ≡ Ok (Some (token, rest))
-    → is_keyword (codes "Outfade") token ≡ true → told_fall 25 entry rest ≡ Ok new → IsFurther text entry new
-fall_is text rest token entry new untagged at is e =
-    let free = unless_ok entry.has_fall RepeatedFade _ new e in
-    let f = chain (fade_fields 25 rest) (λ length. Ok (with_fall entry length)) new free.1 in
-    let s = spelled_fade (codes "Outfade") text rest token f.value untagged at is f.is in
-    rw (← ok_same _ _ f.others) (Fall f.value s free.0)
-
-remark_is :
-    (text rest : List ℕ) (token : TokenText) (entry new : OpenEntry) → is_tag text ≡ false
-    → token_at text ≡ Ok (Some (token, rest))
-    → is_keyword (codes "Rem") token ≡ true → (end_line rest >>= (λ _. Ok entry)) ≡ Ok new → IsFurther text entry new
-remark_is text rest token entry new untagged at is e =
-    let f = chain (end_line rest) (λ _. Ok entry) new e in
-    let further = end_is rest f.is in
-    rw (← ok_same _ _ f.others)
-    (Remark (line_of text rest token further.tokens is_remark untagged at further.cut is))
-
-gain_is :
-    (text rest : List ℕ) (token : TokenText) (entry new : OpenEntry) → is_tag text ≡ false
-    → token_at text ≡ Ok (Some (token, rest))
-    → is_keyword (codes "Gain") token ≡ true
-    → (all_tokens (λ t. is_zero t.content) (length rest) rest >>= (λ _. Ok entry)) ≡ Ok new
-    → IsFurther text entry new
-gain_is text rest token entry new untagged at is e =
-    let f = chain (all_tokens (λ t. is_zero t.content) (length rest) rest) (λ _. Ok entry) new e in
-    let further = all_tokens_are (λ t. is_zero t.content) (length rest) rest (omega arith) f.is in
-    rw (← ok_same _ _ f.others)
-    (Gain (line_of text rest token further.tokens is_zero_gain untagged at further.cut
-    (and_both (is_keyword (codes "Gain") token) _ is further.all)))
-
-entry_with_is :
-    (text rest : List ℕ) (token : TokenText) (entry new : OpenEntry) → is_tag text ≡ false
-    → token_at text ≡ Ok (Some (token, rest))
-    → (rise : Bool) → is_keyword (codes "Infade") token ≡ rise → (fall : Bool)
-    → is_keyword (codes "Outfade") token ≡ fall
-    → (rem : Bool) → is_keyword (codes "Rem") token ≡ rem → (gain : Bool) → is_keyword (codes "Gain") token ≡ gain
-    → entry_with 25 entry token rest ≡ Ok new → IsFurther text entry new
-unfolding entry_with
-entry_with_is text rest token entry new t at true a fall b rem c gain d e =
-    rise_is text rest token entry new t at a (rw a at e)
-entry_with_is text rest token entry new t at false a true b rem c gain d e =
-    fall_is text rest token entry new t at b (rw (a, b) at e)
-entry_with_is text rest token entry new t at false a false b true c gain d e =
-    remark_is text rest token entry new t at c (rw (a, b, c) at e)
-entry_with_is text rest token entry new t at false a false b false c true d e =
-    gain_is text rest token entry new t at d (rw (a, b, c, d) at e)
-entry_with_is text rest token entry new t at false a false b false c false d e =
-    absurd (let no : ◌≡◌ {A = Result OpenEntry TextFault} (Err Unsupported) (Ok new) = rw (a, b, c, d) at e in cc)
-
--- an entry, and the list with it
-record IsEntry (text : List ℕ) (c next : Context) (entries : Entries) : Type 0 where
-  number : ℕ
-  g : Event × List ℕ
-  spelled : IsSpelledEntry text number g
-  free : list_any (λ other. other.number == g.0.number) (all_events entries.events entries.entry) ≡ false
-  is : with_entries c (with_event entries g.0 g.1) ≡ next
-
-entry_of_is :
-    (entries new : Entries) (n : ℕ) (rest : List ℕ) → entry_of 25 entries n rest ≡ Ok new
-    → (g : Event × List ℕ) × ((event_fields 25 n rest ≡ Ok g) × ((with_event entries g.0 g.1 ≡ new)
-    × (list_any (λ other. other.number == n) (all_events entries.events entries.entry) ≡ false)))
-unfolding entry_of
-entry_of_is entries new n rest e =
-    let free = unless_ok (list_any (λ other. other.number == n) (all_events entries.events entries.entry))
-    DuplicateNumber _ new e in
-    let f = chain (event_fields 25 n rest) (λ g. Ok (with_event entries g.0 g.1)) new free.1 in
-    (f.value, (f.is, (ok_same _ _ f.others, free.0)))
-
-entry_line_is :
-    (c next : Context) (n : ℕ) (text rest : List ℕ) (token : TokenText) (entries : Entries) → is_tag text ≡ false
-    → token_at text ≡ Ok (Some (token, rest)) → is_keyword (codes "Entry") token ≡ true
-    → entry_line 25 (with_entries c entries) n rest ≡ Ok next → IsEntry text c next entries
-unfolding entry_line
-entry_line_is c next n text rest token entries untagged at is e =
-    let a = chain (err_map (at_line n) (number_field rest)) _ next e in
-    let numbered = err_map_ok (at_line n) (number_field rest) a.value a.is in
-    let b = ok_map_ok (with_entries c) (entry_of 25 entries a.value.0 a.value.1) next
-    (err_map_ok (at_entry n a.value.0) _ next a.others) in
-    by_fields a.value numbered b.value b.same (entry_of_is entries b.value a.value.0 a.value.1 b.is) where
-      by_fields :
-          (numbered : ℕ × List ℕ) → number_field rest ≡ Ok numbered → (new : Entries) → with_entries c new ≡ next
-          → (g : Event × List ℕ) × ((event_fields 25 numbered.0 numbered.1 ≡ Ok g) × ((with_event entries g.0 g.1 ≡ new)
-          × (list_any (λ other. other.number == numbered.0) (all_events entries.events entries.entry) ≡ false)))
-          → IsEntry text c next entries
-      by_fields numbered f new same (g, (fields, (made, free))) =
-          let s = spelled_entry text rest numbered.1 token numbered.0 g untagged at is f fields in
-          record {
-            number = numbered.0;
-            g = g;
-            spelled = s;
-            free =
-                subst (λ m. list_any (λ other. other.number == m) (all_events entries.events entries.entry) ≡ false)
-                s.number free;
-            is = ap (with_entries c) made ∙ same;
-          }
-
--- what a line says in a list whose last entry is open
-data IsBehindLine (c : Context) (text : List ℕ) (events : List Event) (entry : OpenEntry)
-    (separators : List ℕ) : Context → Type 0 where
-  Further :
-      (new : OpenEntry) → IsFurther text entry new
-      → IsBehindLine c text events entry separators (with_entries c (behind events new separators))
-  Another : (n : ℕ) (g : Event × List ℕ) → IsSpelledEntry text n g
-      → list_any (λ other. other.number == g.0.number) (events ++ entry.event ∷ []) ≡ false
-      → IsBehindLine c text events entry separators
-      (with_entries c (behind (events ++ entry.event ∷ []) (opened_entry g.0) separators))
-
-further_is :
-    (c next : Context) (n : ℕ) (text rest : List ℕ) (token : TokenText) (events : List Event) (entry : OpenEntry)
-    (separators : List ℕ)
-    → is_tag text ≡ false → token_at text ≡ Ok (Some (token, rest))
-    → err_map (at_open n (Some entry))
-    (ok_map (with_entries c) (further_line 25 (behind events entry separators) token rest)) ≡ Ok next
-    → IsBehindLine c text events entry separators next
-unfolding further_line
-further_is c next n text rest token events entry separators untagged at e =
-    let a = ok_map_ok (with_entries c) _ next (err_map_ok (at_open n (Some entry)) _ next e) in
-    let b = ok_map_ok (λ new. behind events new separators) (entry_with 25 entry token rest) a.value a.is in
-    let f = entry_with_is text rest token entry b.value untagged at (is_keyword (codes "Infade") token) refl
-    (is_keyword (codes "Outfade") token) refl
-    (is_keyword (codes "Rem") token) refl (is_keyword (codes "Gain") token) refl b.is in
-    rw (← a.same, ← b.same) (Further b.value f)
-
-behind_line_is :
-    (c next : Context) (n : ℕ) (text : List ℕ) (events : List Event) (entry : OpenEntry) (separators : List ℕ)
-    → (tag : Bool) → is_tag text ≡ tag → (found : Result (Option Cut) TextFault) → token_at text ≡ found
-    → in_event_list 25 (with_entries c (behind events entry separators)) n text ≡ Ok next
-    → IsBehindLine c text events entry separators next
-unfolding in_event_list
-behind_line_is c next n text events entry separators true t found f e =
-    absurd (let no : ◌≡◌ {A = Result Context LocatedFault} (Err (at_line n SectionMismatch)) (Ok next) =
-    rw t at e in cc)
-behind_line_is c next n text events entry separators false t (Err fault) f e =
-    absurd (let no : ◌≡◌ {A = Result Context LocatedFault} (Err (at_open n (Some entry) fault)) (Ok next) =
-    rw (t, f) at e in cc)
-behind_line_is c next n text events entry separators false t (Ok None) f e =
-    let same : with_entries c (behind events entry separators) ≡ next =
-    ok_same {E = LocatedFault} _ _ (rw (t, f) at e) in
-    rw (← same) (Further entry
-    (Remark (record { tokens = []; cut = record { untagged = t; cut = cut_none text f }; passes = refl })))
-behind_line_is c next n text events entry separators false t (Ok (Some (token, rest))) f e =
-    by_test (is_keyword (codes "Entry") token) refl (rw (t, f) at e) where
-      by_test :
-          (is : Bool) → is_keyword (codes "Entry") token ≡ is
-          → (if is_keyword (codes "Entry") token then entry_line 25
-          (with_entries c (behind events entry separators)) n rest
-          else err_map (at_open n (Some entry))
-          (ok_map (with_entries c) (further_line 25 (behind events entry separators) token rest))) ≡ Ok next
-          → IsBehindLine c text events entry separators next
-      by_test true is o =
-          let l = entry_line_is c next n text rest token (behind events entry separators) t f is (rw is at o) in
-          rw (← l.is) (Another l.number l.g l.spelled l.free)
-      by_test false other o = further_is c next n text rest token events entry separators t f (rw other at o)
-
--- what a line says before the first entry
-data IsFrontLine (c : Context) (text : List ℕ) : Context → Type 0 where
-  Before : IsLineOf is_remark text → IsFrontLine c text (with_entries c nothing)
-  First : (n : ℕ) (g : Event × List ℕ) → IsSpelledEntry text n g
-      → IsFrontLine c text (with_entries c (behind [] (opened_entry g.0) g.1))
-
-front_remark_is :
-    (c next : Context) (n : ℕ) (text rest : List ℕ) (token : TokenText) → is_tag text ≡ false
-    → token_at text ≡ Ok (Some (token, rest))
-    → (rem : Bool) → is_keyword (codes "Rem") token ≡ rem
-    → err_map (at_open n None) (ok_map (with_entries c) (further_line 25 nothing token rest)) ≡ Ok next
-    → IsFrontLine c text next
-unfolding further_line remark
-front_remark_is c next n text rest token untagged at true is e =
-    let o : err_map (at_open n None) (ok_map (with_entries c) (ok_map (λ _. nothing) (end_line rest))) ≡ Ok next =
-    rw is at e in
-    let a = ok_map_ok (with_entries c) (ok_map (λ _. nothing) (end_line rest)) next
-    (err_map_ok (at_open n None) _ next o) in
-    let b = ok_map_ok (λ _. nothing) (end_line rest) a.value a.is in
-    let further = end_is rest b.is in
-    rw (← a.same, ← b.same)
-    (Before (line_of text rest token further.tokens is_remark untagged at further.cut is))
-front_remark_is c next n text rest token untagged at false is e =
-    absurd (let no : ◌≡◌ {A = Result Context LocatedFault} (Err (at_open n None Unplaced)) (Ok next) = rw is at e in cc)
-
-front_line_is :
-    (c next : Context) (n : ℕ) (text : List ℕ) → (tag : Bool) → is_tag text ≡ tag
-    → (found : Result (Option Cut) TextFault) → token_at text ≡ found
-    → in_event_list 25 (with_entries c nothing) n text ≡ Ok next → IsFrontLine c text next
-unfolding in_event_list
-front_line_is c next n text true t found f e =
-    absurd (let no : ◌≡◌ {A = Result Context LocatedFault} (Err (at_line n SectionMismatch)) (Ok next) =
-    rw t at e in cc)
-front_line_is c next n text false t (Err fault) f e =
-    absurd (let no : ◌≡◌ {A = Result Context LocatedFault} (Err (at_open n None fault)) (Ok next) =
-    rw (t, f) at e in cc)
-front_line_is c next n text false t (Ok None) f e =
-    let same : with_entries c nothing ≡ next = ok_same {E = LocatedFault} _ _ (rw (t, f) at e) in
-    rw (← same) (Before (record { tokens = []; cut = record { untagged = t; cut = cut_none text f }; passes = refl }))
-front_line_is c next n text false t (Ok (Some (token, rest))) f e =
-    by_test (is_keyword (codes "Entry") token) refl (rw (t, f) at e) where
-      by_test :
-          (is : Bool) → is_keyword (codes "Entry") token ≡ is
-          → (if is_keyword (codes "Entry") token then entry_line 25 (with_entries c nothing) n rest
-          else err_map (at_open n None) (ok_map (with_entries c) (further_line 25 nothing token rest))) ≡ Ok next
-          → IsFrontLine c text next
-      by_test true is o =
-          let l = entry_line_is c next n text rest token nothing t f is (rw is at o) in
-          rw (← l.is) (First l.number l.g l.spelled)
-      by_test false other o =
-          front_remark_is c next n text rest token t f (is_keyword (codes "Rem") token) refl (rw other at o)
 
 -- ---- all lines that were read
 
@@ -513,196 +94,616 @@ record AreTold
       AreDistinct (entry_numbers (events ++ entry.event ∷ []))
       → AreDistinct (entry_numbers (all_events last.events last.entry))
 
--- the lines spell what they told
-abbrev AreSpelledBehind : List NumberedLine → Context → List Event → OpenEntry → List ℕ → Context → Type 0
-AreSpelledBehind lines c events entry separators next =
-    (told : AreTold c events entry separators next) × SpellsBehind lines told.rise told.fall told.entries
-
 none_told : (fade : Option ℕ) → IsFree fade true → fade ≡ None
 none_told None h = refl
 none_told (Some fade) h = absurd (cc)
-
-with_further :
-    (line : NumberedLine) (lines : List NumberedLine) (c : Context) (events : List Event) (entry new : OpenEntry)
-    (separators : List ℕ) (next : Context)
-    → IsFurther line.text entry new → AreSpelledBehind lines c events new separators next
-    → AreSpelledBehind (line ∷ lines) c events entry separators next
-with_further line lines c events entry new separators next (Remark h) (r, spells) = (r, RemarkBehind line h spells)
-with_further line lines c events entry new separators next (Gain h) (r, spells) = (r, GainLine line h spells)
-with_further line lines c events entry new separators next (Rise fade h free) (r, spells) =
-    let none = none_told r.rise r.free_rise in (
-      record {
-        rise = Some fade;
-        fall = r.fall;
-        entries = r.entries;
-        free_rise = free;
-        free_fall = r.free_fall;
-        last = r.last;
-        is = r.is;
-        all_are =
-            r.all_are ∙ ap (λ rise. events ++ faded (with_rise entry fade) rise r.fall ∷ events_of r.entries) none;
-        separators_are = r.separators_are;
-        distinct =
-            λ d. r.distinct
-            (distinct-changed (λ e. e.number) is_event events entry.event (with_rise entry fade).event d refl);
-      },
-      RiseLine line fade h (subst (λ rise. SpellsBehind lines rise r.fall r.entries) none spells),
-    )
-with_further line lines c events entry new separators next (Fall fade h free) (r, spells) =
-    let none = none_told r.fall r.free_fall in (
-      record {
-        rise = r.rise;
-        fall = Some fade;
-        entries = r.entries;
-        free_rise = r.free_rise;
-        free_fall = free;
-        last = r.last;
-        is = r.is;
-        all_are =
-            r.all_are ∙ ap (λ fall. events ++ faded (with_fall entry fade) r.rise fall ∷ events_of r.entries) none;
-        separators_are = r.separators_are;
-        distinct =
-            λ d. r.distinct
-            (distinct-changed (λ e. e.number) is_event events entry.event (with_fall entry fade).event d refl);
-      },
-      FallLine line fade h (subst (λ fall. SpellsBehind lines r.rise fall r.entries) none spells),
-    )
 
 -- an entry with the fades that its lines tell
 abbrev told_entry : Event × List ℕ → (rise fall : Option ℕ) → SpelledEntry
 told_entry g rise fall = record { event = faded (opened_entry g.0) rise fall; separators = g.1 }
 
-told_fades :
-    (g : Event × List ℕ) (rise fall : Option ℕ) → g.0 ≡ without_fades g.0
-    → HasFades (faded (opened_entry g.0) rise fall) rise fall
-told_fades g rise fall plain = record {
-  rise_is = ap (λ (e : Event). unwrap_or rise e.rise.length) plain;
-  fall_is = ap (λ (e : Event). unwrap_or fall e.fall.length) plain;
-}
+module _ (rate : ℕ) where
+  -- ---- one line as it is read
 
-told_spelled :
-    (text : List ℕ) (n : ℕ) (g : Event × List ℕ) (rise fall : Option ℕ) → IsSpelledEntry text n g
-    → SpellsEntry text (told_entry g rise fall)
-told_spelled text n g rise fall s =
-    s.spells (record { length = unwrap_or rise g.0.rise.length }) (record { length = unwrap_or fall g.0.fall.length })
+  -- a line that isn't an `(Entry)` line
+  further_read :
+      (c : Context) (n : ℕ) (text rest : List ℕ) (token : TokenText) (old new : Entries) → is_tag text ≡ false
+      → token_at text ≡ Ok (Some (token, rest)) → is_keyword (codes "Entry") token ≡ false
+      → further_line rate old token rest ≡ Ok new
+      → in_event_list rate (with_entries c old) n text ≡ Ok (with_entries c new)
+  unfolding in_event_list
+  further_read c n text rest token old new untagged at other f = rw (untagged, at, other, f) refl
 
-with_line_behind :
-    (line : NumberedLine) (lines : List NumberedLine) (c : Context) (events : List Event) (entry : OpenEntry)
-    (separators : List ℕ) (middle next : Context)
-    → IsBehindLine c line.text events entry separators middle
-    → ((events : List Event) (entry : OpenEntry) → middle ≡ with_entries c (behind events entry separators)
-    → AreSpelledBehind lines c events entry separators next)
-    → AreSpelledBehind (line ∷ lines) c events entry separators next
-with_line_behind line lines c events entry separators middle next (Further new f) others =
-    with_further line lines c events entry new separators next f (others events new refl)
-with_line_behind line lines c events entry separators middle next (Another n g s free) others =
-    let front = events ++ entry.event ∷ [] in
-    let told = others front (opened_entry g.0) refl in
-    let r = told.0 in (
-      record {
-        rise = None;
-        fall = None;
-        entries = told_entry g r.rise r.fall ∷ r.entries;
-        free_rise = tt;
-        free_fall = tt;
-        last = r.last;
-        is = r.is;
-        all_are =
-            r.all_are ∙ append_assoc events (entry.event ∷ [])
-            (faded (opened_entry g.0) r.rise r.fall ∷ events_of r.entries);
-        separators_are = r.separators_are;
-        distinct = λ d. r.distinct (distinct-push (λ e. e.number) is_event front g.0 g.0.number d free refl);
-      },
-      NextEntry line (told_entry g r.rise r.fall) (told_spelled line.text n g r.rise r.fall s)
-          (told_fades g r.rise r.fall s.plain) told.1,
-    )
+  blank_read : (c : Context) (n : ℕ) (text : List ℕ) → HasTokens text [] → in_event_list rate c n text ≡ Ok c
+  unfolding in_event_list
+  blank_read c n text h = rw (h.untagged, no_cut h.cut) refl
 
-behind_is_read :
-    (lines : List NumberedLine) (c : Context) (events : List Event) (entry : OpenEntry) (separators : List ℕ)
-    (next : Context)
-    → walk section.EventList (with_entries c (behind events entry separators)) lines ≡ Ok next
-    → AreSpelledBehind lines c events entry separators next
-unfolding in_section
-behind_is_read [] c events entry separators next e = (
-  record {
-    rise = None;
-    fall = None;
-    entries = [];
-    free_rise = tt;
-    free_fall = tt;
-    last = behind events entry separators;
-    is = sym (ok_same _ _ e);
-    all_are = refl;
-    separators_are = refl;
-    distinct = λ d. d;
-  },
-  EntriesEnd,
-)
-behind_is_read (line ∷ lines) c events entry separators next e =
-    let f = chain
-    (in_section 25 (with_entries c (behind events entry separators)) line.number line.text section.EventList) _
-    next e in
-    with_line_behind line lines c events entry separators f.value next
-    (behind_line_is c f.value line.number line.text events entry separators (is_tag line.text) refl
-    (token_at line.text) refl f.is)
-    (λ more new same. behind_is_read lines c more new separators next
-    (subst (λ m. walk section.EventList m lines ≡ Ok next) same f.others))
+  remark_read :
+      (c : Context) (n : ℕ) (text : List ℕ) (tokens : List TokenText) (events : List Event) (entry : OpenEntry)
+      (separators : List ℕ)
+      → HasTokens text tokens → IsTrue (is_remark tokens)
+      → in_event_list rate (with_entries c (behind events entry separators)) n text
+      ≡ Ok (with_entries c (behind events entry separators))
+  unfolding further_line entry_with
+  remark_read c n text [] events entry separators h is =
+      blank_read (with_entries c (behind events entry separators)) n text h
+  remark_read c n text (token ∷ tokens) events entry separators h is =
+      let f = first_cut h.cut in
+      further_read c n text f.rest token (behind events entry separators) (behind events entry separators) h.untagged f.at
+      (other_keyword (codes "Rem") (codes "Entry") token refl is)
+      (rw (
+        other_keyword (codes "Rem") (codes "Infade") token refl is,
+        other_keyword (codes "Rem") (codes "Outfade") token refl is,
+        is,
+        is_end_of f.rest tokens f.cut,
+      ) refl)
 
-pub record AreSpelledEntries (lines : List NumberedLine) (c next : Context) : Type 0 where
-  pub entries : List SpelledEntry
-  pub spells : SpellsEntries lines entries
-  pub last : Entries
-  pub is : next ≡ with_entries c last
-  pub all_are : all_events last.events last.entry ≡ events_of entries
-  pub separators_are : last.separators ≡ first_separators entries
-  pub distinct : AreDistinct (entry_numbers (all_events last.events last.entry))
+  gain_read :
+      (c : Context) (n : ℕ) (text : List ℕ) (tokens : List TokenText) (events : List Event) (entry : OpenEntry)
+      (separators : List ℕ)
+      → HasTokens text tokens → IsTrue (is_zero_gain tokens)
+      → in_event_list rate (with_entries c (behind events entry separators)) n text
+      ≡ Ok (with_entries c (behind events entry separators))
+  unfolding further_line entry_with
+  gain_read c n text [] events entry separators h is = absurd (cc)
+  gain_read c n text (token ∷ tokens) events entry separators h both =
+      let f = first_cut h.cut in
+      let is = and_left (is_keyword (codes "Gain") token) _ both in
+      let zeros = and_right (is_keyword (codes "Gain") token) _ both in
+      further_read c n text f.rest token (behind events entry separators) (behind events entry separators) h.untagged f.at
+      (other_keyword (codes "Gain") (codes "Entry") token refl is)
+      (rw (
+        other_keyword (codes "Gain") (codes "Infade") token refl is,
+        other_keyword (codes "Gain") (codes "Outfade") token refl is,
+        other_keyword (codes "Gain") (codes "Rem") token refl is,
+        is,
+        all_cut (λ t. is_zero t.content) (length f.rest) f.rest tokens (omega arith) f.cut zeros,
+      ) refl)
 
-with_front_line :
-    (line : NumberedLine) (lines : List NumberedLine) (c middle next : Context) → IsFrontLine c line.text middle
-    → walk section.EventList middle lines ≡ Ok next
-    → (walk section.EventList (with_entries c nothing) lines ≡ Ok next → AreSpelledEntries lines c next)
-    → AreSpelledEntries (line ∷ lines) c next
-with_front_line line lines c middle next (Before h) e others =
-    let r = others e in
+  rise_read :
+      (c : Context) (n : ℕ) (text : List ℕ) (fade : ℕ) (events : List Event) (entry : OpenEntry) (separators : List ℕ)
+      → SpellsFade rate (codes "Infade") text fade → entry.has_rise ≡ false
+      → in_event_list rate (with_entries c (behind events entry separators)) n text
+      ≡ Ok (with_entries c (behind events (with_rise entry fade) separators))
+  unfolding further_line entry_with
+  rise_read c n text fade events entry separators h free =
+      let f = read_fade rate (codes "Infade") text fade h in
+      further_read c n text f.r f.keyword (behind events entry separators)
+      (behind events (with_rise entry fade) separators) h.cut.untagged f.at
+      (other_keyword (codes "Infade") (codes "Entry") f.keyword refl f.is_fade) (rw (f.is_fade, free, f.fields) refl)
+
+  fall_read :
+      (c : Context) (n : ℕ) (text : List ℕ) (fade : ℕ) (events : List Event) (entry : OpenEntry) (separators : List ℕ)
+      → SpellsFade rate (codes "Outfade") text fade → entry.has_fall ≡ false
+      → in_event_list rate (with_entries c (behind events entry separators)) n text
+      ≡ Ok (with_entries c (behind events (with_fall entry fade) separators))
+  unfolding further_line entry_with
+  fall_read c n text fade events entry separators h free =
+      let f = read_fade rate (codes "Outfade") text fade h in
+      further_read c n text f.r f.keyword (behind events entry separators)
+      (behind events (with_fall entry fade) separators) h.cut.untagged f.at
+      (other_keyword (codes "Outfade") (codes "Entry") f.keyword refl f.is_fade)
+      (rw (other_keyword (codes "Outfade") (codes "Infade") f.keyword refl f.is_fade, f.is_fade, free, f.fields) refl)
+
+  entry_read :
+      (c : Context) (n : ℕ) (text : List ℕ) (entry : SpelledEntry) (entries : Entries) → SpellsEntry rate text entry
+      → list_any (λ other. other.number == entry.event.number) (all_events entries.events entries.entry) ≡ false
+      → in_event_list rate (with_entries c entries) n text
+      ≡ Ok (with_entries c (with_event entries (without_fades entry.event) entry.separators))
+  unfolding in_event_list entry_line entry_of
+  entry_read c n text entry entries h free =
+      let f = read_entry rate text entry h in
+      rw (h.cut.untagged, f.at, f.is_entry, f.numbered, free, f.fields) refl
+
+  -- a remark before the first entry
+  first_remark_read :
+      (c : Context) (n : ℕ) (text : List ℕ) (tokens : List TokenText) → HasTokens text tokens → IsTrue (is_remark tokens)
+      → in_event_list rate (with_entries c nothing) n text ≡ Ok (with_entries c nothing)
+  unfolding further_line remark
+  first_remark_read c n text [] h is = blank_read (with_entries c nothing) n text h
+  first_remark_read c n text (token ∷ tokens) h is =
+      let f = first_cut h.cut in
+      further_read c n text f.rest token nothing nothing h.untagged f.at
+      (other_keyword (codes "Rem") (codes "Entry") token refl is)
+      (rw (is, is_end_of f.rest tokens f.cut) refl)
+
+  -- ---- all lines, as they are read
+
+  pub record AreRead (lines : List NumberedLine) (c : Context) (old : Entries) (all : List Event)
+      (separators : Option (List ℕ)) : Type 0 where
+    pub last : Entries
+    pub walked : walk rate section.EventList (with_entries c old) lines ≡ Ok (with_entries c last)
+    pub all_are : all_events last.events last.entry ≡ all
+    pub separators_are : last.separators ≡ separators
+
+  one_more :
+      (line : NumberedLine) (lines : List NumberedLine) (c : Context) (old middle : Entries) (all : List Event)
+      (separators : Option (List ℕ))
+      → in_event_list rate (with_entries c old) line.number line.text ≡ Ok (with_entries c middle)
+      → AreRead lines c middle all separators → AreRead (line ∷ lines) c old all separators
+  unfolding in_section
+  one_more line lines c old middle all separators e r = record {
+    last = r.last;
+    walked = walk_step rate section.EventList (with_entries c old) (with_entries c middle) line lines e ∙ r.walked;
+    all_are = r.all_are;
+    separators_are = r.separators_are;
+  }
+
+  same_event : (entry : SpelledEntry) (rise fall : Option ℕ) → HasFades entry.event rise fall
+      → faded (opened_entry (without_fades entry.event)) rise fall ≡ entry.event
+  same_event entry rise fall h = rw (← h.rise_is, ← h.fall_is) refl
+
+  read_behind :
+      {lines : List NumberedLine} {rise fall : Option ℕ} {entries : List SpelledEntry}
+      → SpellsBehind rate lines rise fall entries
+      → (c : Context) (events : List Event) (entry : OpenEntry) (separators : List ℕ) → IsFree rise entry.has_rise
+      → IsFree fall entry.has_fall
+      → AreDistinct (entry_numbers (events ++ faded entry rise fall ∷ events_of entries))
+      → AreRead lines c (behind events entry separators) (events ++ faded entry rise fall ∷ events_of entries)
+      (Some separators)
+  read_behind EntriesEnd c events entry separators r f distinct =
+      record { last = behind events entry separators; walked = refl; all_are = refl; separators_are = refl }
+  read_behind (RemarkBehind line {lines} {rise} {fall} {entries} h others) c events entry separators r f distinct =
+      one_more line lines c (behind events entry separators) (behind events entry separators) _ _
+      (remark_read c line.number line.text h.tokens events entry separators h.cut h.passes)
+      (read_behind others c events entry separators r f distinct)
+  read_behind (GainLine line {lines} {rise} {fall} {entries} h others) c events entry separators r f distinct =
+      one_more line lines c (behind events entry separators) (behind events entry separators) _ _
+      (gain_read c line.number line.text h.tokens events entry separators h.cut h.passes)
+      (read_behind others c events entry separators r f distinct)
+  read_behind (RiseLine line fade {lines} {fall} {entries} h others) c events entry separators r f distinct =
+      one_more line lines c (behind events entry separators) (behind events (with_rise entry fade) separators) _ _
+      (rise_read c line.number line.text fade events entry separators h r)
+      (read_behind others c events (with_rise entry fade) separators tt f distinct)
+  read_behind (FallLine line fade {lines} {rise} {entries} h others) c events entry separators r f distinct =
+      one_more line lines c (behind events entry separators) (behind events (with_fall entry fade) separators) _ _
+      (fall_read c line.number line.text fade events entry separators h f)
+      (read_behind others c events (with_fall entry fade) separators r tt distinct)
+  read_behind (NextEntry line next {lines} {rise} {fall} {entries} h fades others) c events entry separators r f
+      distinct =
+      let front = events ++ entry.event ∷ [] in
+      let new = opened_entry (without_fades next.event) in
+      let same = same_event next rise fall fades in
+      let all : front ++ faded new rise fall ∷ events_of entries
+      ≡ events ++ entry.event ∷ next.event ∷ events_of entries =
+      ap (λ e. front ++ e ∷ events_of entries) same
+      ∙ append_assoc events (entry.event ∷ []) (next.event ∷ events_of entries) in
+      let free = not_taken (λ e. e.number) front next.event (events_of entries)
+      (moved (λ e. e.number) events entry.event (next.event ∷ events_of entries) distinct) in
+      let later = read_behind others c front new separators (is_free rise) (is_free fall)
+      (subst (λ es. AreDistinct (entry_numbers es)) (sym all) distinct) in
+      one_more line lines c (behind events entry separators) (behind front new separators) _ _
+      (entry_read c line.number line.text next (behind events entry separators) h free)
+      (subst (λ es. AreRead lines c (behind front new separators) es (Some separators)) all later)
+
+  pub read_entries :
+      {lines : List NumberedLine} {entries : List SpelledEntry} → SpellsEntries rate lines entries
+      → (c : Context) → AreDistinct (entry_numbers (events_of entries))
+      → AreRead lines c nothing (events_of entries) (first_separators entries)
+  read_entries NoEntries c distinct = record { last = nothing; walked = refl; all_are = refl; separators_are = refl }
+  read_entries (RemarkLine line {lines} {entries} h others) c distinct =
+      one_more line lines c nothing nothing _ _ (first_remark_read c line.number line.text h.tokens h.cut h.passes)
+      (read_entries others c distinct)
+  read_entries (FirstEntry line first {lines} {rise} {fall} {entries} h fades others) c distinct =
+      let new = opened_entry (without_fades first.event) in
+      let all : faded new rise fall ∷ events_of entries ≡ first.event ∷ events_of entries =
+      ap (λ e. e ∷ events_of entries) (same_event first rise fall fades) in
+      let later = read_behind others c [] new first.separators (is_free rise) (is_free fall)
+      (subst (λ es. AreDistinct (entry_numbers es)) (sym all) distinct) in
+      one_more line lines c nothing (behind [] new first.separators) _ _
+      (entry_read c line.number line.text first nothing h refl)
+      (subst (λ es. AreRead lines c (behind [] new first.separators) es (Some first.separators)) all later)
+
+  -- what a line behind an entry says of it
+  data IsFurther (text : List ℕ) (entry : OpenEntry) : OpenEntry → Type 0 where
+    Remark : IsLineOf is_remark text → IsFurther text entry entry
+    Gain : IsLineOf is_zero_gain text → IsFurther text entry entry
+    Rise : (fade : ℕ) → SpellsFade rate (codes "Infade") text fade → entry.has_rise ≡ false
+        → IsFurther text entry (with_rise entry fade)
+    Fall : (fade : ℕ) → SpellsFade rate (codes "Outfade") text fade → entry.has_fall ≡ false
+        → IsFurther text entry (with_fall entry fade)
+
+  rise_is :
+      (text rest : List ℕ) (token : TokenText) (entry new : OpenEntry) → is_tag text ≡ false
+      → token_at text ≡ Ok (Some (token, rest))
+      → is_keyword (codes "Infade") token ≡ true → told_rise rate entry rest ≡ Ok new → IsFurther text entry new
+  rise_is text rest token entry new untagged at is e =
+      let free = unless_ok entry.has_rise RepeatedFade _ new e in
+      let f = chain (fade_fields rate rest) (λ length. Ok (with_rise entry length)) new free.1 in
+      let s = spelled_fade rate (codes "Infade") text rest token f.value untagged at is f.is in
+      rw (← ok_same _ _ f.others) (Rise f.value s free.0)
+
+  fall_is :
+      (text rest : List ℕ) (token : TokenText) (entry new : OpenEntry) → is_tag text ≡ false
+      → token_at text ≡ Ok (Some (token, rest))
+      → is_keyword (codes "Outfade") token ≡ true → told_fall rate entry rest ≡ Ok new → IsFurther text entry new
+  fall_is text rest token entry new untagged at is e =
+      let free = unless_ok entry.has_fall RepeatedFade _ new e in
+      let f = chain (fade_fields rate rest) (λ length. Ok (with_fall entry length)) new free.1 in
+      let s = spelled_fade rate (codes "Outfade") text rest token f.value untagged at is f.is in
+      rw (← ok_same _ _ f.others) (Fall f.value s free.0)
+
+  remark_is :
+      (text rest : List ℕ) (token : TokenText) (entry new : OpenEntry) → is_tag text ≡ false
+      → token_at text ≡ Ok (Some (token, rest))
+      → is_keyword (codes "Rem") token ≡ true → (end_line rest >>= (λ _. Ok entry)) ≡ Ok new → IsFurther text entry new
+  remark_is text rest token entry new untagged at is e =
+      let f = chain (end_line rest) (λ _. Ok entry) new e in
+      let further = end_is rest f.is in
+      rw (← ok_same _ _ f.others)
+      (Remark (line_of text rest token further.tokens is_remark untagged at further.cut is))
+
+  gain_is :
+      (text rest : List ℕ) (token : TokenText) (entry new : OpenEntry) → is_tag text ≡ false
+      → token_at text ≡ Ok (Some (token, rest))
+      → is_keyword (codes "Gain") token ≡ true
+      → (all_tokens (λ t. is_zero t.content) (length rest) rest >>= (λ _. Ok entry)) ≡ Ok new
+      → IsFurther text entry new
+  gain_is text rest token entry new untagged at is e =
+      let f = chain (all_tokens (λ t. is_zero t.content) (length rest) rest) (λ _. Ok entry) new e in
+      let further = all_tokens_are (λ t. is_zero t.content) (length rest) rest (omega arith) f.is in
+      rw (← ok_same _ _ f.others)
+      (Gain (line_of text rest token further.tokens is_zero_gain untagged at further.cut
+      (and_both (is_keyword (codes "Gain") token) _ is further.all)))
+
+  entry_with_is :
+      (text rest : List ℕ) (token : TokenText) (entry new : OpenEntry) → is_tag text ≡ false
+      → token_at text ≡ Ok (Some (token, rest))
+      → (rise : Bool) → is_keyword (codes "Infade") token ≡ rise → (fall : Bool)
+      → is_keyword (codes "Outfade") token ≡ fall
+      → (rem : Bool) → is_keyword (codes "Rem") token ≡ rem → (gain : Bool) → is_keyword (codes "Gain") token ≡ gain
+      → entry_with rate entry token rest ≡ Ok new → IsFurther text entry new
+  unfolding entry_with
+  entry_with_is text rest token entry new t at true a fall b rem c gain d e =
+      rise_is text rest token entry new t at a (rw a at e)
+  entry_with_is text rest token entry new t at false a true b rem c gain d e =
+      fall_is text rest token entry new t at b (rw (a, b) at e)
+  entry_with_is text rest token entry new t at false a false b true c gain d e =
+      remark_is text rest token entry new t at c (rw (a, b, c) at e)
+  entry_with_is text rest token entry new t at false a false b false c true d e =
+      gain_is text rest token entry new t at d (rw (a, b, c, d) at e)
+  entry_with_is text rest token entry new t at false a false b false c false d e =
+      absurd (let no : ◌≡◌ {A = Result OpenEntry TextFault} (Err Unsupported) (Ok new) = rw (a, b, c, d) at e in cc)
+
+  -- an entry, and the list with it
+  record IsEntry (text : List ℕ) (c next : Context) (entries : Entries) : Type 0 where
+    number : ℕ
+    g : Event × List ℕ
+    spelled : IsSpelledEntry rate text number g
+    free : list_any (λ other. other.number == g.0.number) (all_events entries.events entries.entry) ≡ false
+    is : with_entries c (with_event entries g.0 g.1) ≡ next
+
+  entry_of_is :
+      (entries new : Entries) (n : ℕ) (rest : List ℕ) → entry_of rate entries n rest ≡ Ok new
+      → (g : Event × List ℕ) × ((event_fields rate n rest ≡ Ok g) × ((with_event entries g.0 g.1 ≡ new)
+      × (list_any (λ other. other.number == n) (all_events entries.events entries.entry) ≡ false)))
+  unfolding entry_of
+  entry_of_is entries new n rest e =
+      let free = unless_ok (list_any (λ other. other.number == n) (all_events entries.events entries.entry))
+      DuplicateNumber _ new e in
+      let f = chain (event_fields rate n rest) (λ g. Ok (with_event entries g.0 g.1)) new free.1 in
+      (f.value, (f.is, (ok_same _ _ f.others, free.0)))
+
+  entry_line_is :
+      (c next : Context) (n : ℕ) (text rest : List ℕ) (token : TokenText) (entries : Entries) → is_tag text ≡ false
+      → token_at text ≡ Ok (Some (token, rest)) → is_keyword (codes "Entry") token ≡ true
+      → entry_line rate (with_entries c entries) n rest ≡ Ok next → IsEntry text c next entries
+  unfolding entry_line
+  entry_line_is c next n text rest token entries untagged at is e =
+      let a = chain (err_map (at_line n) (number_field rest)) _ next e in
+      let numbered = err_map_ok (at_line n) (number_field rest) a.value a.is in
+      let b = ok_map_ok (with_entries c) (entry_of rate entries a.value.0 a.value.1) next
+      (err_map_ok (at_entry n a.value.0) _ next a.others) in
+      by_fields a.value numbered b.value b.same (entry_of_is entries b.value a.value.0 a.value.1 b.is) where
+        by_fields :
+            (numbered : ℕ × List ℕ) → number_field rest ≡ Ok numbered → (new : Entries) → with_entries c new ≡ next
+            → (g : Event × List ℕ) × ((event_fields rate numbered.0 numbered.1 ≡ Ok g) × ((with_event entries g.0 g.1 ≡ new)
+            × (list_any (λ other. other.number == numbered.0) (all_events entries.events entries.entry) ≡ false)))
+            → IsEntry text c next entries
+        by_fields numbered f new same (g, (fields, (made, free))) =
+            let s = spelled_entry rate text rest numbered.1 token numbered.0 g untagged at is f fields in
+            record {
+              number = numbered.0;
+              g = g;
+              spelled = s;
+              free =
+                  subst (λ m. list_any (λ other. other.number == m) (all_events entries.events entries.entry) ≡ false)
+                  s.number free;
+              is = ap (with_entries c) made ∙ same;
+            }
+
+  -- what a line says in a list whose last entry is open
+  data IsBehindLine (c : Context) (text : List ℕ) (events : List Event) (entry : OpenEntry)
+      (separators : List ℕ) : Context → Type 0 where
+    Further :
+        (new : OpenEntry) → IsFurther text entry new
+        → IsBehindLine c text events entry separators (with_entries c (behind events new separators))
+    Another : (n : ℕ) (g : Event × List ℕ) → IsSpelledEntry rate text n g
+        → list_any (λ other. other.number == g.0.number) (events ++ entry.event ∷ []) ≡ false
+        → IsBehindLine c text events entry separators
+        (with_entries c (behind (events ++ entry.event ∷ []) (opened_entry g.0) separators))
+
+  further_is :
+      (c next : Context) (n : ℕ) (text rest : List ℕ) (token : TokenText) (events : List Event) (entry : OpenEntry)
+      (separators : List ℕ)
+      → is_tag text ≡ false → token_at text ≡ Ok (Some (token, rest))
+      → err_map (at_open n (Some entry))
+      (ok_map (with_entries c) (further_line rate (behind events entry separators) token rest)) ≡ Ok next
+      → IsBehindLine c text events entry separators next
+  unfolding further_line
+  further_is c next n text rest token events entry separators untagged at e =
+      let a = ok_map_ok (with_entries c) _ next (err_map_ok (at_open n (Some entry)) _ next e) in
+      let b = ok_map_ok (λ new. behind events new separators) (entry_with rate entry token rest) a.value a.is in
+      let f = entry_with_is text rest token entry b.value untagged at (is_keyword (codes "Infade") token) refl
+      (is_keyword (codes "Outfade") token) refl
+      (is_keyword (codes "Rem") token) refl (is_keyword (codes "Gain") token) refl b.is in
+      rw (← a.same, ← b.same) (Further b.value f)
+
+  behind_line_is :
+      (c next : Context) (n : ℕ) (text : List ℕ) (events : List Event) (entry : OpenEntry) (separators : List ℕ)
+      → (tag : Bool) → is_tag text ≡ tag → (found : Result (Option Cut) TextFault) → token_at text ≡ found
+      → in_event_list rate (with_entries c (behind events entry separators)) n text ≡ Ok next
+      → IsBehindLine c text events entry separators next
+  unfolding in_event_list
+  behind_line_is c next n text events entry separators true t found f e =
+      absurd (let no : ◌≡◌ {A = Result Context LocatedFault} (Err (at_line n SectionMismatch)) (Ok next) =
+      rw t at e in cc)
+  behind_line_is c next n text events entry separators false t (Err fault) f e =
+      absurd (let no : ◌≡◌ {A = Result Context LocatedFault} (Err (at_open n (Some entry) fault)) (Ok next) =
+      rw (t, f) at e in cc)
+  behind_line_is c next n text events entry separators false t (Ok None) f e =
+      let same : with_entries c (behind events entry separators) ≡ next =
+      ok_same {E = LocatedFault} _ _ (rw (t, f) at e) in
+      rw (← same) (Further entry
+      (Remark (record { tokens = []; cut = record { untagged = t; cut = cut_none text f }; passes = refl })))
+  behind_line_is c next n text events entry separators false t (Ok (Some (token, rest))) f e =
+      by_test (is_keyword (codes "Entry") token) refl (rw (t, f) at e) where
+        by_test :
+            (is : Bool) → is_keyword (codes "Entry") token ≡ is
+            → (if is_keyword (codes "Entry") token then entry_line rate
+            (with_entries c (behind events entry separators)) n rest
+            else err_map (at_open n (Some entry))
+            (ok_map (with_entries c) (further_line rate (behind events entry separators) token rest))) ≡ Ok next
+            → IsBehindLine c text events entry separators next
+        by_test true is o =
+            let l = entry_line_is c next n text rest token (behind events entry separators) t f is (rw is at o) in
+            rw (← l.is) (Another l.number l.g l.spelled l.free)
+        by_test false other o = further_is c next n text rest token events entry separators t f (rw other at o)
+
+  -- what a line says before the first entry
+  data IsFrontLine (c : Context) (text : List ℕ) : Context → Type 0 where
+    Before : IsLineOf is_remark text → IsFrontLine c text (with_entries c nothing)
+    First : (n : ℕ) (g : Event × List ℕ) → IsSpelledEntry rate text n g
+        → IsFrontLine c text (with_entries c (behind [] (opened_entry g.0) g.1))
+
+  front_remark_is :
+      (c next : Context) (n : ℕ) (text rest : List ℕ) (token : TokenText) → is_tag text ≡ false
+      → token_at text ≡ Ok (Some (token, rest))
+      → (rem : Bool) → is_keyword (codes "Rem") token ≡ rem
+      → err_map (at_open n None) (ok_map (with_entries c) (further_line rate nothing token rest)) ≡ Ok next
+      → IsFrontLine c text next
+  unfolding further_line remark
+  front_remark_is c next n text rest token untagged at true is e =
+      let o : err_map (at_open n None) (ok_map (with_entries c) (ok_map (λ _. nothing) (end_line rest))) ≡ Ok next =
+      rw is at e in
+      let a = ok_map_ok (with_entries c) (ok_map (λ _. nothing) (end_line rest)) next
+      (err_map_ok (at_open n None) _ next o) in
+      let b = ok_map_ok (λ _. nothing) (end_line rest) a.value a.is in
+      let further = end_is rest b.is in
+      rw (← a.same, ← b.same)
+      (Before (line_of text rest token further.tokens is_remark untagged at further.cut is))
+  front_remark_is c next n text rest token untagged at false is e =
+      absurd (let no : ◌≡◌ {A = Result Context LocatedFault} (Err (at_open n None Unplaced)) (Ok next) = rw is at e in cc)
+
+  front_line_is :
+      (c next : Context) (n : ℕ) (text : List ℕ) → (tag : Bool) → is_tag text ≡ tag
+      → (found : Result (Option Cut) TextFault) → token_at text ≡ found
+      → in_event_list rate (with_entries c nothing) n text ≡ Ok next → IsFrontLine c text next
+  unfolding in_event_list
+  front_line_is c next n text true t found f e =
+      absurd (let no : ◌≡◌ {A = Result Context LocatedFault} (Err (at_line n SectionMismatch)) (Ok next) =
+      rw t at e in cc)
+  front_line_is c next n text false t (Err fault) f e =
+      absurd (let no : ◌≡◌ {A = Result Context LocatedFault} (Err (at_open n None fault)) (Ok next) =
+      rw (t, f) at e in cc)
+  front_line_is c next n text false t (Ok None) f e =
+      let same : with_entries c nothing ≡ next = ok_same {E = LocatedFault} _ _ (rw (t, f) at e) in
+      rw (← same) (Before (record { tokens = []; cut = record { untagged = t; cut = cut_none text f }; passes = refl }))
+  front_line_is c next n text false t (Ok (Some (token, rest))) f e =
+      by_test (is_keyword (codes "Entry") token) refl (rw (t, f) at e) where
+        by_test :
+            (is : Bool) → is_keyword (codes "Entry") token ≡ is
+            → (if is_keyword (codes "Entry") token then entry_line rate (with_entries c nothing) n rest
+            else err_map (at_open n None) (ok_map (with_entries c) (further_line rate nothing token rest))) ≡ Ok next
+            → IsFrontLine c text next
+        by_test true is o =
+            let l = entry_line_is c next n text rest token nothing t f is (rw is at o) in
+            rw (← l.is) (First l.number l.g l.spelled)
+        by_test false other o =
+            front_remark_is c next n text rest token t f (is_keyword (codes "Rem") token) refl (rw other at o)
+
+  -- the lines spell what they told
+  abbrev AreSpelledBehind : List NumberedLine → Context → List Event → OpenEntry → List ℕ → Context → Type 0
+  AreSpelledBehind lines c events entry separators next =
+      (told : AreTold c events entry separators next) × SpellsBehind rate lines told.rise told.fall told.entries
+
+  with_further :
+      (line : NumberedLine) (lines : List NumberedLine) (c : Context) (events : List Event) (entry new : OpenEntry)
+      (separators : List ℕ) (next : Context)
+      → IsFurther line.text entry new → AreSpelledBehind lines c events new separators next
+      → AreSpelledBehind (line ∷ lines) c events entry separators next
+  with_further line lines c events entry new separators next (Remark h) (r, spells) = (r, RemarkBehind line h spells)
+  with_further line lines c events entry new separators next (Gain h) (r, spells) = (r, GainLine line h spells)
+  with_further line lines c events entry new separators next (Rise fade h free) (r, spells) =
+      let none = none_told r.rise r.free_rise in (
+        record {
+          rise = Some fade;
+          fall = r.fall;
+          entries = r.entries;
+          free_rise = free;
+          free_fall = r.free_fall;
+          last = r.last;
+          is = r.is;
+          all_are =
+              r.all_are ∙ ap (λ rise. events ++ faded (with_rise entry fade) rise r.fall ∷ events_of r.entries) none;
+          separators_are = r.separators_are;
+          distinct =
+              λ d. r.distinct
+              (distinct-changed (λ e. e.number) is_event events entry.event (with_rise entry fade).event d refl);
+        },
+        RiseLine line fade h (subst (λ rise. SpellsBehind rate lines rise r.fall r.entries) none spells),
+      )
+  with_further line lines c events entry new separators next (Fall fade h free) (r, spells) =
+      let none = none_told r.fall r.free_fall in (
+        record {
+          rise = r.rise;
+          fall = Some fade;
+          entries = r.entries;
+          free_rise = r.free_rise;
+          free_fall = free;
+          last = r.last;
+          is = r.is;
+          all_are =
+              r.all_are ∙ ap (λ fall. events ++ faded (with_fall entry fade) r.rise fall ∷ events_of r.entries) none;
+          separators_are = r.separators_are;
+          distinct =
+              λ d. r.distinct
+              (distinct-changed (λ e. e.number) is_event events entry.event (with_fall entry fade).event d refl);
+        },
+        FallLine line fade h (subst (λ fall. SpellsBehind rate lines r.rise fall r.entries) none spells),
+      )
+
+  told_fades :
+      (g : Event × List ℕ) (rise fall : Option ℕ) → g.0 ≡ without_fades g.0
+      → HasFades (faded (opened_entry g.0) rise fall) rise fall
+  told_fades g rise fall plain = record {
+    rise_is = ap (λ (e : Event). unwrap_or rise e.rise.length) plain;
+    fall_is = ap (λ (e : Event). unwrap_or fall e.fall.length) plain;
+  }
+
+  told_spelled :
+      (text : List ℕ) (n : ℕ) (g : Event × List ℕ) (rise fall : Option ℕ) → IsSpelledEntry rate text n g
+      → SpellsEntry rate text (told_entry g rise fall)
+  told_spelled text n g rise fall s =
+      s.spells (record { length = unwrap_or rise g.0.rise.length }) (record { length = unwrap_or fall g.0.fall.length })
+
+  with_line_behind :
+      (line : NumberedLine) (lines : List NumberedLine) (c : Context) (events : List Event) (entry : OpenEntry)
+      (separators : List ℕ) (middle next : Context)
+      → IsBehindLine c line.text events entry separators middle
+      → ((events : List Event) (entry : OpenEntry) → middle ≡ with_entries c (behind events entry separators)
+      → AreSpelledBehind lines c events entry separators next)
+      → AreSpelledBehind (line ∷ lines) c events entry separators next
+  with_line_behind line lines c events entry separators middle next (Further new f) others =
+      with_further line lines c events entry new separators next f (others events new refl)
+  with_line_behind line lines c events entry separators middle next (Another n g s free) others =
+      let front = events ++ entry.event ∷ [] in
+      let told = others front (opened_entry g.0) refl in
+      let r = told.0 in (
+        record {
+          rise = None;
+          fall = None;
+          entries = told_entry g r.rise r.fall ∷ r.entries;
+          free_rise = tt;
+          free_fall = tt;
+          last = r.last;
+          is = r.is;
+          all_are =
+              r.all_are ∙ append_assoc events (entry.event ∷ [])
+              (faded (opened_entry g.0) r.rise r.fall ∷ events_of r.entries);
+          separators_are = r.separators_are;
+          distinct = λ d. r.distinct (distinct-push (λ e. e.number) is_event front g.0 g.0.number d free refl);
+        },
+        NextEntry line (told_entry g r.rise r.fall) (told_spelled line.text n g r.rise r.fall s)
+            (told_fades g r.rise r.fall s.plain) told.1,
+      )
+
+  behind_is_read :
+      (lines : List NumberedLine) (c : Context) (events : List Event) (entry : OpenEntry) (separators : List ℕ)
+      (next : Context)
+      → walk rate section.EventList (with_entries c (behind events entry separators)) lines ≡ Ok next
+      → AreSpelledBehind lines c events entry separators next
+  unfolding in_section
+  behind_is_read [] c events entry separators next e = (
     record {
-      entries = r.entries;
-      spells = RemarkLine line h r.spells;
-      last = r.last;
-      is = r.is;
-      all_are = r.all_are;
-      separators_are = r.separators_are;
-      distinct = r.distinct;
-    }
-with_front_line line lines c middle next (First n g s) e others =
-    let told = behind_is_read lines c [] (opened_entry g.0) g.1 next e in
-    let r = told.0 in
-    record {
-      entries = told_entry g r.rise r.fall ∷ r.entries;
-      spells = FirstEntry line (told_entry g r.rise r.fall) (told_spelled line.text n g r.rise r.fall s)
-          (told_fades g r.rise r.fall s.plain) told.1;
-      last = r.last;
-      is = r.is;
-      all_are = r.all_are;
-      separators_are = r.separators_are;
-      distinct = r.distinct (distinct-push (λ e. e.number) is_event [] g.0 g.0.number AreDistinct-nil refl refl);
-    }
-
-pub entries_are_read :
-    (lines : List NumberedLine) (c next : Context) → walk section.EventList (with_entries c nothing) lines ≡ Ok next
-    → AreSpelledEntries lines c next
-unfolding in_section
-entries_are_read [] c next e =
-    record {
+      rise = None;
+      fall = None;
       entries = [];
-      spells = NoEntries;
-      last = nothing;
+      free_rise = tt;
+      free_fall = tt;
+      last = behind events entry separators;
       is = sym (ok_same _ _ e);
       all_are = refl;
       separators_are = refl;
-      distinct = AreDistinct-nil;
-    }
-entries_are_read (line ∷ lines) c next e =
-    let f = chain (in_section 25 (with_entries c nothing) line.number line.text section.EventList) _ next e in
-    with_front_line line lines c f.value next
-    (front_line_is c f.value line.number line.text (is_tag line.text) refl (token_at line.text) refl f.is)
-    f.others (entries_are_read lines c next)
+      distinct = λ d. d;
+    },
+    EntriesEnd,
+  )
+  behind_is_read (line ∷ lines) c events entry separators next e =
+      let f = chain
+      (in_section rate (with_entries c (behind events entry separators)) line.number line.text section.EventList) _
+      next e in
+      with_line_behind line lines c events entry separators f.value next
+      (behind_line_is c f.value line.number line.text events entry separators (is_tag line.text) refl
+      (token_at line.text) refl f.is)
+      (λ more new same. behind_is_read lines c more new separators next
+      (subst (λ m. walk rate section.EventList m lines ≡ Ok next) same f.others))
+
+  pub record AreSpelledEntries (lines : List NumberedLine) (c next : Context) : Type 0 where
+    pub entries : List SpelledEntry
+    pub spells : SpellsEntries rate lines entries
+    pub last : Entries
+    pub is : next ≡ with_entries c last
+    pub all_are : all_events last.events last.entry ≡ events_of entries
+    pub separators_are : last.separators ≡ first_separators entries
+    pub distinct : AreDistinct (entry_numbers (all_events last.events last.entry))
+
+  with_front_line :
+      (line : NumberedLine) (lines : List NumberedLine) (c middle next : Context) → IsFrontLine c line.text middle
+      → walk rate section.EventList middle lines ≡ Ok next
+      → (walk rate section.EventList (with_entries c nothing) lines ≡ Ok next → AreSpelledEntries lines c next)
+      → AreSpelledEntries (line ∷ lines) c next
+  with_front_line line lines c middle next (Before h) e others =
+      let r = others e in
+      record {
+        entries = r.entries;
+        spells = RemarkLine line h r.spells;
+        last = r.last;
+        is = r.is;
+        all_are = r.all_are;
+        separators_are = r.separators_are;
+        distinct = r.distinct;
+      }
+  with_front_line line lines c middle next (First n g s) e others =
+      let told = behind_is_read lines c [] (opened_entry g.0) g.1 next e in
+      let r = told.0 in
+      record {
+        entries = told_entry g r.rise r.fall ∷ r.entries;
+        spells = FirstEntry line (told_entry g r.rise r.fall) (told_spelled line.text n g r.rise r.fall s)
+            (told_fades g r.rise r.fall s.plain) told.1;
+        last = r.last;
+        is = r.is;
+        all_are = r.all_are;
+        separators_are = r.separators_are;
+        distinct = r.distinct (distinct-push (λ e. e.number) is_event [] g.0 g.0.number AreDistinct-nil refl refl);
+      }
+
+  pub entries_are_read :
+      (lines : List NumberedLine) (c next : Context) → walk rate section.EventList (with_entries c nothing) lines ≡ Ok next
+      → AreSpelledEntries lines c next
+  unfolding in_section
+  entries_are_read [] c next e =
+      record {
+        entries = [];
+        spells = NoEntries;
+        last = nothing;
+        is = sym (ok_same _ _ e);
+        all_are = refl;
+        separators_are = refl;
+        distinct = AreDistinct-nil;
+      }
+  entries_are_read (line ∷ lines) c next e =
+      let f = chain (in_section rate (with_entries c nothing) line.number line.text section.EventList) _ next e in
+      with_front_line line lines c f.value next
+      (front_line_is c f.value line.number line.text (is_tag line.text) refl (token_at line.text) refl f.is)
+      f.others (entries_are_read lines c next)

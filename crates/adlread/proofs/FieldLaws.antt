@@ -1,5 +1,5 @@
 -- A field is read from the token that stands there, and from no other.
-use Rattle.std.proofs.Common.{◌≡◌, ℕ, zero, suc, ◌<◌, ◌≤◌, Bool, true, false, List, [], ◌∷◌, length, Option, None, Some, Result, Ok, Err, refl, ap, sym, ◌∙◌, arith}
+use Rattle.std.proofs.Common.{◌≡◌, ℕ, zero, suc, ◌<◌, ◌≤◌, Bool, true, false, List, [], ◌∷◌, length, Option, None, Some, Result, Ok, Err, refl, sym, ◌∙◌, arith}
 use Rattle.std.specs.Prelude.{ok_or, codes, if◌then◌else◌}
 use Rattle.std.specs.List.{list_all}
 use Rattle.std.proofs.lemmas.Slice.Eq.{bytes_eq-Decides}
@@ -8,7 +8,8 @@ use Rattle.sampletime.specs.TimeCode.{samples_of}
 use Rattle.sound_terms.specs.declared.Channels.{Channels}
 use Rattle.list_terms.specs.declared.TextFault.{TextFault}
 use Rattle.list_terms.specs.declared.TextFault.TheVariants.{BadTime, Unsupported}
-use Rattle.list_terms.specs.Steps.{◌>>=◌, err_map, ok_map}
+pub use Rattle.list_terms.specs.StepLaws.{IsChain, IsImage, chain, err_map_ok, if_ok, ok_map_ok, ok_or_some, ok_same, unless_ok}
+pub use Rattle.list_terms.specs.EndLaws.{at_field, field_at}
 use Rattle.list_terms.specs.Tokens.{Cut, TokenText, all_tokens, token_at}
 use Rattle.list_terms.specs.Fields.{channels_field, channels_of, checked_field, end_line, field, is_missing, number_field, number_up_to, optional_time, optional_time_field, time_field}
 use Rattle.adlread.specs.CutLines.{CutsTo, OnlyBlanks}
@@ -17,54 +18,6 @@ use Rattle.adlread.proofs.CutLaws.{cut_next, cut_none, first_cut, no_cut, rest_s
 use Rattle.adlread.proofs.NumberLaws.{channels_read, channels_told, number_read, number_told}
 use Rattle.adlread.proofs.TokenRun.{all_tokens-step, all_tokens-refused, all_tokens-fault, all_tokens-none, no_bytes}
 
--- ---- steps
-
--- a chain of steps that gave a value: the first gave one, and so did the others
-pub record IsChain {A B E : Type 0} (first : Result A E) (next : A → Result B E) (last : B) : Type 0 where
-  pub value : A
-  pub is : first ≡ Ok value
-  pub others : next value ≡ Ok last
-
-pub chain :
-    {A B E : Type 0} (first : Result A E) (next : A → Result B E) (last : B) → (first >>= next) ≡ Ok last
-    → IsChain first next last
-chain (Ok x) next last e = record { value = x; is = refl; others = e }
-chain (Err fault) next last e = absurd (cc)
-
-pub ok_same : {A E : Type 0} (x y : A) → ◌≡◌ {A = Result A E} (Ok x) (Ok y) → x ≡ y
-ok_same x y e = cc
-
-pub err_map_ok : {A D E : Type 0} (f : D → E) (r : Result A D) (x : A) → err_map f r ≡ Ok x → r ≡ Ok x
-err_map_ok f (Ok y) x e = let same : y ≡ x = cc in ap Ok same
-err_map_ok f (Err fault) x e = absurd (cc)
-
-pub record IsImage {A B E : Type 0} (f : A → B) (r : Result A E) (y : B) : Type 0 where
-  pub value : A
-  pub is : r ≡ Ok value
-  pub same : f value ≡ y
-
-pub ok_map_ok : {A B E : Type 0} (f : A → B) (r : Result A E) (y : B) → ok_map f r ≡ Ok y → IsImage f r y
-ok_map_ok f (Ok x) y e = record { value = x; is = refl; same = cc }
-ok_map_ok f (Err fault) y e = absurd (cc)
-
-pub ok_or_some : {A E : Type 0} (found : Option A) (fault : E) (x : A) → ok_or found fault ≡ Ok x → found ≡ Some x
-ok_or_some None fault x e = absurd (cc)
-ok_or_some (Some y) fault x e = let same : y ≡ x = cc in ap Some same
-
--- a test that gave a value was passed
-pub if_ok :
-    {X E : Type 0} (test : Bool) (x : X) (fault : E) (y : X) → (if test then Ok x else Err fault) ≡ Ok y
-    → (test ≡ true) × (x ≡ y)
-if_ok true x fault y e = (refl, cc)
-if_ok false x fault y e = absurd (cc)
-
--- a test that stood in the way was not passed
-pub unless_ok :
-    {X E : Type 0} (test : Bool) (fault : E) (r : Result X E) (y : X) → (if test then Err fault else r) ≡ Ok y
-    → (test ≡ false) × (r ≡ Ok y)
-unless_ok true fault r y e = absurd (cc)
-unless_ok false fault r y e = (refl, e)
-
 -- ---- fields
 
 -- a token stands there that fits, and this follows it
@@ -72,16 +25,6 @@ pub record IsField (line rest : List ℕ) (Fits : TokenText → Type 0) : Type 0
   pub token : TokenText
   pub at : token_at line ≡ Ok (Some (token, rest))
   pub is : Fits token
-
-pub field_at : (line : List ℕ) (cut : Cut) → field line ≡ Ok cut → token_at line ≡ Ok (Some cut)
-unfolding field
-field_at line cut e =
-    let c = chain (token_at line) (λ next. ok_or next _) cut e in
-    c.is ∙ ap Ok (ok_or_some c.value _ cut c.others)
-
-pub at_field : (line : List ℕ) (cut : Cut) → token_at line ≡ Ok (Some cut) → field line ≡ Ok cut
-unfolding field
-at_field line cut e = rw e refl
 
 pub number_is :
     (line : List ℕ) (g : ℕ × List ℕ) → number_field line ≡ Ok g → IsField line g.1 (λ t. IsNumber 32767 t.content g.0)
@@ -115,64 +58,8 @@ pub are_channels : (line rest : List ℕ) (token : TokenText) (n : Channels) →
 unfolding channels_field
 are_channels line rest token n e h = rw (at_field line (token, rest) e, channels_read token.content n h) refl
 
-pub time_is :
-    (line : List ℕ) (g : ℕ × List ℕ × List ℕ) → time_field 25 line ≡ Ok g
-    → IsField line g.2 (λ t. samples_of 25 t.content ≡ Some (g.0, g.1))
-unfolding time_field
-time_is line g e =
-    let c = chain (field line) _ g e in
-    let d = chain (ok_or (samples_of 25 c.value.0.content) _) _ g c.others in
-    let same : (d.value.0, d.value.1, c.value.1) ≡ g = cc in
-    rw (← same) (record { token = c.value.0; at = field_at line c.value c.is; is = ok_or_some _ _ d.value d.is })
-
-pub is_time :
-    (line rest : List ℕ) (token : TokenText) (n : ℕ) (separators : List ℕ) → token_at line ≡ Ok (Some (token, rest))
-    → samples_of 25 token.content ≡ Some (n, separators) → time_field 25 line ≡ Ok (n, separators, rest)
-unfolding time_field
-is_time line rest token n separators e h = rw (at_field line (token, rest) e, h) refl
-
 missing_is : (text : List ℕ) → is_missing text ≡ true → text ≡ codes "_"
 missing_is text h = (bytes_eq-Decides text (codes "_")).0 h
-
-optional_time_is : (text : List ℕ) (time : Option ℕ) → TellsTime text time → optional_time 25 text ≡ Ok time
-unfolding optional_time
-optional_time_is text None h = rw h refl
-optional_time_is text (Some time) h = by_test (is_missing text) refl where
-  by_test : (missing : Bool) → is_missing text ≡ missing → optional_time 25 text ≡ Ok (Some time)
-  by_test true m =
-      let none : ◌≡◌ {A = Option (ℕ × List ℕ)} None (Some (time, h.0)) = rw (missing_is text m) at h.1 in absurd (cc)
-  by_test false m = rw (m, h.1) refl
-
-told_time : (text : List ℕ) (time : Option ℕ) → optional_time 25 text ≡ Ok time → TellsTime text time
-unfolding optional_time
-told_time text time e = by_test (is_missing text) refl where
-  by_test : (missing : Bool) → is_missing text ≡ missing → TellsTime text time
-  by_test true m = let same : None ≡ time = cc in rw (← same) m
-  by_test false m =
-      let c = chain (ok_or (samples_of 25 text) BadTime) _ time (rw m at e) in
-      let same : Some c.value.0 ≡ time = cc in
-      rw (← same) (c.value.1, ok_or_some (samples_of 25 text) BadTime c.value c.is)
-
-pub optional_time_told :
-    (line : List ℕ) (g : Option ℕ × List ℕ) → optional_time_field 25 line ≡ Ok g
-    → IsField line g.1 (λ t. TellsTime t.content g.0)
-unfolding optional_time_field
-optional_time_told line g e =
-    let c = chain (field line) _ g e in
-    let d = chain (optional_time 25 c.value.0.content) _ g c.others in
-    let same : (d.value, c.value.1) ≡ g = cc in
-    rw (← same) (record {
-      token = c.value.0;
-      at = field_at line c.value c.is;
-      is = told_time c.value.0.content d.value d.is;
-    })
-
-pub told_optional_time :
-    (line rest : List ℕ) (token : TokenText) (time : Option ℕ) → token_at line ≡ Ok (Some (token, rest))
-    → TellsTime token.content time → optional_time_field 25 line ≡ Ok (time, rest)
-unfolding optional_time_field
-told_optional_time line rest token time e h =
-    rw (at_field line (token, rest) e, optional_time_is token.content time h) refl
 
 pub checked_is :
     (test : TokenText → Bool) (line rest : List ℕ) → checked_field test line ≡ Ok rest
@@ -245,3 +132,60 @@ end_is line e = all_tokens_are (λ t. true) (length line) line (omega arith) e
 pub is_end_of : (line : List ℕ) (tokens : List TokenText) → CutsTo line tokens → end_line line ≡ Ok tt
 unfolding end_line
 is_end_of line tokens cut = all_cut (λ t. true) (length line) line tokens (omega arith) cut (list_all-any tokens)
+
+module _ (rate : ℕ) where
+  pub time_is :
+      (line : List ℕ) (g : ℕ × List ℕ × List ℕ) → time_field rate line ≡ Ok g
+      → IsField line g.2 (λ t. samples_of rate t.content ≡ Some (g.0, g.1))
+  unfolding time_field
+  time_is line g e =
+      let c = chain (field line) _ g e in
+      let d = chain (ok_or (samples_of rate c.value.0.content) _) _ g c.others in
+      let same : (d.value.0, d.value.1, c.value.1) ≡ g = cc in
+      rw (← same) (record { token = c.value.0; at = field_at line c.value c.is; is = ok_or_some _ _ d.value d.is })
+
+  pub is_time :
+      (line rest : List ℕ) (token : TokenText) (n : ℕ) (separators : List ℕ) → token_at line ≡ Ok (Some (token, rest))
+      → samples_of rate token.content ≡ Some (n, separators) → time_field rate line ≡ Ok (n, separators, rest)
+  unfolding time_field
+  is_time line rest token n separators e h = rw (at_field line (token, rest) e, h) refl
+
+  optional_time_is : (text : List ℕ) (time : Option ℕ) → TellsTime rate text time → optional_time rate text ≡ Ok time
+  unfolding optional_time
+  optional_time_is text None h = rw h refl
+  optional_time_is text (Some time) h = by_test (is_missing text) refl where
+    by_test : (missing : Bool) → is_missing text ≡ missing → optional_time rate text ≡ Ok (Some time)
+    by_test true m =
+        let none : ◌≡◌ {A = Option (ℕ × List ℕ)} None (Some (time, h.0)) = rw (missing_is text m) at h.1 in absurd (cc)
+    by_test false m = rw (m, h.1) refl
+
+  told_time : (text : List ℕ) (time : Option ℕ) → optional_time rate text ≡ Ok time → TellsTime rate text time
+  unfolding optional_time
+  told_time text time e = by_test (is_missing text) refl where
+    by_test : (missing : Bool) → is_missing text ≡ missing → TellsTime rate text time
+    by_test true m = let same : None ≡ time = cc in rw (← same) m
+    by_test false m =
+        let c = chain (ok_or (samples_of rate text) BadTime) _ time (rw m at e) in
+        let same : Some c.value.0 ≡ time = cc in
+        rw (← same) (c.value.1, ok_or_some (samples_of rate text) BadTime c.value c.is)
+
+  pub optional_time_told :
+      (line : List ℕ) (g : Option ℕ × List ℕ) → optional_time_field rate line ≡ Ok g
+      → IsField line g.1 (λ t. TellsTime rate t.content g.0)
+  unfolding optional_time_field
+  optional_time_told line g e =
+      let c = chain (field line) _ g e in
+      let d = chain (optional_time rate c.value.0.content) _ g c.others in
+      let same : (d.value, c.value.1) ≡ g = cc in
+      rw (← same) (record {
+        token = c.value.0;
+        at = field_at line c.value c.is;
+        is = told_time c.value.0.content d.value d.is;
+      })
+
+  pub told_optional_time :
+      (line rest : List ℕ) (token : TokenText) (time : Option ℕ) → token_at line ≡ Ok (Some (token, rest))
+      → TellsTime rate token.content time → optional_time_field rate line ≡ Ok (time, rest)
+  unfolding optional_time_field
+  told_optional_time line rest token time e h =
+      rw (at_field line (token, rest) e, optional_time_is token.content time h) refl

@@ -18,19 +18,6 @@ both_told :
 both_told rates h =
     rw (and_left rates.sample_rate rates.frame_rate h, and_right rates.sample_rate rates.frame_rate h) refl
 
-pub IsHeader-from_so_far :
-    (h : HeaderRead) → IsHeaderSoFar h → IsTrue (h.rates.sample_rate && h.rates.frame_rate) → IsHeader h.lines
-IsHeader-from_so_far h is told = record {
-  version = is.version;
-  project = is.project;
-  system = is.system;
-  sequence = is.sequence;
-  track_list = is.track_list;
-  settings = is.settings;
-  rates = is.rates ∙ ap Ok (both_told h.rates told);
-  few = omega (arith, is.counted, is.few);
-}
-
 pub default-from_none :
     (found : Option (List ℕ)) → found ≡ None → unwrap_or found default_separators ≡ default_separators
 default-from_none found h = rw h refl
@@ -98,11 +85,25 @@ pub standard-from_entries :
 standard-from_entries events entry found old_events old_found separators same kept chosen none nothing =
     chosen ∙ ap (λ f. unwrap_or f default_separators) (kept ∙ none (sym same ∙ nothing))
 
--- one line more is read
-pub read_from-step :
-    (c next : Context) (n m : ℕ) (line : List ℕ) (lines rest : List (List ℕ)) → lines ≡ line ∷ rest → m ≡ n + 1
-    → with_line 25 c m line ≡ Ok next → false ≡ is_behind next.stage → read_from 25 next m rest ≡ read_from 25 c n lines
-unfolding read_from
-read_from-step c next n m line lines rest e f h before =
-    let read : with_line 25 c (n + 1) line ≡ Ok next = rw f at h in
-    rw (e, f, read, ← before) refl
+module _ (rate : ℕ) where
+  pub IsHeader-from_so_far :
+      (h : HeaderRead) → IsHeaderSoFar rate h → IsTrue (h.rates.sample_rate && h.rates.frame_rate) → IsHeader rate h.lines
+  IsHeader-from_so_far h is told = record {
+    version = is.version;
+    project = is.project;
+    system = is.system;
+    sequence = is.sequence;
+    track_list = is.track_list;
+    settings = is.settings;
+    rates = is.rates ∙ ap Ok (both_told h.rates told);
+    few = omega (arith, is.counted, is.few);
+  }
+
+  -- one line more is read
+  pub read_from-step :
+      (c next : Context) (n m : ℕ) (line : List ℕ) (lines rest : List (List ℕ)) → lines ≡ line ∷ rest → m ≡ n + 1
+      → with_line rate c m line ≡ Ok next → false ≡ is_behind next.stage → read_from rate next m rest ≡ read_from rate c n lines
+  unfolding read_from
+  read_from-step c next n m line lines rest e f h before =
+      let read : with_line rate c (n + 1) line ≡ Ok next = rw f at h in
+      rw (e, f, read, ← before) refl

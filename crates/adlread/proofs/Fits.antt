@@ -42,43 +42,6 @@ HeaderFits now blocks all =
     (kept section.Sequence blocks)
     (kept section.TrackList blocks) all
 
--- the source index was read, or is still to come
-abbrev pub IndexFits : Bool → List Source → List SectionText → List Source → Type 0
-IndexFits true now parts all = (parts ≡ []) × (now ≡ all)
-IndexFits false now parts all =
-    (now ≡ []) × ((part : SectionText) × ((parts ≡ part ∷ []) × SpellsSources part.content all part.notices))
-
--- the event list was read, or is still to come
-abbrev pub EventsFit : Bool → Entries → List SectionText → List Event → List ℕ → Type 0
-EventsFit true now parts events separators =
-    (parts ≡ []) ×
-    ((all_events now.events now.entry ≡ events) × (unwrap_or now.separators default_separators ≡ separators))
-EventsFit false now parts events separators =
-    (now ≡ no_entry) ×
-    ((part : SectionText) ×
-    ((entries : List SpelledEntry) × ((parts ≡ part ∷ []) × (SpellsEntries part.content entries
-    × ((events ≡ events_of entries) × (separators ≡ separators_of entries))))))
-
-pub record Fits (c : Context) (blocks : List Block) (p : ListProject) : Type 0 where
-  pub header : HeaderFits c.header.lines blocks p.header
-  pub index : IndexFits c.has_index c.sources (sections section.SourceIndex blocks) p.sources
-  pub events : EventsFit c.has_events c.entries (sections section.EventList blocks) p.events p.separators
-  pub notices : c.notices ++ flat_map notices_of_block blocks ≡ p.notices
-
--- the count and the rates of the header so far
-pub record IsCounted (header : HeaderRead) : Type 0 where
-  pub counted : header.kept ≡ line_count header.lines
-  pub told : told_rates no_rates (lines_of_section header.lines.sequence) ≡ Ok header.rates
-
--- what holds of the project itself
-pub record IsSound (p : ListProject) : Type 0 where
-  pub few : line_count p.header ≤ 65535
-  pub settings : list_all is_system_line (lines_of_section p.header.system) ≡ true
-  pub rates : told_rates no_rates (lines_of_section p.header.sequence) ≡ Ok both_rates
-  pub indexes : AreDistinct (index_numbers p.sources)
-  pub entries : AreDistinct (entry_numbers p.events)
-  pub rate : p.rate ≡ 25
-
 -- ---- one section of a kind
 
 one_at_most :
@@ -249,235 +212,273 @@ pub other_section :
     → sections meaning blocks ≡ sections meaning (Titled part ∷ blocks)
 other_section meaning part blocks other = rw other refl
 
--- the content is read, and the others still fit
-pub record IsWalked (s : Section) (c : Context) (content : List NumberedLine) (blocks : List Block)
-    (p : ListProject) : Type 0 where
-  pub last : Context
-  pub walked : walk s c content ≡ Ok last
-  pub fits : Fits (outside_of last) blocks p
-  pub counts : IsCounted last.header
-
--- a source index stands there, so none was read
-index_free :
-    (has : Bool) (now : List Source) (part : SectionText) (more : List SectionText) (all : List Source)
-    → IndexFits has now (part ∷ more) all
-    → (has ≡ false) × ((now ≡ []) × ((more ≡ []) × SpellsSources part.content all part.notices))
-index_free true now part more all fits = absurd (let none = fits.0 in cc)
-index_free false now part more all fits =
-    let one = fits.1.1.0 in
-    let same : fits.1.0 ≡ part = cc in
-    let none : more ≡ [] = cc in
-    (refl, (fits.0, (none, subst (λ (s : SectionText). SpellsSources s.content all s.notices) same fits.1.1.1)))
-
--- an event list stands there, so none was read
-record IsFirstList (has : Bool) (now : Entries) (part : SectionText) (more : List SectionText) (events : List Event)
-    (separators : List ℕ) : Type 0 where
-  free : has ≡ false
-  none : now ≡ no_entry
-  no_other : more ≡ []
-  entries : List SpelledEntry
-  spells : SpellsEntries part.content entries
-  events_are : events ≡ events_of entries
-  separators_are : separators ≡ separators_of entries
-
-events_free :
-    (has : Bool) (now : Entries) (part : SectionText) (more : List SectionText) (events : List Event)
-    (separators : List ℕ)
-    → EventsFit has now (part ∷ more) events separators → IsFirstList has now part more events separators
-events_free true now part more events separators fits = absurd (let none = fits.0 in cc)
-events_free false now part more events separators fits =
-    let one = fits.1.1.1.0 in
-    let same : fits.1.0 ≡ part = cc in
-    let other : more ≡ [] = cc in
-    record {
-      free = refl;
-      none = fits.0;
-      no_other = other;
-      entries = fits.1.1.0;
-      spells = subst (λ (s : SectionText). SpellsEntries s.content fits.1.1.0) same fits.1.1.1.1.0;
-      events_are = fits.1.1.1.1.1.0;
-      separators_are = fits.1.1.1.1.1.1;
-    }
-
 pub first_are :
     (entries : List SpelledEntry) → unwrap_or (first_separators entries) default_separators ≡ separators_of entries
 first_are [] = refl
 first_are (entry ∷ entries) = refl
 
-pub skipped_lines : (content : List NumberedLine) (c : Context) → walk section.Skipped c content ≡ Ok c
-unfolding in_section
-skipped_lines [] c = refl
-skipped_lines (line ∷ content) c = skipped_lines content c
+module _ (rate : ℕ) where
+  -- the source index was read, or is still to come
+  abbrev pub IndexFits : Bool → List Source → List SectionText → List Source → Type 0
+  IndexFits true now parts all = (parts ≡ []) × (now ≡ all)
+  IndexFits false now parts all =
+      (now ≡ []) × ((part : SectionText) × ((parts ≡ part ∷ []) × SpellsSources rate part.content all part.notices))
 
-unsupported_lines :
-    (content : List NumberedLine) (c : Context) → list_all is_empty (texts content) ≡ true
-    → walk section.Unsupported c content ≡ Ok c
-unfolding in_section in_unsupported
-unsupported_lines [] c empty = refl
-unsupported_lines (line ∷ content) c empty =
-    rw (and_left (is_empty line.text) (list_all is_empty (texts content)) empty)
-    (unsupported_lines content c (and_right (is_empty line.text) (list_all is_empty (texts content)) empty))
+  -- the event list was read, or is still to come
+  abbrev pub EventsFit : Bool → Entries → List SectionText → List Event → List ℕ → Type 0
+  EventsFit true now parts events separators =
+      (parts ≡ []) ×
+      ((all_events now.events now.entry ≡ events) × (unwrap_or now.separators default_separators ≡ separators))
+  EventsFit false now parts events separators =
+      (now ≡ no_entry) ×
+      ((part : SectionText) ×
+      ((entries : List SpelledEntry) × ((parts ≡ part ∷ []) × (SpellsEntries rate part.content entries
+      × ((events ≡ events_of entries) × (separators ≡ separators_of entries))))))
 
-module _ (p : ListProject) (sound : IsSound p) (blocks : List Block) where
-  module _
-      (c : Context) (name : List ℕ) (opening : NumberedLine) (content : List NumberedLine) (ending : NumberedLine)
-      (notices : List Notice) (counts : IsCounted c.header) where
-    -- the section stands there, of this meaning
-    abbrev Stands : Section → Type 0
-    Stands s = Fits c (Titled (titled s name opening content ending notices) ∷ blocks) p
+  pub record Fits (c : Context) (blocks : List Block) (p : ListProject) : Type 0 where
+    pub header : HeaderFits c.header.lines blocks p.header
+    pub index : IndexFits c.has_index c.sources (sections section.SourceIndex blocks) p.sources
+    pub events : EventsFit c.has_events c.entries (sections section.EventList blocks) p.events p.separators
+    pub notices : c.notices ++ flat_map notices_of_block blocks ≡ p.notices
 
-    abbrev Walked : Section → Type 0
-    Walked s = (is_opened c s ≡ false) × IsWalked s (begun c opening.number s name) content blocks p
+  -- the count and the rates of the header so far
+  pub record IsCounted (header : HeaderRead) : Type 0 where
+    pub counted : header.kept ≡ line_count header.lines
+    pub told : told_rates rate no_rates (lines_of_section header.lines.sequence) ≡ Ok header.rates
 
-    -- the notices behind those of this section
-    told_behind :
-        (told : List Notice) → notices ≡ told
-        → c.notices ++ (notices ++ flat_map notices_of_block blocks) ≡ p.notices
-        → (c.notices ++ told) ++ flat_map notices_of_block blocks ≡ p.notices
-    told_behind told same are = append_assoc c.notices told (flat_map notices_of_block blocks)
-        ∙ subst (λ ns. c.notices ++ (ns ++ flat_map notices_of_block blocks) ≡ p.notices) same are
+  -- what holds of the project itself
+  pub record IsSound (p : ListProject) : Type 0 where
+    pub few : line_count p.header ≤ 65535
+    pub settings : list_all (is_system_line rate) (lines_of_section p.header.system) ≡ true
+    pub rates : told_rates rate no_rates (lines_of_section p.header.sequence) ≡ Ok both_rates
+    pub indexes : AreDistinct (index_numbers p.sources)
+    pub entries : AreDistinct (entry_numbers p.events)
+    pub same_rate : p.rate ≡ rate
 
-    header_walked :
-        (s : Section) → IsHeaderPart s → Stands s → notices ≡ [] → (told : Rates)
-        → told_in s c.header.rates (texts content) ≡ Ok told
-        → told_rates no_rates (lines_of_section (put_lines s (Some (texts content)) c.header.lines).sequence) ≡ Ok told
-        → Walked s
-    header_walked s part fits none told e sequence =
-        let this = titled s name opening content ending notices in
-        let f = part.behind name opening content ending notices blocks c.header.lines p.header fits.header in
-        let lines = put_lines s (Some (texts content)) c.header.lines in
-        let b = record (with_lines c (put_lines s (Some []) c.header.lines)) { stage = stage.Inside s; name = name } in
-        let last = with_header b (record { lines = lines; kept = line_count lines; rates = told }) in
-        let short = no_more_lines lines blocks p.header f.1 in
-        let more = part.counted c.header.lines (texts content) f.0 in
-        let read : walk s b content ≡ Ok last =
-        read_header s part.kept content b told (line_count lines) (omega (arith, counts.counted, more))
-        (omega (arith, short, sound.few)) e
-        ∙ ap (λ ls. Ok (with_header b (record { lines = ls; kept = line_count lines; rates = told })))
-        (keep_all-put s part.kept c.header.lines [] (texts content)) in (
-          part.kept.opened c ∙ ap is_some f.0,
-          record {
-            last = last;
-            walked = ap (λ d. walk s d content) (begun_kept s part.kept c opening.number name) ∙ read;
-            fits = record {
-              header = f.1;
-              index = subst (λ parts. IndexFits c.has_index c.sources parts p.sources)
-                  (sym (other_section section.SourceIndex this blocks part.no_index)) fits.index;
-              events = subst (λ parts. EventsFit c.has_events c.entries parts p.events p.separators)
-                  (sym (other_section section.EventList this blocks part.no_events)) fits.events;
-              notices =
-                  subst (λ ns. c.notices ++ (ns ++ flat_map notices_of_block blocks) ≡ p.notices) none fits.notices;
-            };
-            counts = record { counted = refl; told = sequence };
-          },
-        )
+  -- the content is read, and the others still fit
+  pub record IsWalked (s : Section) (c : Context) (content : List NumberedLine) (blocks : List Block)
+      (p : ListProject) : Type 0 where
+    pub last : Context
+    pub walked : walk rate s c content ≡ Ok last
+    pub fits : Fits (outside_of last) blocks p
+    pub counts : IsCounted last.header
 
-    system_walked : Stands section.System → notices ≡ [] → Walked section.System
-    system_walked fits none =
-        let f = system_part.behind name opening content ending notices blocks c.header.lines p.header fits.header in
-        let fine = subst (λ ls. list_all is_system_line (lines_of_section ls) ≡ true)
-        (kept_is_all (texts content) _ p.header.system f.1.system) sound.settings in
-        header_walked section.System system_part fits none c.header.rates
-        (told_in-system c.header.rates (texts content) fine) counts.told
+  -- a source index stands there, so none was read
+  index_free :
+      (has : Bool) (now : List Source) (part : SectionText) (more : List SectionText) (all : List Source)
+      → IndexFits has now (part ∷ more) all
+      → (has ≡ false) × ((now ≡ []) × ((more ≡ []) × SpellsSources rate part.content all part.notices))
+  index_free true now part more all fits = absurd (let none = fits.0 in cc)
+  index_free false now part more all fits =
+      let one = fits.1.1.0 in
+      let same : fits.1.0 ≡ part = cc in
+      let none : more ≡ [] = cc in
+      (refl, (fits.0, (none, subst (λ (s : SectionText). SpellsSources rate s.content all s.notices) same fits.1.1.1)))
 
-    sequence_walked : Stands section.Sequence → notices ≡ [] → Walked section.Sequence
-    sequence_walked fits none =
-        let f = sequence_part.behind name opening content ending notices blocks c.header.lines p.header fits.header in
-        let both = subst (λ ls. told_rates no_rates (lines_of_section ls) ≡ Ok both_rates)
-        (kept_is_all (texts content) _ p.header.sequence f.1.sequence) sound.rates in
-        let none_told : no_rates ≡ c.header.rates =
-        ok_same _ _ (subst (λ ls. told_rates no_rates (lines_of_section ls) ≡ Ok c.header.rates) f.0 counts.told) in
-        header_walked section.Sequence sequence_part fits none both_rates
-        (told_in-sequence c.header.rates (texts content)
-        ∙ (ap (λ r. told_rates r (texts content)) (sym none_told) ∙ both)) both
+  -- an event list stands there, so none was read
+  record IsFirstList (has : Bool) (now : Entries) (part : SectionText) (more : List SectionText) (events : List Event)
+      (separators : List ℕ) : Type 0 where
+    free : has ≡ false
+    none : now ≡ no_entry
+    no_other : more ≡ []
+    entries : List SpelledEntry
+    spells : SpellsEntries rate part.content entries
+    events_are : events ≡ events_of entries
+    separators_are : separators ≡ separators_of entries
 
-    index_walked : Stands section.SourceIndex → Walked section.SourceIndex
-    index_walked fits =
-        let part = titled section.SourceIndex name opening content ending notices in
-        let i = index_free c.has_index c.sources part (sections section.SourceIndex blocks) p.sources fits.index in
-        let b = begun c opening.number section.SourceIndex name in
-        let distinct = subst (λ ss. AreDistinct (index_numbers (ss ++ p.sources))) (sym i.1.0) sound.indexes in (
-          i.0,
-          record {
-            last = record b { sources = p.sources; notices = c.notices ++ notices };
-            walked =
-                read_sources i.1.1.1 b distinct ∙ ap
-                (λ ss. Ok (record b { sources = ss ++ p.sources; notices = c.notices ++ notices })) i.1.0;
-            fits = record {
-              header = fits.header;
-              index = (i.1.1.0, refl);
-              events = fits.events;
-              notices = told_behind notices refl fits.notices;
-            };
-            counts = counts;
-          },
-        )
+  events_free :
+      (has : Bool) (now : Entries) (part : SectionText) (more : List SectionText) (events : List Event)
+      (separators : List ℕ)
+      → EventsFit has now (part ∷ more) events separators → IsFirstList has now part more events separators
+  events_free true now part more events separators fits = absurd (let none = fits.0 in cc)
+  events_free false now part more events separators fits =
+      let one = fits.1.1.1.0 in
+      let same : fits.1.0 ≡ part = cc in
+      let other : more ≡ [] = cc in
+      record {
+        free = refl;
+        none = fits.0;
+        no_other = other;
+        entries = fits.1.1.0;
+        spells = subst (λ (s : SectionText). SpellsEntries rate s.content fits.1.1.0) same fits.1.1.1.1.0;
+        events_are = fits.1.1.1.1.1.0;
+        separators_are = fits.1.1.1.1.1.1;
+      }
 
-    events_walked : Stands section.EventList → notices ≡ [] → Walked section.EventList
-    events_walked fits none =
-        let part = titled section.EventList name opening content ending notices in
-        let i = events_free c.has_events c.entries part
-        (sections section.EventList blocks) p.events p.separators fits.events in
-        let b = begun c opening.number section.EventList name in
-        let r = read_entries i.spells b (subst (λ es. AreDistinct (entry_numbers es)) i.events_are sound.entries) in
-        let separators = ap (λ s. unwrap_or s default_separators) r.separators_are ∙ first_are i.entries in (
-          i.free,
-          record {
-            last = with_entries b r.last;
-            walked = ap (λ es. walk section.EventList (with_entries b es) content) i.none ∙ r.walked;
-            fits = record {
-              header = fits.header;
-              index = fits.index;
-              events = (i.no_other, (r.all_are ∙ sym i.events_are, separators ∙ sym i.separators_are));
-              notices =
-                  subst (λ ns. c.notices ++ (ns ++ flat_map notices_of_block blocks) ≡ p.notices) none fits.notices;
-            };
-            counts = counts;
-          },
-        )
+  pub skipped_lines : (content : List NumberedLine) (c : Context) → walk rate section.Skipped c content ≡ Ok c
+  unfolding in_section
+  skipped_lines [] c = refl
+  skipped_lines (line ∷ content) c = skipped_lines content c
 
-    skipped_walked : Stands section.Skipped → notices ≡ notice 1 opening ∷ [] → Walked section.Skipped
-    skipped_walked fits told =
-        let b = begun c opening.number section.Skipped name in
-        let behind = told_behind (notice 1 opening ∷ []) told fits.notices in (
-          refl,
-          record {
-            last = b;
-            walked = skipped_lines content b;
-            fits = record { header = fits.header; index = fits.index; events = fits.events; notices = behind };
-            counts = counts;
-          },
-        )
+  unsupported_lines :
+      (content : List NumberedLine) (c : Context) → list_all is_empty (texts content) ≡ true
+      → walk rate section.Unsupported c content ≡ Ok c
+  unfolding in_section in_unsupported
+  unsupported_lines [] c empty = refl
+  unsupported_lines (line ∷ content) c empty =
+      rw (and_left (is_empty line.text) (list_all is_empty (texts content)) empty)
+      (unsupported_lines content c (and_right (is_empty line.text) (list_all is_empty (texts content)) empty))
 
-    unsupported_walked :
-        Stands section.Unsupported → IsTrue (list_all is_empty (texts content)) → notices ≡ notice 1 opening ∷ []
-        → Walked section.Unsupported
-    unsupported_walked fits empty told =
-        let b = begun c opening.number section.Unsupported name in
-        let behind = told_behind (notice 1 opening ∷ []) told fits.notices in (
-          refl,
-          record {
-            last = b;
-            walked = unsupported_lines content b empty;
-            fits = record { header = fits.header; index = fits.index; events = fits.events; notices = behind };
-            counts = counts;
-          },
-        )
+  module _ (p : ListProject) (sound : IsSound p) (blocks : List Block) where
+    module _
+        (c : Context) (name : List ℕ) (opening : NumberedLine) (content : List NumberedLine) (ending : NumberedLine)
+        (notices : List Notice) (counts : IsCounted c.header) where
+      -- the section stands there, of this meaning
+      abbrev Stands : Section → Type 0
+      Stands s = Fits c (Titled (titled s name opening content ending notices) ∷ blocks) p
 
-    pub section_walked :
-        (s : Section) → Stands s → IsPassedOver s (titled s name opening content ending notices) → Walked s
-    section_walked section.Version fits over =
-        header_walked section.Version version_part fits over c.header.rates
-        (told_in-none section.Version (λ rates text. refl) c.header.rates (texts content)) counts.told
-    section_walked section.Project fits over =
-        header_walked section.Project project_part fits over c.header.rates
-        (told_in-none section.Project (λ rates text. refl) c.header.rates (texts content)) counts.told
-    section_walked section.System fits over = system_walked fits over
-    section_walked section.Sequence fits over = sequence_walked fits over
-    section_walked section.TrackList fits over =
-        header_walked section.TrackList track_list_part fits over c.header.rates
-        (told_in-none section.TrackList (λ rates text. refl) c.header.rates (texts content)) counts.told
-    section_walked section.SourceIndex fits over = index_walked fits
-    section_walked section.EventList fits over = events_walked fits over
-    section_walked section.Skipped fits over = skipped_walked fits over
-    section_walked section.Unsupported fits over = unsupported_walked fits over.0 over.1
+      abbrev Walked : Section → Type 0
+      Walked s = (is_opened c s ≡ false) × IsWalked s (begun c opening.number s name) content blocks p
+
+      -- the notices behind those of this section
+      told_behind :
+          (told : List Notice) → notices ≡ told
+          → c.notices ++ (notices ++ flat_map notices_of_block blocks) ≡ p.notices
+          → (c.notices ++ told) ++ flat_map notices_of_block blocks ≡ p.notices
+      told_behind told same are = append_assoc c.notices told (flat_map notices_of_block blocks)
+          ∙ subst (λ ns. c.notices ++ (ns ++ flat_map notices_of_block blocks) ≡ p.notices) same are
+
+      header_walked :
+          (s : Section) → IsHeaderPart s → Stands s → notices ≡ [] → (told : Rates)
+          → told_in rate s c.header.rates (texts content) ≡ Ok told
+          → told_rates rate no_rates (lines_of_section (put_lines s (Some (texts content)) c.header.lines).sequence) ≡ Ok told
+          → Walked s
+      header_walked s part fits none told e sequence =
+          let this = titled s name opening content ending notices in
+          let f = part.behind name opening content ending notices blocks c.header.lines p.header fits.header in
+          let lines = put_lines s (Some (texts content)) c.header.lines in
+          let b = record (with_lines c (put_lines s (Some []) c.header.lines)) { stage = stage.Inside s; name = name } in
+          let last = with_header b (record { lines = lines; kept = line_count lines; rates = told }) in
+          let short = no_more_lines lines blocks p.header f.1 in
+          let more = part.counted c.header.lines (texts content) f.0 in
+          let read : walk rate s b content ≡ Ok last =
+          read_header rate s part.kept content b told (line_count lines) (omega (arith, counts.counted, more))
+          (omega (arith, short, sound.few)) e
+          ∙ ap (λ ls. Ok (with_header b (record { lines = ls; kept = line_count lines; rates = told })))
+          (keep_all-put s part.kept c.header.lines [] (texts content)) in (
+            part.kept.opened c ∙ ap is_some f.0,
+            record {
+              last = last;
+              walked = ap (λ d. walk rate s d content) (begun_kept s part.kept c opening.number name) ∙ read;
+              fits = record {
+                header = f.1;
+                index = subst (λ parts. IndexFits c.has_index c.sources parts p.sources)
+                    (sym (other_section section.SourceIndex this blocks part.no_index)) fits.index;
+                events = subst (λ parts. EventsFit c.has_events c.entries parts p.events p.separators)
+                    (sym (other_section section.EventList this blocks part.no_events)) fits.events;
+                notices =
+                    subst (λ ns. c.notices ++ (ns ++ flat_map notices_of_block blocks) ≡ p.notices) none fits.notices;
+              };
+              counts = record { counted = refl; told = sequence };
+            },
+          )
+
+      system_walked : Stands section.System → notices ≡ [] → Walked section.System
+      system_walked fits none =
+          let f = system_part.behind name opening content ending notices blocks c.header.lines p.header fits.header in
+          let fine = subst (λ ls. list_all (is_system_line rate) (lines_of_section ls) ≡ true)
+          (kept_is_all (texts content) _ p.header.system f.1.system) sound.settings in
+          header_walked section.System system_part fits none c.header.rates
+          (told_in-system rate c.header.rates (texts content) fine) counts.told
+
+      sequence_walked : Stands section.Sequence → notices ≡ [] → Walked section.Sequence
+      sequence_walked fits none =
+          let f = sequence_part.behind name opening content ending notices blocks c.header.lines p.header fits.header in
+          let both = subst (λ ls. told_rates rate no_rates (lines_of_section ls) ≡ Ok both_rates)
+          (kept_is_all (texts content) _ p.header.sequence f.1.sequence) sound.rates in
+          let none_told : no_rates ≡ c.header.rates =
+          ok_same _ _ (subst (λ ls. told_rates rate no_rates (lines_of_section ls) ≡ Ok c.header.rates) f.0 counts.told) in
+          header_walked section.Sequence sequence_part fits none both_rates
+          (told_in-sequence rate c.header.rates (texts content)
+          ∙ (ap (λ r. told_rates rate r (texts content)) (sym none_told) ∙ both)) both
+
+      index_walked : Stands section.SourceIndex → Walked section.SourceIndex
+      index_walked fits =
+          let part = titled section.SourceIndex name opening content ending notices in
+          let i = index_free c.has_index c.sources part (sections section.SourceIndex blocks) p.sources fits.index in
+          let b = begun c opening.number section.SourceIndex name in
+          let distinct = subst (λ ss. AreDistinct (index_numbers (ss ++ p.sources))) (sym i.1.0) sound.indexes in (
+            i.0,
+            record {
+              last = record b { sources = p.sources; notices = c.notices ++ notices };
+              walked =
+                  read_sources rate i.1.1.1 b distinct ∙ ap
+                  (λ ss. Ok (record b { sources = ss ++ p.sources; notices = c.notices ++ notices })) i.1.0;
+              fits = record {
+                header = fits.header;
+                index = (i.1.1.0, refl);
+                events = fits.events;
+                notices = told_behind notices refl fits.notices;
+              };
+              counts = counts;
+            },
+          )
+
+      events_walked : Stands section.EventList → notices ≡ [] → Walked section.EventList
+      events_walked fits none =
+          let part = titled section.EventList name opening content ending notices in
+          let i = events_free c.has_events c.entries part
+          (sections section.EventList blocks) p.events p.separators fits.events in
+          let b = begun c opening.number section.EventList name in
+          let r = read_entries rate i.spells b (subst (λ es. AreDistinct (entry_numbers es)) i.events_are sound.entries) in
+          let separators = ap (λ s. unwrap_or s default_separators) r.separators_are ∙ first_are i.entries in (
+            i.free,
+            record {
+              last = with_entries b r.last;
+              walked = ap (λ es. walk rate section.EventList (with_entries b es) content) i.none ∙ r.walked;
+              fits = record {
+                header = fits.header;
+                index = fits.index;
+                events = (i.no_other, (r.all_are ∙ sym i.events_are, separators ∙ sym i.separators_are));
+                notices =
+                    subst (λ ns. c.notices ++ (ns ++ flat_map notices_of_block blocks) ≡ p.notices) none fits.notices;
+              };
+              counts = counts;
+            },
+          )
+
+      skipped_walked : Stands section.Skipped → notices ≡ notice 1 opening ∷ [] → Walked section.Skipped
+      skipped_walked fits told =
+          let b = begun c opening.number section.Skipped name in
+          let behind = told_behind (notice 1 opening ∷ []) told fits.notices in (
+            refl,
+            record {
+              last = b;
+              walked = skipped_lines content b;
+              fits = record { header = fits.header; index = fits.index; events = fits.events; notices = behind };
+              counts = counts;
+            },
+          )
+
+      unsupported_walked :
+          Stands section.Unsupported → IsTrue (list_all is_empty (texts content)) → notices ≡ notice 1 opening ∷ []
+          → Walked section.Unsupported
+      unsupported_walked fits empty told =
+          let b = begun c opening.number section.Unsupported name in
+          let behind = told_behind (notice 1 opening ∷ []) told fits.notices in (
+            refl,
+            record {
+              last = b;
+              walked = unsupported_lines content b empty;
+              fits = record { header = fits.header; index = fits.index; events = fits.events; notices = behind };
+              counts = counts;
+            },
+          )
+
+      pub section_walked :
+          (s : Section) → Stands s → IsPassedOver s (titled s name opening content ending notices) → Walked s
+      section_walked section.Version fits over =
+          header_walked section.Version version_part fits over c.header.rates
+          (told_in-none rate section.Version (λ rates text. refl) c.header.rates (texts content)) counts.told
+      section_walked section.Project fits over =
+          header_walked section.Project project_part fits over c.header.rates
+          (told_in-none rate section.Project (λ rates text. refl) c.header.rates (texts content)) counts.told
+      section_walked section.System fits over = system_walked fits over
+      section_walked section.Sequence fits over = sequence_walked fits over
+      section_walked section.TrackList fits over =
+          header_walked section.TrackList track_list_part fits over c.header.rates
+          (told_in-none rate section.TrackList (λ rates text. refl) c.header.rates (texts content)) counts.told
+      section_walked section.SourceIndex fits over = index_walked fits
+      section_walked section.EventList fits over = events_walked fits over
+      section_walked section.Skipped fits over = skipped_walked fits over
+      section_walked section.Unsupported fits over = unsupported_walked fits over.0 over.1

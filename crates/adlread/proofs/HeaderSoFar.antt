@@ -1,6 +1,6 @@
 -- The header that was read so far, with one section or one line more.
 use Rattle.std.proofs.Common.{◌≡◌, ℕ, ◌+◌, ◌≤◌, Bool, true, false, List, [], ◌∷◌, ◌++◌, length, Option, None, Some, Result, Ok, Err, refl, ap, sym, ◌∙◌, length-append, arith}
-use Rattle.std.specs.Prelude.{codes, is_some, nat_le, not, ◌&&◌}
+use Rattle.std.specs.Prelude.{codes, is_some, nat_le, not}
 use Rattle.std.specs.List.{list_all}
 use Rattle.std.proofs.lemmas.Bool.Decides.{nat_tests}
 use Rattle.facts.specs.Lists.{all_push}
@@ -14,27 +14,6 @@ use Rattle.list_terms.specs.Text.{HeaderRead, is_end, is_tag, keep, no_header, r
 use Rattle.list_terms.specs.Tokens.{trimmed}
 use Rattle.list_terms.specs.WholeProject.{are_kept, is_kept, is_line_byte, is_system_line, line_count, lines_of_section, no_rates, told_rates}
 use Rattle.adlread.specs.SoFar.{IsHeaderSoFar}
-
--- the header is so, fact by fact
-so_far :
-    {header : HeaderRead} → let lines = header.lines in
-    are_kept (codes "VERSION") lines.version ≡ true → are_kept (codes "PROJECT") lines.project ≡ true
-    → are_kept (codes "SYSTEM") lines.system ≡ true → are_kept (codes "SEQUENCE") lines.sequence ≡ true
-    → are_kept (codes "TRACKLIST") lines.track_list ≡ true
-    → list_all is_system_line (lines_of_section lines.system) ≡ true
-    → told_rates no_rates (lines_of_section lines.sequence) ≡ Ok header.rates → line_count lines ≤ header.kept
-    → header.kept ≤ 65535 → IsHeaderSoFar header
-so_far v p s q t settings rates counted few = record {
-  version = v;
-  project = p;
-  system = s;
-  sequence = q;
-  track_list = t;
-  settings = settings;
-  rates = rates;
-  counted = counted;
-  few = few;
-}
 
 -- ---- one line more
 
@@ -51,100 +30,10 @@ length_with :
 length_with text None = omega arith
 length_with text (Some front) = omega (arith, length-append front (text ∷ []))
 
-told_rates-push :
-    (rates told next : Rates) (front : List (List ℕ)) (text : List ℕ) → told_rates rates front ≡ Ok told
-    → sequence_rates told text ≡ Ok next → told_rates rates (front ++ text ∷ []) ≡ Ok next
-told_rates-push rates told next [] text h k = let e : rates ≡ told = cc in rw (e, k) refl
-told_rates-push rates told next (line ∷ front) text h k =
-    by_first (sequence_rates rates line) refl (λ mid e. told_rates-push mid told next front text e k) where
-      by_first :
-          (first : Result Rates TextFault) → sequence_rates rates line ≡ first
-          → ((mid : Rates) → told_rates mid front ≡ Ok told → told_rates mid (front ++ text ∷ []) ≡ Ok next)
-          → told_rates rates (line ∷ front ++ text ∷ []) ≡ Ok next
-      by_first (Ok mid) e ih = rw e (ih mid (rw e at h))
-      by_first (Err fault) e ih = let f : Err fault ≡ Ok told = rw e at h in absurd (cc)
-
-told_with :
-    (told next : Rates) (lines : Option (List (List ℕ))) (text : List ℕ) → is_some lines ≡ true
-    → told_rates no_rates (lines_of_section lines) ≡ Ok told → sequence_rates told text ≡ Ok next
-    → told_rates no_rates (lines_of_section (with_text text lines)) ≡ Ok next
-told_with told next None text there h k = absurd (cc)
-told_with told next (Some front) text there h k = told_rates-push no_rates told next front text h k
-
 pub is_kept_line :
     (name text : List ℕ) → list_all is_line_byte text ≡ true → is_end name (trimmed text) ≡ false
     → is_kept name text ≡ true
 is_kept_line name text h k = and_both (list_all is_line_byte text) (not (is_end name (trimmed text))) h (rw k refl)
-
--- what a line of SYSTEM says
-record SaysNothing (rates told : Rates) (text : List ℕ) : Type 0 where
-  same : rates ≡ told
-  line : is_system_line text ≡ true
-
-system_rates-says :
-    (rates told : Rates) (text : List ℕ) → system_rates 25 rates text ≡ Ok told → SaysNothing rates told text
-system_rates-says rates told text h = by_parts (is_tag text) refl (system_line 25 text) refl where
-  by_parts :
-      (tag : Bool) → is_tag text ≡ tag → (said : Result (Unit {0}) TextFault) → system_line 25 text ≡ said
-      → SaysNothing rates told text
-  by_parts true t said s = let f : system_rates 25 rates text ≡ Err SectionMismatch = rw t refl in absurd (cc)
-  by_parts false t (Err fault) s = let f : system_rates 25 rates text ≡ Err fault = rw (t, s) refl in absurd (cc)
-  by_parts false t (Ok said) s =
-      let f : system_rates 25 rates text ≡ Ok rates = rw (t, s) refl in
-      record { same = cc; line = rw (t, s) refl }
-
-module _ (header : HeaderRead) (is : IsHeaderSoFar header) (text : List ℕ) (told : Rates)
-    (room : nat_le 65535 header.kept ≡ false) where
-  room_for_one : header.kept + 1 ≤ 65535
-  room_for_one = grind (arith, nat_tests)
-
-  pub with_version :
-      is_kept (codes "VERSION") text ≡ true → rates_with 25 section.Version header.rates text ≡ Ok told
-      → IsHeaderSoFar (record { lines = keep section.Version text header.lines; kept = header.kept + 1; rates = told })
-  with_version kept says =
-      so_far (all_with (is_kept (codes "VERSION")) text header.lines.version is.version kept)
-      is.project is.system is.sequence is.track_list is.settings (is.rates ∙ says)
-      (omega (arith, length_with text header.lines.version, is.counted)) room_for_one
-
-  pub with_project :
-      is_kept (codes "PROJECT") text ≡ true → rates_with 25 section.Project header.rates text ≡ Ok told
-      → IsHeaderSoFar (record { lines = keep section.Project text header.lines; kept = header.kept + 1; rates = told })
-  with_project kept says =
-      so_far is.version (all_with (is_kept (codes "PROJECT")) text header.lines.project is.project kept)
-      is.system is.sequence is.track_list is.settings (is.rates ∙ says)
-      (omega (arith, length_with text header.lines.project, is.counted)) room_for_one
-
-  pub with_system :
-      is_kept (codes "SYSTEM") text ≡ true → rates_with 25 section.System header.rates text ≡ Ok told
-      → IsHeaderSoFar (record { lines = keep section.System text header.lines; kept = header.kept + 1; rates = told })
-  with_system kept says =
-      let nothing = system_rates-says header.rates told text says in
-      so_far is.version is.project (all_with (is_kept (codes "SYSTEM")) text header.lines.system is.system kept)
-      is.sequence is.track_list (all_with is_system_line text header.lines.system is.settings nothing.line)
-      (is.rates ∙ ap (λ (r : Rates). let x : Result Rates TextFault = Ok r in x) nothing.same)
-      (omega (arith, length_with text header.lines.system, is.counted)) room_for_one
-
-  pub with_sequence :
-      is_some header.lines.sequence ≡ true → is_kept (codes "SEQUENCE") text ≡ true
-      → rates_with 25 section.Sequence header.rates text ≡ Ok told
-      → IsHeaderSoFar (record { lines = keep section.Sequence text header.lines; kept = header.kept + 1; rates = told })
-  with_sequence there kept says =
-      so_far is.version is.project is.system (all_with (is_kept (codes "SEQUENCE"))
-      text header.lines.sequence is.sequence kept) is.track_list is.settings
-      (told_with header.rates told header.lines.sequence text there is.rates says)
-      (omega (arith, length_with text header.lines.sequence, is.counted)) room_for_one
-
-  pub with_track_list :
-      is_kept (codes "TRACKLIST") text ≡ true → rates_with 25 section.TrackList header.rates text ≡ Ok told
-      → IsHeaderSoFar (record {
-        lines = keep section.TrackList text header.lines;
-        kept = header.kept + 1;
-        rates = told;
-      })
-  with_track_list kept says =
-      so_far is.version is.project is.system is.sequence
-      (all_with (is_kept (codes "TRACKLIST")) text header.lines.track_list is.track_list kept) is.settings
-      (is.rates ∙ says) (omega (arith, length_with text header.lines.track_list, is.counted)) room_for_one
 
 -- ---- one section more
 
@@ -152,30 +41,142 @@ nothing_told : (lines : Option (List (List ℕ))) → is_some lines ≡ false �
 nothing_told None h = refl
 nothing_told (Some lines) h = absurd (cc)
 
-module _ (header : HeaderRead) (is : IsHeaderSoFar header) where
-  pub opens_version : IsHeaderSoFar (record header { lines = record header.lines { version = Some [] } })
-  opens_version =
-      so_far refl is.project is.system is.sequence is.track_list is.settings is.rates (omega (arith, is.counted)) is.few
+module _ (rate : ℕ) where
+  -- the header is so, fact by fact
+  so_far :
+      {header : HeaderRead} → let lines = header.lines in
+      are_kept (codes "VERSION") lines.version ≡ true → are_kept (codes "PROJECT") lines.project ≡ true
+      → are_kept (codes "SYSTEM") lines.system ≡ true → are_kept (codes "SEQUENCE") lines.sequence ≡ true
+      → are_kept (codes "TRACKLIST") lines.track_list ≡ true
+      → list_all (is_system_line rate) (lines_of_section lines.system) ≡ true
+      → told_rates rate no_rates (lines_of_section lines.sequence) ≡ Ok header.rates → line_count lines ≤ header.kept
+      → header.kept ≤ 65535 → IsHeaderSoFar rate header
+  so_far v p s q t settings rates counted few = record {
+    version = v;
+    project = p;
+    system = s;
+    sequence = q;
+    track_list = t;
+    settings = settings;
+    rates = rates;
+    counted = counted;
+    few = few;
+  }
 
-  pub opens_project : IsHeaderSoFar (record header { lines = record header.lines { project = Some [] } })
-  opens_project =
-      so_far is.version refl is.system is.sequence is.track_list is.settings is.rates (omega (arith, is.counted)) is.few
+  told_rates-push :
+      (rates told next : Rates) (front : List (List ℕ)) (text : List ℕ) → told_rates rate rates front ≡ Ok told
+      → sequence_rates rate told text ≡ Ok next → told_rates rate rates (front ++ text ∷ []) ≡ Ok next
+  told_rates-push rates told next [] text h k = let e : rates ≡ told = cc in rw (e, k) refl
+  told_rates-push rates told next (line ∷ front) text h k =
+      by_first (sequence_rates rate rates line) refl (λ mid e. told_rates-push mid told next front text e k) where
+        by_first :
+            (first : Result Rates TextFault) → sequence_rates rate rates line ≡ first
+            → ((mid : Rates) → told_rates rate mid front ≡ Ok told → told_rates rate mid (front ++ text ∷ []) ≡ Ok next)
+            → told_rates rate rates (line ∷ front ++ text ∷ []) ≡ Ok next
+        by_first (Ok mid) e ih = rw e (ih mid (rw e at h))
+        by_first (Err fault) e ih = let f : Err fault ≡ Ok told = rw e at h in absurd (cc)
 
-  pub opens_system : IsHeaderSoFar (record header { lines = record header.lines { system = Some [] } })
-  opens_system =
-      so_far is.version is.project refl is.sequence is.track_list refl is.rates (omega (arith, is.counted)) is.few
+  told_with :
+      (told next : Rates) (lines : Option (List (List ℕ))) (text : List ℕ) → is_some lines ≡ true
+      → told_rates rate no_rates (lines_of_section lines) ≡ Ok told → sequence_rates rate told text ≡ Ok next
+      → told_rates rate no_rates (lines_of_section (with_text text lines)) ≡ Ok next
+  told_with told next None text there h k = absurd (cc)
+  told_with told next (Some front) text there h k = told_rates-push no_rates told next front text h k
 
-  pub opens_sequence :
-      is_some header.lines.sequence ≡ false
-      → IsHeaderSoFar (record header { lines = record header.lines { sequence = Some [] } })
-  opens_sequence new =
-      so_far is.version is.project is.system refl is.track_list is.settings
-      (ap (told_rates no_rates) (sym (nothing_told header.lines.sequence new)) ∙ is.rates) (omega (arith, is.counted))
-      is.few
+  -- what a line of SYSTEM says
+  record SaysNothing (rates told : Rates) (text : List ℕ) : Type 0 where
+    same : rates ≡ told
+    line : is_system_line rate text ≡ true
 
-  pub opens_track_list : IsHeaderSoFar (record header { lines = record header.lines { track_list = Some [] } })
-  opens_track_list =
-      so_far is.version is.project is.system is.sequence refl is.settings is.rates (omega (arith, is.counted)) is.few
+  system_rates-says :
+      (rates told : Rates) (text : List ℕ) → system_rates rate rates text ≡ Ok told → SaysNothing rates told text
+  system_rates-says rates told text h = by_parts (is_tag text) refl (system_line rate text) refl where
+    by_parts :
+        (tag : Bool) → is_tag text ≡ tag → (said : Result (Unit {0}) TextFault) → system_line rate text ≡ said
+        → SaysNothing rates told text
+    by_parts true t said s = let f : system_rates rate rates text ≡ Err SectionMismatch = rw t refl in absurd (cc)
+    by_parts false t (Err fault) s = let f : system_rates rate rates text ≡ Err fault = rw (t, s) refl in absurd (cc)
+    by_parts false t (Ok said) s =
+        let f : system_rates rate rates text ≡ Ok rates = rw (t, s) refl in
+        record { same = cc; line = rw (t, s) refl }
 
-pub IsHeaderSoFar-none : IsHeaderSoFar no_header
-IsHeaderSoFar-none = so_far refl refl refl refl refl refl refl (omega arith) (omega arith)
+  module _ (header : HeaderRead) (is : IsHeaderSoFar rate header) (text : List ℕ) (told : Rates)
+      (room : nat_le 65535 header.kept ≡ false) where
+    room_for_one : header.kept + 1 ≤ 65535
+    room_for_one = grind (arith, nat_tests)
+
+    pub with_version :
+        is_kept (codes "VERSION") text ≡ true → rates_with rate section.Version header.rates text ≡ Ok told
+        → IsHeaderSoFar rate (record { lines = keep section.Version text header.lines; kept = header.kept + 1; rates = told })
+    with_version kept says =
+        so_far (all_with (is_kept (codes "VERSION")) text header.lines.version is.version kept)
+        is.project is.system is.sequence is.track_list is.settings (is.rates ∙ says)
+        (omega (arith, length_with text header.lines.version, is.counted)) room_for_one
+
+    pub with_project :
+        is_kept (codes "PROJECT") text ≡ true → rates_with rate section.Project header.rates text ≡ Ok told
+        → IsHeaderSoFar rate (record { lines = keep section.Project text header.lines; kept = header.kept + 1; rates = told })
+    with_project kept says =
+        so_far is.version (all_with (is_kept (codes "PROJECT")) text header.lines.project is.project kept)
+        is.system is.sequence is.track_list is.settings (is.rates ∙ says)
+        (omega (arith, length_with text header.lines.project, is.counted)) room_for_one
+
+    pub with_system :
+        is_kept (codes "SYSTEM") text ≡ true → rates_with rate section.System header.rates text ≡ Ok told
+        → IsHeaderSoFar rate (record { lines = keep section.System text header.lines; kept = header.kept + 1; rates = told })
+    with_system kept says =
+        let nothing = system_rates-says header.rates told text says in
+        so_far is.version is.project (all_with (is_kept (codes "SYSTEM")) text header.lines.system is.system kept)
+        is.sequence is.track_list (all_with (is_system_line rate) text header.lines.system is.settings nothing.line)
+        (is.rates ∙ ap (λ (r : Rates). let x : Result Rates TextFault = Ok r in x) nothing.same)
+        (omega (arith, length_with text header.lines.system, is.counted)) room_for_one
+
+    pub with_sequence :
+        is_some header.lines.sequence ≡ true → is_kept (codes "SEQUENCE") text ≡ true
+        → rates_with rate section.Sequence header.rates text ≡ Ok told
+        → IsHeaderSoFar rate (record { lines = keep section.Sequence text header.lines; kept = header.kept + 1; rates = told })
+    with_sequence there kept says =
+        so_far is.version is.project is.system (all_with (is_kept (codes "SEQUENCE"))
+        text header.lines.sequence is.sequence kept) is.track_list is.settings
+        (told_with header.rates told header.lines.sequence text there is.rates says)
+        (omega (arith, length_with text header.lines.sequence, is.counted)) room_for_one
+
+    pub with_track_list :
+        is_kept (codes "TRACKLIST") text ≡ true → rates_with rate section.TrackList header.rates text ≡ Ok told
+        → IsHeaderSoFar rate (record {
+          lines = keep section.TrackList text header.lines;
+          kept = header.kept + 1;
+          rates = told;
+        })
+    with_track_list kept says =
+        so_far is.version is.project is.system is.sequence
+        (all_with (is_kept (codes "TRACKLIST")) text header.lines.track_list is.track_list kept) is.settings
+        (is.rates ∙ says) (omega (arith, length_with text header.lines.track_list, is.counted)) room_for_one
+
+  module _ (header : HeaderRead) (is : IsHeaderSoFar rate header) where
+    pub opens_version : IsHeaderSoFar rate (record header { lines = record header.lines { version = Some [] } })
+    opens_version =
+        so_far refl is.project is.system is.sequence is.track_list is.settings is.rates (omega (arith, is.counted)) is.few
+
+    pub opens_project : IsHeaderSoFar rate (record header { lines = record header.lines { project = Some [] } })
+    opens_project =
+        so_far is.version refl is.system is.sequence is.track_list is.settings is.rates (omega (arith, is.counted)) is.few
+
+    pub opens_system : IsHeaderSoFar rate (record header { lines = record header.lines { system = Some [] } })
+    opens_system =
+        so_far is.version is.project refl is.sequence is.track_list refl is.rates (omega (arith, is.counted)) is.few
+
+    pub opens_sequence :
+        is_some header.lines.sequence ≡ false
+        → IsHeaderSoFar rate (record header { lines = record header.lines { sequence = Some [] } })
+    opens_sequence new =
+        so_far is.version is.project is.system refl is.track_list is.settings
+        (ap (told_rates rate no_rates) (sym (nothing_told header.lines.sequence new)) ∙ is.rates) (omega (arith, is.counted))
+        is.few
+
+    pub opens_track_list : IsHeaderSoFar rate (record header { lines = record header.lines { track_list = Some [] } })
+    opens_track_list =
+        so_far is.version is.project is.system is.sequence refl is.settings is.rates (omega (arith, is.counted)) is.few
+
+  pub IsHeaderSoFar-none : IsHeaderSoFar rate no_header
+  IsHeaderSoFar-none = so_far refl refl refl refl refl refl refl (omega arith) (omega arith)

@@ -31,34 +31,6 @@ keep_all-put s kept h front (t ∷ lines) =
     ∙ (keep_all-put s kept h (front ++ t ∷ []) lines
     ∙ ap (λ ls. put_lines s (Some ls) h) (append_assoc front (t ∷ []) lines))
 
--- ---- the lines, as they are read
-
-header_line_read :
-    (s : Section) (c : Context) (n : ℕ) (text : List ℕ) (told : Rates) → nat_le 65535 c.header.kept ≡ false
-    → rates_with 25 s c.header.rates text ≡ Ok told
-    → in_header 25 c n text s
-    ≡ Ok (with_header c (record { lines = keep s text c.header.lines; kept = c.header.kept + 1; rates = told }))
-unfolding in_header kept_line
-header_line_read s c n text told few e = rw (few, e) refl
-
-pub read_header :
-    (s : Section) → IsKept s → (lines : List NumberedLine) (c : Context) (told : Rates) (count : ℕ)
-    → count ≡ c.header.kept + length (texts lines)
-    → count ≤ 65535 → told_in s c.header.rates (texts lines) ≡ Ok told
-    → walk s c lines
-    ≡ Ok (with_header c (record { lines = keep_all s (texts lines) c.header.lines; kept = count; rates = told }))
-read_header s same [] c told count counted few e =
-    let none : count ≡ c.header.kept = omega arith in
-    rw (none, ← ok_same _ _ e) refl
-read_header s same (line ∷ lines) c told count counted few e =
-    let first = chain (rates_with 25 s c.header.rates line.text) (λ next. told_in s next (texts lines)) told e in
-    let under : nat_le 65535 c.header.kept ≡ false = grind (arith, nat_tests) in
-    let next = with_header c
-    (record { lines = keep s line.text c.header.lines; kept = c.header.kept + 1; rates = first.value }) in
-    walk_step s c next line lines
-    (same.read c line.number line.text ∙ header_line_read s c line.number line.text first.value under first.is)
-    ∙ read_header s same lines next told count (omega arith) few first.others
-
 -- ---- the lines that were read
 
 pub record IsHeaderLine (s : Section) (c next : Context) (text : List ℕ) : Type 0 where
@@ -78,16 +50,6 @@ kept_line_is header next s text said e =
     record { lines = keep s text header.lines; kept = header.kept + 1; rates = rates } in h) said next few.1 in
     (header.kept + 1, (f.value, sym f.same))
 
-pub header_line_is :
-    (s : Section) (c next : Context) (n : ℕ) (text : List ℕ) → in_header 25 c n text s ≡ Ok next
-    → IsHeaderLine s c next text
-unfolding in_header
-header_line_is s c next n text e =
-    let f = ok_map_ok (with_header c) (kept_line c.header s text (rates_with 25 s c.header.rates text)) next
-    (err_map_ok (at_line n) _ next e) in
-    let k = kept_line_is c.header f.value s text (rates_with 25 s c.header.rates text) f.is in
-    record { kept = k.0; rates = k.1.0; is = sym f.same ∙ ap (with_header c) k.1.1 }
-
 pub record AreHeaderLines (s : Section) (c next : Context) (lines : List (List ℕ)) : Type 0 where
   pub kept : ℕ
   pub rates : Rates
@@ -105,12 +67,51 @@ with_first s c middle next text lines f r =
           f.is;
     }
 
-pub header_is_read :
-    (s : Section) → IsKept s → (lines : List NumberedLine) (c next : Context) → walk s c lines ≡ Ok next
-    → AreHeaderLines s c next (texts lines)
-header_is_read s same [] c next e = record { kept = c.header.kept; rates = c.header.rates; is = sym (ok_same _ _ e) }
-header_is_read s same (line ∷ lines) c next e =
-    let f = chain (in_section 25 c line.number line.text s) (λ m. walk s m lines) next e in
-    with_first s c f.value next line.text (texts lines)
-    (header_line_is s c f.value line.number line.text (sym (same.read c line.number line.text) ∙ f.is))
-    (header_is_read s same lines f.value next f.others)
+module _ (rate : ℕ) where
+  -- ---- the lines, as they are read
+
+  header_line_read :
+      (s : Section) (c : Context) (n : ℕ) (text : List ℕ) (told : Rates) → nat_le 65535 c.header.kept ≡ false
+      → rates_with rate s c.header.rates text ≡ Ok told
+      → in_header rate c n text s
+      ≡ Ok (with_header c (record { lines = keep s text c.header.lines; kept = c.header.kept + 1; rates = told }))
+  unfolding in_header kept_line
+  header_line_read s c n text told few e = rw (few, e) refl
+
+  pub read_header :
+      (s : Section) → IsKept s → (lines : List NumberedLine) (c : Context) (told : Rates) (count : ℕ)
+      → count ≡ c.header.kept + length (texts lines)
+      → count ≤ 65535 → told_in rate s c.header.rates (texts lines) ≡ Ok told
+      → walk rate s c lines
+      ≡ Ok (with_header c (record { lines = keep_all s (texts lines) c.header.lines; kept = count; rates = told }))
+  read_header s same [] c told count counted few e =
+      let none : count ≡ c.header.kept = omega arith in
+      rw (none, ← ok_same _ _ e) refl
+  read_header s same (line ∷ lines) c told count counted few e =
+      let first = chain (rates_with rate s c.header.rates line.text) (λ next. told_in rate s next (texts lines)) told e in
+      let under : nat_le 65535 c.header.kept ≡ false = grind (arith, nat_tests) in
+      let next = with_header c
+      (record { lines = keep s line.text c.header.lines; kept = c.header.kept + 1; rates = first.value }) in
+      walk_step rate s c next line lines
+      (same.read rate c line.number line.text ∙ header_line_read s c line.number line.text first.value under first.is)
+      ∙ read_header s same lines next told count (omega arith) few first.others
+
+  pub header_line_is :
+      (s : Section) (c next : Context) (n : ℕ) (text : List ℕ) → in_header rate c n text s ≡ Ok next
+      → IsHeaderLine s c next text
+  unfolding in_header
+  header_line_is s c next n text e =
+      let f = ok_map_ok (with_header c) (kept_line c.header s text (rates_with rate s c.header.rates text)) next
+      (err_map_ok (at_line n) _ next e) in
+      let k = kept_line_is c.header f.value s text (rates_with rate s c.header.rates text) f.is in
+      record { kept = k.0; rates = k.1.0; is = sym f.same ∙ ap (with_header c) k.1.1 }
+
+  pub header_is_read :
+      (s : Section) → IsKept s → (lines : List NumberedLine) (c next : Context) → walk rate s c lines ≡ Ok next
+      → AreHeaderLines s c next (texts lines)
+  header_is_read s same [] c next e = record { kept = c.header.kept; rates = c.header.rates; is = sym (ok_same _ _ e) }
+  header_is_read s same (line ∷ lines) c next e =
+      let f = chain (in_section rate c line.number line.text s) (λ m. walk rate s m lines) next e in
+      with_first s c f.value next line.text (texts lines)
+      (header_line_is s c f.value line.number line.text (sym (same.read rate c line.number line.text) ∙ f.is))
+      (header_is_read s same lines f.value next f.others)

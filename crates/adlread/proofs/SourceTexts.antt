@@ -160,30 +160,31 @@ uid_is_one_token line h =
 abbrev HasTexts : Source → Type 0
 HasTexts source = has_whole_texts source ≡ true
 
-source_has_texts : (number : ℕ) (line : List ℕ) → IsText line → IfOk (source_fields 25 number line) HasTexts
-unfolding source_fields
-source_has_texts number line h =
-    if_then (checked_field (is_keyword (codes "F")) line) _ IsText HasTexts
-    (checked_rest (is_keyword (codes "F")) line h)
-    (λ rest l. if_then (url_field rest) _ (λ f. Read (list_all is_quotable) f.0 f.1) HasTexts (url_is_quotable rest l)
-    (λ url u. if_then (uid_field url.1) _ (λ f. Read is_uid f.0 f.1) HasTexts (uid_is_one_token url.1 u.rest_is)
-    (λ uid i. if_bind (optional_time_field 25 uid.1) _ HasTexts
-    (λ start. if_bind (optional_time_field 25 start.1) _ HasTexts
-    (λ length. if_bind (end_line length.1) _ HasTexts
-    (λ end. and_both (list_all is_quotable url.0) (is_uid uid.0) u.text_is i.text_is))))))
+module _ (rate : ℕ) where
+  source_has_texts : (number : ℕ) (line : List ℕ) → IsText line → IfOk (source_fields rate number line) HasTexts
+  unfolding source_fields
+  source_has_texts number line h =
+      if_then (checked_field (is_keyword (codes "F")) line) _ IsText HasTexts
+      (checked_rest (is_keyword (codes "F")) line h)
+      (λ rest l. if_then (url_field rest) _ (λ f. Read (list_all is_quotable) f.0 f.1) HasTexts (url_is_quotable rest l)
+      (λ url u. if_then (uid_field url.1) _ (λ f. Read is_uid f.0 f.1) HasTexts (uid_is_one_token url.1 u.rest_is)
+      (λ uid i. if_bind (optional_time_field rate uid.1) _ HasTexts
+      (λ start. if_bind (optional_time_field rate start.1) _ HasTexts
+      (λ length. if_bind (end_line length.1) _ HasTexts
+      (λ end. and_both (list_all is_quotable url.0) (is_uid uid.0) u.text_is i.text_is))))))
 
-pub sources_have_texts :
-    (sources : List Source) (number : ℕ) (text : List ℕ) → IsTrue (list_all has_whole_texts sources) → IsText text
-    → IfOk (source_with 25 sources number text) (λ new. IsTrue (list_all has_whole_texts new))
-unfolding source_with
-sources_have_texts sources number text all h = by_test (list_any (λ other. other.number == number) sources) refl where
-  by_test :
-      (taken : Bool) → list_any (λ other. other.number == number) sources ≡ taken
-      → IfOk (if list_any (λ other. other.number == number) sources then Err DuplicateNumber
-      else source_fields 25 number text >>= (λ source. Ok (sources ++ source ∷ [])))
-      (λ new. IsTrue (list_all has_whole_texts new))
-  by_test true e = rw e tt
-  by_test false e =
-      rw e (if_then (source_fields 25 number text) _ HasTexts (λ new. IsTrue (list_all has_whole_texts new))
-      (source_has_texts number text h)
-      (λ source fine. all_push has_whole_texts sources source all fine))
+  pub sources_have_texts :
+      (sources : List Source) (number : ℕ) (text : List ℕ) → IsTrue (list_all has_whole_texts sources) → IsText text
+      → IfOk (source_with rate sources number text) (λ new. IsTrue (list_all has_whole_texts new))
+  unfolding source_with
+  sources_have_texts sources number text all h = by_test (list_any (λ other. other.number == number) sources) refl where
+    by_test :
+        (taken : Bool) → list_any (λ other. other.number == number) sources ≡ taken
+        → IfOk (if list_any (λ other. other.number == number) sources then Err DuplicateNumber
+        else source_fields rate number text >>= (λ source. Ok (sources ++ source ∷ [])))
+        (λ new. IsTrue (list_all has_whole_texts new))
+    by_test true e = rw e tt
+    by_test false e =
+        rw e (if_then (source_fields rate number text) _ HasTexts (λ new. IsTrue (list_all has_whole_texts new))
+        (source_has_texts number text h)
+        (λ source fine. all_push has_whole_texts sources source all fine))

@@ -1,7 +1,8 @@
 -- The tokens up to the end of a line, one taken off.
-use Rattle.std.proofs.Common.{◌≡◌, Bool, ℕ, zero, suc, ◌<◌, ◌≤◌, true, false, List, [], ◌∷◌, length, None, Some, Ok, Err, refl, sym, ap, ◌∙◌, arith}
+use Rattle.std.proofs.Common.{◌≡◌, Bool, ℕ, zero, suc, ◌<◌, ◌≤◌, true, false, List, length, None, Some, Ok, Err, refl, sym, ap, ◌∙◌, arith}
 use Rattle.list_terms.specs.declared.TextFault.{TextFault}
 use Rattle.list_terms.specs.declared.TextFault.TheVariants.{Unsupported}
+pub use Rattle.list_terms.specs.EndLaws.{all_tokens-fault, all_tokens-none, all_tokens-refused, all_tokens-step, no_bytes, token_at-nil}
 use Rattle.list_terms.specs.Tokens.{TokenText, token_at, all_tokens}
 
 -- what is left of a line, in so many steps, is as the whole line
@@ -12,40 +13,6 @@ pub record IsLeft (allowed : TokenText → Bool) (line rest : List ℕ) : Type 0
 
 pub IsLeft-whole : (allowed : TokenText → Bool) (line : List ℕ) → IsLeft allowed line line
 IsLeft-whole allowed line = record { steps = length line; enough = omega arith; same = refl }
-
-pub all_tokens-step :
-    (allowed : TokenText → Bool) (n : ℕ) (line rest : List ℕ) (token : TokenText)
-    → token_at line ≡ Ok (Some (token, rest))
-    → allowed token ≡ true → all_tokens allowed (suc n) line ≡ all_tokens allowed n rest
-unfolding all_tokens
-all_tokens-step allowed n line rest token e h = rw (e, h, all_tokens)
-
-pub all_tokens-refused :
-    (allowed : TokenText → Bool) (n : ℕ) (line rest : List ℕ) (token : TokenText)
-    → token_at line ≡ Ok (Some (token, rest))
-    → allowed token ≡ false → all_tokens allowed (suc n) line ≡ Err Unsupported
-unfolding all_tokens
-all_tokens-refused allowed n line rest token e h = rw (e, h, all_tokens)
-
-pub all_tokens-fault :
-    (allowed : TokenText → Bool) (n : ℕ) (line : List ℕ) (fault : TextFault) → token_at line ≡ Err fault
-    → all_tokens allowed (suc n) line ≡ Err fault
-unfolding all_tokens
-all_tokens-fault allowed n line fault e = rw (e, all_tokens)
-
-pub all_tokens-none :
-    (allowed : TokenText → Bool) (n : ℕ) (line : List ℕ) → token_at line ≡ Ok None → all_tokens allowed n line ≡ Ok tt
-unfolding all_tokens
-all_tokens-none allowed zero line e = refl
-all_tokens-none allowed (suc n) line e = rw (e, all_tokens)
-
-pub no_bytes : (line : List ℕ) → length line ≤ 0 → line ≡ []
-no_bytes [] h = refl
-no_bytes (b ∷ line) h = absurd (omega arith)
-
-pub token_at-nil : token_at [] ≡ Ok None
-unfolding token_at
-token_at-nil = refl
 
 -- one token more
 pub IsLeft-next :

@@ -1,5 +1,5 @@
 -- How a text is cut into lines, and a line into tokens.
-use Rattle.std.specs.Prelude.{◌≡◌, ℕ, ◌+◌, ◌==◌, Bool, true, false, List, [], ◌∷◌, ◌++◌, length, map, IsTrue}
+use Rattle.std.specs.Prelude.{◌≡◌, ℕ, ◌+◌, ◌==◌, Bool, false, List, [], ◌∷◌, ◌++◌, length, map, IsTrue}
 use Rattle.std.specs.List.{list_all}
 use Rattle.list_terms.specs.Tokens.{TokenText, is_blank, token_text, trimmed}
 use Rattle.list_terms.specs.TokenLaws.{ends_token, is_content}

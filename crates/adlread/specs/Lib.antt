@@ -5,6 +5,7 @@ pub mod Fault
 pub mod Flags
 pub mod HeaderSoFar
 pub mod LineGrammar
+pub mod Outline
 pub mod SoFar
 pub mod Spells
 pub mod Views

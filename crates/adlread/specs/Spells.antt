@@ -1,6 +1,7 @@
 -- The grammar of lists: which project a text spells.
 use Rattle.std.specs.Prelude.{◌≡◌, ℕ, ◌≤◌, ◌==◌, not, List, [], ◌∷◌, ◌++◌, map, flat_map, Option, None, Some, if◌then◌else◌, IsTrue, codes, unwrap_or, ⊤}
 use Rattle.std.specs.List.{list_all}
+use Rattle.sampletime.specs.FrameRate.{is_rate}
 use Rattle.sampletime.specs.TimeCode.{default_separators}
 use Rattle.sound_terms.specs.declared.Event.{Event}
 use Rattle.list_terms.specs.declared.Notice.{Notice}
@@ -19,57 +20,10 @@ use Rattle.adlread.specs.LineGrammar.{AreSettings, IsLineOf, SpelledEntry, Spell
 abbrev pub notice : ℕ → NumberedLine → Notice
 notice kind line = record { kind = kind; at = line.number }
 
--- each line is blank, says a source under `(Index)`, or is dropped with notice 2
-pub data SpellsSources : List NumberedLine → List Source → List Notice → Type 0 where
-  SourcesEnd : SpellsSources [] [] []
-  BlankLine : (line : NumberedLine) {lines : List NumberedLine} {sources : List Source} {dropped : List Notice}
-      → HasTokens line.text [] → SpellsSources lines sources dropped → SpellsSources (line ∷ lines) sources dropped
-  SourceLine : (line : NumberedLine) (source : Source)
-      {lines : List NumberedLine} {sources : List Source} {dropped : List Notice}
-      → SpellsSource line.text source → SpellsSources lines sources dropped
-      → SpellsSources (line ∷ lines) (source ∷ sources) dropped
-  DroppedLine : (line : NumberedLine) {lines : List NumberedLine} {sources : List Source} {dropped : List Notice}
-      → IsLineOf is_no_source line.text → SpellsSources lines sources dropped
-      → SpellsSources (line ∷ lines) sources (notice 2 line ∷ dropped)
-
 -- the event has the fades that are told, and none where none is
 pub record HasFades (event : Event) (rise fall : Option ℕ) : Type 0 where
   pub rise_is : event.rise.length ≡ unwrap_or rise 0
   pub fall_is : event.fall.length ≡ unwrap_or fall 0
-
--- The lines behind an entry: its fades, each told once at most, and the entries that follow. Remarks and gains of zero
--- say nothing.
-pub data SpellsBehind : List NumberedLine → (rise fall : Option ℕ) → List SpelledEntry → Type 0 where
-  EntriesEnd : SpellsBehind [] None None []
-  RemarkBehind : (line : NumberedLine)
-      {lines : List NumberedLine} {rise fall : Option ℕ} {entries : List SpelledEntry}
-      → IsLineOf is_remark line.text → SpellsBehind lines rise fall entries
-      → SpellsBehind (line ∷ lines) rise fall entries
-  GainLine : (line : NumberedLine) {lines : List NumberedLine} {rise fall : Option ℕ} {entries : List SpelledEntry}
-      → IsLineOf is_zero_gain line.text → SpellsBehind lines rise fall entries
-      → SpellsBehind (line ∷ lines) rise fall entries
-  RiseLine : (line : NumberedLine) (fade : ℕ)
-      {lines : List NumberedLine} {fall : Option ℕ} {entries : List SpelledEntry}
-      → SpellsFade (codes "Infade") line.text fade → SpellsBehind lines None fall entries
-      → SpellsBehind (line ∷ lines) (Some fade) fall entries
-  FallLine : (line : NumberedLine) (fade : ℕ)
-      {lines : List NumberedLine} {rise : Option ℕ} {entries : List SpelledEntry}
-      → SpellsFade (codes "Outfade") line.text fade → SpellsBehind lines rise None entries
-      → SpellsBehind (line ∷ lines) rise (Some fade) entries
-  NextEntry : (line : NumberedLine) (entry : SpelledEntry)
-      {lines : List NumberedLine} {rise fall : Option ℕ} {entries : List SpelledEntry}
-      → SpellsEntry line.text entry → HasFades entry.event rise fall
-      → SpellsBehind lines rise fall entries → SpellsBehind (line ∷ lines) None None (entry ∷ entries)
-
--- remarks, and entries each with the lines behind it
-pub data SpellsEntries : List NumberedLine → List SpelledEntry → Type 0 where
-  NoEntries : SpellsEntries [] []
-  RemarkLine : (line : NumberedLine) {lines : List NumberedLine} {entries : List SpelledEntry}
-      → IsLineOf is_remark line.text → SpellsEntries lines entries → SpellsEntries (line ∷ lines) entries
-  FirstEntry : (line : NumberedLine) (entry : SpelledEntry)
-      {lines : List NumberedLine} {rise fall : Option ℕ} {entries : List SpelledEntry}
-      → SpellsEntry line.text entry → HasFades entry.event rise fall
-      → SpellsBehind lines rise fall entries → SpellsEntries (line ∷ lines) (entry ∷ entries)
 
 -- the separators of the first entry's destination in, else the default ones
 abbrev pub separators_of : List SpelledEntry → List ℕ
@@ -158,51 +112,104 @@ abbrev pub one_or_none : {X : Type 0} → Option X → List X
 one_or_none None = []
 one_or_none (Some x) = x ∷ []
 
--- the sections of the header, each at most once, its lines as they stand; SEQUENCE tells both rates
-pub record SpellsHeader (blocks : List Block) (header : Header) : Type 0 where
-  pub version : kept section.Version blocks ≡ one_or_none header.version
-  pub project : kept section.Project blocks ≡ one_or_none header.project
-  pub system : kept section.System blocks ≡ one_or_none header.system
-  pub sequence : kept section.Sequence blocks ≡ one_or_none header.sequence
-  pub track_list : kept section.TrackList blocks ≡ one_or_none header.track_list
-  pub few : line_count header ≤ 65535
-  pub settings : AreSettings (lines_of_section header.system)
-  pub rates : TellRates (lines_of_section header.sequence)
+-- what a list spells at a rate of frames
+module _ (rate : ℕ) where
+  -- each line is blank, says a source under `(Index)`, or is dropped with notice 2
+  pub data SpellsSources : List NumberedLine → List Source → List Notice → Type 0 where
+    SourcesEnd : SpellsSources [] [] []
+    BlankLine : (line : NumberedLine) {lines : List NumberedLine} {sources : List Source} {dropped : List Notice}
+        → HasTokens line.text [] → SpellsSources lines sources dropped → SpellsSources (line ∷ lines) sources dropped
+    SourceLine : (line : NumberedLine) (source : Source)
+        {lines : List NumberedLine} {sources : List Source} {dropped : List Notice}
+        → SpellsSource rate line.text source → SpellsSources lines sources dropped
+        → SpellsSources (line ∷ lines) (source ∷ sources) dropped
+    DroppedLine : (line : NumberedLine) {lines : List NumberedLine} {sources : List Source} {dropped : List Notice}
+        → IsLineOf is_no_source line.text → SpellsSources lines sources dropped
+        → SpellsSources (line ∷ lines) sources (notice 2 line ∷ dropped)
 
--- the one source index: sources under numbers of their own
-pub record SpellsIndex (blocks : List Block) (sources : List Source) : Type 0 where
-  pub part : SectionText
-  pub once : sections section.SourceIndex blocks ≡ part ∷ []
-  pub lines : SpellsSources part.content sources part.notices
-  pub distinct : AreDistinct (index_numbers sources)
+  -- The lines behind an entry: its fades, each told once at most, and the entries that follow. Remarks and gains of zero
+  -- say nothing.
+  pub data SpellsBehind : List NumberedLine → (rise fall : Option ℕ) → List SpelledEntry → Type 0 where
+    EntriesEnd : SpellsBehind [] None None []
+    RemarkBehind : (line : NumberedLine)
+        {lines : List NumberedLine} {rise fall : Option ℕ} {entries : List SpelledEntry}
+        → IsLineOf is_remark line.text → SpellsBehind lines rise fall entries
+        → SpellsBehind (line ∷ lines) rise fall entries
+    GainLine : (line : NumberedLine) {lines : List NumberedLine} {rise fall : Option ℕ} {entries : List SpelledEntry}
+        → IsLineOf is_zero_gain line.text → SpellsBehind lines rise fall entries
+        → SpellsBehind (line ∷ lines) rise fall entries
+    RiseLine : (line : NumberedLine) (fade : ℕ)
+        {lines : List NumberedLine} {fall : Option ℕ} {entries : List SpelledEntry}
+        → SpellsFade rate (codes "Infade") line.text fade → SpellsBehind lines None fall entries
+        → SpellsBehind (line ∷ lines) (Some fade) fall entries
+    FallLine : (line : NumberedLine) (fade : ℕ)
+        {lines : List NumberedLine} {rise : Option ℕ} {entries : List SpelledEntry}
+        → SpellsFade rate (codes "Outfade") line.text fade → SpellsBehind lines rise None entries
+        → SpellsBehind (line ∷ lines) rise (Some fade) entries
+    NextEntry : (line : NumberedLine) (entry : SpelledEntry)
+        {lines : List NumberedLine} {rise fall : Option ℕ} {entries : List SpelledEntry}
+        → SpellsEntry rate line.text entry → HasFades entry.event rise fall
+        → SpellsBehind lines rise fall entries → SpellsBehind (line ∷ lines) None None (entry ∷ entries)
 
--- the one event list: entries under numbers of their own
-pub record SpellsEvents (blocks : List Block) (events : List Event) (separators : List ℕ) : Type 0 where
-  pub part : SectionText
-  pub entries : List SpelledEntry
-  pub once : sections section.EventList blocks ≡ part ∷ []
-  pub lines : SpellsEntries part.content entries
-  pub events_are : events ≡ map (λ entry. entry.event) entries
-  pub distinct : AreDistinct (entry_numbers events)
-  pub separators_are : separators ≡ separators_of entries
+  -- remarks, and entries each with the lines behind it
+  pub data SpellsEntries : List NumberedLine → List SpelledEntry → Type 0 where
+    NoEntries : SpellsEntries [] []
+    RemarkLine : (line : NumberedLine) {lines : List NumberedLine} {entries : List SpelledEntry}
+        → IsLineOf is_remark line.text → SpellsEntries lines entries → SpellsEntries (line ∷ lines) entries
+    FirstEntry : (line : NumberedLine) (entry : SpelledEntry)
+        {lines : List NumberedLine} {rise fall : Option ℕ} {entries : List SpelledEntry}
+        → SpellsEntry rate line.text entry → HasFades entry.event rise fall
+        → SpellsBehind lines rise fall entries → SpellsEntries (line ∷ lines) (entry ∷ entries)
 
--- The text spells the project, at 25 frames a second: blank lines, the line `<ADL>`, blank lines and sections in any
--- order, the line `</ADL>`, and whatever follows.
+  -- the sections of the header, each at most once, its lines as they stand; SEQUENCE tells both rates
+  pub record SpellsHeader (blocks : List Block) (header : Header) : Type 0 where
+    pub version : kept section.Version blocks ≡ one_or_none header.version
+    pub project : kept section.Project blocks ≡ one_or_none header.project
+    pub system : kept section.System blocks ≡ one_or_none header.system
+    pub sequence : kept section.Sequence blocks ≡ one_or_none header.sequence
+    pub track_list : kept section.TrackList blocks ≡ one_or_none header.track_list
+    pub few : line_count header ≤ 65535
+    pub settings : AreSettings rate (lines_of_section header.system)
+    pub rates : TellRates rate (lines_of_section header.sequence)
+
+  -- the one source index: sources under numbers of their own
+  pub record SpellsIndex (blocks : List Block) (sources : List Source) : Type 0 where
+    pub part : SectionText
+    pub once : sections section.SourceIndex blocks ≡ part ∷ []
+    pub lines : SpellsSources part.content sources part.notices
+    pub distinct : AreDistinct (index_numbers sources)
+
+  -- the one event list: entries under numbers of their own
+  pub record SpellsEvents (blocks : List Block) (events : List Event) (separators : List ℕ) : Type 0 where
+    pub part : SectionText
+    pub entries : List SpelledEntry
+    pub once : sections section.EventList blocks ≡ part ∷ []
+    pub lines : SpellsEntries part.content entries
+    pub events_are : events ≡ map (λ entry. entry.event) entries
+    pub distinct : AreDistinct (entry_numbers events)
+    pub separators_are : separators ≡ separators_of entries
+
+  -- The text spells the project at this rate: blank lines, the line `<ADL>`, blank lines and sections in any
+  -- order, the line `</ADL>`, and whatever follows.
+  pub record SpellsAtRate (text : List ℕ) (project : ListProject) : Type 0 where
+    pub all : List (List ℕ)
+    pub before : List NumberedLine
+    pub begin : NumberedLine
+    pub blocks : List Block
+    pub end : NumberedLine
+    pub behind : List NumberedLine
+    pub cut : HasLines text all
+    pub lines : with_numbers 1 all ≡ before ++ (begin ∷ (flat_map lines_of_block blocks ++ (end ∷ behind)))
+    pub blank : IsTrue (list_all is_empty (texts before))
+    pub begins : IsTrue (is_list_begin (trimmed begin.text))
+    pub are_blocks : AreBlocks blocks
+    pub ends : IsTrue (is_end (codes "ADL") (trimmed end.text))
+    pub header : SpellsHeader blocks project.header
+    pub index : SpellsIndex blocks project.sources
+    pub events : SpellsEvents blocks project.events project.separators
+    pub notices : project.notices ≡ flat_map notices_of_block blocks
+
+-- the text spells the project at the project's own rate, 24, 25 or 30 frames a second
 pub record Spells (text : List ℕ) (project : ListProject) : Type 0 where
-  pub all : List (List ℕ)
-  pub before : List NumberedLine
-  pub begin : NumberedLine
-  pub blocks : List Block
-  pub end : NumberedLine
-  pub behind : List NumberedLine
-  pub cut : HasLines text all
-  pub lines : with_numbers 1 all ≡ before ++ (begin ∷ (flat_map lines_of_block blocks ++ (end ∷ behind)))
-  pub blank : IsTrue (list_all is_empty (texts before))
-  pub begins : IsTrue (is_list_begin (trimmed begin.text))
-  pub are_blocks : AreBlocks blocks
-  pub ends : IsTrue (is_end (codes "ADL") (trimmed end.text))
-  pub header : SpellsHeader blocks project.header
-  pub index : SpellsIndex blocks project.sources
-  pub events : SpellsEvents blocks project.events project.separators
-  pub notices : project.notices ≡ flat_map notices_of_block blocks
-  pub rate : project.rate ≡ 25
+  pub rate : IsTrue (is_rate project.rate)
+  pub spelled : SpellsAtRate project.rate text project

@@ -1,5 +1,6 @@
 // What was read of a list so far.
 ghost use Rattle.std.specs.Prelude.{◌≡◌, ◌&&◌, IfOk, IsTrue, Ok, is_some};
+ghost use Rattle.sampletime.specs.FrameRate.{frames_per_second};
 ghost use Rattle.list_terms.specs.Text as text;
 ghost use Rattle.list_terms.specs.Text.{nothing_read};
 ghost use Rattle.adlread.specs.Fault.{Reads};
@@ -14,7 +15,7 @@ use crate::tags::{is_end, is_list_begin, opened_name, section_of};
 use adlmodel::{KeptLines, Project};
 use adltoken::{TextFault, Tokens, trimmed};
 use list_terms::{Location, Notice, OpenEntry, Section, Stage};
-use sampletime::Separators;
+use sampletime::{Rate, Separators};
 use std::alloc::{AllocError, Global};
 
 /// What was read of a list so far: the stage, the name of the section that is open, and what the project has by now.
@@ -61,8 +62,14 @@ impl<'a> Draft<'a> {
 
     /// Reads one line more, of this number.
     #[tactic(auto, unfolding(list_terms::specs::Text::with_line))]
-    pub fn add(&mut self, alloc: Global, line: &'a [u8], number: u64) -> Result<(), AdlFault>
-        ensures { Reads (λ _. context_of self.new) result (text.with_line 25 (context_of self.old) number line.now) }
+    pub fn add(
+        &mut self,
+        alloc: Global,
+        line: &'a [u8],
+        number: u64,
+        rate: Rate,
+    ) -> Result<(), AdlFault>
+        ensures { Reads (λ _. context_of self.new) result (text.with_line (frames_per_second rate) (context_of self.old) number line.now) }
     {
         match self.stage {
             Stage::Before => self.before_list(trimmed(line), number),
@@ -72,7 +79,7 @@ impl<'a> Draft<'a> {
                     self.stage = Stage::Outside;
                     Ok(())
                 } else {
-                    self.inside(alloc, section, line, number)
+                    self.inside(alloc, section, line, number, rate)
                 }
             }
             Stage::Behind => Ok(()),
@@ -178,18 +185,19 @@ impl<'a> Draft<'a> {
         section: Section,
         line: &[u8],
         number: u64,
+        rate: Rate,
     ) -> Result<(), AdlFault>
         ensures { Reads (λ _. context_of self.new) result
-            (text.in_section 25 (context_of self.old) number line.now section) }
+            (text.in_section (frames_per_second rate) (context_of self.old) number line.now section) }
     {
         match section {
             Section::Version
             | Section::Project
             | Section::System
             | Section::Sequence
-            | Section::TrackList => self.in_header(alloc, section, line, number),
-            Section::SourceIndex => self.in_source_index(alloc, line, number),
-            Section::EventList => self.in_event_list(line, number),
+            | Section::TrackList => self.in_header(alloc, section, line, number, rate),
+            Section::SourceIndex => self.in_source_index(alloc, line, number, rate),
+            Section::EventList => self.in_event_list(line, number, rate),
             Section::Skipped => Ok(()),
             Section::Unsupported => in_unsupported(line, number),
         }
@@ -203,11 +211,12 @@ impl<'a> Draft<'a> {
         section: Section,
         line: &[u8],
         number: u64,
+        rate: Rate,
     ) -> Result<(), AdlFault>
         ensures { Reads (λ _. context_of self.new) result
-            (text.in_header 25 (context_of self.old) number line.now section) }
+            (text.in_header (frames_per_second rate) (context_of self.old) number line.now section) }
     {
-        match self.header.keep(alloc, section, line) {
+        match self.header.keep(alloc, section, line, rate) {
             Ok(()) => Ok(()),
             Err(fault) => Err(fault.at(Location::Line { line: number })),
         }
@@ -215,9 +224,15 @@ impl<'a> Draft<'a> {
 
     /// Reads a line of the source index.
     #[tactic(auto, unfolding(list_terms::specs::Text::in_source_index))]
-    fn in_source_index(&mut self, alloc: Global, line: &[u8], number: u64) -> Result<(), AdlFault>
+    fn in_source_index(
+        &mut self,
+        alloc: Global,
+        line: &[u8],
+        number: u64,
+        rate: Rate,
+    ) -> Result<(), AdlFault>
         ensures { Reads (λ _. context_of self.new) result
-            (text.in_source_index 25 (context_of self.old) number line.now) }
+            (text.in_source_index (frames_per_second rate) (context_of self.old) number line.now) }
     {
         if is_tag(line) {
             return Err(at_line(TextFault::SectionMismatch, number));
@@ -227,7 +242,7 @@ impl<'a> Draft<'a> {
             return Ok(());
         };
         if is_keyword(b"Index", &token) {
-            self.index_line(alloc, &mut tokens, number)
+            self.index_line(alloc, &mut tokens, number, rate)
         } else {
             self.dropped_line(&mut tokens, number)
         }
@@ -240,12 +255,13 @@ impl<'a> Draft<'a> {
         alloc: Global,
         tokens: &mut Tokens<'_>,
         line: u64,
+        rate: Rate,
     ) -> Result<(), AdlFault>
         ensures { Reads (λ _. context_of self.new) result
-            (text.index_line 25 (context_of self.old) line tokens.old.rest.now) }
+            (text.index_line (frames_per_second rate) (context_of self.old) line tokens.old.rest.now) }
     {
         let number = located(number_field(tokens), Location::Line { line })?;
-        match self.index.add(alloc, number, tokens) {
+        match self.index.add(alloc, number, tokens, rate) {
             Ok(()) => Ok(()),
             Err(fault) => Err(fault.at(Location::Index {
                 line,
@@ -266,9 +282,9 @@ impl<'a> Draft<'a> {
 
     /// Reads a line of the event list.
     #[tactic(auto, unfolding(list_terms::specs::Text::in_event_list))]
-    fn in_event_list(&mut self, line: &[u8], number: u64) -> Result<(), AdlFault>
+    fn in_event_list(&mut self, line: &[u8], number: u64, rate: Rate) -> Result<(), AdlFault>
         ensures { Reads (λ _. context_of self.new) result
-            (text.in_event_list 25 (context_of self.old) number line.now) }
+            (text.in_event_list (frames_per_second rate) (context_of self.old) number line.now) }
     {
         if is_tag(line) {
             return Err(at_line(TextFault::SectionMismatch, number));
@@ -279,20 +295,20 @@ impl<'a> Draft<'a> {
             return Ok(());
         };
         if is_keyword(b"Entry", &token) {
-            self.entry_line(&mut tokens, number)
+            self.entry_line(&mut tokens, number, rate)
         } else {
-            located(self.events.add_further(&token, &mut tokens), location)
+            located(self.events.add_further(&token, &mut tokens, rate), location)
         }
     }
 
     /// Reads an `(Entry)` line, behind this keyword.
     #[tactic(auto, unfolding(list_terms::specs::Text::entry_line))]
-    fn entry_line(&mut self, tokens: &mut Tokens<'_>, line: u64) -> Result<(), AdlFault>
+    fn entry_line(&mut self, tokens: &mut Tokens<'_>, line: u64, rate: Rate) -> Result<(), AdlFault>
         ensures { Reads (λ _. context_of self.new) result
-            (text.entry_line 25 (context_of self.old) line tokens.old.rest.now) }
+            (text.entry_line (frames_per_second rate) (context_of self.old) line tokens.old.rest.now) }
     {
         let number = located(number_field(tokens), Location::Line { line })?;
-        match self.events.add(number, tokens) {
+        match self.events.add(number, tokens, rate) {
             Ok(()) => Ok(()),
             Err(fault) => Err(fault.at(Location::Entry {
                 line,
@@ -303,9 +319,9 @@ impl<'a> Draft<'a> {
 
     /// The project, behind `</ADL>`: three sections have to be there, and both rates.
     #[tactic(auto, unfolding(list_terms::specs::Text::finished))]
-    pub fn finish(self, line: u64) -> Result<Project, AdlFault>
-        requires { IsSoFar (context_of self) }
-        ensures { Reads (λ project. project) result (text.finished 25 (context_of self.entry) line) }
+    pub fn finish(self, line: u64, rate: Rate) -> Result<Project, AdlFault>
+        requires { IsSoFar (frames_per_second rate) (context_of self) }
+        ensures { Reads (λ project. project) result (text.finished (frames_per_second rate) (context_of self.entry) line) }
     {
         if !self.has_sections() {
             return Err(at_line(TextFault::MissingSection, line));
@@ -314,7 +330,7 @@ impl<'a> Draft<'a> {
         if !(rates.sample_rate && rates.frame_rate) {
             return Err(at_line(TextFault::MissingSequence, line));
         }
-        self.project()
+        self.project(rate)
     }
 
     /// Whether SEQUENCE, SOURCE_INDEX and EVENT_LIST were there.
@@ -325,10 +341,10 @@ impl<'a> Draft<'a> {
     }
 
     /// The project of all that was read, where both rates were told.
-    fn project(self) -> Result<Project, AdlFault>
-        requires whole { IsSoFar (context_of self) }
+    fn project(self, rate: Rate) -> Result<Project, AdlFault>
+        requires whole { IsSoFar (frames_per_second rate) (context_of self) }
         requires rates { IsTrue (self.header.rates.sample_rate && self.header.rates.frame_rate) }
-        ensures { Reads (λ project. project) result (Ok (text.project_of 25 (context_of self.entry))) }
+        ensures { Reads (λ project. project) result (Ok (text.project_of (frames_per_second rate) (context_of self.entry))) }
     {
         let Draft {
             header,
@@ -342,6 +358,7 @@ impl<'a> Draft<'a> {
         let separators = list.separators.unwrap_or(Separators::DEFAULT);
         Ok(Project::new(
             header.lines,
+            rate,
             index.sources,
             list.events,
             separators,

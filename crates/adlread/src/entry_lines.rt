@@ -1,10 +1,11 @@
 // What the lines of the source index, of the event list and of the two sections of settings say.
-ghost use Rattle.std.specs.Prelude.{◌≡◌, ◌≤◌, ◌-◌, IfOk, IsTrue, codes, is_some, length};
+ghost use Rattle.std.specs.Prelude.{◌≡◌, ◌==◌, ◌≤◌, ◌-◌, IfOk, IsTrue, codes, false, is_some, length, option_map, unwrap_or};
 ghost use Rattle.list_terms.specs.Steps.{ok_map};
-ghost use Rattle.list_terms.specs.Fields.{checked_field, is_missing, is_zero};
+ghost use Rattle.list_terms.specs.Fields.{checked_field, is_missing, is_zero, told_rate};
 ghost use Rattle.list_terms.specs.EntryLines as spec;
 ghost use Rattle.list_terms.specs.Names.{place_of_url};
 ghost use Rattle.list_terms.specs.WholeProject.{are_channels, is_event, is_number, is_source};
+ghost use Rattle.sampletime.specs.FrameRate.{frames_per_second};
 ghost use Rattle.sampletime.specs.TimeCode.{day};
 ghost use Rattle.adltoken.specs.Views.{token_view};
 ghost use Rattle.adlread.specs.Fault.{Says};
@@ -12,13 +13,13 @@ ghost use Rattle.adlread.specs.Views.{times_of};
 
 use crate::fault::LineFault;
 use crate::fields::{
-    channels_field, end_line, end_with_zeros, field, is_keyword, is_missing, is_whole_number,
-    is_zero, keyword_field, number_field, optional_time_field, time_field,
+    channels_field, end_line, end_with_zeros, field, is_keyword, is_missing, is_zero,
+    keyword_field, number_field, optional_time_field, time_field, told_rate,
 };
 use adlmodel::{Bytes, Channels, Event, Fade, Source, place_of};
 use adltoken::{TextFault, Token, Tokens, is_same_name, skip_blanks};
 use list_terms::{OpenEntry, Rates};
-use sampletime::{SampleTime, Separators, parse_time};
+use sampletime::{Rate, SampleTime, Separators, parse_time};
 use std::alloc::Global;
 
 /// Reads `(F)`, URL, identifier, in and length, behind the number of an index.
@@ -27,16 +28,17 @@ pub fn source_fields(
     alloc: Global,
     number: u32,
     tokens: &mut Tokens<'_>,
+    rate: Rate,
 ) -> Result<Source, LineFault>
-    ensures fields { Says (λ source. source) result (spec.source_fields 25 number tokens.old.rest.now) }
+    ensures fields { Says (λ source. source) result (spec.source_fields (frames_per_second rate) number tokens.old.rest.now) }
     ensures number { IfOk result (λ source. source.number ≡ number) }
     ensures whole { IsTrue (is_number number) → IfOk result (λ source. IsTrue (is_source source)) }
 {
     keyword_field(b"F", tokens)?;
     let url = url_field(alloc, tokens)?;
     let uid = field(tokens)?;
-    let start = optional_time_field(tokens)?;
-    let length = optional_time_field(tokens)?;
+    let start = optional_time_field(tokens, rate)?;
+    let length = optional_time_field(tokens, rate)?;
     end_line(tokens)?;
     let url = Bytes::from_slice(alloc, url)?;
     let uid = Bytes::from_slice(alloc, uid.text)?;
@@ -61,8 +63,12 @@ fn url_field<'a>(alloc: Global, tokens: &mut Tokens<'a>) -> Result<&'a [u8], Lin
 /// Reads `(Cut) I`, index, channels and times, behind the number of an entry: the event, and the separators of its
 /// destination in.
 #[tactic(auto, unfolding(list_terms::specs::EntryLines::event_fields))]
-pub fn event_fields(number: u32, tokens: &mut Tokens<'_>) -> Result<(Event, Separators), TextFault>
-    ensures fields { result ≡ spec.event_fields 25 number tokens.old.rest.now }
+pub fn event_fields(
+    number: u32,
+    tokens: &mut Tokens<'_>,
+    rate: Rate,
+) -> Result<(Event, Separators), TextFault>
+    ensures fields { result ≡ spec.event_fields (frames_per_second rate) number tokens.old.rest.now }
     ensures number { IfOk result (λ entry. entry.0.number ≡ number) }
     ensures whole { IsTrue (is_number number) → IfOk result (λ entry. IsTrue (is_event entry.0)) }
 {
@@ -70,7 +76,7 @@ pub fn event_fields(number: u32, tokens: &mut Tokens<'_>) -> Result<(Event, Sepa
     cut_field(tokens)?;
     let index = number_field(tokens)?;
     let (source, dest) = channel_fields(tokens)?;
-    let (times, separators) = time_fields(tokens)?;
+    let (times, separators) = time_fields(tokens, rate)?;
     let event = Event {
         number,
         index,
@@ -129,14 +135,14 @@ pub struct Times {
 
 /// Reads the times at the end of a line: the times, and the separators of the destination in.
 #[tactic(auto, unfolding(list_terms::specs::EntryLines::time_fields))]
-fn time_fields(tokens: &mut Tokens<'_>) -> Result<(Times, Separators), TextFault>
-    ensures value { ok_map (λ times. (times_of times.0, times.1)) result ≡ spec.time_fields 25 tokens.old.rest.now }
+fn time_fields(tokens: &mut Tokens<'_>, rate: Rate) -> Result<(Times, Separators), TextFault>
+    ensures value { ok_map (λ times. (times_of times.0, times.1)) result ≡ spec.time_fields (frames_per_second rate) tokens.old.rest.now }
     ensures in_day { IfOk result (λ times. (times.0.source_in ≤ day) × (times.0.dest_in ≤ day)
         × (times.0.dest_out ≤ day)) }
 {
-    let (source_in, _) = time_field(tokens)?;
-    let (dest_in, separators) = time_field(tokens)?;
-    let (dest_out, _) = time_field(tokens)?;
+    let (source_in, _) = time_field(tokens, rate)?;
+    let (dest_in, separators) = time_field(tokens, rate)?;
+    let (dest_out, _) = time_field(tokens, rate)?;
     end_line(tokens)?;
     let times = Times {
         source_in,
@@ -148,11 +154,11 @@ fn time_fields(tokens: &mut Tokens<'_>) -> Result<(Times, Separators), TextFault
 
 /// Reads the length of a fade, and its curve where it is longer than zero: linear alone.
 #[tactic(auto, unfolding(list_terms::specs::EntryLines::fade_fields))]
-fn fade_fields(tokens: &mut Tokens<'_>) -> Result<SampleTime, TextFault>
-    ensures value { result ≡ spec.fade_fields 25 tokens.old.rest.now }
+fn fade_fields(tokens: &mut Tokens<'_>, rate: Rate) -> Result<SampleTime, TextFault>
+    ensures value { result ≡ spec.fade_fields (frames_per_second rate) tokens.old.rest.now }
     ensures in_day { IfOk result (λ length. length ≤ day) }
 {
-    let length = optional_time_field(tokens)?.unwrap_or(SampleTime::ZERO);
+    let length = optional_time_field(tokens, rate)?.unwrap_or(SampleTime::ZERO);
     if length.get() != 0 {
         linear_field(tokens)?;
     }
@@ -178,15 +184,16 @@ pub fn entry_with(
     entry: OpenEntry,
     token: &Token<'_>,
     tokens: &mut Tokens<'_>,
+    rate: Rate,
 ) -> Result<OpenEntry, TextFault>
-    ensures value { result ≡ spec.entry_with 25 entry (token_view token.now) tokens.old.rest.now }
+    ensures value { result ≡ spec.entry_with (frames_per_second rate) entry (token_view token.now) tokens.old.rest.now }
     ensures number { IfOk result (λ new. new.event.number ≡ entry.event.number) }
     ensures whole { IsTrue (is_event entry.event) → IfOk result (λ new. IsTrue (is_event new.event)) }
 {
     if is_keyword(b"Infade", token) {
-        with_rise(entry, tokens)
+        with_rise(entry, tokens, rate)
     } else if is_keyword(b"Outfade", token) {
-        with_fall(entry, tokens)
+        with_fall(entry, tokens, rate)
     } else if is_keyword(b"Rem", token) {
         end_line(tokens)?;
         Ok(entry)
@@ -199,15 +206,15 @@ pub fn entry_with(
 }
 
 /// The entry with its fade-in.
-fn with_rise(entry: OpenEntry, tokens: &mut Tokens<'_>) -> Result<OpenEntry, TextFault>
-    ensures value { result ≡ spec.told_rise 25 entry tokens.old.rest.now }
+fn with_rise(entry: OpenEntry, tokens: &mut Tokens<'_>, rate: Rate) -> Result<OpenEntry, TextFault>
+    ensures value { result ≡ spec.told_rise (frames_per_second rate) entry tokens.old.rest.now }
     ensures number { IfOk result (λ new. new.event.number ≡ entry.event.number) }
     ensures whole { IsTrue (is_event entry.event) → IfOk result (λ new. IsTrue (is_event new.event)) }
 {
     if entry.has_rise {
         return Err(TextFault::RepeatedFade);
     }
-    let length = fade_fields(tokens)?;
+    let length = fade_fields(tokens, rate)?;
     let mut entry = entry;
     entry.event.rise = Fade { length };
     entry.has_rise = true;
@@ -215,15 +222,15 @@ fn with_rise(entry: OpenEntry, tokens: &mut Tokens<'_>) -> Result<OpenEntry, Tex
 }
 
 /// The entry with its fade-out.
-fn with_fall(entry: OpenEntry, tokens: &mut Tokens<'_>) -> Result<OpenEntry, TextFault>
-    ensures value { result ≡ spec.told_fall 25 entry tokens.old.rest.now }
+fn with_fall(entry: OpenEntry, tokens: &mut Tokens<'_>, rate: Rate) -> Result<OpenEntry, TextFault>
+    ensures value { result ≡ spec.told_fall (frames_per_second rate) entry tokens.old.rest.now }
     ensures number { IfOk result (λ new. new.event.number ≡ entry.event.number) }
     ensures whole { IsTrue (is_event entry.event) → IfOk result (λ new. IsTrue (is_event new.event)) }
 {
     if entry.has_fall {
         return Err(TextFault::RepeatedFade);
     }
-    let length = fade_fields(tokens)?;
+    let length = fade_fields(tokens, rate)?;
     let mut entry = entry;
     entry.event.fall = Fade { length };
     entry.has_fall = true;
@@ -244,8 +251,8 @@ pub fn remark(token: &Token<'_>, tokens: &mut Tokens<'_>) -> Result<(), TextFaul
 
 /// Which rates SEQUENCE told, with what one more line says. Lines that tell none aren't interpreted.
 #[tactic(auto, unfolding(list_terms::specs::EntryLines::sequence_line))]
-pub fn sequence_line(rates: Rates, line: &[u8]) -> Result<Rates, TextFault>
-    ensures { result ≡ spec.sequence_line rates line.now }
+pub fn sequence_line(rates: Rates, line: &[u8], rate: Rate) -> Result<Rates, TextFault>
+    ensures { result ≡ spec.sequence_line (frames_per_second rate) rates line.now }
 {
     let mut tokens = Tokens::new(line);
     let Some(token) = tokens.next_token()? else {
@@ -256,7 +263,7 @@ pub fn sequence_line(rates: Rates, line: &[u8]) -> Result<Rates, TextFault>
         sample_rate_field(&mut tokens)?;
         rates.sample_rate = true;
     } else if is_keyword(b"SEQ_FRAME_RATE", &token) {
-        frame_rate_field(&mut tokens)?;
+        frame_rate_field(&mut tokens, rate)?;
         rates.frame_rate = true;
     } else {
         end_line(&mut tokens)?;
@@ -277,30 +284,41 @@ fn sample_rate_field(tokens: &mut Tokens<'_>) -> Result<(), TextFault>
     }
 }
 
-/// Reads `25`, or `25.` and zeros or nothing.
+/// Reads the rate of frames that the list has.
 #[tactic(auto, unfolding(list_terms::specs::EntryLines::rate_field))]
-fn frame_rate_field(tokens: &mut Tokens<'_>) -> Result<(), TextFault>
-    ensures { ok_map (λ _. tt) result ≡ spec.rate_field spec.is_25 tokens.old.rest.now }
+fn frame_rate_field(tokens: &mut Tokens<'_>, rate: Rate) -> Result<(), TextFault>
+    ensures { ok_map (λ _. tt) result ≡ spec.rate_field (spec.tells_rate (frames_per_second rate)) tokens.old.rest.now }
 {
     let token = field(tokens)?;
-    if is_whole_number(b"25", token.content) {
+    if tells_rate(token.content, rate) {
         end_line(tokens)
     } else {
         Err(TextFault::WrongSequence)
     }
 }
 
+/// Whether a text tells this rate of frames.
+fn tells_rate(text: &[u8], rate: Rate) -> bool
+    ensures { result
+        ≡ unwrap_or (option_map (λ told. told == frames_per_second rate) (told_rate text.now)) false }
+{
+    match told_rate(text) {
+        Some(told) => told.frames_per_second() == rate.frames_per_second(),
+        None => false,
+    }
+}
+
 /// Reads a line of SYSTEM: no offset of the sources and no gain may be told. Other lines aren't interpreted.
 #[tactic(auto, unfolding(list_terms::specs::EntryLines::system_line))]
-pub fn system_line(line: &[u8]) -> Result<(), TextFault>
-    ensures { ok_map (λ _. tt) result ≡ spec.system_line 25 line.now }
+pub fn system_line(line: &[u8], rate: Rate) -> Result<(), TextFault>
+    ensures { ok_map (λ _. tt) result ≡ spec.system_line (frames_per_second rate) line.now }
 {
     let mut tokens = Tokens::new(line);
     let Some(token) = tokens.next_token()? else {
         return Ok(());
     };
     if is_keyword(b"SYS_SRC_OFFSET", &token) {
-        offset_setting(&mut tokens)
+        offset_setting(&mut tokens, rate)
     } else if is_keyword(b"SYS_GAIN", &token) {
         gain_setting(&mut tokens)
     } else {
@@ -310,13 +328,13 @@ pub fn system_line(line: &[u8]) -> Result<(), TextFault>
 
 /// Reads nothing, `_`, or a time of zero.
 #[tactic(auto, unfolding(list_terms::specs::EntryLines::setting))]
-fn offset_setting(tokens: &mut Tokens<'_>) -> Result<(), TextFault>
-    ensures { ok_map (λ _. tt) result ≡ spec.setting (spec.is_no_offset 25) tokens.old.rest.now }
+fn offset_setting(tokens: &mut Tokens<'_>, rate: Rate) -> Result<(), TextFault>
+    ensures { ok_map (λ _. tt) result ≡ spec.setting (spec.is_no_offset (frames_per_second rate)) tokens.old.rest.now }
 {
     let Some(token) = tokens.next_token()? else {
         return Ok(());
     };
-    if is_no_offset(token.content) {
+    if is_no_offset(token.content, rate) {
         end_line(tokens)
     } else {
         Err(TextFault::Unsupported)
@@ -339,13 +357,13 @@ fn gain_setting(tokens: &mut Tokens<'_>) -> Result<(), TextFault>
 }
 
 /// Whether a text is `_` or a time of zero.
-fn is_no_offset(text: &[u8]) -> bool
-    ensures { result ≡ spec.is_no_offset 25 text.now }
+fn is_no_offset(text: &[u8], rate: Rate) -> bool
+    ensures { result ≡ spec.is_no_offset (frames_per_second rate) text.now }
 {
     if is_missing(text) {
         return true;
     }
-    match parse_time(text) {
+    match parse_time(text, rate) {
         Some((time, _)) => time.get() == 0,
         None => false,
     }

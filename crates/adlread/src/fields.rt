@@ -1,18 +1,19 @@
 // The fields of a line.
-ghost use Rattle.std.specs.Prelude.{◌≡◌, ◌≤◌, [], IfOk, IsTrue, length, unwrap_or};
+ghost use Rattle.std.specs.Prelude.{◌≡◌, ◌≤◌, [], IfOk, IsTrue, length, option_map, unwrap_or};
 ghost use Rattle.std.specs.List.{list_all};
 ghost use Rattle.list_terms.specs.Steps.{ok_map};
 ghost use Rattle.list_terms.specs.Names.{behind_byte};
 ghost use Rattle.list_terms.specs.Tokens.{all_tokens, token_text};
 ghost use Rattle.list_terms.specs.Fields as spec;
 ghost use Rattle.list_terms.specs.WholeProject.{are_channels, is_number, is_time_of_day};
+ghost use Rattle.sampletime.specs.FrameRate.{frames_per_second};
 ghost use Rattle.sampletime.specs.TimeCode.{day};
 ghost use Rattle.adltoken.specs.Views.{token_view};
 
 use crate::numbers::{channels_of, number_up_to};
 use adlmodel::Channels;
 use adltoken::{TextFault, Token, TokenKind, Tokens, behind_byte, is_same_name, length_before};
-use sampletime::{SampleTime, Separators, parse_time};
+use sampletime::{Rate, SampleTime, Separators, parse_time};
 
 /// Whether a token is the keyword of this name.
 pub fn is_keyword(name: &[u8], token: &Token<'_>) -> bool
@@ -72,36 +73,42 @@ pub fn channels_field(tokens: &mut Tokens<'_>) -> Result<Channels, TextFault>
 
 /// A time and its separators.
 #[tactic(auto, unfolding(list_terms::specs::Fields::time_field))]
-pub fn time_field(tokens: &mut Tokens<'_>) -> Result<(SampleTime, Separators), TextFault>
+pub fn time_field(
+    tokens: &mut Tokens<'_>,
+    rate: Rate,
+) -> Result<(SampleTime, Separators), TextFault>
     ensures exact { ok_map (λ time. (time.0, time.1, tokens.new.rest.now)) result
-        ≡ spec.time_field 25 tokens.old.rest.now }
+        ≡ spec.time_field (frames_per_second rate) tokens.old.rest.now }
     ensures in_day { IfOk result (λ time. time.0 ≤ day) }
 {
     let token = field(tokens)?;
-    parse_time(token.content).ok_or(TextFault::BadTime)
+    parse_time(token.content, rate).ok_or(TextFault::BadTime)
 }
 
 /// A time, or `_` where none is told.
 #[tactic(auto, unfolding(list_terms::specs::Fields::optional_time_field))]
-pub fn optional_time_field(tokens: &mut Tokens<'_>) -> Result<Option<SampleTime>, TextFault>
+pub fn optional_time_field(
+    tokens: &mut Tokens<'_>,
+    rate: Rate,
+) -> Result<Option<SampleTime>, TextFault>
     ensures exact { ok_map (λ time. (time, tokens.new.rest.now)) result
-        ≡ spec.optional_time_field 25 tokens.old.rest.now }
+        ≡ spec.optional_time_field (frames_per_second rate) tokens.old.rest.now }
     ensures in_day { IfOk result (λ time. IsTrue (is_time_of_day time)) }
 {
     let token = field(tokens)?;
-    optional_time(token.content)
+    optional_time(token.content, rate)
 }
 
 /// A time, or nothing where the text is `_`.
 #[tactic(auto, unfolding(list_terms::specs::Fields::optional_time))]
-fn optional_time(text: &[u8]) -> Result<Option<SampleTime>, TextFault>
-    ensures exact { result ≡ spec.optional_time 25 text.now }
+fn optional_time(text: &[u8], rate: Rate) -> Result<Option<SampleTime>, TextFault>
+    ensures exact { result ≡ spec.optional_time (frames_per_second rate) text.now }
     ensures in_day { IfOk result (λ time. IsTrue (is_time_of_day time)) }
 {
     if is_missing(text) {
         return Ok(None);
     }
-    match parse_time(text) {
+    match parse_time(text, rate) {
         Some((time, _)) => Ok(Some(time)),
         None => Err(TextFault::BadTime),
     }
@@ -165,11 +172,27 @@ fn is_plain_zero(text: &[u8]) -> bool
 
 /// Whether a text is this number, and `.` with zeros or nothing behind it.
 #[tactic(auto, unfolding(list_terms::specs::Fields::is_whole_number))]
-pub fn is_whole_number(number: &[u8], text: &[u8]) -> bool
+fn is_whole_number(number: &[u8], text: &[u8]) -> bool
     ensures { result ≡ spec.is_whole_number number.now text.now }
 {
     let (whole, _) = text.split_at(length_before(b'.', text));
     whole == number && zeros_behind_stop(text)
+}
+
+/// The rate of frames that a text tells: `24`, `25` or `30`, and `.` with zeros or nothing behind it.
+#[tactic(auto, unfolding(list_terms::specs::Fields::told_rate))]
+pub fn told_rate(text: &[u8]) -> Option<Rate>
+    ensures { option_map frames_per_second result ≡ spec.told_rate text.now }
+{
+    if is_whole_number(b"24", text) {
+        Some(Rate::Frames24)
+    } else if is_whole_number(b"25", text) {
+        Some(Rate::Frames25)
+    } else if is_whole_number(b"30", text) {
+        Some(Rate::Frames30)
+    } else {
+        None
+    }
 }
 
 /// Whether zeros or nothing stand behind the first full stop.

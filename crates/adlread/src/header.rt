@@ -1,5 +1,6 @@
 // The header so far.
 ghost use Rattle.std.specs.Prelude.{◌≡◌, OnOk};
+ghost use Rattle.sampletime.specs.FrameRate.{frames_per_second};
 ghost use Rattle.list_terms.specs.Text.{is_tag, keep, kept_line, no_header, rates_with, with_text};
 ghost use Rattle.list_terms.specs.Text as text;
 ghost use Rattle.adlmodel.specs.Header.{header_view};
@@ -11,6 +12,7 @@ use crate::fault::LineFault;
 use adlmodel::{Header, KeptLines};
 use adltoken::{TextFault, skip_blanks};
 use list_terms::{Rates, Section};
+use sampletime::Rate;
 use std::alloc::{AllocError, Global};
 
 /// The kept lines of the header, how many they are, and the rates that it told.
@@ -47,14 +49,20 @@ impl HeaderSoFar {
 
     /// Keeps a line of this section, where it says nothing that isn't supported.
     #[tactic(auto, unfolding(list_terms::specs::Text::kept_line))]
-    pub fn keep(&mut self, alloc: Global, section: Section, line: &[u8]) -> Result<(), LineFault>
+    pub fn keep(
+        &mut self,
+        alloc: Global,
+        section: Section,
+        line: &[u8],
+        rate: Rate,
+    ) -> Result<(), LineFault>
         ensures { Says (λ _. header_so_far self.new) result
-            (kept_line (header_so_far self.old) section line.now (rates_with 25 section self.old.rates line.now)) }
+            (kept_line (header_so_far self.old) section line.now (rates_with (frames_per_second rate) section self.old.rates line.now)) }
     {
         if self.kept >= MOST_LINES {
             return Err(LineFault::Text(TextFault::TooMany));
         }
-        let rates = rates_with(section, self.rates, line)?;
+        let rates = rates_with(section, self.rates, line, rate)?;
         keep_line(alloc, section, line, &mut self.lines)?;
         self.kept += 1;
         self.rates = rates;
@@ -63,22 +71,22 @@ impl HeaderSoFar {
 }
 
 /// The rates that the header told, with a line of this section.
-fn rates_with(section: Section, rates: Rates, line: &[u8]) -> Result<Rates, TextFault>
-    ensures { result ≡ text.rates_with 25 section rates line.now }
+fn rates_with(section: Section, rates: Rates, line: &[u8], rate: Rate) -> Result<Rates, TextFault>
+    ensures { result ≡ text.rates_with (frames_per_second rate) section rates line.now }
 {
     match section {
         Section::System => {
             if is_tag(line) {
                 return Err(TextFault::SectionMismatch);
             }
-            system_line(line)?;
+            system_line(line, rate)?;
             Ok(rates)
         }
         Section::Sequence => {
             if is_tag(line) {
                 return Err(TextFault::SectionMismatch);
             }
-            sequence_line(rates, line)
+            sequence_line(rates, line, rate)
         }
         _ => Ok(rates),
     }

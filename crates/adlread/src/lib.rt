@@ -1,11 +1,12 @@
 //! Reads the text of an audio decision list (AES31-3) as a project.
 //!
 //! The profile is this project's own: seven sections are known, and four of them are cut into tokens. They may come in
-//! any order, names and keywords in any case, and any number of spaces and tabs between tokens. 48000 samples and 25
-//! frames a second are the rates that are read.
+//! any order, names and keywords in any case, and any number of spaces and tabs between tokens. 48000 samples, and 24,
+//! 25 or 30 frames a second are the rates that are read.
 #![tactic(auto)]
 
 ghost use Rattle.std.specs.Prelude.{false, IfErr, IfOk, IsTrue, Ok, ◌≡◌};
+ghost use Rattle.sampletime.specs.FrameRate.{frames_per_second};
 ghost use Rattle.list_terms.specs.Project.{ListProject};
 ghost use Rattle.list_terms.specs.Text.{nothing_read, read_from, text_value};
 ghost use Rattle.list_terms.specs.Lines.{lines_of};
@@ -19,6 +20,7 @@ mod fault;
 mod fields;
 mod header;
 mod numbers;
+mod outline;
 mod sections;
 mod tags;
 mod taken;
@@ -28,6 +30,8 @@ use adltoken::Lines;
 use draft::Draft;
 pub use fault::AdlFault;
 use list_terms::{Location, TextFault};
+pub use outline::rate_of;
+use sampletime::Rate;
 use std::alloc::Global;
 
 /// The project that a list spells, or its first fault: that of the first line at fault, and of that line the leftmost.
@@ -41,20 +45,21 @@ pub fn read(alloc: Global, text: &[u8]) -> Result<Project, AdlFault>
         → Spells text.now project → ⊥) }
     ensures memory_line { IfErr result (λ fault. IsTrue (is_memory (refusal fault).number) → line_of fault ≡ 0) }
 {
-    read_lines(alloc, text)
+    let rate = rate_of(text);
+    read_lines(alloc, text, rate)
 }
 
 /// Reads the lines of a list, one after another.
 #[tactic(auto, unfolding(list_terms::specs::Text::read_from))]
-fn read_lines(alloc: Global, text: &[u8]) -> Result<Project, AdlFault>
-    ensures { Reads (λ project. project) result (read_from 25 nothing_read 0 (lines_of text.now)) }
+fn read_lines(alloc: Global, text: &[u8], rate: Rate) -> Result<Project, AdlFault>
+    ensures { Reads (λ project. project) result (read_from (frames_per_second rate) nothing_read 0 (lines_of text.now)) }
 {
     let mut draft = Draft::new(alloc)?;
     let mut lines = Lines::new(text);
     'lines: while let Some(line) = lines.next_line() {
-        draft.add(alloc, line, lines.number())?;
+        draft.add(alloc, line, lines.number(), rate)?;
         if draft.is_behind() {
-            return draft.finish(lines.number());
+            return draft.finish(lines.number(), rate);
         }
     }
     Err(AdlFault::Text {

@@ -1,6 +1,7 @@
 // The source index and the event list so far.
 ghost use Rattle.std.specs.Prelude.{◌≡◌, ◌<◌, [], IfOk, IsTrue, OnOk};
 ghost use Rattle.std.proofs.Props.{props};
+ghost use Rattle.sampletime.specs.FrameRate.{frames_per_second};
 ghost use Rattle.list_terms.specs.WholeProject.{AreEvents, AreNumberedSources, is_number};
 ghost use Rattle.list_terms.specs.Steps.{ok_map};
 ghost use Rattle.list_terms.specs.Text.{all_events, closed_entries, entry_of, further_line, no_entry, source_with};
@@ -14,7 +15,7 @@ use crate::taken::Numbers;
 use adlmodel::{Event, Source};
 use adltoken::{TextFault, Token, Tokens};
 use list_terms::OpenEntry;
-use sampletime::Separators;
+use sampletime::{Rate, Separators};
 use std::alloc::{AllocError, Global};
 
 /// The sources so far, and their numbers.
@@ -45,15 +46,16 @@ impl SourceIndex {
         alloc: Global,
         number: u32,
         tokens: &mut Tokens<'_>,
+        rate: Rate,
     ) -> Result<(), LineFault>
         requires { IsTrue (is_number number) }
         ensures { Says (λ _. self.new.sources.items) result
-            (source_with 25 self.old.sources.items number tokens.old.rest.now) }
+            (source_with (frames_per_second rate) self.old.sources.items number tokens.old.rest.now) }
     {
         if self.numbers.contains(number) {
             return Err(LineFault::Text(TextFault::DuplicateNumber));
         }
-        let source = source_fields(alloc, number, tokens)?;
+        let source = source_fields(alloc, number, tokens, rate)?;
         self.sources.push(source)?;
         self.numbers.insert(number);
         Ok(())
@@ -101,15 +103,15 @@ impl EventList {
 
     /// Adds the event that a line says behind its number, where no other has that number.
     #[tactic(auto, unfolding(list_terms::specs::Text::entry_of))]
-    pub fn add(&mut self, number: u32, tokens: &mut Tokens<'_>) -> Result<(), LineFault>
+    pub fn add(&mut self, number: u32, tokens: &mut Tokens<'_>, rate: Rate) -> Result<(), LineFault>
         requires { IsTrue (is_number number) }
         ensures { Says (λ _. entries_of self.new) result
-            (entry_of 25 (entries_of self.old) number tokens.old.rest.now) }
+            (entry_of (frames_per_second rate) (entries_of self.old) number tokens.old.rest.now) }
     {
         if self.numbers.contains(number) {
             return Err(LineFault::Text(TextFault::DuplicateNumber));
         }
-        let (event, separators) = event_fields(number, tokens)?;
+        let (event, separators) = event_fields(number, tokens, rate)?;
         self.close()?;
         self.entry = Some(OpenEntry {
             event,
@@ -129,14 +131,15 @@ impl EventList {
         &mut self,
         token: &Token<'_>,
         tokens: &mut Tokens<'_>,
+        rate: Rate,
     ) -> Result<(), TextFault>
         ensures { ok_map (λ _. entries_of self.new) result
-            ≡ further_line 25 (entries_of self.old) (token_view token.now) tokens.old.rest.now }
+            ≡ further_line (frames_per_second rate) (entries_of self.old) (token_view token.now) tokens.old.rest.now }
     {
         match self.entry {
             None => remark(token, tokens),
             Some(entry) => {
-                let entry = entry_with(entry, token, tokens)?;
+                let entry = entry_with(entry, token, tokens, rate)?;
                 self.entry = Some(entry);
                 Ok(())
             }

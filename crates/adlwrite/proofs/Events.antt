@@ -6,6 +6,7 @@ use Rattle.std.proofs.lemmas.Bool.Decides.{nat_tests}
 use Rattle.std.proofs.lemmas.List.{append-nil}
 use Rattle.facts.specs.Tests.{and_left, and_right}
 use Rattle.facts.specs.Distinct.{moved, not_taken}
+use Rattle.sampletime.specs.FrameRate.{is_rate}
 use Rattle.sampletime.specs.TimeCode.{are_separators}
 use Rattle.sound_terms.specs.declared.Event.{Event}
 use Rattle.sound_terms.specs.declared.Fade.{Fade}
@@ -42,7 +43,7 @@ regrouped : (a b c d : List (List ℕ)) → ((a ++ b) ++ c) ++ d ≡ a ++ (b ++ 
 regrouped a b c d = simp append_assoc
 
 module _
-    (project : ListProject) (rate : project.rate ≡ 25) (separators : IsTrue (are_separators project.separators))
+    (project : ListProject) (rate : IsTrue (is_rate project.rate)) (separators : IsTrue (are_separators project.separators))
     (header : HeaderRead) (sources : List Source) where
   -- in the event list, behind these entries
   abbrev in_list : Entries → Context
@@ -59,7 +60,7 @@ module _
   entry_is_read :
       (entries : Entries) (event : Event) (n : ℕ) → EventFacts event
       → list_any (λ other. other.number == event.number) (all_events entries.events entries.entry) ≡ false
-      → with_line 25 (in_list entries) n (event_line project event)
+      → with_line project.rate (in_list entries) n (event_line project event)
       ≡ Ok (in_list (with_event entries (without_fades event) project.separators))
   unfolding with_line in_section in_event_list entry_line entry_of token_at
   entry_is_read entries event n facts new =
@@ -79,7 +80,7 @@ module _
   rise_line_is_read :
       (events : List Event) (entry : OpenEntry) (found : Option (List ℕ)) (length n : ℕ) → length ≤ 4147200000
       → (length == 0) ≡ false → entry.has_rise ≡ false
-      → with_line 25 (in_list (opened events entry found))
+      → with_line project.rate (in_list (opened events entry found))
       n (codes "(Infade)" ++ (codes " " ++ (time_text project (Some length) ++ codes " LIN _ _ _")))
       ≡ Ok (in_list
       (opened events (with_rise entry length) found))
@@ -94,7 +95,7 @@ module _
   fall_line_is_read :
       (events : List Event) (entry : OpenEntry) (found : Option (List ℕ)) (length n : ℕ) → length ≤ 4147200000
       → (length == 0) ≡ false → entry.has_fall ≡ false
-      → with_line 25 (in_list (opened events entry found))
+      → with_line project.rate (in_list (opened events entry found))
       n (codes "(Outfade)" ++ (codes " " ++ (time_text project (Some length) ++ codes " LIN _ _ _")))
       ≡ Ok (in_list
       (opened events (with_fall entry length) found))
@@ -110,7 +111,7 @@ module _
   abbrev GivesBehind : List Event → Event → Option (List ℕ) → List (List ℕ) → ListProject → Type 0
   GivesBehind events event found lines result =
       (has_rise has_fall : Bool)
-      → Gives (in_list
+      → Gives project.rate (in_list
       (opened events (told event has_rise has_fall) found)) lines result
 
   falls_are_read :
@@ -118,13 +119,13 @@ module _
       (rest : List (List ℕ)) (result : ListProject)
       → length ≤ 4147200000 → event.fall ≡ record { length = 0 }
       → GivesBehind events (record event { fall = record { length = length } }) found rest result
-      → Gives (in_list
+      → Gives project.rate (in_list
       (opened events (told event has_rise false) found))
       (fade_lines project (codes "(Outfade)") length ++ rest) result
   falls_are_read events event has_rise found length rest result h none gives = by_test (length == 0) refl where
     by_test :
         (zero : Bool) → (length == 0) ≡ zero
-        → Gives (in_list
+        → Gives project.rate (in_list
         (opened events (told event has_rise false) found))
         (fade_lines project (codes "(Outfade)") length ++ rest) result
     by_test true e =
@@ -132,7 +133,7 @@ module _
         fall_of_zero event length (grind (arith, nat_tests)) none in
         rw e (subst (λ ev. GivesBehind events ev found rest result) same gives has_rise false)
     by_test false e =
-        rw e (one_line _ _ (codes "(Outfade)" ++ (codes " " ++ (time_text project (Some length) ++ codes " LIN _ _ _")))
+        rw e (one_line project.rate _ _ (codes "(Outfade)" ++ (codes " " ++ (time_text project (Some length) ++ codes " LIN _ _ _")))
         rest result
         (λ n. fall_line_is_read events (told event has_rise false) found length n h e refl) refl
         (gives has_rise true))
@@ -140,7 +141,7 @@ module _
   rises_are_read :
       (events : List Event) (event : Event) (found : Option (List ℕ)) (rest : List (List ℕ)) (result : ListProject)
       → EventFacts event → GivesBehind events event found rest result
-      → Gives (in_list
+      → Gives project.rate (in_list
       (opened events (told (without_fades event) false false) found))
       (fade_lines project (codes "(Infade)") event.rise.length
       ++ (fade_lines project (codes "(Outfade)") event.fall.length ++ rest)) result
@@ -150,7 +151,7 @@ module _
 
     by_test :
         (zero : Bool) → (event.rise.length == 0) ≡ zero
-        → Gives (in_list
+        → Gives project.rate (in_list
         (opened events (told (without_fades event) false false) found))
         (fade_lines project (codes "(Infade)") event.rise.length
         ++ (fade_lines project (codes "(Outfade)") event.fall.length ++ rest)) result
@@ -160,7 +161,7 @@ module _
         rw e (falls_are_read events (without_fades event) false found event.fall.length rest result facts.fall refl
         (subst (λ ev. GivesBehind events ev found rest result) (sym same) gives))
     by_test false e =
-        rw e (one_line _ _ (codes "(Infade)"
+        rw e (one_line project.rate _ _ (codes "(Infade)"
         ++ (codes " " ++ (time_text project (Some event.rise.length) ++ codes " LIN _ _ _")))
         (fade_lines project (codes "(Outfade)") event.fall.length ++ rest) result
         (λ n. rise_line_is_read events (told (without_fades event) false false)
@@ -180,7 +181,7 @@ module _
 
   list_ends :
       (entries : Entries) (n : ℕ)
-      → with_line 25 (in_list entries) n (ending (codes "EVENT_LIST"))
+      → with_line project.rate (in_list entries) n (ending (codes "EVENT_LIST"))
       ≡ Ok (so_far Outside (codes "EVENT_LIST") header true sources true entries)
   unfolding with_line
   list_ends entries n = refl
@@ -191,11 +192,11 @@ module _
       → IsTrue (list_all is_event written) → AreDistinct (entry_numbers (front ++ written))
       → ((last : Entries) → all_events last.events last.entry ≡ front ++ written
       → AreFound last.separators (front ++ written)
-      → Gives (so_far Outside (codes "EVENT_LIST") header true sources true last) rest result)
-      → Gives (in_list entries)
+      → Gives project.rate (so_far Outside (codes "EVENT_LIST") header true sources true last) rest result)
+      → Gives project.rate (in_list entries)
       (flat_map (event_lines project) written ++ (ending (codes "EVENT_LIST") ∷ rest)) result
   events_are_read entries front [] rest result same found all distinct gives =
-      one_line _ _ (ending (codes "EVENT_LIST")) rest result (list_ends entries) refl
+      one_line project.rate _ _ (ending (codes "EVENT_LIST")) rest result (list_ends entries) refl
       (gives entries (same ∙ sym (append-nil front))
       (subst (AreFound entries.separators) (sym (append-nil front)) found))
   events_are_read entries front (e ∷ written) rest result same found all distinct gives =
@@ -215,9 +216,9 @@ module _
       (found_again entries.separators front found)
       (and_right (is_event e) (list_all is_event written) all) (moved (λ f. f.number) front e written distinct)
       (λ last is f. gives last (is ∙ whole) (subst (AreFound last.separators) whole f)) in
-      subst (λ lines. Gives (in_list entries) (event_line project e ∷ lines) result)
+      subst (λ lines. Gives project.rate (in_list entries) (event_line project e ∷ lines) result)
       (sym (regrouped rises falls (flat_map (event_lines project) written) (ending (codes "EVENT_LIST") ∷ rest)))
-      (one_line _ _ (event_line project e) (rises ++ (falls ++ more)) result
+      (one_line project.rate _ _ (event_line project e) (rises ++ (falls ++ more)) result
       (λ n. entry_is_read entries e n (event_facts e h) new) refl
       (rises_are_read before e (Some (unwrap_or entries.separators project.separators)) more result (event_facts e h)
       behind))

@@ -4,6 +4,7 @@ use Rattle.std.specs.Prelude.{bytes_eq, codes, is_some}
 use Rattle.std.specs.List.{list_all}
 use Rattle.std.proofs.lemmas.Bool.Decides.{nat_tests}
 use Rattle.std.proofs.lemmas.Slice.Eq.{bytes_eq-Decides}
+use Rattle.sampletime.specs.FrameRate.{is_rate}
 use Rattle.sampletime.specs.TimeCode.{are_separators, day, samples_of, text_of}
 use Rattle.sampletime.specs.TimeLaws.{samples_of-text_of}
 use Rattle.sound_terms.specs.declared.Channels.{Channels}
@@ -41,42 +42,43 @@ channels_field-written channels rest h s =
     rw (field-word (channels_text channels) rest read.word s, read.value)
 
 pub time_field-written :
-    (t : ℕ) (separators rest : List ℕ) → t ≤ day → IsTrue (are_separators separators) → stops is_word_byte rest ≡ true
-    → time_field 25 (32 ∷ (text_of 25 t separators ++ rest)) ≡ Ok (t, separators, rest)
+    (rate t : ℕ) (separators rest : List ℕ) → IsTrue (is_rate rate) → t ≤ day → IsTrue (are_separators separators)
+    → stops is_word_byte rest ≡ true
+    → time_field rate (32 ∷ (text_of rate t separators ++ rest)) ≡ Ok (t, separators, rest)
 unfolding time_field
-time_field-written t separators rest h i s =
+time_field-written rate t separators rest known h i s =
     rw (
-      field-word (text_of 25 t separators) rest (time_is_a_word t separators h i) s,
-      samples_of-text_of t separators h i,
+      field-word (text_of rate t separators) rest (time_is_a_word rate t separators known h i) s,
+      samples_of-text_of rate t separators known h i,
     )
 
 -- a text that is a time isn't `_`
-not_missing : (text : List ℕ) (time : ℕ × List ℕ) → samples_of 25 text ≡ Some time → bytes_eq text (codes "_") ≡ false
-not_missing [] time e = refl
-not_missing (a ∷ []) time e = absurd (cc)
-not_missing (a ∷ b ∷ text) time e = grind (arith, nat_tests)
+not_missing : (rate : ℕ) (text : List ℕ) (time : ℕ × List ℕ) → samples_of rate text ≡ Some time → bytes_eq text (codes "_") ≡ false
+not_missing rate [] time e = refl
+not_missing rate (a ∷ []) time e = absurd (cc)
+not_missing rate (a ∷ b ∷ text) time e = grind (arith, nat_tests)
 
 optional_time-written :
-    (time : Option ℕ) (project : ListProject) → project.rate ≡ 25 → IsTrue (are_separators project.separators)
-    → IsTrue (is_time_of_day time) → optional_time 25 (time_text project time) ≡ Ok time
+    (time : Option ℕ) (project : ListProject) → IsTrue (is_rate project.rate) → IsTrue (are_separators project.separators)
+    → IsTrue (is_time_of_day time) → optional_time project.rate (time_text project time) ≡ Ok time
 unfolding optional_time
 optional_time-written None project r i h = refl
 optional_time-written (Some t) project r i h =
-    let read = samples_of-text_of t project.separators (grind (arith, nat_tests)) i in
-    let there = not_missing (text_of 25 t project.separators) (t, project.separators) read in
-    rw (r, there, read)
+    let read = samples_of-text_of project.rate t project.separators r (grind (arith, nat_tests)) i in
+    let there = not_missing project.rate (text_of project.rate t project.separators) (t, project.separators) read in
+    rw (there, read)
 
 optional_time_is_a_word :
-    (time : Option ℕ) (project : ListProject) → project.rate ≡ 25 → IsTrue (are_separators project.separators)
+    (time : Option ℕ) (project : ListProject) → IsTrue (is_rate project.rate) → IsTrue (are_separators project.separators)
     → IsTrue (is_time_of_day time) → is_word (time_text project time) ≡ true
 optional_time_is_a_word None project r i h = refl
-optional_time_is_a_word (Some t) project r i h = rw r (time_is_a_word t project.separators (grind (arith, nat_tests)) i)
+optional_time_is_a_word (Some t) project r i h = time_is_a_word project.rate t project.separators r (grind (arith, nat_tests)) i
 
 pub optional_time_field-written :
-    (time : Option ℕ) (project : ListProject) (rest : List ℕ) → project.rate ≡ 25
+    (time : Option ℕ) (project : ListProject) (rest : List ℕ) → IsTrue (is_rate project.rate)
     → IsTrue (are_separators project.separators)
     → IsTrue (is_time_of_day time) → stops is_word_byte rest ≡ true
-    → optional_time_field 25 (32 ∷ (time_text project time ++ rest)) ≡ Ok (time, rest)
+    → optional_time_field project.rate (32 ∷ (time_text project time ++ rest)) ≡ Ok (time, rest)
 unfolding optional_time_field
 optional_time_field-written time project rest r i h s =
     rw (

@@ -11,142 +11,143 @@ use Rattle.list_terms.specs.Text.{HeaderRead, opened, outside, section_of, with_
 use Rattle.list_terms.specs.WholeProject.{IsHeader, both_rates, lines_of_section, no_rates}
 use Rattle.adlwrite.proofs.Reading.{Gives, in_head, opening, optional_section, written_section}
 
--- ---- the sections
-
--- how many lines the first sections have
+-- how many lines a section has
 abbrev pub count : Option (List (List ℕ)) → ℕ
 count lines = length (lines_of_section lines)
 
--- the section of this name may begin behind this header
-abbrev Opens : Section → List ℕ → Type 0
-Opens s name = (before : List ℕ) (header : HeaderRead) (n : ℕ) → is_some (lines_at s header.lines) ≡ false
-    → with_line 25 (in_head Outside before header) n (opening name)
-    ≡ Ok (in_head (Inside s) name (record header { lines = put_lines s (Some []) header.lines }))
+module _ (rate : ℕ) where
+  -- ---- the sections
 
-version_opens : Opens section.Version (codes "VERSION")
-unfolding with_line outside opened section_of
-version_opens before header n none = rw none
+  -- the section of this name may begin behind this header
+  abbrev Opens : Section → List ℕ → Type 0
+  Opens s name = (before : List ℕ) (header : HeaderRead) (n : ℕ) → is_some (lines_at s header.lines) ≡ false
+      → with_line rate (in_head Outside before header) n (opening name)
+      ≡ Ok (in_head (Inside s) name (record header { lines = put_lines s (Some []) header.lines }))
 
-project_opens : Opens section.Project (codes "PROJECT")
-unfolding with_line outside opened section_of
-project_opens before header n none = rw none
+  version_opens : Opens section.Version (codes "VERSION")
+  unfolding with_line outside opened section_of
+  version_opens before header n none = rw none
 
-system_opens : Opens section.System (codes "SYSTEM")
-unfolding with_line outside opened section_of
-system_opens before header n none = rw none
+  project_opens : Opens section.Project (codes "PROJECT")
+  unfolding with_line outside opened section_of
+  project_opens before header n none = rw none
 
-sequence_opens : Opens section.Sequence (codes "SEQUENCE")
-unfolding with_line outside opened section_of
-sequence_opens before header n none = rw none
+  system_opens : Opens section.System (codes "SYSTEM")
+  unfolding with_line outside opened section_of
+  system_opens before header n none = rw none
 
-track_list_opens : Opens section.TrackList (codes "TRACKLIST")
-unfolding with_line outside opened section_of
-track_list_opens before header n none = rw none
+  sequence_opens : Opens section.Sequence (codes "SEQUENCE")
+  unfolding with_line outside opened section_of
+  sequence_opens before header n none = rw none
 
--- the header up to a section, and how many lines it has
-module _ (header : Header) (is : IsHeader header) (rest : List (List ℕ)) (project : ListProject) where
-  abbrev Lines : Type 0
-  Lines = Option (List (List ℕ))
+  track_list_opens : Opens section.TrackList (codes "TRACKLIST")
+  unfolding with_line outside opened section_of
+  track_list_opens before header n none = rw none
 
-  abbrev head_of : (version project system sequence track_list : Lines) → ℕ → Rates → HeaderRead
-  head_of version project system sequence track_list kept rates = record {
-    lines = record {
-      version = version;
-      project = project;
-      system = system;
-      sequence = sequence;
-      track_list = track_list;
-    };
-    kept = kept;
-    rates = rates;
-  }
+  -- the header up to a section, and how many lines it has
+  module _ (header : Header) (is : IsHeader rate header) (rest : List (List ℕ)) (project : ListProject) where
+    abbrev Lines : Type 0
+    Lines = Option (List (List ℕ))
 
-  -- how many lines the first one to five sections have
-  abbrev one : ℕ
-  one = 0 + count header.version
+    abbrev head_of : (version project system sequence track_list : Lines) → ℕ → Rates → HeaderRead
+    head_of version project system sequence track_list kept rates = record {
+      lines = record {
+        version = version;
+        project = project;
+        system = system;
+        sequence = sequence;
+        track_list = track_list;
+      };
+      kept = kept;
+      rates = rates;
+    }
 
-  abbrev two : ℕ
-  two = one + count header.project
+    -- how many lines the first one to five sections have
+    abbrev one : ℕ
+    one = 0 + count header.version
 
-  abbrev three : ℕ
-  three = two + count header.system
+    abbrev two : ℕ
+    two = one + count header.project
 
-  abbrev four : ℕ
-  four = three + count header.sequence
+    abbrev three : ℕ
+    three = two + count header.system
 
-  abbrev five : ℕ
-  five = four + count header.track_list
+    abbrev four : ℕ
+    four = three + count header.sequence
 
-  -- the lines behind the first four to one sections
-  abbrev behind_four : List (List ℕ)
-  behind_four = written_section (codes "TRACKLIST") header.track_list ++ rest
+    abbrev five : ℕ
+    five = four + count header.track_list
 
-  abbrev behind_three : List (List ℕ)
-  behind_three = written_section (codes "SEQUENCE") header.sequence ++ behind_four
+    -- the lines behind the first four to one sections
+    abbrev behind_four : List (List ℕ)
+    behind_four = written_section (codes "TRACKLIST") header.track_list ++ rest
 
-  abbrev behind_two : List (List ℕ)
-  behind_two = written_section (codes "SYSTEM") header.system ++ behind_three
+    abbrev behind_three : List (List ℕ)
+    behind_three = written_section (codes "SEQUENCE") header.sequence ++ behind_four
 
-  abbrev behind_one : List (List ℕ)
-  behind_one = written_section (codes "PROJECT") header.project ++ behind_two
+    abbrev behind_two : List (List ℕ)
+    behind_two = written_section (codes "SYSTEM") header.system ++ behind_three
 
-  -- these lines behind this header give the project, whatever the last section is called
-  abbrev GivesBehind : HeaderRead → List (List ℕ) → Type 0
-  GivesBehind head lines = (known : List ℕ) → Gives (in_head Outside known head) lines project
+    abbrev behind_one : List (List ℕ)
+    behind_one = written_section (codes "PROJECT") header.project ++ behind_two
 
-  abbrev head_five : HeaderRead
-  head_five = head_of header.version header.project header.system header.sequence header.track_list five both_rates
+    -- these lines behind this header give the project, whatever the last section is called
+    abbrev GivesBehind : HeaderRead → List (List ℕ) → Type 0
+    GivesBehind head lines = (known : List ℕ) → Gives rate (in_head Outside known head) lines project
 
-  abbrev head_four : HeaderRead
-  head_four = head_of header.version header.project header.system header.sequence None four both_rates
+    abbrev head_five : HeaderRead
+    head_five = head_of header.version header.project header.system header.sequence header.track_list five both_rates
 
-  abbrev head_three : HeaderRead
-  head_three = head_of header.version header.project header.system None None three no_rates
+    abbrev head_four : HeaderRead
+    head_four = head_of header.version header.project header.system header.sequence None four both_rates
 
-  abbrev head_two : HeaderRead
-  head_two = head_of header.version header.project None None None two no_rates
+    abbrev head_three : HeaderRead
+    head_three = head_of header.version header.project header.system None None three no_rates
 
-  abbrev head_one : HeaderRead
-  head_one = head_of header.version None None None None one no_rates
+    abbrev head_two : HeaderRead
+    head_two = head_of header.version header.project None None None two no_rates
 
-  abbrev head_none : HeaderRead
-  head_none = head_of None None None None None 0 no_rates
+    abbrev head_one : HeaderRead
+    head_one = head_of header.version None None None None one no_rates
 
-  track_list_is_read : GivesBehind head_five rest → GivesBehind head_four behind_four
-  track_list_is_read gives before =
-      optional_section section.TrackList (codes "TRACKLIST") track_list_kept refl before header.track_list
-      head_four.lines four both_rates both_rates rest project refl
-      (λ n. track_list_opens before head_four n refl) is.track_list (omega (arith, is.few))
-      (told_in-none section.TrackList (λ rates text. refl) both_rates (lines_of_section header.track_list)) gives
+    abbrev head_none : HeaderRead
+    head_none = head_of None None None None None 0 no_rates
 
-  sequence_is_read : GivesBehind head_five rest → GivesBehind head_three behind_three
-  sequence_is_read gives before =
-      optional_section section.Sequence (codes "SEQUENCE") sequence_kept refl before header.sequence
-      head_three.lines three no_rates both_rates behind_four project refl
-      (λ n. sequence_opens before head_three n refl) is.sequence (omega (arith, is.few))
-      (told_in-sequence no_rates (lines_of_section header.sequence) ∙ is.rates) (track_list_is_read gives)
+    track_list_is_read : GivesBehind head_five rest → GivesBehind head_four behind_four
+    track_list_is_read gives before =
+        optional_section rate section.TrackList (codes "TRACKLIST") track_list_kept refl before header.track_list
+        head_four.lines four both_rates both_rates rest project refl
+        (λ n. track_list_opens before head_four n refl) is.track_list (omega (arith, is.few))
+        (told_in-none rate section.TrackList (λ rates text. refl) both_rates (lines_of_section header.track_list)) gives
 
-  system_is_read : GivesBehind head_five rest → GivesBehind head_two behind_two
-  system_is_read gives before =
-      optional_section section.System (codes "SYSTEM") system_kept refl before header.system
-      head_two.lines two no_rates no_rates behind_three project refl
-      (λ n. system_opens before head_two n refl) is.system (omega (arith, is.few))
-      (told_in-system no_rates (lines_of_section header.system) is.settings) (sequence_is_read gives)
+    sequence_is_read : GivesBehind head_five rest → GivesBehind head_three behind_three
+    sequence_is_read gives before =
+        optional_section rate section.Sequence (codes "SEQUENCE") sequence_kept refl before header.sequence
+        head_three.lines three no_rates both_rates behind_four project refl
+        (λ n. sequence_opens before head_three n refl) is.sequence (omega (arith, is.few))
+        (told_in-sequence rate no_rates (lines_of_section header.sequence) ∙ is.rates) (track_list_is_read gives)
 
-  project_is_read : GivesBehind head_five rest → GivesBehind head_one behind_one
-  project_is_read gives before =
-      optional_section section.Project (codes "PROJECT") project_kept refl before header.project
-      head_one.lines one no_rates no_rates behind_two project refl
-      (λ n. project_opens before head_one n refl) is.project (omega (arith, is.few))
-      (told_in-none section.Project (λ rates text. refl) no_rates (lines_of_section header.project))
-      (system_is_read gives)
+    system_is_read : GivesBehind head_five rest → GivesBehind head_two behind_two
+    system_is_read gives before =
+        optional_section rate section.System (codes "SYSTEM") system_kept refl before header.system
+        head_two.lines two no_rates no_rates behind_three project refl
+        (λ n. system_opens before head_two n refl) is.system (omega (arith, is.few))
+        (told_in-system rate no_rates (lines_of_section header.system) is.settings) (sequence_is_read gives)
 
-  pub header_is_read :
-      GivesBehind head_five rest
-      → GivesBehind head_none (written_section (codes "VERSION") header.version ++ behind_one)
-  header_is_read gives before =
-      optional_section section.Version (codes "VERSION") version_kept refl before header.version
-      head_none.lines 0 no_rates no_rates behind_one project refl
-      (λ n. version_opens before head_none n refl) is.version (omega (arith, is.few))
-      (told_in-none section.Version (λ rates text. refl) no_rates (lines_of_section header.version))
-      (project_is_read gives)
+    project_is_read : GivesBehind head_five rest → GivesBehind head_one behind_one
+    project_is_read gives before =
+        optional_section rate section.Project (codes "PROJECT") project_kept refl before header.project
+        head_one.lines one no_rates no_rates behind_two project refl
+        (λ n. project_opens before head_one n refl) is.project (omega (arith, is.few))
+        (told_in-none rate section.Project (λ rates text. refl) no_rates (lines_of_section header.project))
+        (system_is_read gives)
+
+    pub header_is_read :
+        GivesBehind head_five rest
+        → GivesBehind head_none (written_section (codes "VERSION") header.version ++ behind_one)
+    header_is_read gives before =
+        optional_section rate section.Version (codes "VERSION") version_kept refl before header.version
+        head_none.lines 0 no_rates no_rates behind_one project refl
+        (λ n. version_opens before head_none n refl) is.version (omega (arith, is.few))
+        (told_in-none rate section.Version (λ rates text. refl) no_rates (lines_of_section header.version))
+        (project_is_read gives)

@@ -3,7 +3,8 @@ use Rattle.std.proofs.Common.{◌≡◌, ℕ, ◌≤◌, false, List, [], ◌∷
 use Rattle.std.specs.Prelude.{codes, ◌==◌}
 use Rattle.std.proofs.lemmas.Bool.Decides.{nat_tests}
 use Rattle.std.proofs.lemmas.List.{append-nil}
-use Rattle.sampletime.specs.TimeCode.{are_separators, day, text_of}
+use Rattle.sampletime.specs.FrameRate.{is_rate}
+use Rattle.sampletime.specs.TimeCode.{are_separators, day}
 use Rattle.sound_terms.specs.declared.Event.{Event}
 use Rattle.list_terms.specs.declared.OpenEntry.{OpenEntry}
 use Rattle.list_terms.specs.declared.TokenKind.TheVariants.{Keyword}
@@ -46,31 +47,29 @@ nothing_ends = refl
 
 -- ---- a source
 
-module _ (project : ListProject) (rate : project.rate ≡ 25) (separators : IsTrue (are_separators project.separators))
+module _ (project : ListProject) (rate : IsTrue (is_rate project.rate)) (separators : IsTrue (are_separators project.separators))
   where
     last_optional_time :
         (time : Option ℕ) → IsTrue (is_time_of_day time)
-        → optional_time_field 25 (32 ∷ time_text project time) ≡ Ok (time, [])
+        → optional_time_field project.rate (32 ∷ time_text project time) ≡ Ok (time, [])
     last_optional_time time h =
-        ap (λ text. optional_time_field 25 (32 ∷ text)) (sym (append-nil (time_text project time)))
+        ap (λ text. optional_time_field project.rate (32 ∷ text)) (sym (append-nil (time_text project time)))
         ∙ optional_time_field-written time project [] rate separators h refl
 
-    last_time : (t : ℕ) → t ≤ day → time_field 25 (32 ∷ time_text project (Some t)) ≡ Ok (t, project.separators, [])
+    last_time : (t : ℕ) → t ≤ day → time_field project.rate (32 ∷ time_text project (Some t)) ≡ Ok (t, project.separators, [])
     last_time t h =
-        ap (λ text. time_field 25 (32 ∷ text)) (sym (append-nil (time_text project (Some t)))
-        ∙ ap (λ r. text_of r t project.separators ++ []) rate)
-        ∙ time_field-written t project.separators [] h separators refl
+        ap (λ text. time_field project.rate (32 ∷ text)) (sym (append-nil (time_text project (Some t))))
+        ∙ time_field-written project.rate t project.separators [] rate h separators refl
 
     middle_time :
         (t : ℕ) (rest : List ℕ) → t ≤ day
-        → time_field 25 (32 ∷ (time_text project (Some t) ++ (32 ∷ rest))) ≡ Ok (t, project.separators, 32 ∷ rest)
+        → time_field project.rate (32 ∷ (time_text project (Some t) ++ (32 ∷ rest))) ≡ Ok (t, project.separators, 32 ∷ rest)
     middle_time t rest h =
-        ap (λ r. time_field 25 (32 ∷ (text_of r t project.separators ++ (32 ∷ rest)))) rate
-        ∙ time_field-written t project.separators (32 ∷ rest) h separators refl
+        time_field-written project.rate t project.separators (32 ∷ rest) rate h separators refl
 
     pub source_fields-written :
         (source : Source) → IsTrue (is_source source) → IsTrue (has_whole_texts source)
-        → source_fields 25 source.number (codes " (F) \""
+        → source_fields project.rate source.number (codes " (F) \""
         ++ (source.url ++ (codes "\" "
         ++ (source.uid ++ (codes " "
         ++ (time_text project source.start ++ (codes " " ++ time_text project source.length)))))))
@@ -105,7 +104,7 @@ module _ (project : ListProject) (rate : project.rate ≡ 25) (separators : IsTr
 
     time_fields-written :
         (event : Event) → EventFacts event
-        → time_fields 25 (32 ∷ (time_text project (Some event.source_in)
+        → time_fields project.rate (32 ∷ (time_text project (Some event.source_in)
         ++ (32 ∷ (time_text project (Some event.dest_in)
         ++ (32 ∷ time_text project (Some event.dest_out))))))
         ≡ Ok (
@@ -125,7 +124,7 @@ module _ (project : ListProject) (rate : project.rate ≡ 25) (separators : IsTr
     -- an entry before its fades are told
     pub event_fields-written :
         (event : Event) → EventFacts event
-        → event_fields 25 event.number (codes " (Cut) I " ++ (number_text event.index
+        → event_fields project.rate event.number (codes " (Cut) I " ++ (number_text event.index
         ++ (codes " " ++ (channels_text event.source ++ (codes " " ++ (channels_text event.dest
         ++ (codes " " ++ (time_text project (Some event.source_in)
         ++ (codes " " ++ (time_text project (Some event.dest_in)
@@ -148,7 +147,7 @@ module _ (project : ListProject) (rate : project.rate ≡ 25) (separators : IsTr
 
     fade_fields-written :
         (length : ℕ) → length ≤ day → (length == 0) ≡ false
-        → fade_fields 25 (codes " " ++ (time_text project (Some length) ++ codes " LIN _ _ _")) ≡ Ok length
+        → fade_fields project.rate (codes " " ++ (time_text project (Some length) ++ codes " LIN _ _ _")) ≡ Ok length
     unfolding fade_fields
     fade_fields-written length h some =
         rw (
@@ -161,7 +160,7 @@ module _ (project : ListProject) (rate : project.rate ≡ 25) (separators : IsTr
 
     pub rise_is_read :
         (entry : OpenEntry) (length : ℕ) → length ≤ day → (length == 0) ≡ false → entry.has_rise ≡ false
-        → entry_with 25 entry (record { kind = Keyword; content = codes "Infade" })
+        → entry_with project.rate entry (record { kind = Keyword; content = codes "Infade" })
         (codes " " ++ (time_text project (Some length) ++ codes " LIN _ _ _"))
         ≡ Ok (with_rise entry length)
     unfolding entry_with
@@ -169,7 +168,7 @@ module _ (project : ListProject) (rate : project.rate ≡ 25) (separators : IsTr
 
     pub fall_is_read :
         (entry : OpenEntry) (length : ℕ) → length ≤ day → (length == 0) ≡ false → entry.has_fall ≡ false
-        → entry_with 25 entry (record { kind = Keyword; content = codes "Outfade" })
+        → entry_with project.rate entry (record { kind = Keyword; content = codes "Outfade" })
         (codes " " ++ (time_text project (Some length) ++ codes " LIN _ _ _"))
         ≡ Ok (with_fall entry length)
     unfolding entry_with

@@ -1,6 +1,6 @@
 -- Reading on from a context: one line, and the lines of a section that are kept.
 use Rattle.std.proofs.Common.{◌≡◌, ℕ, ◌+◌, ◌≤◌, ◌<◌, Bool, true, false, List, [], ◌∷◌, ◌++◌, length, Option, None, Some, Result, Ok, Err, refl, sym, subst, append_assoc, arith}
-use Rattle.std.specs.Prelude.{codes, nat_le, not}
+use Rattle.std.specs.Prelude.{codes, nat_le}
 use Rattle.std.specs.List.{list_all}
 use Rattle.std.proofs.lemmas.Bool.{not-true}
 use Rattle.std.proofs.lemmas.Bool.Decides.{nat_tests}
@@ -16,23 +16,6 @@ use Rattle.list_terms.specs.HeaderLaws.{IsKept, put_lines, told_in}
 use Rattle.list_terms.specs.Text.{Context, Entries, HeaderRead, finished, in_header, is_behind, is_end, kept_line, no_entry, rates_with, read_from, with_line}
 use Rattle.list_terms.specs.Tokens.{trimmed}
 use Rattle.list_terms.specs.WholeProject.{is_kept, is_line_byte, lines_of_section}
-
--- the lines give this project from here on, whatever their numbers
-abbrev pub Gives : Context → List (List ℕ) → ListProject → Type 0
-Gives c lines project = (n : ℕ) → read_from 25 c n lines ≡ Ok project
-
-pub one_line :
-    (c next : Context) (line : List ℕ) (lines : List (List ℕ)) (project : ListProject)
-    → ((n : ℕ) → with_line 25 c n line ≡ Ok next)
-    → is_behind next.stage ≡ false → Gives next lines project → Gives c (line ∷ lines) project
-unfolding read_from
-one_line c next line lines project e before gives n = rw (e (n + 1), before) (gives (n + 1))
-
-pub last_line :
-    (c next : Context) (line : List ℕ) (project : ListProject) → ((n : ℕ) → with_line 25 c n line ≡ Ok next)
-    → is_behind next.stage ≡ true → ((n : ℕ) → finished 25 next n ≡ Ok project) → Gives c (line ∷ []) project
-unfolding read_from
-last_line c next line project e behind ends n = rw (e (n + 1), behind) (ends (n + 1))
 
 -- what was read so far, without a notice
 abbrev pub so_far : Stage → List ℕ → HeaderRead → Bool → List Source → Bool → Entries → Context
@@ -66,103 +49,121 @@ abbrev pub written_section : List ℕ → Option (List (List ℕ)) → List (Lis
 written_section name None = []
 written_section name (Some lines) = opening name ∷ (lines ++ (ending name ∷ []))
 
-told-first :
-    (section : Section) (rates after : Rates) (text : List ℕ) (lines : List (List ℕ)) (first : Result Rates TextFault)
-    → rates_with 25 section rates text ≡ first → told_in section rates (text ∷ lines) ≡ Ok after
-    → (next : Rates) × (first ≡ Ok next) × (told_in section next lines ≡ Ok after)
-told-first section rates after text lines (Ok next) e h = (next, refl, rw e at h)
-told-first section rates after text lines (Err fault) e h = let no : Err fault ≡ Ok after = rw e at h in absurd (cc)
+module _ (rate : ℕ) where
+  -- the lines give this project from here on, whatever their numbers
+  abbrev pub Gives : Context → List (List ℕ) → ListProject → Type 0
+  Gives c lines project = (n : ℕ) → read_from rate c n lines ≡ Ok project
 
--- a section whose lines are kept
-module _ (section : Section) (name : List ℕ) (is : IsKept section) (ends : is_end name (trimmed (ending name)) ≡ true)
-  where
-    line_is_kept :
-        (text : List ℕ) (front : List (List ℕ)) (h : Header) (kept : ℕ) (rates next : Rates) (n : ℕ)
-        → is_end name (trimmed text) ≡ false → kept < 65535 → rates_with 25 section rates text ≡ Ok next
-        → with_line 25 (in_head (Inside section) name (read_to (put_lines section (Some front) h) kept rates)) n text
-        ≡ Ok (in_head (Inside section) name (read_to (put_lines section (Some (front ++ text ∷ [])) h) (kept + 1) next))
-    unfolding with_line in_header kept_line
-    line_is_kept text front h kept rates next n inside few says =
-        let room : nat_le 65535 kept ≡ false = grind (arith, nat_tests) in
-        rw (inside, is.read _ n text, room, says, is.keeps h front text)
+  pub one_line :
+      (c next : Context) (line : List ℕ) (lines : List (List ℕ)) (project : ListProject)
+      → ((n : ℕ) → with_line rate c n line ≡ Ok next)
+      → is_behind next.stage ≡ false → Gives next lines project → Gives c (line ∷ lines) project
+  unfolding read_from
+  one_line c next line lines project e before gives n = rw (e (n + 1), before) (gives (n + 1))
 
-    section_ends :
-        (header : HeaderRead) (n : ℕ)
-        → with_line 25 (in_head (Inside section) name header) n (ending name) ≡ Ok (in_head Outside name header)
-    unfolding with_line
-    section_ends header n = rw ends
+  pub last_line :
+      (c next : Context) (line : List ℕ) (project : ListProject) → ((n : ℕ) → with_line rate c n line ≡ Ok next)
+      → is_behind next.stage ≡ true → ((n : ℕ) → finished rate next n ≡ Ok project) → Gives c (line ∷ []) project
+  unfolding read_from
+  last_line c next line project e behind ends n = rw (e (n + 1), behind) (ends (n + 1))
 
-    gives_same :
-        (lines known : List (List ℕ)) (h : Header) (kept count : ℕ) (rates after : Rates) (rest : List (List ℕ))
-        (project : ListProject)
-        → lines ≡ known → kept ≡ count → rates ≡ after
-        → Gives (in_head Outside name (read_to (put_lines section (Some lines) h) kept rates)) rest project
-        → Gives (in_head Outside name (read_to (put_lines section (Some known) h) count after)) rest project
-    gives_same lines known h kept count rates after rest project e f g gives = rw (← e, ← f, ← g) gives
+  told-first :
+      (section : Section) (rates after : Rates) (text : List ℕ) (lines : List (List ℕ)) (first : Result Rates TextFault)
+      → rates_with rate section rates text ≡ first → told_in rate section rates (text ∷ lines) ≡ Ok after
+      → (next : Rates) × (first ≡ Ok next) × (told_in rate section next lines ≡ Ok after)
+  told-first section rates after text lines (Ok next) e h = (next, refl, rw e at h)
+  told-first section rates after text lines (Err fault) e h = let no : Err fault ≡ Ok after = rw e at h in absurd (cc)
 
-    kept_lines :
-        (front lines : List (List ℕ)) (h : Header) (kept : ℕ) (rates after : Rates) (rest : List (List ℕ))
-        (project : ListProject)
-        → list_all (is_kept name) lines ≡ true → kept + length lines ≤ 65535 → told_in section rates lines ≡ Ok after
-        → Gives (in_head Outside name (read_to (put_lines section (Some (front ++ lines)) h) (kept + length lines)
-        after))
-        rest project
-        → Gives (in_head (Inside section) name (read_to (put_lines section (Some front) h) kept rates))
-        (lines ++ (ending name ∷ rest)) project
-    kept_lines front [] h kept rates after rest project all few says gives =
-        one_line _ _ (ending name) rest project (section_ends (read_to (put_lines section (Some front) h) kept rates))
-        refl
-        (gives_same (front ++ []) front h (kept + 0) kept after rates rest project (append-nil front) (omega arith) (cc)
-        gives)
-    kept_lines front (text ∷ lines) h kept rates after rest project all few says gives =
-        let next = told-first section rates after text lines (rates_with 25 section rates text) refl says in
-        let fine = and_left (is_kept name text) (list_all (is_kept name) lines) all in
-        let inside = not-true (is_end name (trimmed text)) (and_right (list_all is_line_byte text) _ fine) in
-        one_line _ _ text (lines ++ (ending name ∷ rest)) project
-        (λ n. line_is_kept text front h kept rates next.0 n inside (omega (arith, few)) next.1) refl
-        (kept_lines (front ++ text ∷ []) lines h (kept + 1) next.0 after rest project
-        (and_right (is_kept name text) (list_all (is_kept name) lines) all) (omega (arith, few)) next.2
-        (gives_same (front ++ text ∷ lines) ((front ++ text ∷ []) ++ lines) h (kept + length (text ∷ lines))
-        (kept + 1 + length lines) after after rest project
-        (sym (append_assoc front (text ∷ []) lines)) (omega arith) refl gives))
+  -- a section whose lines are kept
+  module _ (section : Section) (name : List ℕ) (is : IsKept section) (ends : is_end name (trimmed (ending name)) ≡ true)
+    where
+      line_is_kept :
+          (text : List ℕ) (front : List (List ℕ)) (h : Header) (kept : ℕ) (rates next : Rates) (n : ℕ)
+          → is_end name (trimmed text) ≡ false → kept < 65535 → rates_with rate section rates text ≡ Ok next
+          → with_line rate (in_head (Inside section) name (read_to (put_lines section (Some front) h) kept rates)) n text
+          ≡ Ok (in_head (Inside section) name (read_to (put_lines section (Some (front ++ text ∷ [])) h) (kept + 1) next))
+      unfolding with_line in_header kept_line
+      line_is_kept text front h kept rates next n inside few says =
+          let room : nat_le 65535 kept ≡ false = grind (arith, nat_tests) in
+          rw (inside, is.read rate _ n text, room, says, is.keeps h front text)
 
-    gives_without :
-        (before : List ℕ) (h : Header) (kept : ℕ) (rates after : Rates) (rest : List (List ℕ)) (project : ListProject)
-        → put_lines section None h ≡ h → rates ≡ after
-        → Gives (in_head Outside before (read_to (put_lines section None h) (kept + 0) after)) rest project
-        → Gives (in_head Outside before (read_to h kept rates)) rest project
-    gives_without before h kept rates after rest project absent same gives =
-        let none : kept + 0 ≡ kept = omega arith in rw (same, ← absent, ← none) gives
+      section_ends :
+          (header : HeaderRead) (n : ℕ)
+          → with_line rate (in_head (Inside section) name header) n (ending name) ≡ Ok (in_head Outside name header)
+      unfolding with_line
+      section_ends header n = rw ends
 
-    pub kept_section :
-        (before : List ℕ) (lines : List (List ℕ)) (h : Header) (kept : ℕ) (rates after : Rates) (rest : List (List ℕ))
-        (project : ListProject)
-        → ((n : ℕ) → with_line 25 (in_head Outside before (read_to h kept rates)) n (opening name)
-        ≡ Ok (in_head (Inside section) name (read_to (put_lines section (Some []) h) kept rates)))
-        → list_all (is_kept name) lines ≡ true → kept + length lines ≤ 65535 → told_in section rates lines ≡ Ok after
-        → Gives (in_head Outside name (read_to (put_lines section (Some lines) h) (kept + length lines) after))
-        rest project
-        → Gives (in_head Outside before (read_to h kept rates)) (opening name ∷ (lines ++ (ending name ∷ rest))) project
-    kept_section before lines h kept rates after rest project opens all few says gives =
-        one_line _ _ (opening name) (lines ++ (ending name ∷ rest)) project opens refl
-        (kept_lines [] lines h kept rates after rest project all few says gives)
+      gives_same :
+          (lines known : List (List ℕ)) (h : Header) (kept count : ℕ) (rates after : Rates) (rest : List (List ℕ))
+          (project : ListProject)
+          → lines ≡ known → kept ≡ count → rates ≡ after
+          → Gives (in_head Outside name (read_to (put_lines section (Some lines) h) kept rates)) rest project
+          → Gives (in_head Outside name (read_to (put_lines section (Some known) h) count after)) rest project
+      gives_same lines known h kept count rates after rest project e f g gives = rw (← e, ← f, ← g) gives
 
-    -- a section that may be there
-    pub optional_section :
-        (before : List ℕ) (option : Option (List (List ℕ))) (h : Header) (kept : ℕ) (rates after : Rates)
-        (rest : List (List ℕ)) (project : ListProject)
-        → put_lines section None h ≡ h
-        → ((n : ℕ) → with_line 25 (in_head Outside before (read_to h kept rates)) n (opening name)
-        ≡ Ok (in_head (Inside section) name (read_to (put_lines section (Some []) h) kept rates)))
-        → list_all (is_kept name) (lines_of_section option) ≡ true → kept + length (lines_of_section option) ≤ 65535
-        → told_in section rates (lines_of_section option) ≡ Ok after
-        → ((known : List ℕ)
-        → Gives (in_head Outside known (read_to (put_lines section option h) (kept + length (lines_of_section option))
-        after)) rest project)
-        → Gives (in_head Outside before (read_to h kept rates)) (written_section name option ++ rest) project
-    optional_section before None h kept rates after rest project absent opens all few says gives =
-        gives_without before h kept rates after rest project absent (cc) (gives before)
-    optional_section before (Some lines) h kept rates after rest project absent opens all few says gives =
-        subst (λ more. Gives (in_head Outside before (read_to h kept rates)) (opening name ∷ more) project)
-        (sym (append_assoc lines (ending name ∷ []) rest))
-        (kept_section before lines h kept rates after rest project opens all few says (gives name))
+      kept_lines :
+          (front lines : List (List ℕ)) (h : Header) (kept : ℕ) (rates after : Rates) (rest : List (List ℕ))
+          (project : ListProject)
+          → list_all (is_kept name) lines ≡ true → kept + length lines ≤ 65535 → told_in rate section rates lines ≡ Ok after
+          → Gives (in_head Outside name (read_to (put_lines section (Some (front ++ lines)) h) (kept + length lines)
+          after))
+          rest project
+          → Gives (in_head (Inside section) name (read_to (put_lines section (Some front) h) kept rates))
+          (lines ++ (ending name ∷ rest)) project
+      kept_lines front [] h kept rates after rest project all few says gives =
+          one_line _ _ (ending name) rest project (section_ends (read_to (put_lines section (Some front) h) kept rates))
+          refl
+          (gives_same (front ++ []) front h (kept + 0) kept after rates rest project (append-nil front) (omega arith) (cc)
+          gives)
+      kept_lines front (text ∷ lines) h kept rates after rest project all few says gives =
+          let next = told-first section rates after text lines (rates_with rate section rates text) refl says in
+          let fine = and_left (is_kept name text) (list_all (is_kept name) lines) all in
+          let inside = not-true (is_end name (trimmed text)) (and_right (list_all is_line_byte text) _ fine) in
+          one_line _ _ text (lines ++ (ending name ∷ rest)) project
+          (λ n. line_is_kept text front h kept rates next.0 n inside (omega (arith, few)) next.1) refl
+          (kept_lines (front ++ text ∷ []) lines h (kept + 1) next.0 after rest project
+          (and_right (is_kept name text) (list_all (is_kept name) lines) all) (omega (arith, few)) next.2
+          (gives_same (front ++ text ∷ lines) ((front ++ text ∷ []) ++ lines) h (kept + length (text ∷ lines))
+          (kept + 1 + length lines) after after rest project
+          (sym (append_assoc front (text ∷ []) lines)) (omega arith) refl gives))
+
+      gives_without :
+          (before : List ℕ) (h : Header) (kept : ℕ) (rates after : Rates) (rest : List (List ℕ)) (project : ListProject)
+          → put_lines section None h ≡ h → rates ≡ after
+          → Gives (in_head Outside before (read_to (put_lines section None h) (kept + 0) after)) rest project
+          → Gives (in_head Outside before (read_to h kept rates)) rest project
+      gives_without before h kept rates after rest project absent same gives =
+          let none : kept + 0 ≡ kept = omega arith in rw (same, ← absent, ← none) gives
+
+      pub kept_section :
+          (before : List ℕ) (lines : List (List ℕ)) (h : Header) (kept : ℕ) (rates after : Rates) (rest : List (List ℕ))
+          (project : ListProject)
+          → ((n : ℕ) → with_line rate (in_head Outside before (read_to h kept rates)) n (opening name)
+          ≡ Ok (in_head (Inside section) name (read_to (put_lines section (Some []) h) kept rates)))
+          → list_all (is_kept name) lines ≡ true → kept + length lines ≤ 65535 → told_in rate section rates lines ≡ Ok after
+          → Gives (in_head Outside name (read_to (put_lines section (Some lines) h) (kept + length lines) after))
+          rest project
+          → Gives (in_head Outside before (read_to h kept rates)) (opening name ∷ (lines ++ (ending name ∷ rest))) project
+      kept_section before lines h kept rates after rest project opens all few says gives =
+          one_line _ _ (opening name) (lines ++ (ending name ∷ rest)) project opens refl
+          (kept_lines [] lines h kept rates after rest project all few says gives)
+
+      -- a section that may be there
+      pub optional_section :
+          (before : List ℕ) (option : Option (List (List ℕ))) (h : Header) (kept : ℕ) (rates after : Rates)
+          (rest : List (List ℕ)) (project : ListProject)
+          → put_lines section None h ≡ h
+          → ((n : ℕ) → with_line rate (in_head Outside before (read_to h kept rates)) n (opening name)
+          ≡ Ok (in_head (Inside section) name (read_to (put_lines section (Some []) h) kept rates)))
+          → list_all (is_kept name) (lines_of_section option) ≡ true → kept + length (lines_of_section option) ≤ 65535
+          → told_in rate section rates (lines_of_section option) ≡ Ok after
+          → ((known : List ℕ)
+          → Gives (in_head Outside known (read_to (put_lines section option h) (kept + length (lines_of_section option))
+          after)) rest project)
+          → Gives (in_head Outside before (read_to h kept rates)) (written_section name option ++ rest) project
+      optional_section before None h kept rates after rest project absent opens all few says gives =
+          gives_without before h kept rates after rest project absent (cc) (gives before)
+      optional_section before (Some lines) h kept rates after rest project absent opens all few says gives =
+          subst (λ more. Gives (in_head Outside before (read_to h kept rates)) (opening name ∷ more) project)
+          (sym (append_assoc lines (ending name ∷ []) rest))
+          (kept_section before lines h kept rates after rest project opens all few says (gives name))

@@ -1,12 +1,14 @@
 -- What is written for a project is read as that project.
-use Rattle.std.proofs.Common.{◌≡◌, ℕ, ◌+◌, true, false, List, [], ◌∷◌, ◌++◌, Option, None, Some, Ok, MatchOption, refl, sym, subst, append_assoc}
+use Rattle.std.proofs.Common.{◌≡◌, ℕ, ◌+◌, true, false, List, [], ◌∷◌, ◌++◌, Option, None, Some, Ok, MatchOption, refl, ap, sym, ◌∙◌, subst, append_assoc}
 use Rattle.std.specs.Prelude.{codes, flat_map, map, unwrap_or}
 use Rattle.sampletime.specs.TimeCode.{default_separators}
 use Rattle.list_terms.specs.declared.Section.TheVariants as section
 use Rattle.list_terms.specs.declared.Stage.TheVariants.{Behind, Inside, Outside}
 use Rattle.list_terms.specs.HeaderLaws.{has_sequence}
 use Rattle.list_terms.specs.Project.{ListProject, Source}
-use Rattle.list_terms.specs.Text.{Entries, HeaderRead, all_events, before_list, finished, no_entry, no_header, nothing_read, opened, outside, section_of, text_value, with_line}
+use Rattle.list_terms.specs.Lines.{lines_of}
+use Rattle.list_terms.specs.RateLaws.{rate_of-read}
+use Rattle.list_terms.specs.Text.{Entries, HeaderRead, all_events, before_list, finished, no_entry, no_header, nothing_read, opened, outside, read_from, section_of, text_value, with_line}
 use Rattle.list_terms.specs.WholeProject.{IsProject, both_rates, without_notices}
 use Rattle.list_terms.specs.WrittenText.{event_lines, source_line, text_of_project}
 use Rattle.adlwrite.proofs.Events.{events_are_read}
@@ -15,30 +17,31 @@ use Rattle.adlwrite.proofs.Reading.{Gives, ending, in_head, last_line, one_line,
 use Rattle.adlwrite.proofs.Sources.{sources_are_read}
 use Rattle.adlwrite.proofs.TextLines.{lines_of-text_of_project, written_lines}
 
-list_begins : (n : ℕ) → with_line 25 nothing_read n (codes "<ADL>") ≡ Ok (in_head Outside [] no_header)
-unfolding with_line before_list
-list_begins n = refl
+module _ (rate : ℕ) where
+  list_begins : (n : ℕ) → with_line rate nothing_read n (codes "<ADL>") ≡ Ok (in_head Outside [] no_header)
+  unfolding with_line before_list
+  list_begins n = refl
 
-index_begins :
-    (known : List ℕ) (header : HeaderRead) (n : ℕ)
-    → with_line 25 (in_head Outside known header) n (codes "<SOURCE_INDEX>")
-    ≡ Ok (so_far (Inside section.SourceIndex) (codes "SOURCE_INDEX") header true [] false no_entry)
-unfolding with_line outside opened section_of
-index_begins known header n = refl
+  index_begins :
+      (known : List ℕ) (header : HeaderRead) (n : ℕ)
+      → with_line rate (in_head Outside known header) n (codes "<SOURCE_INDEX>")
+      ≡ Ok (so_far (Inside section.SourceIndex) (codes "SOURCE_INDEX") header true [] false no_entry)
+  unfolding with_line outside opened section_of
+  index_begins known header n = refl
 
-events_begin :
-    (known : List ℕ) (header : HeaderRead) (sources : List Source) (n : ℕ)
-    → with_line 25 (so_far Outside known header true sources false no_entry) n (codes "<EVENT_LIST>")
-    ≡ Ok (so_far (Inside section.EventList) (codes "EVENT_LIST") header true sources true no_entry)
-unfolding with_line outside opened section_of
-events_begin known header sources n = refl
+  events_begin :
+      (known : List ℕ) (header : HeaderRead) (sources : List Source) (n : ℕ)
+      → with_line rate (so_far Outside known header true sources false no_entry) n (codes "<EVENT_LIST>")
+      ≡ Ok (so_far (Inside section.EventList) (codes "EVENT_LIST") header true sources true no_entry)
+  unfolding with_line outside opened section_of
+  events_begin known header sources n = refl
 
-list_ends :
-    (known : List ℕ) (header : HeaderRead) (sources : List Source) (entries : Entries) (n : ℕ)
-    → with_line 25 (so_far Outside known header true sources true entries) n (codes "</ADL>")
-    ≡ Ok (so_far Behind known header true sources true entries)
-unfolding with_line outside
-list_ends known header sources entries n = refl
+  list_ends :
+      (known : List ℕ) (header : HeaderRead) (sources : List Source) (entries : Entries) (n : ℕ)
+      → with_line rate (so_far Outside known header true sources true entries) n (codes "</ADL>")
+      ≡ Ok (so_far Behind known header true sources true entries)
+  unfolding with_line outside
+  list_ends known header sources entries n = refl
 
 -- the separators that were found are those of the project
 separators_again :
@@ -61,38 +64,37 @@ module _ (project : ListProject) (h : IsProject project) where
   ends :
       (last : Entries) → all_events last.events last.entry ≡ project.events
       → MatchOption last.separators (project.events ≡ []) (λ f. f ≡ project.separators) → (n : ℕ)
-      → finished 25 (so_far Behind (codes "EVENT_LIST") header_read true project.sources true last) n
+      → finished project.rate (so_far Behind (codes "EVENT_LIST") header_read true project.sources true last) n
       ≡ Ok (without_notices project)
   unfolding finished
   ends last same found n =
       rw (
-        has_sequence project.header.sequence h.header.rates,
+        has_sequence project.rate project.header.sequence h.header.rates,
         same,
         separators_again project last.separators h found,
-        h.rate,
       ) refl
 
   events_end :
-      Gives (so_far Outside (codes "SOURCE_INDEX") header_read true project.sources false no_entry)
+      Gives project.rate (so_far Outside (codes "SOURCE_INDEX") header_read true project.sources false no_entry)
       (written_section (codes "EVENT_LIST") (Some (flat_map (event_lines project) project.events))
       ++ (codes "</ADL>" ∷ [])) (without_notices project)
   events_end =
       let lines = flat_map (event_lines project) project.events in
       let end = ending (codes "EVENT_LIST") in
-      subst (λ more. Gives (so_far Outside (codes "SOURCE_INDEX") header_read true project.sources false no_entry)
+      subst (λ more. Gives project.rate (so_far Outside (codes "SOURCE_INDEX") header_read true project.sources false no_entry)
       (opening (codes "EVENT_LIST") ∷ more) (without_notices project))
       (sym (append_assoc lines (end ∷ []) (codes "</ADL>" ∷ [])))
-      (one_line _ _ (opening (codes "EVENT_LIST")) (lines ++ (end ∷ codes "</ADL>" ∷ [])) (without_notices project)
-      (events_begin (codes "SOURCE_INDEX") header_read project.sources) refl
+      (one_line project.rate _ _ (opening (codes "EVENT_LIST")) (lines ++ (end ∷ codes "</ADL>" ∷ [])) (without_notices project)
+      (events_begin project.rate (codes "SOURCE_INDEX") header_read project.sources) refl
       (events_are_read project h.rate h.separators header_read project.sources no_entry [] project.events
       (codes "</ADL>" ∷ []) (without_notices project)
       refl refl h.events.each h.events.distinct
-      (λ last same found. last_line _ _ (codes "</ADL>") (without_notices project)
-      (list_ends (codes "EVENT_LIST") header_read project.sources last) refl (ends last same found))))
+      (λ last same found. last_line project.rate _ _ (codes "</ADL>") (without_notices project)
+      (list_ends project.rate (codes "EVENT_LIST") header_read project.sources last) refl (ends last same found))))
 
   index_and_events :
       (known : List ℕ)
-      → Gives (in_head Outside known header_read)
+      → Gives project.rate (in_head Outside known header_read)
       (written_section (codes "SOURCE_INDEX") (Some (map (source_line project) project.sources))
       ++ (written_section (codes "EVENT_LIST") (Some (flat_map (event_lines project) project.events))
       ++ (codes "</ADL>" ∷ []))) (without_notices project)
@@ -102,20 +104,24 @@ module _ (project : ListProject) (h : IsProject project) where
       let rest =
       written_section (codes "EVENT_LIST") (Some (flat_map (event_lines project) project.events))
       ++ (codes "</ADL>" ∷ []) in
-      subst (λ more. Gives (in_head Outside known header_read) (opening (codes "SOURCE_INDEX") ∷ more)
+      subst (λ more. Gives project.rate (in_head Outside known header_read) (opening (codes "SOURCE_INDEX") ∷ more)
       (without_notices project))
       (sym (append_assoc lines (end ∷ []) rest))
-      (one_line _ _ (opening (codes "SOURCE_INDEX")) (lines ++ (end ∷ rest)) (without_notices project)
-      (index_begins known header_read) refl
+      (one_line project.rate _ _ (opening (codes "SOURCE_INDEX")) (lines ++ (end ∷ rest)) (without_notices project)
+      (index_begins project.rate known header_read) refl
       (sources_are_read project h.rate h.separators header_read [] project.sources rest (without_notices project)
       h.sources.numbered.each h.sources.texts h.sources.numbered.distinct events_end))
 
-  list_is_read : Gives nothing_read (written_lines project) (without_notices project)
+  list_is_read : Gives project.rate nothing_read (written_lines project) (without_notices project)
   list_is_read =
-      one_line nothing_read (in_head Outside [] no_header) (codes "<ADL>") _ (without_notices project) list_begins refl
-      (header_is_read project.header h.header _ (without_notices project) index_and_events [])
+      one_line project.rate nothing_read (in_head Outside [] no_header) (codes "<ADL>") _ (without_notices project) (list_begins project.rate) refl
+      (header_is_read project.rate project.header h.header _ (without_notices project) index_and_events [])
 
 pub text_value-text_of_project :
     (project : ListProject) → IsProject project → text_value (text_of_project project) ≡ Ok (without_notices project)
 unfolding text_value
-text_value-text_of_project project h = rw (lines_of-text_of_project project h, list_is_read project h 0) refl
+text_value-text_of_project project h =
+    let lines = lines_of-text_of_project project h in
+    let read : read_from project.rate nothing_read 0 (lines_of (text_of_project project)) ≡ Ok (without_notices project)
+    = ap (read_from project.rate nothing_read 0) lines ∙ list_is_read project h 0 in
+    rw (rate_of-read project.rate (text_of_project project) (without_notices project) read, read) refl

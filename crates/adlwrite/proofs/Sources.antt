@@ -5,6 +5,7 @@ use Rattle.std.specs.List.{list_all, list_any}
 use Rattle.std.proofs.lemmas.List.{append-nil}
 use Rattle.facts.specs.Distinct.{moved, not_taken}
 use Rattle.facts.specs.Tests.{and_left, and_right}
+use Rattle.sampletime.specs.FrameRate.{is_rate}
 use Rattle.sampletime.specs.TimeCode.{are_separators}
 use Rattle.list_terms.specs.declared.Section.TheVariants as section
 use Rattle.list_terms.specs.declared.Stage.TheVariants.{Inside, Outside}
@@ -28,7 +29,7 @@ is_no_end name rest = front_is_no_end name rest _
 
 -- ---- the source index
 
-module _ (project : ListProject) (rate : project.rate ≡ 25) (separators : IsTrue (are_separators project.separators))
+module _ (project : ListProject) (rate : IsTrue (is_rate project.rate)) (separators : IsTrue (are_separators project.separators))
     (header : HeaderRead) where
   -- in the source index and behind it, with these sources
   abbrev in_index : List Source → Context
@@ -40,7 +41,7 @@ module _ (project : ListProject) (rate : project.rate ≡ 25) (separators : IsTr
   source_is_read :
       (front : List Source) (source : Source) (n : ℕ) → IsTrue (is_source source) → IsTrue (has_whole_texts source)
       → list_any (λ other. other.number == source.number) front ≡ false
-      → with_line 25 (in_index front) n (source_line project source)
+      → with_line project.rate (in_index front) n (source_line project source)
       ≡ Ok (in_index (front ++ source ∷ []))
   unfolding with_line in_section in_source_index index_line source_with token_at
   source_is_read front source n h k new =
@@ -56,7 +57,7 @@ module _ (project : ListProject) (rate : project.rate ≡ 25) (separators : IsTr
 
   index_ends :
       (front : List Source) (n : ℕ)
-      → with_line 25 (in_index front) n (ending (codes "SOURCE_INDEX"))
+      → with_line project.rate (in_index front) n (ending (codes "SOURCE_INDEX"))
       ≡ Ok (behind_index front)
   unfolding with_line
   index_ends front n = refl
@@ -65,20 +66,20 @@ module _ (project : ListProject) (rate : project.rate ≡ 25) (separators : IsTr
       (front written : List Source) (rest : List (List ℕ)) (result : ListProject)
       → IsTrue (list_all is_source written) → IsTrue (list_all has_whole_texts written)
       → AreDistinct (index_numbers (front ++ written))
-      → Gives (behind_index (front ++ written)) rest result
-      → Gives (in_index front)
+      → Gives project.rate (behind_index (front ++ written)) rest result
+      → Gives project.rate (in_index front)
       (map (source_line project) written ++ (ending (codes "SOURCE_INDEX") ∷ rest)) result
   sources_are_read front [] rest result all texts distinct gives =
-      one_line _ _ (ending (codes "SOURCE_INDEX")) rest result (index_ends front) refl
-      (subst (λ sources. Gives (behind_index sources) rest result) (append-nil front) gives)
+      one_line project.rate _ _ (ending (codes "SOURCE_INDEX")) rest result (index_ends front) refl
+      (subst (λ sources. Gives project.rate (behind_index sources) rest result) (append-nil front) gives)
   sources_are_read front (s ∷ written) rest result all texts distinct gives =
       let h = and_left (is_source s) (list_all is_source written) all in
       let k = and_left (has_whole_texts s) (list_all has_whole_texts written) texts in
-      one_line _ _ (source_line project s) (map (source_line project) written ++ (ending (codes "SOURCE_INDEX") ∷ rest))
+      one_line project.rate _ _ (source_line project s) (map (source_line project) written ++ (ending (codes "SOURCE_INDEX") ∷ rest))
       result
       (λ n. source_is_read front s n h k (not_taken (λ t. t.number) front s written distinct)) refl
       (sources_are_read (front ++ s ∷ []) written rest result (and_right (is_source s) (list_all is_source written) all)
       (and_right (has_whole_texts s) (list_all has_whole_texts written) texts)
       (moved (λ t. t.number) front s written distinct)
-      (subst (λ sources. Gives (behind_index sources) rest result)
+      (subst (λ sources. Gives project.rate (behind_index sources) rest result)
       (sym (append_assoc front (s ∷ []) written)) gives))

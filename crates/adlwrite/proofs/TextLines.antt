@@ -6,6 +6,7 @@ use Rattle.std.specs.List.{list_all}
 use Rattle.std.proofs.lemmas.Bool.Decides.{nat_tests}
 use Rattle.std.proofs.lemmas.List.{append-nil}
 use Rattle.facts.specs.Tests.{and_left, and_right}
+use Rattle.sampletime.specs.FrameRate.{is_rate}
 use Rattle.sampletime.specs.TimeCode.{are_separators, day, text_of}
 use Rattle.sound_terms.specs.declared.Event.{Event}
 use Rattle.list_terms.specs.LineLaws.{without_cr-cr}
@@ -143,11 +144,12 @@ kept_section_of_lines :
 kept_section_of_lines name None is h = no_lines
 kept_section_of_lines name (Some lines) is h = section_of_lines name lines is (kept_are_lines name lines h)
 
-module _ (project : ListProject) (rate : project.rate ≡ 25) (separators : IsTrue (are_separators project.separators))
+module _ (project : ListProject) (rate : IsTrue (is_rate project.rate)) (separators : IsTrue (are_separators project.separators))
   where
     time_is_line : (t : ℕ) → t ≤ day → IsLine (time_text project (Some t))
     time_is_line t h =
-        rw rate (word_is_line (text_of 25 t project.separators) (time_is_a_word t project.separators h separators))
+        word_is_line (text_of project.rate t project.separators)
+        (time_is_a_word project.rate t project.separators rate h separators)
 
     optional_time_is_line : (time : Option ℕ) → IsTrue (is_time_of_day time) → IsLine (time_text project time)
     optional_time_is_line None h = record { each = refl }

@@ -3,6 +3,8 @@ use Rattle.std.proofs.Common.{◌≡◌, ℕ, ◌+◌, ◌/◌, ◌%◌, ◌<◌
 use Rattle.std.specs.Prelude.{decimal, nat_le, ◌==◌, ◌&&◌}
 use Rattle.std.specs.List.{list_all}
 use Rattle.std.proofs.lemmas.Bool.Decides.{nat_tests}
+use Rattle.sampletime.specs.FrameRate.{is_rate}
+use Rattle.sampletime.specs.RateLaws.{divides_day, frame_of, remainder_of}
 use Rattle.sampletime.specs.TimeCode.{are_separators, day, is_digit, is_separator, text_of, text_of_parts}
 use Rattle.sound_terms.specs.declared.Channels.{Channels}
 use Rattle.list_terms.specs.Fields.{are_digits, channels_of, channel_range, number_up_to}
@@ -162,18 +164,19 @@ four_true true false c d h = absurd (cc)
 four_true false b c d h = absurd (cc)
 
 pub time_is_a_word :
-    (t : ℕ) (separators : List ℕ) → t ≤ day → IsTrue (are_separators separators)
-    → is_word (text_of 25 t separators) ≡ true
-time_is_a_word t (a ∷ b ∷ c ∷ d ∷ []) h i =
+    (rate t : ℕ) (separators : List ℕ) → IsTrue (is_rate rate) → t ≤ day → IsTrue (are_separators separators)
+    → is_word (text_of rate t separators) ≡ true
+time_is_a_word rate t (a ∷ b ∷ c ∷ d ∷ []) known h i =
+    let divides = divides_day rate known in
     let each = four_true (is_separator a) (is_separator b) (is_separator c) (is_separator d) i in
     let ia = separator_is_of_words a each.0 in
     let ib = separator_is_of_words b each.1 in
     let ic = separator_is_of_words c each.2 in
     let id = separator_is_of_words d each.3 in
-    (parts_are_of_words (t / 172800000) (t / 2880000 % 60) (t / 48000 % 60) (t / 1920 % 25) (t % 1920) a b c d
-    (omega arith) (omega arith) (omega arith) (omega arith) (omega arith) ia ib ic id).each
-time_is_a_word t [] h i = absurd (cc)
-time_is_a_word t (a ∷ []) h i = absurd (cc)
-time_is_a_word t (a ∷ b ∷ []) h i = absurd (cc)
-time_is_a_word t (a ∷ b ∷ c ∷ []) h i = absurd (cc)
-time_is_a_word t (a ∷ b ∷ c ∷ d ∷ e ∷ rest) h i = absurd (cc)
+    (parts_are_of_words (t / 172800000) (t / 2880000 % 60) (t / 48000 % 60) (frame_of rate t) (remainder_of rate t) a b c d
+    (omega arith) (omega arith) (omega arith) (divides.frame t) (divides.remainder t) ia ib ic id).each
+time_is_a_word rate t [] known h i = absurd (cc)
+time_is_a_word rate t (a ∷ []) known h i = absurd (cc)
+time_is_a_word rate t (a ∷ b ∷ []) known h i = absurd (cc)
+time_is_a_word rate t (a ∷ b ∷ c ∷ []) known h i = absurd (cc)
+time_is_a_word rate t (a ∷ b ∷ c ∷ d ∷ e ∷ rest) known h i = absurd (cc)

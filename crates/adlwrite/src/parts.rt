@@ -64,7 +64,7 @@ fn push_time(
 {
     let _ = project.header();
     out.extend_from_slice(front)?;
-    out.extend_from_slice(&text_of(time, project.separators()))
+    out.extend_from_slice(&text_of(time, project.separators(), project.rate()))
 }
 
 /// This text, then the time, and `_` where it is missing.

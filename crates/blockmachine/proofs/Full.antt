@@ -35,7 +35,7 @@ full32 (pos n) fits =
 full32 (negsuc n) fits =
     subst Within (sym (negsuc-*ℤ-pos n (2 ^ 16))) (omega (arith, ints, fits.0), omega (arith, ints, fits.1))
 
-full_sample : (depth : Depth) (z : ℤ) → FitsDepth (bits_of depth) z → Within (full_scale (bits_of depth) z)
+pub full_sample : (depth : Depth) (z : ℤ) → FitsDepth (bits_of depth) z → Within (full_scale (bits_of depth) z)
 full_sample Sixteen z fits = full16 z fits
 full_sample TwentyFour z fits = full24 z fits
 full_sample ThirtyTwo z fits = full32 z fits

@@ -1,5 +1,6 @@
 pub mod Places
 pub mod Added
+pub mod Bounds
 pub mod Emitted
 pub mod Fits
 pub mod Full

@@ -1,5 +1,5 @@
 -- The sums of a block as a machine keeps them: channel after channel.
-use Rattle.std.specs.Prelude.{◌≡◌, ℕ, ◌+◌, ◌-◌, ◌*◌, ◌<◌, ◌≤◌, ℤ, pos, ◌+ℤ◌, List, length, slice_index_or}
+use Rattle.std.specs.Prelude.{◌≡◌, ℕ, ◌+◌, ◌-◌, ◌*◌, ◌^◌, ◌<◌, ◌≤◌, ℤ, pos, neg_ℤ, ◌+ℤ◌, ◌≤ℤ◌, List, length, slice_index_or}
 use Rattle.sound_terms.specs.declared.block.Stretch.{Stretch}
 use Rattle.sound_terms.specs.declared.piece.Shape.{Shape}
 use Rattle.sound_terms.specs.Mix.{full_scale, share_of}
@@ -20,6 +20,14 @@ channel_room = 4104
 abbrev pub AreSums : List ℤ → (ℕ → ℕ → ℤ) → Type 0
 AreSums list sums = (i channel : ℕ) → i < channel_room → 1 ≤ channel → (channel - 1) * channel_room + i < length list
     → slice_index_or list ((channel - 1) * channel_room + i) (pos 0) ≡ sums i channel
+
+-- as large as the sum of m samples at most
+abbrev pub IsWithin : ℕ → ℤ → Type 0
+IsWithin m z = (neg_ℤ (pos (m * 2 ^ 47)) ≤ℤ z) × (z ≤ℤ pos (m * 2 ^ 47))
+
+-- the most additions that are added plainly: none of them can leave 64 bits
+abbrev pub few_additions : ℕ
+few_additions = 32767
 
 -- each sum had the share of one channel of these frames added; channels are counted from 0 here
 abbrev pub HasAdded : Shape → (depth channels channel : ℕ) → (frames old new : List ℤ) → Type 0

@@ -1,5 +1,5 @@
-// Sums to which the frames of a stretch are added.
-ghost use Rattle.std.specs.Prelude.{◌≡◌, ◌+◌, ◌*◌, ◌^◌, ◌<◌, ◌≤◌, ℕ, ℤ, pos, neg_ℤ, ◌+ℤ◌, ◌≤ℤ◌, length, slice_index_or};
+// Frames of a stretch, added to sums.
+ghost use Rattle.std.specs.Prelude.{IsTrue, ◌≡◌, ◌+◌, ◌*◌, ◌^◌, ◌<◌, ◌≤◌, ℕ, ℤ, pos, neg_ℤ, ◌+ℤ◌, ◌≤ℤ◌, length, slice_index_or};
 ghost use Rattle.std.specs.List.{All};
 ghost use Rattle.sound_terms.specs.declared.piece.Shape.TheVariants as shape;
 ghost use Rattle.sound_terms.specs.Depth.{bits_of};
@@ -7,7 +7,7 @@ ghost use Rattle.sound_terms.specs.Mix.{Reading, full_scale};
 ghost use Rattle.sound_terms.specs.Groups.{IsRamp};
 ghost use Rattle.sound_terms.specs.Blocks.{held, sums_with};
 ghost use Rattle.pcm.specs.Samples.{FitsDepth};
-ghost use Rattle.blockmachine.specs.Sums.{AreSums, HasAdded, IsInside};
+ghost use Rattle.blockmachine.specs.Sums.{AreSums, HasAdded, IsInside, IsWithin};
 ghost use Rattle.blockmachine.specs.Playing.{Plays};
 
 use crate::slope::Slope;
@@ -18,21 +18,22 @@ use soundlaw::{contribution_near, widen};
 /// different lines of a cache takes a few more.
 pub const CHANNEL_ROOM: usize = 4104;
 
-/// Every sum is zero.
-pub fn clear(sums: &mut [i64])
-    ensures { AreSums sums.new (λ _ _. pos 0) }
-{
-    for sum in sums.iter_mut() {
-        *sum = 0;
-    }
-}
-
 /// A sum and a share more.
 #[inline(always)]
 fn added(sum: i64, share: i64) -> i64
     ensures { result ≡ held (sum +ℤ share) }
 {
     sum.saturating_add(share)
+}
+
+/// The same where both are so small that nothing is to be held.
+#[inline(always)]
+fn summed(sum: i64, share: i64) -> i64
+    requires sum { IsWithin 32766 sum }
+    requires share { IsWithin 1 share }
+    ensures { result ≡ held (sum +ℤ share) }
+{
+    sum + share
 }
 
 /// Sample k of these at full scale.
@@ -60,23 +61,45 @@ fn add_flat(frames: &[i32], channels: usize, channel: usize, depth: Depth, sums:
     }
 }
 
-/// The same where most files are of one or two channels: there a place is found by a constant.
+/// The same to sums that are so small that nothing is to be held.
+#[inline(always)]
+fn add_flat_plain(frames: &[i32], channels: usize, channel: usize, depth: Depth, sums: &mut [i64])
+    requires whole { length frames.now ≡ length sums.old * channels }
+    requires channel { channel < channels }
+    requires fit { All (FitsDepth (bits_of depth)) frames.now }
+    requires small { All (IsWithin 32766) sums.old }
+    ensures { HasAdded shape.Flat (bits_of depth) channels channel frames.now sums.old sums.new }
+{
+    for (i, sum) in sums.iter_mut().enumerate() {
+        let sample = full_sample(frames, i * channels + channel, depth);
+        *sum = summed(*sum, sample);
+    }
+}
+
+/// The same, plainly where the sums are small. Most files are of one or two channels: there a place is found by a
+/// constant.
 fn add_flat_by_count(
     frames: &[i32],
     channels: usize,
     channel: usize,
     depth: Depth,
+    is_small: bool,
     sums: &mut [i64],
 )
     requires whole { length frames.now ≡ length sums.old * channels }
     requires channel { channel < channels }
     requires fit { All (FitsDepth (bits_of depth)) frames.now }
+    requires small { IsTrue is_small → All (IsWithin 32766) sums.old }
     ensures { HasAdded shape.Flat (bits_of depth) channels channel frames.now sums.old sums.new }
 {
-    match channels {
-        1 => add_flat(frames, 1, channel, depth, sums),
-        2 => add_flat(frames, 2, channel, depth, sums),
-        _ => add_flat(frames, channels, channel, depth, sums),
+    if is_small {
+        match channels {
+            1 => add_flat_plain(frames, 1, channel, depth, sums),
+            2 => add_flat_plain(frames, 2, channel, depth, sums),
+            _ => add_flat_plain(frames, channels, channel, depth, sums),
+        }
+    } else {
+        add_flat(frames, channels, channel, depth, sums)
     }
 }
 
@@ -140,16 +163,18 @@ fn add_shaped(
     channels: usize,
     channel: usize,
     depth: Depth,
+    is_small: bool,
     sums: &mut [i64],
 )
     requires whole { length frames.now ≡ length sums.old * channels }
     requires channel { channel < channels }
     requires fit { All (FitsDepth (bits_of depth)) frames.now }
     requires ramp { IsRamp shape (length sums.old) }
+    requires small { IsTrue is_small → All (IsWithin 32766) sums.old }
     ensures { HasAdded shape (bits_of depth) channels channel frames.now sums.old sums.new }
 {
     match shape {
-        Shape::Flat => add_flat_by_count(frames, channels, channel, depth, sums),
+        Shape::Flat => add_flat_by_count(frames, channels, channel, depth, is_small, sums),
         Shape::Rise { offset, den } => add_rise(
             frames, channels, channel, depth, offset, den, sums,
         ),
@@ -166,18 +191,44 @@ fn add_channel(
     channels: usize,
     channel: usize,
     depth: Depth,
+    is_small: bool,
     sums: &mut [i64],
 )
     requires whole { length frames.now ≡ length sums.old * channels }
     requires channel { channel < channels }
     requires fit { All (FitsDepth (bits_of depth)) frames.now }
     requires ramp { IsRamp shape (length sums.old) }
+    requires small { IsTrue is_small → All (IsWithin 32766) sums.old }
     ensures { HasAdded shape (bits_of depth) channels channel frames.now sums.old sums.new }
 {
     match depth {
-        Depth::Sixteen => add_shaped(shape, frames, channels, channel, Depth::Sixteen, sums),
-        Depth::TwentyFour => add_shaped(shape, frames, channels, channel, Depth::TwentyFour, sums),
-        Depth::ThirtyTwo => add_shaped(shape, frames, channels, channel, Depth::ThirtyTwo, sums),
+        Depth::Sixteen => add_shaped(
+            shape,
+            frames,
+            channels,
+            channel,
+            Depth::Sixteen,
+            is_small,
+            sums,
+        ),
+        Depth::TwentyFour => add_shaped(
+            shape,
+            frames,
+            channels,
+            channel,
+            Depth::TwentyFour,
+            is_small,
+            sums,
+        ),
+        Depth::ThirtyTwo => add_shaped(
+            shape,
+            frames,
+            channels,
+            channel,
+            Depth::ThirtyTwo,
+            is_small,
+            sums,
+        ),
     }
 }
 
@@ -188,6 +239,7 @@ pub fn add_frames(
     frames: &[i32],
     channels: usize,
     depth: Depth,
+    is_small: bool,
     sums: &mut [i64],
 )
     requires inside { IsInside stretch.now (length sums.old) }
@@ -195,7 +247,9 @@ pub fn add_frames(
     requires source { stretch.now.first + stretch.now.width ≤ channels + 1 }
     requires fit { All (FitsDepth (bits_of depth)) frames.now }
     requires ramp { IsRamp shape stretch.now.length }
-    ensures { (reading : Reading) → Plays reading stretch.now channels (bits_of depth) frames.now
+    requires small { IsTrue is_small → All (IsWithin 32766) sums.old }
+    ensures grown { (m : ℕ) → All (IsWithin m) sums.old → All (IsWithin (m + 1)) sums.new }
+    ensures added { (reading : Reading) → Plays reading stretch.now channels (bits_of depth) frames.now
         → (before : ℕ → ℕ → ℤ) → AreSums sums.old before
         → AreSums sums.new (sums_with reading stretch.now shape before) }
 {
@@ -209,6 +263,7 @@ pub fn add_frames(
             channels,
             channel,
             depth,
+            is_small,
             &mut sums[from..from + length],
         );
     }

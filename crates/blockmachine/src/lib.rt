@@ -8,6 +8,7 @@ mod fault;
 mod machine;
 mod playing;
 mod slope;
+mod sums;
 
 pub use fault::MachineFault;
 pub use machine::Machine;

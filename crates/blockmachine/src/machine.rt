@@ -13,10 +13,10 @@ ghost use Rattle.blockmachine.specs.Fault.{FailsAt, IsSource};
 ghost use Rattle.blockmachine.specs.Sums.{AreSums, channel_room};
 
 use crate::MachineFault;
-use crate::adding::{CHANNEL_ROOM, clear};
 use crate::alone::fills_alone;
 use crate::emitting::emit;
 use crate::playing::{BYTES, SAMPLES, add_stretch, read_part};
+use crate::sums::Sums;
 use shelf::Shelf;
 use sound_terms::{Depth, Instruction};
 use std::alloc::Global;
@@ -28,7 +28,7 @@ use wavread::Sound;
 #[derive(Drop)]
 pub struct Machine {
     channels: u8,
-    sums: Vec<i64>,
+    sums: Sums,
     bytes: Vec<u8>,
     samples: Vec<i32>,
 }
@@ -41,7 +41,7 @@ impl Model for Machine {
 
     ghost view = { λ machine. record { frames = 4096; channels = machine.channels } };
 
-    ghost invariant = { λ machine. (length machine.sums.items ≡ machine.channels * channel_room) × (1 ≤ machine.channels)
+    ghost invariant = { λ machine. (length machine.sums ≡ machine.channels * channel_room) × (1 ≤ machine.channels)
         × (machine.channels ≤ 64)
         × (length machine.bytes.items ≡ 65536) × (length machine.samples.items ≡ 16384) };
 }
@@ -53,7 +53,7 @@ fn add_line<S: Shelf>(
     shelf: &mut S,
     bytes: &mut [u8],
     samples: &mut [i32],
-    sums: &mut [i64],
+    sums: &mut Sums,
 ) -> Result<(), MachineFault>
     requires formed { (channels : ℕ) × (length sums.old ≡ channels * channel_room) × IsFormed 4096 channels line.now }
     requires added { AddsOne line.now }
@@ -66,6 +66,7 @@ fn add_line<S: Shelf>(
         → AreSums sums.new (executed (reading_by (S.stored shelf.old) sounds.now) channels line.now before).sums) }
     ensures full { IsTrue (S.honest shelf.old)
         → OnOk result (PlaysFull (reading_by (S.stored shelf.old) sounds.now) line.now) }
+    ensures same_length { length sums.new ≡ length sums.old }
     ensures source { IfErr result IsSource }
     ensures only_reads { OnlyReads S.Shelf shelf.old shelf.new result (λ fault. IsSource fault)
         (λ fault failed. FailsAt sounds.now fault failed) }
@@ -85,7 +86,7 @@ fn add_all<S: Shelf>(
     shelf: &mut S,
     bytes: &mut [u8],
     samples: &mut [i32],
-    sums: &mut [i64],
+    sums: &mut Sums,
 ) -> Result<(), MachineFault>
     requires formed { (channels : ℕ) × (length sums.old ≡ channels * channel_room)
         × All (IsFormed 4096 channels) lines.now }
@@ -99,6 +100,7 @@ fn add_all<S: Shelf>(
         → AreSums sums.new (executed_all (reading_by (S.stored shelf.old) sounds.now) channels lines.now before).sums) }
     ensures full { IsTrue (S.honest shelf.old)
         → OnOk result (All (PlaysFull (reading_by (S.stored shelf.old) sounds.now)) lines.now) }
+    ensures same_length { length sums.new ≡ length sums.old }
     ensures source { IfErr result IsSource }
     ensures only_reads { OnlyReads S.Shelf shelf.old shelf.new result (λ fault. IsSource fault)
         (λ fault failed. FailsAt sounds.now fault failed) }
@@ -130,7 +132,7 @@ fn run_lines<S: Shelf>(
     shelf: &mut S,
     bytes: &mut [u8],
     samples: &mut [i32],
-    sums: &mut [i64],
+    sums: &mut Sums,
     out: &mut [i32],
 ) -> Result<(), MachineFault>
     requires some_channels { 1 ≤ channels }
@@ -150,6 +152,7 @@ fn run_lines<S: Shelf>(
     ensures fit { OnOk result (All (FitsDepth (bits_of depth)) out.new) }
     ensures full { IsTrue (S.honest shelf.old)
         → OnOk result (All (PlaysFull (reading_by (S.stored shelf.old) sounds.now)) lines.now) }
+    ensures same_length { length sums.new ≡ length sums.old }
     ensures source { IfErr result IsSource }
     ensures only_reads { OnlyReads S.Shelf shelf.old shelf.new result (λ fault. IsSource fault)
         (λ fault failed. FailsAt sounds.now fault failed) }
@@ -160,9 +163,9 @@ fn run_lines<S: Shelf>(
             return read_part(&stretch, sounds, shelf, bytes, out);
         }
     }
-    clear(sums);
+    sums.clear();
     add_all(lines, sounds, shelf, bytes, samples, sums)?;
-    emit(sums, frames, channels, depth, out);
+    emit(sums.as_slice(), frames, channels, depth, out);
     Ok(())
 }
 
@@ -173,8 +176,7 @@ impl Machine {
         ensures made { IfOk result (λ machine. machine ≡ record { frames = 4096; channels = channels }) }
         ensures only_memory { IfErr result (λ fault. fault ≡ MachineFault.Memory) }
     {
-        let mut sums = Vec::new(alloc);
-        sums.resize(channels as usize * CHANNEL_ROOM, 0)?;
+        let sums = Sums::new(alloc, channels)?;
         let mut bytes = Vec::new(alloc);
         bytes.resize(BYTES, 0)?;
         let mut samples = Vec::new(alloc);
@@ -218,7 +220,7 @@ impl Machine {
             let lines = &program[1..program.len() - 1];
             let bytes = self.bytes.as_mut_slice();
             let samples = self.samples.as_mut_slice();
-            let sums = self.sums.as_mut_slice();
+            let sums = &mut self.sums;
             let channels = self.channels as usize;
             run_lines(
                 lines, depth, channels, sounds, shelf, bytes, samples, sums, out,

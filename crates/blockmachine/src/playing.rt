@@ -13,7 +13,7 @@ ghost use Rattle.blockmachine.specs.Playing.{Plays};
 ghost use Rattle.blockmachine.specs.Sums.{AreSums, IsInside};
 
 use crate::MachineFault;
-use crate::adding::add_frames;
+use crate::sums::Sums;
 use shelf::Shelf;
 use sound_terms::{Shape, Stretch};
 use wavread::Sound;
@@ -64,7 +64,7 @@ fn add_part<S: Shelf>(
     shelf: &mut S,
     bytes: &mut [u8],
     samples: &mut [i32],
-    sums: &mut [i64],
+    sums: &mut Sums,
 ) -> Result<(), MachineFault>
     requires inside { IsInside part.now (length sums.old) }
     requires lies { LiesInFile sounds.now part.now.file part.now.first part.now.width part.now.frame part.now.length }
@@ -76,6 +76,7 @@ fn add_part<S: Shelf>(
         → AreSums sums.new (sums_with (reading_by (S.stored shelf.old) sounds.now) part.now shape before)) }
     ensures full { IsTrue (S.honest shelf.old)
         → OnOk result (IsFull (reading_by (S.stored shelf.old) sounds.now) part.now) }
+    ensures same_length { length sums.new ≡ length sums.old }
     ensures source { IfErr result IsSource }
     ensures only_reads { OnlyReads S.Shelf shelf.old shelf.new result (λ fault. IsSource fault)
         (λ fault failed. FailsAt sounds.now fault failed) }
@@ -84,7 +85,7 @@ fn add_part<S: Shelf>(
     let channels = sound.channels() as usize;
     let frames = &mut samples[..part.length as usize * channels];
     read_part(part, sounds, shelf, bytes, frames)?;
-    add_frames(part, shape, frames, channels, sound.depth(), sums);
+    sums.add(part, shape, frames, channels, sound.depth());
     Ok(())
 }
 
@@ -114,7 +115,7 @@ pub fn add_stretch<S: Shelf>(
     shelf: &mut S,
     bytes: &mut [u8],
     samples: &mut [i32],
-    sums: &mut [i64],
+    sums: &mut Sums,
 ) -> Result<(), MachineFault>
     requires inside { IsInside stretch.now (length sums.old) }
     requires lies { LiesInFile sounds.now stretch.now.file stretch.now.first stretch.now.width stretch.now.frame
@@ -127,6 +128,7 @@ pub fn add_stretch<S: Shelf>(
         → AreSums sums.new (sums_with (reading_by (S.stored shelf.old) sounds.now) stretch.now shape before)) }
     ensures full { IsTrue (S.honest shelf.old)
         → OnOk result (IsFull (reading_by (S.stored shelf.old) sounds.now) stretch.now) }
+    ensures same_length { length sums.new ≡ length sums.old }
     ensures source { IfErr result IsSource }
     ensures only_reads { OnlyReads S.Shelf shelf.old shelf.new result (λ fault. IsSource fault)
         (λ fault failed. FailsAt sounds.now fault failed) }

@@ -1,22 +1,18 @@
 -- Which refusal is due behind the opening of a list.
 use Rattle.std.proofs.Common.{◌≡◌, ℕ, ◌≤◌, Bool, true, false, List, Option, None, Some, arith, refl, sym, ap, subst, ◌∙◌}
 use Rattle.std.specs.Prelude.{IfSome, Result, Ok, Err, cond, nat_le, nat_lt, length}
-use Rattle.std.specs.List.{list_any}
 use Rattle.std.proofs.lemmas.Bool.Decides.{nat_tests}
-use Rattle.sound_terms.specs.Render.{Range, render_info}
-use Rattle.sound_terms.specs.Waves.{is_large}
+use Rattle.sound_terms.specs.Render.{Range}
 use Rattle.work_terms.specs.Disk.{Files}
 use Rattle.work_terms.specs.Refusals.{ComesInTurn, IsDue, Refusal, Nowhere, is_excused, turn_of}
 use Rattle.list_terms.specs.Project.{ListProject}
 use Rattle.list_terms.specs.Binding.{Binding}
 use Rattle.list_terms.specs.Bound.{binding_of}
 use Rattle.list_terms.specs.Accepted.{OptionValues, first_fault, range_of}
-use Rattle.list_terms.specs.BoundHomes.{homes_of}
-use Rattle.list_terms.specs.Heard.{IsAccepted, project_fault, sounds_of}
+use Rattle.list_terms.specs.Heard.{IsAccepted, project_fault}
 use Rattle.list_terms.specs.Text.{text_value}
 use Rattle.consolidation.specs.Consolidated.{IsWorkOf, Work, refused_if, work_fault}
-use Rattle.consolidation.specs.Work.{run_info}
-use Rattle.rendering.specs.Rendering.{empty_fault, render_fault, size_fault}
+use Rattle.rendering.specs.Rendering.{empty_fault, render_fault}
 use Rattle.consolidate.specs.Commands.{range_refusal, render_refusal}
 
 -- nothing is due of an accepted list
@@ -37,13 +33,12 @@ one_accepted text files p q b d one other =
 pub one_work : (text : List ℕ) (files : Files) (p q : ListProject) (b d : Binding) (handle : ℕ) (work : Work)
     (refusal : Refusal)
     → IsAccepted text files p b → IsAccepted text files q d
-    → (IsWorkOf p b handle files work → IsDue refusal (work_fault b work))
-    → IsWorkOf q d handle files work → IsDue refusal (work_fault d work)
+    → (IsWorkOf p b handle files work → IsDue refusal (work_fault work))
+    → IsWorkOf q d handle files work → IsDue refusal (work_fault work)
 one_work text files p q b d handle work refusal one other due is_work =
     let same = one_accepted text files p q b d one other in
-    subst (λ (e : Binding). IsDue refusal (work_fault e work)) same.1
-    (due (subst (λ (e : Binding). IsWorkOf p e handle files work) (sym same.1)
-    (subst (λ (r : ListProject). IsWorkOf r d handle files work) (sym same.0) is_work)))
+    due (subst (λ (e : Binding). IsWorkOf p e handle files work) (sym same.1)
+    (subst (λ (r : ListProject). IsWorkOf r d handle files work) (sym same.0) is_work))
 
 -- what may come where the project is opened may come in place of what comes later
 pub due_behind : (refusal : Refusal) (first later : Option Refusal) → turn_of refusal ≤ 3
@@ -61,7 +56,7 @@ due_behind refusal None later turn late is_due = by_excuse (is_excused refusal.n
   by_excuse true later is late due = rw is (in_turn later late)
   by_excuse false later is late due = let none = rw is at due in absurd (cc)
 
--- ---- 58 and 61 of a rendering
+-- ---- 58 of a rendering
 
 first_late : (first later : Option Refusal) → IfSome first (λ due. 3 ≤ turn_of due)
     → IfSome later (λ due. 3 ≤ turn_of due) → IfSome (first_fault first later) (λ due. 3 ≤ turn_of due)
@@ -76,20 +71,10 @@ empty_turn range = by_test (nat_le range.to range.from) where
   by_test true = omega arith
   by_test false = tt
 
-size_turn : (range : Range) → IfSome (size_fault range) (λ due. 3 ≤ turn_of due)
-size_turn range = by_test (is_large (render_info range)) where
-  by_test : (large : Bool)
-      → IfSome (cond large (Some (record { number = 61; place = Nowhere; late = false })) None)
-      (λ (due : Refusal). 3 ≤ turn_of due)
-  by_test true = omega arith
-  by_test false = tt
-
 range_turn : (values : OptionValues) (text : Result ListProject Refusal)
     → IfSome (range_refusal values text) (λ due. 3 ≤ turn_of due)
 range_turn values (Err refusal) = tt
-range_turn values (Ok project) =
-    first_late (empty_fault (range_of project values)) (size_fault (range_of project values))
-    (empty_turn (range_of project values)) (size_turn (range_of project values))
+range_turn values (Ok project) = empty_turn (range_of project values)
 
 -- a refusal of the opening is due of a rendering
 pub opening_due : (refusal : Refusal) (text : List ℕ) (values : OptionValues) (files : Files) → turn_of refusal ≤ 3
@@ -106,27 +91,24 @@ pub range_due : (text : List ℕ) (values : OptionValues) (files : Files) (proje
 range_due text values files project binding accepted =
     rw (none_due text files project binding accepted, accepted.spelt) refl
 
--- ---- 53, 55 and 61 of a consolidation
+-- ---- 53 and 55 of a consolidation
 
 refused_turn : (faulty : Bool) (number : ℕ) → 53 ≤ number → IfSome (refused_if faulty number) (λ due. 3 ≤ turn_of due)
 refused_turn true number low = grind (arith, nat_tests, low)
 refused_turn false number low = tt
 
-pub work_turn : (binding : Binding) (work : Work) → IfSome (work_fault binding work) (λ due. 3 ≤ turn_of due)
-work_turn binding work =
+pub work_turn : (work : Work) → IfSome (work_fault work) (λ due. 3 ≤ turn_of due)
+work_turn work =
     let many_runs = nat_lt 32767 (length work.runs) in
     let many_groups = nat_lt 32767 (length work.groups) in
-    let large = list_any (λ run. is_large (run_info (sounds_of binding) (homes_of binding) run)) work.runs in
-    first_late (refused_if many_runs 53) (first_fault (refused_if many_groups 55) (refused_if large 61))
-    (refused_turn many_runs 53 (omega arith))
-    (first_late (refused_if many_groups 55) (refused_if large 61) (refused_turn many_groups 55 (omega arith))
-    (refused_turn large 61 (omega arith)))
+    first_late (refused_if many_runs 53) (refused_if many_groups 55) (refused_turn many_runs 53 (omega arith))
+    (refused_turn many_groups 55 (omega arith))
 
 -- a refusal of the opening is due of a consolidation
 pub opening_due_of_work : (refusal : Refusal) (text : List ℕ) (files : Files) (project : ListProject)
     (binding : Binding) (work : Work) → turn_of refusal ≤ 3
     → IsAccepted text files project binding → IsDue refusal (project_fault text files)
-    → IsDue refusal (work_fault binding work)
+    → IsDue refusal (work_fault work)
 opening_due_of_work refusal text files project binding work turn accepted due =
-    due_behind refusal None (work_fault binding work) turn (work_turn binding work)
+    due_behind refusal None (work_fault work) turn (work_turn work)
     (rw (none_due text files project binding accepted) at due)

@@ -1,2 +1,4 @@
 pub mod Due
+pub mod Planned
+pub mod Rounds
 pub mod Stores

@@ -1,9 +1,9 @@
 -- What each call answers, and what it leaves of the sources and of the outputs.
-use Rattle.std.specs.Prelude.{◌≡◌, ◌≢◌, ◌==◌, ◌||◌, ℕ, false, IsTrue, Option, None, List, Result, Ok, Err, Some, IfOk, IfErr, IsOk, IsErrAnd, OnOk, ◌++◌, codes, string_bytes}
+use Rattle.std.specs.Prelude.{◌≡◌, ◌≢◌, ◌≤◌, ◌==◌, ◌||◌, ℕ, false, IsTrue, Option, None, List, Result, Ok, Err, Some, IfOk, IfErr, IsOk, IsErrAnd, OnOk, ◌++◌, codes, string_bytes}
 use Rattle.shelf.specs.declared.source.Shelf as source
 use Rattle.shelf.specs.declared.bench.Bench as output
 use Rattle.shelf.specs.Frame.{OnlyReads, OnlyWrites}
-use Rattle.work_terms.specs.Disk.{Files, HasCause, IsDurable, IsUntouched}
+use Rattle.work_terms.specs.Disk.{Files, HasCause, IsDurable, IsUntouched, Rises}
 use Rattle.work_terms.specs.Refusals.{Answers, IsDue, Refusal}
 use Rattle.list_terms.specs.declared.Notice.{Notice}
 use Rattle.list_terms.specs.Project.{ListProject}
@@ -20,6 +20,7 @@ use Rattle.consolidation.specs.Consolidated as consolidation
 use Rattle.consolidation.specs.Consolidated.{AreDurable, IsElsewhere, IsWorkOf, Work, work_fault}
 use Rattle.consolidation.specs.Work.{SoundsTheSame}
 use Rattle.consolidate.specs.Fault.{refusal_of}
+use Rattle.consolidate.specs.Rounds.{ConsolidatesList, EndsOf, RendersList}
 use Rattle.consolidate.specs.Own.{IsOfConsolidation, IsOfProject, IsOfRendering}
 use Rattle.consolidate.specs.declared.fault.Fault.{Fault}
 use Rattle.consolidate.specs.declared.fault.Fault.TheVariants as fault
@@ -43,7 +44,6 @@ IsSource fault = IsTrue ((refusal_of fault).number == 22 || (refusal_of fault).n
 abbrev pub HoldsOfSource : Fault → (List ℕ → Type 0) → Type 0
 HoldsOfSource (fault.Project of) P = opening.HoldsOfFile P (opening_faults.refusal_of of).place
 HoldsOfSource (fault.Silence name) P = P (string_bytes name)
-HoldsOfSource (fault.Source name) P = P (string_bytes name)
 HoldsOfSource _ P = ⊥
 
 -- a call that only reads sources: 22 and 52 tell that their device failed, at the file that is named
@@ -108,10 +108,11 @@ RefusesBadList text files result =
 abbrev pub RefusesByWork : {X : Type 0} → List ℕ → ℕ → Files → Result X Fault → Type 0
 RefusesByWork text handle files result = (project : ListProject) (binding : Binding) (work : Work)
     → IsAccepted text files project binding → IsWorkOf project binding handle files work
-    → Answers refusal_of result (work_fault binding work)
+    → Answers refusal_of result (work_fault work)
 
 module _ {S B : Type 0} (shelf : source.Ghosts S) (bench : output.Ghosts B) where
-  -- the sources are as they were, the outputs too before the first write; a device's fault has its cause and its file
+  -- The sources are as they were, the outputs too before the first write. No count of failures falls, a device's fault
+  -- has raised its device's count and names its file, and a refusal before the first write that tells none left both.
   pub record KeepsStores {X : Type 0} (shelf_old shelf_new : S) (bench_old bench_new : B)
       (result : Result X Fault) : Type 0 where
     pub early : IfErr result (λ fault. (refusal_of fault).late ≡ false
@@ -119,10 +120,14 @@ module _ {S B : Type 0} (shelf : source.Ghosts S) (bench : output.Ghosts B) wher
     pub sources : shelf.stored shelf_new ≡ shelf.stored shelf_old
     pub honest_shelf : shelf.honest shelf_new ≡ shelf.honest shelf_old
     pub honest_bench : bench.honest bench_new ≡ bench.honest bench_old
-    pub cause_at_source : HasCause (shelf.failures shelf_old) (shelf.failures shelf_new)
-        (IfErr result (λ fault. ¬ IsSource fault)) (IsErrAnd result IsSource)
-    pub cause_of_62 : HasCause (bench.failures bench_old) (bench.failures bench_new)
-        (IfErr result (λ fault. ¬ IsOutput fault)) (IsErrAnd result IsOutput)
+    pub later_at_source : shelf.failures shelf_old ≤ shelf.failures shelf_new
+    pub later_at_output : bench.failures bench_old ≤ bench.failures bench_new
+    pub cause_at_source : IfErr result (λ fault. IsSource fault → Rises (shelf.failures shelf_old) (shelf.failures shelf_new))
+    pub cause_of_62 : IfErr result (λ fault. IsOutput fault → Rises (bench.failures bench_old) (bench.failures bench_new))
+    pub quiet_source : IfErr result (λ fault. (refusal_of fault).late ≡ false → ¬ IsSource fault
+        → shelf.failures shelf_new ≡ shelf.failures shelf_old)
+    pub quiet_output : IfErr result (λ fault. (refusal_of fault).late ≡ false
+        → bench.failures bench_new ≡ bench.failures bench_old)
     pub failed_source : IfErr result (λ fault. IsSource fault → HoldsOfSource fault (shelf.failed_at shelf_new))
     pub failed_output : IfErr result (λ fault. IsOutput fault → HoldsOfOutput fault (bench.failed_at bench_new))
 
@@ -140,6 +145,9 @@ module _ {S B : Type 0} (shelf : source.Ghosts S) (bench : output.Ghosts B) wher
     pub own : IfErr result (IsOfRendering list)
     pub named : IsTrue (bench.honest bench_old) → (n : List ℕ) → n ≢ codes "render.wav"
         → bench.stored bench_new n ≡ bench.stored bench_old n
+    pub rounds : IsTrue (shelf.honest shelf_old) → IsTrue (bench.honest bench_old)
+        → EndsOf result (RendersList list values (shelf.stored shelf_old) (shelf.failures shelf_old)
+        (bench.failures bench_old) (shelf.failures shelf_new) (bench.failures bench_new) (bench.stored bench_new))
     pub stores : KeepsStores shelf_old shelf_new bench_old bench_new result
 
   -- the list was consolidated over these stores, with this outcome
@@ -160,6 +168,9 @@ module _ {S B : Type 0} (shelf : source.Ghosts S) (bench : output.Ghosts B) wher
         → bench.stored bench_new n ≡ bench.stored bench_old n
     pub list_last : IsTrue (bench.honest bench_old) → IfErr result (λ told. told ≢ fault.Output file.List
         → bench.stored bench_new (codes "consolidated.adl") ≡ bench.stored bench_old (codes "consolidated.adl"))
+    pub rounds : IsTrue (shelf.honest shelf_old) → IsTrue (bench.honest bench_old)
+        → EndsOf result (ConsolidatesList list handle (shelf.stored shelf_old) (shelf.failures shelf_old)
+        (bench.failures bench_old) (shelf.failures shelf_new) (bench.failures bench_new) (bench.stored bench_new))
     pub stores : KeepsStores shelf_old shelf_new bench_old bench_new result
 
 -- the list was checked over these sources, with this outcome

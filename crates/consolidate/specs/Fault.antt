@@ -2,20 +2,20 @@
 use Rattle.std.specs.Prelude.{◌≡◌, ℕ, ⊤, true, false, IsSome, Some, slice_get, string_bytes, codes}
 use Rattle.std.specs.Prelude as bytes
 use Rattle.sound_terms.specs.Sounds.{SoundFacts}
-use Rattle.work_terms.specs.Refusals.{Refusal, Where, Nowhere, File}
+use Rattle.work_terms.specs.Refusals.{Refusal, Where, Nowhere, File, Job}
 use Rattle.list_terms.specs.Renewed.{media_name}
 use Rattle.passes.specs.declared.fault.PassFault.TheVariants as pass
 use Rattle.mediaset.specs.Fault as mediaset
 use Rattle.relink.specs.Fault as relink
 use Rattle.opening.specs.Faults as opening
-use Rattle.rendering.specs.declared.fault.RenderFault.{RenderFault}
-use Rattle.rendering.specs.declared.fault.RenderFault.TheVariants as render
 use Rattle.consolidation.specs.declared.fault.ConsolidationFault.{ConsolidationFault}
 use Rattle.consolidation.specs.declared.fault.ConsolidationFault.TheVariants as consolidation
+use Rattle.consolidation.specs.declared.fault.WriteFault.{WriteFault}
+use Rattle.consolidation.specs.declared.fault.WriteFault.TheVariants as writing
 use Rattle.consolidate.specs.declared.fault.OutputFile.{OutputFile}
 use Rattle.consolidate.specs.declared.fault.OutputFile.TheVariants as output
 use Rattle.consolidate.specs.declared.fault.Fault.{Fault}
-use Rattle.consolidate.specs.declared.fault.Fault.TheVariants.{Project, Intervals, PassMemory, Silence, Runs, Relink, RenderMemory, EmptyRange, TooLong, BlockMemory, MediumMemory, Source, Output}
+use Rattle.consolidate.specs.declared.fault.Fault.TheVariants.{Project, Intervals, PassMemory, Silence, Runs, Relink, RenderMemory, EmptyRange, BoardMemory, GivenUp, Output}
 
 -- before the first write
 abbrev early : ℕ → Refusal
@@ -40,36 +40,27 @@ refusal_of (Runs fault) = early (mediaset.number_of fault)
 refusal_of (Relink fault) = early (relink.number_of fault)
 refusal_of RenderMemory = early 57
 refusal_of EmptyRange = early 58
-refusal_of TooLong = early 61
-refusal_of BlockMemory = late 57 Nowhere
-refusal_of MediumMemory = late 63 Nowhere
-refusal_of (Source name) = late 22 (File (string_bytes name))
+refusal_of BoardMemory = early 60
+refusal_of (GivenUp job) = late 66 (Job job)
 refusal_of (Output file) = late 62 (File (name_of_output file))
 
--- a file that a fault of a rendering, or of a consolidation, tells is one of those opened
-abbrev pub IsPlayedIn : bytes.List SoundFacts → RenderFault → Type 0
-IsPlayedIn sounds (render.Source file) = IsSome (slice_get sounds file)
-IsPlayedIn sounds _ = ⊤
-
+-- a file that a fault of a consolidation tells is one of those opened
 abbrev pub IsOpenedIn : bytes.List SoundFacts → ConsolidationFault → Type 0
 IsOpenedIn sounds (consolidation.Pass (pass.Device file)) = IsSome (slice_get sounds file)
-IsOpenedIn sounds (consolidation.Source file) = IsSome (slice_get sounds file)
 IsOpenedIn sounds _ = ⊤
 
 -- the fault names the file of this place among those opened
 abbrev pub NamesFile : bytes.List SoundFacts → ℕ → Fault → Type 0
 NamesFile sounds file (Silence name) = (facts : SoundFacts) → slice_get sounds file ≡ Some facts
     → string_bytes name ≡ facts.name
-NamesFile sounds file (Source name) = (facts : SoundFacts) → slice_get sounds file ≡ Some facts
-    → string_bytes name ≡ facts.name
 NamesFile sounds file _ = ⊥
 
--- it names the file that a fault of a rendering, or of a consolidation, tells
-abbrev pub NamesPlayed : bytes.List SoundFacts → RenderFault → Fault → Type 0
-NamesPlayed sounds (render.Source file) told = NamesFile sounds file told
-NamesPlayed sounds _ told = ⊤
-
+-- it names the file that a fault of a consolidation tells
 abbrev pub NamesOpened : bytes.List SoundFacts → ConsolidationFault → Fault → Type 0
 NamesOpened sounds (consolidation.Pass (pass.Device file)) told = NamesFile sounds file told
-NamesOpened sounds (consolidation.Source file) told = NamesFile sounds file told
 NamesOpened sounds _ told = ⊤
+
+-- the output that a fault of writing a consolidation tells
+abbrev pub file_of : WriteFault → OutputFile
+file_of (writing.Medium number) = output.Medium number
+file_of writing.List = output.List

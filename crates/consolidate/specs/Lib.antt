@@ -1,3 +1,4 @@
 pub mod Commands
 pub mod Fault
 pub mod Own
+pub mod Rounds

@@ -1,22 +1,32 @@
 // Consolidates a list.
-ghost use Rattle.std.specs.Prelude.{◌≡◌, ◌≢◌, IfErr, IfOk, IsTrue, List, OnOk, codes, false, ℕ};
-ghost use Rattle.work_terms.specs.Refusals.{Answers};
+ghost use Rattle.std.specs.Prelude.{◌≡◌, ◌≢◌, ◌≤◌, IfErr, IfOk, IsTrue, List, None, OnOk, codes, false, length, true, ℕ};
+ghost use Rattle.work_terms.specs.Refusals.{Answers, IsDue};
+ghost use Rattle.job_terms.specs.Board.{board_of};
+ghost use Rattle.job_terms.specs.Workers.{Nothing};
+ghost use Rattle.list_terms.specs.Binding.{Binding};
 ghost use Rattle.list_terms.specs.Heard.{IsAccepted};
+ghost use Rattle.list_terms.specs.Project.{ListProject};
+ghost use Rattle.schedule.specs.Run.{HasRoom};
 ghost use Rattle.consolidation.specs.Consolidated as spec;
 ghost use Rattle.consolidation.specs.Consolidated.{AreDurable, IsElsewhere, IsWorkOf, Work, work_fault};
+ghost use Rattle.consolidation.specs.Jobs.{work_of};
+ghost use Rattle.consolidation.specs.Planned.{IsPlanOf};
+ghost use Rattle.consolidation.specs.There.{AreThere};
 ghost use Rattle.consolidation.specs.Work.{SoundsTheSame};
-ghost use Rattle.consolidate.specs.Commands.{IsConsolidation, ReadsSources, WritesOutputs};
+ghost use Rattle.consolidate.specs.Commands.{IsConsolidation, KeepsStores};
 ghost use Rattle.consolidate.specs.Fault.{refusal_of};
 ghost use Rattle.consolidate.specs.Own.{IsOfConsolidation};
+ghost use Rattle.consolidate.specs.Rounds.{ConsolidatesInRounds, EndsOf};
 ghost use Rattle.consolidate.specs.declared.fault.Fault.TheVariants as fault;
 ghost use Rattle.consolidate.specs.declared.fault.OutputFile.TheVariants as file;
 
-use crate::Fault;
 use crate::opened::{Opened, open};
-use consolidation::Sizes;
+use crate::{Fault, OutputFile};
+use consolidation::{Consolidation, Sizes};
 use list_terms::Notice;
 use projectcheck::Checked;
-use shelf::{Bench, Progress, Shelf};
+use schedule::{JobFault, Start, fresh_start, from_start};
+use shelf::{Bench, Shelf, Watch};
 use std::alloc::Global;
 
 /// What was written: so many media, and a list of so many entries; how many bytes that took; and what the given list's
@@ -29,36 +39,107 @@ pub struct Written {
     pub notices: Vec<Notice>,
 }
 
+/// Lays the media out, does all their jobs, and writes the list behind them.
+fn write_consolidation<S: Shelf, B: Bench, W: Watch>(
+    consolidation: &Consolidation,
+    start: &mut Start,
+    shelf: &mut S,
+    bench: &mut B,
+    watch: &mut W,
+) -> Result<consolidation::Written, Fault>
+    requires board { start.old.board ≡ board_of (work_of consolidation.now).count }
+    requires empty { start.old.worker.hand ≡ Nothing }
+    requires room { HasRoom (work_of consolidation.now) start.old.worker.room }
+    requires few { length consolidation.now.runs ≤ 32767 }
+    ensures same_sound { IsTrue (S.honest shelf.old) → IsTrue (B.honest bench.old) → (text : List ℕ)
+        → (project : ListProject) (binding : Binding) (handle : ℕ)
+        → IsAccepted text (S.stored shelf.old) project binding
+        → IsPlanOf project binding handle true (S.stored shelf.old) consolidation.now
+        → AreThere (S.stored shelf.old) consolidation.now.sounds
+        → OnOk result (SoundsTheSame text (S.stored shelf.old) (B.stored bench.new)) }
+    ensures written { IsTrue (S.honest shelf.old) → IsTrue (B.honest bench.old)
+        → (project : ListProject) (binding : Binding) (handle : ℕ)
+        → IsPlanOf project binding handle true (S.stored shelf.old) consolidation.now
+        → AreThere (S.stored shelf.old) consolidation.now.sounds
+        → IfOk result (λ written. spec.IsConsolidated project binding handle (S.stored shelf.old)
+        (B.stored bench.old) (B.stored bench.new) written) }
+    ensures rounds { IsTrue (S.honest shelf.old) → IsTrue (B.honest bench.old)
+        → (project : ListProject) (binding : Binding) (handle : ℕ)
+        → IsPlanOf project binding handle true (S.stored shelf.old) consolidation.now
+        → AreThere (S.stored shelf.old) consolidation.now.sounds
+        → EndsOf result (ConsolidatesInRounds project binding handle (S.stored shelf.old) (S.failures shelf.old)
+        (B.failures bench.old) (S.failures shelf.new) (B.failures bench.new) (B.stored bench.new)) }
+    ensures durable { IsTrue (B.honest bench.old)
+        → IfOk result (λ written. AreDurable written.media (B.stored bench.new) (B.may_leave bench.new)) }
+    ensures own { (text : List ℕ) → IfErr result (IsOfConsolidation text) }
+    ensures late { IfErr result (λ fault. (refusal_of fault).late ≡ true) }
+    ensures due { IfErr result (λ fault. IsDue (refusal_of fault) None) }
+    ensures list_last { IsTrue (B.honest bench.old) → IfErr result (λ told. told ≢ fault.Output file.List
+        → B.stored bench.new (codes "consolidated.adl") ≡ B.stored bench.old (codes "consolidated.adl")) }
+    ensures named { IsTrue (B.honest bench.old) → (n : List ℕ) → IsElsewhere 32767 n
+        → B.stored bench.new n ≡ B.stored bench.old n }
+    ensures stores { KeepsStores S.Shelf B.Bench shelf.old shelf.new bench.old bench.new result }
+{
+    match consolidation.lay_out(bench) {
+        Ok(()) => {}
+        Err(fault) => return Err(Fault::of_writing(fault)),
+    }
+    let mut pieces = consolidation.pieces();
+    match from_start(&mut pieces, start, shelf, bench, watch) {
+        Ok(()) => {}
+        Err(JobFault::GivenUp { job }) => return Err(Fault::GivenUp { job }),
+        Err(JobFault::Mark) => return Err(Fault::Output(OutputFile::List)),
+    }
+    match consolidation.finish(bench) {
+        Ok(written) => return Ok(written),
+        Err(fault) => return Err(Fault::of_writing(fault)),
+    }
+}
+
 /// Consolidates an opened project.
-fn consolidate_checked<S: Shelf, B: Bench, P: Progress>(
+fn consolidate_checked<S: Shelf, B: Bench, W: Watch>(
     alloc: Global,
     checked: Checked,
     handle: u64,
     shelf: &mut S,
     bench: &mut B,
-    progress: &mut P,
+    watch: &mut W,
 ) -> Result<consolidation::Written, Fault>
     ensures same_sound { IsTrue (S.honest shelf.old) → IsTrue (B.honest bench.old) → (text : List ℕ)
         → IsAccepted text (S.stored shelf.old) checked.project checked.bound
         → OnOk result (SoundsTheSame text (S.stored shelf.old) (B.stored bench.new)) }
-    ensures written { IsTrue (S.honest shelf.old) → IsTrue (B.honest bench.old) → IfOk result (λ written.
+    ensures written { IsTrue (S.honest shelf.old) → IsTrue (B.honest bench.old) → (text : List ℕ)
+        → IsAccepted text (S.stored shelf.old) checked.project checked.bound → IfOk result (λ written.
         spec.IsConsolidated checked.project checked.bound handle (S.stored shelf.old) (B.stored bench.old)
         (B.stored bench.new) written) }
+    ensures rounds { IsTrue (S.honest shelf.old) → IsTrue (B.honest bench.old) → (text : List ℕ)
+        → IsAccepted text (S.stored shelf.old) checked.project checked.bound
+        → EndsOf result (ConsolidatesInRounds checked.project checked.bound handle (S.stored shelf.old)
+        (S.failures shelf.old) (B.failures bench.old) (S.failures shelf.new) (B.failures bench.new)
+        (B.stored bench.new)) }
     ensures durable { IsTrue (B.honest bench.old)
         → IfOk result (λ written. AreDurable written.media (B.stored bench.new) (B.may_leave bench.new)) }
     ensures refusals { IsTrue (S.honest shelf.old) → (work : Work)
         → IsWorkOf checked.project checked.bound handle (S.stored shelf.old) work
-        → Answers refusal_of result (work_fault checked.bound work) }
+        → Answers refusal_of result (work_fault work) }
     ensures own { (text : List ℕ) → IfErr result (IsOfConsolidation text) }
-    ensures early { IfErr result (λ fault. (refusal_of fault).late ≡ false → bench.new ≡ bench.old) }
     ensures list_last { IsTrue (B.honest bench.old) → IfErr result (λ told. told ≢ fault.Output file.List
         → B.stored bench.new (codes "consolidated.adl") ≡ B.stored bench.old (codes "consolidated.adl")) }
-    ensures only_reads { ReadsSources S.Shelf shelf.old shelf.new result }
-    ensures only_writes { WritesOutputs B.Bench (IsElsewhere 32767) bench.old bench.new result }
+    ensures named { IsTrue (B.honest bench.old) → (n : List ℕ) → IsElsewhere 32767 n
+        → B.stored bench.new n ≡ B.stored bench.old n }
+    ensures stores { KeepsStores S.Shelf B.Bench shelf.old shelf.new bench.old bench.new result }
 {
-    match consolidation::consolidate(alloc, &checked, handle, shelf, bench, progress) {
-        Ok(written) => Ok(written),
-        Err(fault) => Err(Fault::of_consolidation(checked, fault)),
+    let consolidation = match Consolidation::plan(alloc, &checked, handle, shelf) {
+        Ok(consolidation) => consolidation,
+        Err(fault) => return Err(Fault::of_consolidation(checked, fault)),
+    };
+    let mut start = match fresh_start(alloc, &consolidation.pieces()) {
+        Ok(start) => start,
+        Err(_) => return Err(Fault::BoardMemory),
+    };
+    match write_consolidation(&consolidation, &mut start, shelf, bench, watch) {
+        Ok(written) => return Ok(written),
+        Err(fault) => return Err(fault),
     }
 }
 
@@ -68,22 +149,23 @@ fn consolidate_checked<S: Shelf, B: Bench, P: Progress>(
 /// TimeReference; `consolidated.adl` is the list over these media. It sounds as the given list does, sample for sample.
 ///
 /// The list is refused first, then a file in the order of the source index, then an entry in the order of the list,
-/// then more than 32,767 runs (53) or entries (55), then a medium that would be too long (61). All of these come before
-/// the first write; after it only a device (22, 62) or out of memory (63) fails the call. The list is written last, so
-/// an unfinished output has none. The progress is told after each block how many frames of all
-/// media are there.
-pub fn consolidate<S: Shelf, B: Bench, P: Progress>(
+/// then more than 32,767 runs (53) or entries (55), and want of memory. All
+/// of these come before the first write, and no memory is taken behind it. The media are laid out at their full length;
+/// then the pieces of their runs are jobs, done in turn by one worker. A job whose device fails is done again; the third
+/// time it is given up (66). Outside the jobs a device that fails ends the call at once (62). The list is written last,
+/// so an unfinished output has none. The watch is told behind each job how many frames of all media are there.
+pub fn consolidate<S: Shelf, B: Bench, W: Watch>(
     alloc: Global,
     list: &[u8],
     handle: u64,
     shelf: &mut S,
     bench: &mut B,
-    progress: &mut P,
+    watch: &mut W,
 ) -> Result<Written, Fault>
     ensures { IsConsolidation S.Shelf B.Bench list.now handle shelf.old shelf.new bench.old bench.new result }
 {
     let Opened { checked, notices } = open(alloc, list, shelf)?;
-    let written = consolidate_checked(alloc, checked, handle, shelf, bench, progress)?;
+    let written = consolidate_checked(alloc, checked, handle, shelf, bench, watch)?;
     Ok(Written {
         media: written.media,
         entries: written.entries,

@@ -1,15 +1,15 @@
 // Why a call is refused.
-ghost use Rattle.std.specs.Prelude.{◌≡◌, List, Some, ℕ};
+ghost use Rattle.std.specs.Prelude.{◌≡◌, List, None, Some, true, ℕ};
+ghost use Rattle.work_terms.specs.Refusals.{IsDue};
 ghost use Rattle.consolidation.specs.Fault as consolidation;
-ghost use Rattle.consolidation.specs.declared.fault.ConsolidationFault.TheVariants as consolidation_fault;
 ghost use Rattle.list_terms.specs.Heard.{sounds_of};
 ghost use Rattle.rendering.specs.Fault as rendering;
+ghost use Rattle.consolidate.specs.Commands.{IsOutput, IsSource};
 ghost use Rattle.consolidate.specs.Own.{IsOfConsolidation, IsOfRendering};
 ghost use Rattle.consolidate.specs.declared.fault.Fault.TheVariants as told;
-ghost use Rattle.consolidate.specs.declared.fault.OutputFile.TheVariants as file;
-ghost use Rattle.consolidate.specs.Fault.{IsOpenedIn, IsPlayedIn, NamesOpened, NamesPlayed, name_of_output, refusal_of};
+ghost use Rattle.consolidate.specs.Fault.{IsOpenedIn, NamesOpened, file_of, name_of_output, refusal_of};
 
-use consolidation::ConsolidationFault;
+use consolidation::{ConsolidationFault, WriteFault};
 use mediaset::RunFault;
 use passes::PassFault;
 use projectcheck::Checked;
@@ -41,8 +41,8 @@ impl fmt::Display for OutputFile {
     }
 }
 
-/// Why a call is refused, in the order in which its stages come. After `BlockMemory`, `MediumMemory`, `Source` and
-/// `Output` what is written is unfinished; the others come before anything is written.
+/// Why a call is refused, in the order in which its stages come. After `GivenUp` and `Output` what is written is
+/// unfinished; the others come before anything is written.
 #[derive(Debug, Drop, Error)]
 pub enum Fault {
     /// The list, a file that it names, or an entry: 1 to 18, 21 to 31, 41 to 46.
@@ -69,18 +69,12 @@ pub enum Fault {
     /// 58: no sample lies in what is to be rendered.
     #[error("there is nothing to render")]
     EmptyRange,
-    /// 61: a written file would be longer than the size field of RIFF WAVE can tell.
-    #[error("a written file would be too long")]
-    TooLong,
-    /// 57: no memory was left for a block of a rendering.
+    /// 60: no memory was left for the board of the jobs, or for the bytes of one.
     #[error("out of memory")]
-    BlockMemory,
-    /// 63: no memory was left for a medium.
-    #[error("out of memory")]
-    MediumMemory,
-    /// 22: the device of a source failed while its frames were rendered or copied.
-    #[error("file {name} can't be read")]
-    Source { name: String },
+    BoardMemory,
+    /// 66: the device failed three times in this job.
+    #[error("job {job} failed for the third time")]
+    GivenUp { job: u32 },
     /// 62: the device of the output failed.
     #[error("{0} can't be written")]
     Output(OutputFile),
@@ -98,42 +92,33 @@ impl Fault {
             Fault::Silence { .. } => 52,
             Fault::Runs(fault) => fault.number(),
             Fault::Relink(fault) => fault.number(),
-            Fault::RenderMemory | Fault::BlockMemory => 57,
+            Fault::RenderMemory => 57,
             Fault::EmptyRange => 58,
-            Fault::TooLong => 61,
-            Fault::MediumMemory => 63,
-            Fault::Source { .. } => 22,
+            Fault::BoardMemory => 60,
+            Fault::GivenUp { .. } => 66,
             Fault::Output(_) => 62,
         }
     }
 
-    /// A fault of rendering a project.
-    pub(crate) fn of_rendering(checked: Checked, fault: RenderFault) -> Fault
-        requires { IsPlayedIn (sounds_of checked.bound) fault }
-        ensures refusal { refusal_of result ≡ rendering.refusal_of (sounds_of checked.bound) fault }
+    /// A fault of planning the rendering of a project.
+    pub(crate) fn of_rendering(fault: RenderFault) -> Fault
+        ensures refusal { refusal_of result ≡ rendering.refusal_of fault }
         ensures own { (text : List ℕ) → IsOfRendering text result }
-        ensures names { NamesPlayed (sounds_of checked.bound) fault result }
+        ensures no_device { (IsSource result → ⊥) × (IsOutput result → ⊥) }
     {
         match fault {
             RenderFault::Intervals => Fault::Intervals,
             RenderFault::EmptyRange => Fault::EmptyRange,
             RenderFault::Memory => Fault::RenderMemory,
-            RenderFault::TooLong => Fault::TooLong,
-            RenderFault::BlockMemory => Fault::BlockMemory,
-            RenderFault::Source { file } => Fault::Source {
-                name: checked.into_name(file),
-            },
-            RenderFault::Output => Fault::Output(OutputFile::Rendering),
         }
     }
 
-    /// A fault of consolidating a project.
+    /// A fault of planning the consolidation of a project.
     pub(crate) fn of_consolidation(checked: Checked, fault: ConsolidationFault) -> Fault
         requires { IsOpenedIn (sounds_of checked.bound) fault }
-        ensures refusal { refusal_of result ≡ consolidation.refusal_of (sounds_of checked.bound) fault }
+        ensures refusal { refusal_of result ≡ consolidation.refusal_of fault }
         ensures own { (text : List ℕ) → IsOfConsolidation text result }
         ensures names { NamesOpened (sounds_of checked.bound) fault result }
-        ensures list { fault ≡ consolidation_fault.List → result ≡ told.Output file.List }
     {
         match fault {
             ConsolidationFault::Intervals => Fault::Intervals,
@@ -143,13 +128,19 @@ impl Fault {
             },
             ConsolidationFault::Runs(fault) => Fault::Runs(fault),
             ConsolidationFault::Relink(fault) => Fault::Relink(fault),
-            ConsolidationFault::TooLong => Fault::TooLong,
-            ConsolidationFault::MediumMemory => Fault::MediumMemory,
-            ConsolidationFault::Source { file } => Fault::Source {
-                name: checked.into_name(file),
-            },
-            ConsolidationFault::Medium { number } => Fault::Output(OutputFile::Medium(number)),
-            ConsolidationFault::List => Fault::Output(OutputFile::List),
+        }
+    }
+
+    /// A fault of writing a consolidation, but for its jobs.
+    pub(crate) fn of_writing(fault: WriteFault) -> Fault
+        ensures told { result ≡ told.Output (file_of fault) }
+        ensures own { (text : List ℕ) → IsOfConsolidation text result }
+        ensures late { (refusal_of result).late ≡ true }
+        ensures due { IsDue (refusal_of result) None }
+    {
+        match fault {
+            WriteFault::Medium { number } => Fault::Output(OutputFile::Medium(number)),
+            WriteFault::List => Fault::Output(OutputFile::List),
         }
     }
 }

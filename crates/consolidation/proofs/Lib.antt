@@ -1,12 +1,15 @@
 mod Addressed
 mod CopiedReading
 mod Due
-mod HoldSteps
+mod Ended
 mod HomeFrames
+mod Jobwise
 mod LeftAtHome
 mod Linked
 mod MediaBound
 mod MediaThere
+mod Opened
 mod Places
 mod SameSound
-mod SourceFailed
+mod Spread
+mod Wholes

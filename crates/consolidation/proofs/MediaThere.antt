@@ -1,60 +1,66 @@
--- Media that are filled with the frames of planned runs are there, byte for byte and as they are read.
-use Rattle.std.proofs.Common.{◌≡◌, ◌∙◌, ℕ, ◌+◌, List, All, Some, ap, sym}
-use Rattle.sound_terms.specs.declared.piece.Home.{Home}
-use Rattle.sound_terms.specs.declared.piece.Run.{Run}
-use Rattle.sound_terms.specs.Media.{no_sound, sound_at}
-use Rattle.sound_terms.specs.Sounds.{SoundFacts}
+-- Media that are whole are there, byte for byte and as they are read.
+use Rattle.std.proofs.Common.{◌≡◌, ◌∙◌, ℕ, suc, ◌+◌, List, Some, ap, arith, subst, sym}
 use Rattle.std.specs.Prelude.{unwrap_or}
+use Rattle.std.specs.List.{slice_get}
+use Rattle.facts.specs.Lists.{holds_there}
+use Rattle.sound_terms.specs.declared.piece.Home.{Home}
+use Rattle.sound_terms.specs.Homes.{base_by}
+use Rattle.sound_terms.specs.Media.{medium_of, no_sound, sound_at}
+use Rattle.sound_terms.specs.Sounds.{SoundFacts}
+use Rattle.mediacopy.specs.Pieces.{content}
 use Rattle.work_terms.specs.Disk.{Files}
 use Rattle.list_terms.specs.Binding.{Binding}
 use Rattle.list_terms.specs.BoundHomes.{homes_of}
 use Rattle.list_terms.specs.Heard.{sounds_of}
 use Rattle.list_terms.specs.Renewed.{media_name}
 use Rattle.consolidation.specs.Consolidated.{HoldsMedium}
-use Rattle.consolidation.specs.Filled.{IsFilled}
+use Rattle.consolidation.specs.Jobs.{HoldsMedia, medium_by}
 use Rattle.consolidation.specs.Numbered.{HoldAll}
-use Rattle.consolidation.specs.Planned.{IsMediumRun}
-use Rattle.consolidation.specs.Work.{HasMedia, HasMedium}
-use Rattle.facts.specs.Lists.{holds_there}
+use Rattle.consolidation.specs.Planned.{IsMediaPlan, IsMediumRun, MediaPlan}
+use Rattle.consolidation.specs.There.{AreThere}
+use Rattle.consolidation.specs.Work.{HasMedia}
+use Rattle.consolidation.proofs.Wholes.{held, source_there}
 
-module _ (sources written : Files) (sounds : List SoundFacts) (homes : List Home) where
-  has_medium : (number : ℕ) (run : Run) → IsMediumRun sounds homes run
-      → IsFilled sounds homes sources written number run
-      → HasMedium sources written sounds homes number run
-  has_medium number run is filled =
-      let of_file = is.addressed.of_file in
-      let same : of_file.facts ≡ sound_at sounds run.file = sym (ap (λ o. unwrap_or o no_sound) of_file.there) in
+module _ (plan : MediaPlan) (is : IsMediaPlan plan) (sources written : Files) (there_all : AreThere sources plan.sounds)
+    (holds : HoldsMedia plan sources written) where
+  pub has_media : HasMedia sources written plan.sounds plan.homes plan.runs
+  has_media = λ k run there.
+      let medium_run = holds_there (IsMediumRun plan.sounds plan.homes) plan.runs k run is.media there in
+      let of_file = medium_run.addressed.of_file in
+      let same : of_file.facts ≡ sound_at plan.sounds run.file = sym (ap (λ o. unwrap_or o no_sound) of_file.there) in
+      let source = source_there plan is sources there_all k run there in
+      let medium = medium_run.medium _ source.1 in
+      let counted : suc k ≡ 1 + k = omega arith in
       record {
         opened = of_file.there ∙ ap Some same;
-        source = filled.bytes;
-        source_there = filled.source_there;
+        source = content sources (sound_at plan.sounds run.file).name;
+        source_there = source.0;
         inside = rw same at of_file.inside;
-        in_day = is.addressed.in_day;
-        file = filled.file;
-        there = filled.there;
-        reads_back = filled.medium.reads_back (media_name number);
-        samples = filled.medium.samples;
+        in_day = medium_run.addressed.in_day;
+        file = medium_by plan.sounds plan.homes sources run;
+        there = subst (λ (n : ℕ). written (media_name n) ≡ Some (medium_by plan.sounds plan.homes sources run)) counted
+            (held plan is sources there_all written holds k run there);
+        reads_back = medium.reads_back (media_name (1 + k));
+        samples = medium.samples;
       }
 
-  pub has_media : (runs : List Run) → All (IsMediumRun sounds homes) runs
-      → HoldAll (IsFilled sounds homes sources written) runs
-      → HasMedia sources written sounds homes runs
-  has_media runs are filled k run there =
-      has_medium (1 + k) run (holds_there (IsMediumRun sounds homes) runs k run are there) (filled k run there)
-
--- byte for byte
-pub holds_medium : (binding : Binding) (sources written : Files) (number : ℕ) (run : Run)
-    → IsMediumRun (sounds_of binding) (homes_of binding) run
-    → IsFilled (sounds_of binding) (homes_of binding) sources written number run
-    → HoldsMedium binding sources written number run
-holds_medium binding sources written number run is filled =
-    let of_file = is.addressed.of_file in
-    let same : of_file.facts ≡ sound_at (sounds_of binding) run.file =
-    sym (ap (λ o. unwrap_or o no_sound) of_file.there) in
-    record {
-      facts = sound_at (sounds_of binding) run.file;
-      opened = of_file.there ∙ ap Some same;
-      source = filled.bytes;
-      there = filled.source_there;
-      medium = filled.there ∙ ap Some filled.medium.bytes;
-    }
+  -- byte for byte
+  pub hold_media : (binding : Binding) → plan.sounds ≡ sounds_of binding → plan.homes ≡ homes_of binding
+      → HoldAll (HoldsMedium binding sources written) plan.runs
+  hold_media binding sounds homes = λ k run there.
+      let medium_run = holds_there (IsMediumRun plan.sounds plan.homes) plan.runs k run is.media there in
+      let of_file = medium_run.addressed.of_file in
+      let same : of_file.facts ≡ sound_at plan.sounds run.file = sym (ap (λ o. unwrap_or o no_sound) of_file.there) in
+      let source = source_there plan is sources there_all k run there in
+      let counted : suc k ≡ 1 + k = omega arith in
+      let medium = subst (λ (n : ℕ). written (media_name n) ≡ Some (medium_by plan.sounds plan.homes sources run)) counted
+      (held plan is sources there_all written holds k run there) in
+      record {
+        facts = sound_at plan.sounds run.file;
+        opened = subst (λ (s : List SoundFacts). slice_get s run.file ≡ Some (sound_at plan.sounds run.file)) sounds
+            (of_file.there ∙ ap Some same);
+        source = content sources (sound_at plan.sounds run.file).name;
+        there = source.0;
+        medium = subst (λ (h : List Home). written (media_name (1 + k)) ≡ Some (medium_of (sound_at plan.sounds run.file)
+            (content sources (sound_at plan.sounds run.file).name) (base_by h run.file) run)) homes medium;
+      }

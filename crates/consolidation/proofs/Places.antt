@@ -29,3 +29,7 @@ pub base_read : (homes : List Home) (file : ℕ) (home d : Home) → slice_get h
     → (get_or homes file d).base ≡ base_by homes file
 base_read homes file home d there =
     ap (λ (h : Home). h.base) (get_or_from_slice_get homes file home d there) ∙ sym (rw there refl)
+
+pub same_facts : (sounds : List SoundFacts) (file : ℕ) (facts : SoundFacts) → slice_get sounds file ≡ Some facts
+    → facts ≡ sound_at sounds file
+same_facts sounds file facts there = sym (ap (λ o. unwrap_or o no_sound) there)

@@ -1,6 +1,5 @@
 -- What a consolidation makes of a project without a fault, what it leaves, and which refusal is due.
 use Rattle.std.specs.Prelude.{◌≡◌, ◌≢◌, ℕ, ◌+◌, ◌<◌, nat_lt, Bool, false, List, length, Option, None, Some, slice_get, codes, if◌then◌else◌}
-use Rattle.std.specs.List.{list_any}
 use Rattle.sound_terms.specs.declared.piece.Piece.{Piece}
 use Rattle.sound_terms.specs.declared.piece.Run.{Run}
 use Rattle.sound_terms.specs.Entries.{groups_of_entries}
@@ -9,7 +8,6 @@ use Rattle.sound_terms.specs.Kept.{AreRuns}
 use Rattle.sound_terms.specs.Media.{medium_of}
 use Rattle.sound_terms.specs.Passes.{standard_groups}
 use Rattle.sound_terms.specs.Sounds.{SoundFacts}
-use Rattle.sound_terms.specs.Waves.{is_large}
 use Rattle.work_terms.specs.Disk.{Files, IsDurable}
 use Rattle.work_terms.specs.Refusals.{Refusal, Nowhere}
 use Rattle.list_terms.specs.Project.{ListProject}
@@ -19,10 +17,9 @@ use Rattle.list_terms.specs.Accepted.{first_fault}
 use Rattle.list_terms.specs.Heard.{reading_of, sounds_of}
 use Rattle.list_terms.specs.Renewed.{consolidated_project, media_name}
 use Rattle.list_terms.specs.WrittenText.{text_of_project}
-use Rattle.consolidation.specs.Filled.{IsNoMedium}
+use Rattle.consolidation.specs.Media.{IsNoMedium}
 use Rattle.consolidation.specs.Numbered.{HoldAll}
 use Rattle.consolidation.specs.Sizes.{sizes_of}
-use Rattle.consolidation.specs.Work.{run_info}
 use Rattle.consolidation.specs.declared.written.Written.{Written}
 
 -- the groups that are left of the entries, and the runs of the frames that are kept
@@ -37,16 +34,13 @@ pub record IsWorkOf (project : ListProject) (binding : Binding) (handle : ℕ) (
       (groups_of_entries binding.indexes project.events)
   pub runs : AreRuns (kept_of work.groups (homes_of binding) handle) (place_by (homes_of binding)) work.runs
 
--- 53: more runs than a list has indexes; 55: more groups than it has entries; 61: the medium of a run is too long for
--- RIFF
+-- 53: more runs than a list has indexes; 55: more groups than it has entries
 abbrev pub refused_if : Bool → ℕ → Option Refusal
 refused_if faulty number = if faulty then Some (record { number = number; place = Nowhere; late = false }) else None
 
-abbrev pub work_fault : Binding → Work → Option Refusal
-work_fault binding work =
-    first_fault (refused_if (nat_lt 32767 (length work.runs)) 53)
-    (first_fault (refused_if (nat_lt 32767 (length work.groups)) 55)
-    (refused_if (list_any (λ run. is_large (run_info (sounds_of binding) (homes_of binding) run)) work.runs) 61))
+abbrev pub work_fault : Work → Option Refusal
+work_fault work =
+    first_fault (refused_if (nat_lt 32767 (length work.runs)) 53) (refused_if (nat_lt 32767 (length work.groups)) 55)
 
 -- the medium of a run stands under this number: a file of just the run's frames of its source
 pub record HoldsMedium (binding : Binding) (sources written : Files) (number : ℕ) (run : Run) : Type 0 where

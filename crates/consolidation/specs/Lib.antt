@@ -1,8 +1,12 @@
 pub mod Consolidated
 pub mod Fault
-pub mod Filled
+pub mod Jobs
+pub mod Media
+pub mod Named
 pub mod Numbered
 pub mod Own
+pub mod Pieces
 pub mod Planned
 pub mod Sizes
+pub mod There
 pub mod Work

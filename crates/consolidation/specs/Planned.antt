@@ -6,11 +6,13 @@ use Rattle.sound_terms.specs.declared.piece.Piece.{Piece}
 use Rattle.sound_terms.specs.declared.piece.Run.{Run}
 use Rattle.sound_terms.specs.Entries.{groups_of_entries}
 use Rattle.sound_terms.specs.Groups.{AreGroups, are_whole, mix_of, pieces_of}
-use Rattle.sound_terms.specs.Homes.{kept_of, place_by}
+use Rattle.sound_terms.specs.Homes.{base_by, kept_of, place_by}
 use Rattle.sound_terms.specs.Kept.{AreRuns}
-use Rattle.sound_terms.specs.Media.{IsRunOf}
+use Rattle.sound_terms.specs.Media.{IsRunOf, sound_at}
+use Rattle.sound_terms.specs.Mix.{Reading, mix_at}
 use Rattle.sound_terms.specs.Passes.{standard_groups}
 use Rattle.sound_terms.specs.Sounds.{SoundFacts}
+use Rattle.sound_terms.specs.Waves.{data_place, header_of}
 use Rattle.work_terms.specs.Disk.{Files}
 use Rattle.list_terms.specs.Binding.{Binding}
 use Rattle.list_terms.specs.BoundHomes.{homes_of}
@@ -20,8 +22,16 @@ use Rattle.list_terms.specs.Renewed.{consolidated_project, run_base}
 use Rattle.list_terms.specs.WrittenText.{text_of_project}
 use Rattle.projectcheck.specs.AtHome.{IsAtHome}
 use Rattle.wavwrite.specs.Info.{Fits}
+use Rattle.mediacopy.specs.Copied.{HasFrames, IsMedium}
 use Rattle.consolidation.specs.Work.{IsLinked, run_info}
-use Rattle.consolidation.specs.declared.plan.Plan.{Plan}
+
+-- the pieces of the entries of a project: whole groups that sound as it does
+pub record AreEntries (project : ListProject) (binding : Binding) (groups : List (List Piece)) : Type 0 where
+  pub parts : groups ≡ groups_of_entries binding.indexes project.events
+  pub same_mix : (reading : Reading) (channel time : ℕ)
+      → mix_of reading groups channel time ≡ mix_at reading binding.indexes project.events channel time
+  pub at_home : All (IsAtHome (sounds_of binding) (homes_of binding)) (pieces_of groups)
+  pub whole : IsTrue (are_whole groups)
 
 -- whole groups of pieces that play frames and channels of opened files, as far as these can be addressed
 pub record AreLeft (binding : Binding) (groups : List (List Piece)) : Type 0 where
@@ -43,26 +53,44 @@ pub record IsAddressed (sounds : List SoundFacts) (homes : List Home) (run : Run
   pub homed : slice_get homes run.file ≡ Some home
   pub in_day : run_base homes run + run.length ≤ day
 
--- whose medium the size fields of RIFF can tell
+-- whose medium the size fields of RIFF can tell, and which reads back where its source has all of its frames
 pub record IsMediumRun (sounds : List SoundFacts) (homes : List Home) (run : Run) : Type 0 where
   pub addressed : IsAddressed sounds homes run
   pub fits : Fits (run_info sounds homes run)
+  pub head : length (header_of (run_info sounds homes run)) ≡ data_place (run_info sounds homes run)
+  pub medium : (source : List ℕ) → HasFrames (sound_at sounds run.file) source
+      → IsMedium (sound_at sounds run.file) source (base_by homes run.file) run
+
+-- what a consolidation is to write: the runs of opened files that become media, with the home of each file, and the text
+-- of the list over these media, which has so many entries
+pub record MediaPlan : Type 0 where
+  pub sounds : List SoundFacts
+  pub homes : List Home
+  pub runs : List Run
+  pub text : List ℕ
+  pub entries : ℕ
+
+-- it can be written
+pub record IsMediaPlan (plan : MediaPlan) : Type 0 where
+  pub few : length plan.runs ≤ 32767
+  pub media : All (IsMediumRun plan.sounds plan.homes) plan.runs
 
 -- the runs of kept frames round these groups, each of which can become a medium, and the text of the list over these
 -- media
 pub record IsPlanned (project : ListProject) (binding : Binding) (handle : ℕ) (groups : List (List Piece))
-    (plan : Plan) : Type 0 where
-  pub homes : plan.homes.items ≡ homes_of binding
-  pub few : length plan.runs.items ≤ 32767
-  pub kept : AreRuns (kept_of groups (homes_of binding) handle) (place_by (homes_of binding)) plan.runs.items
-  pub media : All (IsMediumRun (sounds_of binding) (homes_of binding)) plan.runs.items
-  pub text : plan.text.items ≡ text_of_project (consolidated_project project (homes_of binding) groups plan.runs.items)
+    (plan : MediaPlan) : Type 0 where
+  pub sounds : plan.sounds ≡ sounds_of binding
+  pub homes : plan.homes ≡ homes_of binding
+  pub few : length plan.runs ≤ 32767
+  pub kept : AreRuns (kept_of groups (homes_of binding) handle) (place_by (homes_of binding)) plan.runs
+  pub media : All (IsMediumRun (sounds_of binding) (homes_of binding)) plan.runs
+  pub text : plan.text ≡ text_of_project (consolidated_project project (homes_of binding) groups plan.runs)
   pub entries : plan.entries ≡ length groups
-  pub linked : IsLinked project (sounds_of binding) (homes_of binding) groups plan.runs.items
+  pub linked : IsLinked project (sounds_of binding) (homes_of binding) groups plan.runs
 
 -- planned round the groups that are left of the project
 pub record IsPlanOf (project : ListProject) (binding : Binding) (handle : ℕ) (honest : Bool) (sources : Files)
-    (plan : Plan) : Type 0 where
+    (plan : MediaPlan) : Type 0 where
   pub groups : List (List Piece)
   pub planned : IsPlanned project binding handle groups plan
   pub left : IsTrue honest → SoundsAsGiven project binding sources groups

@@ -1,5 +1,5 @@
 -- How many bytes a consolidation had, kept and wrote, as far as 64 bits can tell.
-use Rattle.std.specs.Prelude.{ℕ, ◌+◌, ◌-◌, ◌*◌, ◌^◌, min, List}
+use Rattle.std.specs.Prelude.{ℕ, ◌+◌, ◌-◌, ◌*◌, ◌^◌, min, List, length}
 use Rattle.std.specs.List.{sum_by}
 use Rattle.sound_terms.specs.declared.piece.Home.{Home}
 use Rattle.sound_terms.specs.declared.piece.Run.{Run}
@@ -8,6 +8,8 @@ use Rattle.sound_terms.specs.Sounds.{SoundFacts}
 use Rattle.sound_terms.specs.Waves.{file_length}
 use Rattle.consolidation.specs.Work.{run_info}
 use Rattle.consolidation.specs.declared.written.Sizes.{Sizes}
+use Rattle.consolidation.specs.declared.written.Written.{Written}
+use Rattle.consolidation.specs.Planned.{MediaPlan}
 
 -- the number, or the greatest that 64 bits can tell
 abbrev pub in_64_bits : ℕ → ℕ
@@ -31,4 +33,12 @@ sizes_of sounds homes runs list = record {
   sources = in_64_bits (sum_by sound_bytes sounds);
   kept = in_64_bits (sum_by (run_bytes sounds) runs);
   written = in_64_bits (sum_by (medium_bytes sounds homes) runs + list);
+}
+
+-- what is told of a consolidation that is written
+abbrev pub written_of : MediaPlan → Written
+written_of plan = record {
+  media = length plan.runs;
+  entries = plan.entries;
+  sizes = sizes_of plan.sounds plan.homes plan.runs (length plan.text);
 }

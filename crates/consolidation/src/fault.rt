@@ -8,8 +8,7 @@ use passes::PassFault;
 use relink::RelinkFault;
 use thiserror::Error;
 
-/// Why a project isn't consolidated. After `Source`, `Medium`, `List` and `MediumMemory` what is written is unfinished;
-/// the others come before anything is written.
+/// Why a project isn't consolidated: each comes before anything is written.
 #[derive(Clone, Copy, Debug, PartialEq, Eq, Error)]
 pub enum ConsolidationFault {
     /// 47: no memory was left for the pieces of the entries.
@@ -18,25 +17,21 @@ pub enum ConsolidationFault {
     /// 51 and 52: a pass over the pieces failed.
     #[error("{0}")]
     Pass(PassFault),
-    /// 53 and 54: there are too many runs, or no memory was left for them.
+    /// 53 and 54: there are too many runs, or no memory was left for them and for the names of their media.
     #[error("{0}")]
     Runs(RunFault),
     /// 55 and 56: the list would have too many entries, or no memory was left for it.
     #[error("{0}")]
     Relink(RelinkFault),
-    /// 61: a medium would be longer than the size field of RIFF can tell.
-    #[error("a medium would be too long")]
-    TooLong,
-    /// 63: no memory was left for a medium.
-    #[error("out of memory")]
-    MediumMemory,
-    /// 22: the file of this place among those opened can't be read while frames are copied from it.
-    #[error("file {file} can't be read")]
-    Source { file: u32 },
-    /// 62: the medium of this number can't be written.
+}
+
+/// 62: what can't be written of a consolidation. What is written of it is unfinished.
+#[derive(Clone, Copy, Debug, PartialEq, Eq, Error)]
+pub enum WriteFault {
+    /// The medium of this number.
     #[error("medium {number} can't be written")]
     Medium { number: u32 },
-    /// 62: the list can't be written.
+    /// The list.
     #[error("the list can't be written")]
     List,
 }
@@ -51,10 +46,6 @@ impl ConsolidationFault {
             ConsolidationFault::Pass(fault) => fault.number(),
             ConsolidationFault::Runs(fault) => fault.number(),
             ConsolidationFault::Relink(fault) => fault.number(),
-            ConsolidationFault::TooLong => 61,
-            ConsolidationFault::MediumMemory => 63,
-            ConsolidationFault::Source { .. } => 22,
-            ConsolidationFault::Medium { .. } | ConsolidationFault::List => 62,
         }
     }
 }

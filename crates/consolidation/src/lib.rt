@@ -1,18 +1,20 @@
 //! Consolidates a project without a fault: new media of just the frames that are kept, and a list over them.
 #![tactic(auto)]
 
-mod call;
+mod end;
 mod fault;
-mod filling;
 mod groups;
-mod laying;
-mod listing;
-mod medium;
+mod jobs;
+mod layout;
+mod list;
+mod media;
+mod pieces;
 mod plan;
-mod sizing;
-mod writing;
+mod planning;
+mod sizes;
 mod written;
 
-pub use call::consolidate;
-pub use fault::ConsolidationFault;
+pub use fault::{ConsolidationFault, WriteFault};
+pub use pieces::Pieces;
+pub use plan::Consolidation;
 pub use written::{Sizes, Written};

@@ -1,146 +1,91 @@
-// What is known of a consolidation before its first write.
-ghost use Rattle.std.specs.Prelude.{◌≡◌, ◌≤◌, ℕ, List, All, IfErr, IfOk, IsTrue, OnOk, false, length, true};
-ghost use Rattle.std.specs.List.{list_any};
-ghost use Rattle.sound_terms.specs.declared.piece.Home as spec;
-ghost use Rattle.sound_terms.specs.Homes.{AreHomes, kept_of, place_by};
-ghost use Rattle.sound_terms.specs.Kept.{AreRuns};
-ghost use Rattle.sound_terms.specs.Media.{IsRunOf};
-ghost use Rattle.sound_terms.specs.Waves.{is_large};
+// What a consolidation is to write.
+ghost use Rattle.std.specs.Prelude.{◌≡◌, ◌≤◌, ◌<◌, ℕ, IfOk, IsTrue, Ok, length};
+ghost use Rattle.work_terms.specs.Disk.{Files};
 ghost use Rattle.work_terms.specs.Refusals.{Answers};
-ghost use Rattle.list_terms.specs.BoundHomes.{homes_of};
+ghost use Rattle.list_terms.specs.Bound.{binding_of};
 ghost use Rattle.list_terms.specs.Heard.{sounds_of};
-ghost use Rattle.list_terms.specs.Renewed.{consolidated_project};
-ghost use Rattle.list_terms.specs.WrittenText.{text_of_project};
 ghost use Rattle.shelf.specs.Frame.{OnlyReads};
-ghost use Rattle.wavwrite.specs.Info.{Fits};
 ghost use Rattle.consolidation.specs.Consolidated.{IsWorkOf, Work, work_fault};
-ghost use Rattle.consolidation.specs.Fault.{FailsAt, IsSource, is_late, refusal_of};
-ghost use Rattle.consolidation.specs.Own.{IsOfLinking, IsOfPlan};
-ghost use Rattle.consolidation.specs.Planned.{AreLeft, IsPlanOf, IsPlanned};
-ghost use Rattle.consolidation.specs.Work.{IsLinked, run_info};
+ghost use Rattle.consolidation.specs.Fault.{FailsAt, IsSource, refusal_of};
+ghost use Rattle.consolidation.specs.Planned.{IsMediaPlan, IsPlanOf};
+ghost use Rattle.consolidation.specs.There.{AreThere};
 
 use crate::ConsolidationFault;
 use crate::groups::groups_left;
-use adlwrite::text_of;
-use interval::Intervals;
-use mediacopy::fits;
-use mediaset::{RunFault, runs};
-use projectcheck::Checked;
-use relink::{RelinkFault, relink};
+use crate::planning::plan_of;
+use projectcheck::{Checked, from_checked};
 use shelf::Shelf;
 use sound_terms::{Home, Run};
 use std::alloc::Global;
+use std::marker::Model;
 use wavread::Sound;
 
-/// The home of each file, the runs that become media, and the text of the list over them with so many entries.
+/// A consolidation before its first write: the runs of opened files that become media, with the home of each file; the
+/// names of the media, and how many jobs the runs up to and with each have; and the text of the list over the media, with
+/// so many entries.
 #[derive(Drop)]
-pub struct Plan {
-    pub homes: Vec<Home>,
-    pub runs: Vec<Run>,
-    pub text: Vec<u8>,
-    pub entries: u32,
+pub struct Consolidation<'a> {
+    pub(crate) sounds: &'a [Sound],
+    pub(crate) homes: Vec<Home>,
+    pub(crate) runs: Vec<Run>,
+    pub(crate) names: Vec<String>,
+    pub(crate) ends: Vec<u32>,
+    pub(crate) text: Vec<u8>,
+    pub(crate) entries: u32,
 }
 
-/// Whether the size fields of RIFF can tell the length of the medium of this run.
-fn fits_at(sounds: &[Sound], run: &Run) -> bool
-    requires { IsRunOf sounds.now run.now }
-    ensures fits { (homes : List spec.Home) → IsTrue result → Fits (run_info sounds.now homes run.now) }
-    ensures large { (homes : List spec.Home) → result ≡ false → is_large (run_info sounds.now homes run.now) ≡ true }
-{
-    fits(&sounds[run.file as usize], run)
-}
+impl<'a> Model for Consolidation<'a> {
+    ghost use Rattle.consolidation.specs.Named.{AreEnds, AreNamed};
+    ghost use Rattle.consolidation.specs.Planned as planned;
 
-/// Whether they can tell those of all runs.
-fn all_fit(sounds: &[Sound], runs: &[Run]) -> bool
-    requires { All (IsRunOf sounds.now) runs.now }
-    ensures fit { (homes : List spec.Home) → IsTrue result
-        → All (λ run. Fits (run_info sounds.now homes run)) runs.now }
-    ensures large { (homes : List spec.Home) → result ≡ false
-        → list_any (λ run. is_large (run_info sounds.now homes run)) runs.now ≡ true }
-{
-    for run in runs {
-        if !fits_at(sounds, run) {
-            return false;
-        }
-    }
-    true
-}
+    ghost Value = { planned.MediaPlan };
 
-/// The text of the list over the media of these runs. The groups are let go before it is written.
-fn text_over(
-    alloc: Global,
-    checked: &Checked,
-    intervals: Intervals,
-    runs: &[Run],
-    homes: &[Home],
-) -> Result<Vec<u8>, ConsolidationFault>
-    requires left { AreLeft checked.now.bound intervals }
-    requires few { length runs.now ≤ 32767 }
-    requires homes { (homes.now ≡ homes_of checked.now.bound) × AreHomes homes.now }
-    requires kept { (handle : ℕ) × AreRuns (kept_of intervals homes.now handle) (place_by homes.now) runs.now }
-    ensures text { IfOk result (λ text. text.items
-        ≡ text_of_project (consolidated_project checked.now.project homes.now intervals runs.now)) }
-    ensures linked { OnOk result (IsLinked checked.now.project (sounds_of checked.now.bound)
-        (homes_of checked.now.bound) intervals runs.now) }
-    ensures few_entries { OnOk result (length intervals ≤ 32767) }
-    ensures own { IfErr result (IsOfLinking (length intervals)) }
-{
-    let renewed = relink(alloc, &intervals, runs, homes, checked.project())?;
-    drop(intervals);
-    let Ok(text) = text_of(alloc, &renewed) else {
-        return Err(ConsolidationFault::Relink(RelinkFault::Memory));
-    };
-    Ok(text)
-}
+    ghost view = { λ c. record {
+      sounds = c.sounds.now;
+      homes = c.homes.items;
+      runs = c.runs.items;
+      text = c.text.items;
+      entries = c.entries;
+    } };
 
-/// The plan for the groups that are left. `Runs`, `Relink` and `TooLong`, in this turn.
-fn plan_of(
-    alloc: Global,
-    checked: &Checked,
-    handle: u64,
-    intervals: Intervals,
-) -> Result<Plan, ConsolidationFault>
-    requires left { AreLeft checked.now.bound intervals }
-    ensures planned { IfOk result (IsPlanned checked.now.project checked.now.bound handle intervals) }
-    ensures refusals { (work : Work) → work.groups ≡ intervals
-        → AreRuns (kept_of work.groups (homes_of checked.now.bound) handle) (place_by (homes_of checked.now.bound))
-        work.runs
-        → Answers (refusal_of (sounds_of checked.now.bound)) result (work_fault checked.now.bound work) }
-    ensures own { IfErr result IsOfPlan }
-{
-    let bound = checked.bound();
-    let Ok(homes) = bound.homes(alloc) else {
-        return Err(ConsolidationFault::Runs(RunFault::Memory));
-    };
-    let runs = runs(alloc, &intervals, &homes, handle)?;
-    let entries = intervals.groups().len();
-    let text = text_over(alloc, checked, intervals, &runs, &homes)?;
-    if !all_fit(bound.sounds(), &runs) {
-        return Err(ConsolidationFault::TooLong);
-    }
-    Ok(Plan {
-        homes,
-        runs,
-        text,
-        entries: entries as u32,
+    ghost invariant = { λ c. planned.IsMediaPlan (record {
+      sounds = c.sounds.now;
+      homes = c.homes.items;
+      runs = c.runs.items;
+      text = c.text.items;
+      entries = c.entries;
     })
+        × AreNamed c.runs.items c.names.items × AreEnds c.runs.items c.ends.items };
 }
 
-/// The plan of a project without a fault. `Intervals`, `Pass`, `Runs`, `Relink` and `TooLong`, in this turn.
-pub fn plan_project<S: Shelf>(
-    alloc: Global,
-    checked: &Checked,
-    handle: u64,
-    shelf: &mut S,
-) -> Result<Plan, ConsolidationFault>
-    ensures planned { IfOk result (IsPlanOf checked.now.project checked.now.bound handle (S.honest shelf.old)
-        (S.stored shelf.old)) }
-    ensures refusals { IsTrue (S.honest shelf.old) → (work : Work)
-        → IsWorkOf checked.now.project checked.now.bound handle (S.stored shelf.old) work
-        → Answers (refusal_of (sounds_of checked.now.bound)) result (work_fault checked.now.bound work) }
-    ensures early { IfErr result (λ f. is_late f ≡ false) }
-    ensures only_reads { OnlyReads S.Shelf shelf.old shelf.new result IsSource (FailsAt (sounds_of checked.now.bound)) }
-{
-    let intervals = groups_left(alloc, checked, shelf)?;
-    plan_of(alloc, checked, handle, intervals)
+impl<'a> Consolidation<'a> {
+    /// Plans the consolidation of a project without a fault over the sources of a shelf. Kept are the frames that the
+    /// entries play, without what is silent, and those at most `handle` frames away that can be addressed. Each run of
+    /// kept frames becomes a medium of its own (`M00001.wav` and so on, Broadcast Wave, EBU Tech 3285), with the channels,
+    /// the depth, the texts and the CodingHistory of its source and the time of its first frame as TimeReference;
+    /// `consolidated.adl` is the list over these media. It sounds as the given project does, sample for sample.
+    ///
+    /// All memory that the consolidation needs is taken here. `Intervals`, `Pass`, `Runs` and `Relink`, in this turn; where
+    /// no memory was left for the names of media, `Runs`.
+    #[tactic(auto, using(crate::proofs::Opened::bound_there))]
+    pub fn plan<S: Shelf>(
+        alloc: Global,
+        checked: &'a Checked,
+        handle: u64,
+        shelf: &mut S,
+    ) -> Result<Self, ConsolidationFault>
+        ensures planned { IfOk result (IsPlanOf checked.now.project checked.now.bound handle (S.honest shelf.old)
+            (S.stored shelf.old)) }
+        ensures refusals { IsTrue (S.honest shelf.old) → (work : Work)
+            → IsWorkOf checked.now.project checked.now.bound handle (S.stored shelf.old) work
+            → Answers refusal_of result (work_fault work) }
+        ensures there { (sources : Files) → binding_of checked.now.project sources ≡ Ok checked.now.bound
+            → AreThere sources (sounds_of checked.now.bound) }
+        ensures only_reads { OnlyReads S.Shelf shelf.old shelf.new result IsSource
+            (FailsAt (sounds_of checked.now.bound)) }
+    {
+        let intervals = from_checked(alloc, checked)?;
+        let left = groups_left(alloc, intervals, checked, shelf)?;
+        plan_of(alloc, checked, handle, left)
+    }
 }

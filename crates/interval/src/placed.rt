@@ -1,10 +1,11 @@
 // Groups as events.
-ghost use Rattle.std.specs.Prelude.{◌≡◌, ◌≤◌, ◌∷◌, [], IsTrue, IfOk, option_to_list};
+ghost use Rattle.std.specs.Prelude.{◌≡◌, ◌≤◌, ◌∷◌, [], ℕ, IsTrue, IfOk, map, option_to_list};
 ghost use Rattle.std.specs.List.{sum_by};
 ghost use Rattle.sampletime.specs.TimeCode.{day};
-ghost use Rattle.sound_terms.specs.Groups.{are_whole};
+ghost use Rattle.sound_terms.specs.Mix.{Reading};
+ghost use Rattle.sound_terms.specs.Groups.{are_whole, sum_of};
 ghost use Rattle.sound_terms.specs.Entries as entries;
-ghost use Rattle.sound_terms.specs.Entries.{event_of, length_of_group, placed_of};
+ghost use Rattle.sound_terms.specs.Entries.{event_of, length_of_group, placed_of, placed_part};
 
 use crate::{Group, IntervalFault, Intervals, Piece, Placed, Shape};
 use std::alloc::AllocError;
@@ -100,11 +101,17 @@ impl Intervals {
         Ok(events)
     }
 
-    /// One event for each group, in order; every ramp has its whole length.
+    /// One event for each group, in order, which adds what the group adds; every ramp has its whole length.
+    #[tactic(auto, using(sound_terms::specs::PlacedLaws::events_add))]
     pub fn to_events(&self) -> Result<Vec<Placed>, IntervalFault>
         requires { IsTrue (are_whole self.now) }
         ensures each { IfOk result (λ events. events.items ≡ placed_of self.now) }
+        ensures same_parts { IfOk result (λ events. (reading : Reading) (channel time : ℕ)
+            → map (λ event. placed_part reading event channel time) events.items
+            ≡ map (λ group. sum_of reading group channel time) self.now) }
     {
+        // Its groups are known to be in order from here on.
+        let _ = self.groups();
         Ok(self.events()?)
     }
 }

@@ -11,7 +11,7 @@ use Rattle.list_terms.specs.Names.{place_of_url}
 use Rattle.list_terms.specs.Project.{Source}
 use Rattle.list_terms.specs.Steps.{◌>>=◌}
 use Rattle.list_terms.specs.Tokens.{TokenText, token_at, token_text, all_tokens}
-use Rattle.list_terms.specs.Fields.{is_same_name, is_keyword, is_missing, is_zero, is_whole_number, field, number_field, channels_field, time_field, optional_time_field, checked_field, end_line}
+use Rattle.list_terms.specs.Fields.{is_same_name, is_keyword, is_missing, is_zero, told_rate, field, number_field, channels_field, time_field, optional_time_field, checked_field, end_line}
 
 -- ---- the source index
 
@@ -136,8 +136,9 @@ remark token line = if is_keyword (codes "Rem") token then end_line line else Er
 abbrev pub is_48000 : TokenText → Bool
 is_48000 token = is_same_name token.content (codes "S48000") || bytes_eq token.content (codes "48000")
 
-abbrev pub is_25 : TokenText → Bool
-is_25 token = is_whole_number (codes "25") token.content
+-- the rate of frames that the list has
+abbrev pub tells_rate : ℕ → TokenText → Bool
+tells_rate rate token = unwrap_or (option_map (λ told. told == rate) (told_rate token.content)) false
 
 -- the value of a rate, behind its keyword
 unfoldable pub rate_field : (TokenText → Bool) → List ℕ → Result (Unit {0}) TextFault
@@ -145,20 +146,20 @@ rate_field is_known line = do
   (token, rest) ← field line
   if is_known token then end_line rest else Err WrongSequence
 
-abbrev pub sequence_of : Rates → TokenText → List ℕ → Result Rates TextFault
-sequence_of rates token line =
+abbrev pub sequence_of : ℕ → Rates → TokenText → List ℕ → Result Rates TextFault
+sequence_of rate rates token line =
     if is_keyword (codes "SEQ_SAMPLE_RATE") token
     then rate_field is_48000 line >>= (λ _. Ok (record rates { sample_rate = true }))
     else if is_keyword (codes "SEQ_FRAME_RATE") token
-    then rate_field is_25 line >>= (λ _. Ok (record rates { frame_rate = true }))
+    then rate_field (tells_rate rate) line >>= (λ _. Ok (record rates { frame_rate = true }))
     else end_line line >>= (λ _. Ok rates)
 
--- 48000 samples and 25 frames a second are told; other lines aren't interpreted
-unfoldable pub sequence_line : Rates → List ℕ → Result Rates TextFault
-sequence_line rates line = token_at line >>= of_token where
+-- 48000 samples and this rate of frames a second are told; other lines aren't interpreted
+unfoldable pub sequence_line : ℕ → Rates → List ℕ → Result Rates TextFault
+sequence_line rate rates line = token_at line >>= of_token where
   of_token : Option (TokenText × List ℕ) → Result Rates TextFault
   of_token None = Ok rates
-  of_token (Some (token, rest)) = sequence_of rates token rest
+  of_token (Some (token, rest)) = sequence_of rate rates token rest
 
 -- `_`, or a time of zero
 abbrev pub is_no_offset : ℕ → List ℕ → Bool

@@ -81,6 +81,14 @@ unfoldable pub is_whole_number : List ℕ → List ℕ → Bool
 is_whole_number number text =
     bytes_eq (before_first is_stop text) number && list_all is_zero_digit (unwrap_or (behind_byte 46 text) [])
 
+-- the rate of frames that a text tells: 24, 25 or 30
+unfoldable pub told_rate : List ℕ → Option ℕ
+told_rate text =
+    if is_whole_number (codes "24") text then Some 24
+    else if is_whole_number (codes "25") text then Some 25
+    else if is_whole_number (codes "30") text then Some 30
+    else None
+
 -- the next token, which has to be there
 unfoldable pub field : List ℕ → Result (TokenText × List ℕ) TextFault
 field line = token_at line >>= (λ next. ok_or next MissingField)

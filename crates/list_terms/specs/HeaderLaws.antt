@@ -39,7 +39,7 @@ put_lines section.Unsupported lines h = h
 
 -- the header keeps the lines of this section
 pub record IsKept (s : Section) : Type 0 where
-  pub read : (c : Context) (n : ℕ) (text : List ℕ) → in_section 25 c n text s ≡ in_header 25 c n text s
+  pub read : (rate : ℕ) (c : Context) (n : ℕ) (text : List ℕ) → in_section rate c n text s ≡ in_header rate c n text s
   pub opened : (c : Context) → is_opened c s ≡ is_some (lines_at s c.header.lines)
   pub begun : (c : Context) (n : ℕ) → with_section c n s ≡ with_lines c (put_lines s (Some []) c.header.lines)
   pub keeps :
@@ -49,77 +49,78 @@ pub record IsKept (s : Section) : Type 0 where
 pub version_kept : IsKept section.Version
 unfolding in_section
 version_kept =
-    record { read = λ c n text. refl; opened = λ c. refl; begun = λ c n. refl; keeps = λ h front text. refl }
+    record { read = λ rate c n text. refl; opened = λ c. refl; begun = λ c n. refl; keeps = λ h front text. refl }
 
 pub project_kept : IsKept section.Project
 unfolding in_section
 project_kept =
-    record { read = λ c n text. refl; opened = λ c. refl; begun = λ c n. refl; keeps = λ h front text. refl }
+    record { read = λ rate c n text. refl; opened = λ c. refl; begun = λ c n. refl; keeps = λ h front text. refl }
 
 pub system_kept : IsKept section.System
 unfolding in_section
 system_kept =
-    record { read = λ c n text. refl; opened = λ c. refl; begun = λ c n. refl; keeps = λ h front text. refl }
+    record { read = λ rate c n text. refl; opened = λ c. refl; begun = λ c n. refl; keeps = λ h front text. refl }
 
 pub sequence_kept : IsKept section.Sequence
 unfolding in_section
 sequence_kept =
-    record { read = λ c n text. refl; opened = λ c. refl; begun = λ c n. refl; keeps = λ h front text. refl }
+    record { read = λ rate c n text. refl; opened = λ c. refl; begun = λ c n. refl; keeps = λ h front text. refl }
 
 pub track_list_kept : IsKept section.TrackList
 unfolding in_section
 track_list_kept =
-    record { read = λ c n text. refl; opened = λ c. refl; begun = λ c n. refl; keeps = λ h front text. refl }
+    record { read = λ rate c n text. refl; opened = λ c. refl; begun = λ c n. refl; keeps = λ h front text. refl }
 
 -- ---- the rates that lines tell
 
--- the rates that lines of this section tell behind others
-abbrev pub told_in : Section → Rates → List (List ℕ) → Result Rates TextFault
-told_in s rates [] = Ok rates
-told_in s rates (text ∷ lines) = rates_with 25 s rates text >>= (λ next. told_in s next lines)
+module _ (rate : ℕ) where
+  -- the rates that lines of this section tell behind others
+  abbrev pub told_in : Section → Rates → List (List ℕ) → Result Rates TextFault
+  told_in s rates [] = Ok rates
+  told_in s rates (text ∷ lines) = rates_with rate s rates text >>= (λ next. told_in s next lines)
 
--- lines of a section that tells none
-pub told_in-none :
-    (s : Section) → ((rates : Rates) (text : List ℕ) → rates_with 25 s rates text ≡ Ok rates)
-    → (rates : Rates) (lines : List (List ℕ)) → told_in s rates lines ≡ Ok rates
-told_in-none s none rates [] = refl
-told_in-none s none rates (text ∷ lines) = rw (none rates text) (told_in-none s none rates lines)
+  -- lines of a section that tells none
+  pub told_in-none :
+      (s : Section) → ((rates : Rates) (text : List ℕ) → rates_with rate s rates text ≡ Ok rates)
+      → (rates : Rates) (lines : List (List ℕ)) → told_in s rates lines ≡ Ok rates
+  told_in-none s none rates [] = refl
+  told_in-none s none rates (text ∷ lines) = rw (none rates text) (told_in-none s none rates lines)
 
-system_line_told :
-    (rates : Rates) (text : List ℕ) → is_system_line text ≡ true → system_rates 25 rates text ≡ Ok rates
-system_line_told rates text h =
-    by_parts (is_tag text) refl (system_line 25 text) refl (and_left (not (is_tag text)) _ h)
-    (and_right (not (is_tag text)) _ h) where
-      by_parts :
-          (tag : Bool) → is_tag text ≡ tag → (said : Result (Unit {0}) TextFault) → system_line 25 text ≡ said
-          → not (is_tag text) ≡ true → is_ok (system_line 25 text) ≡ true → system_rates 25 rates text ≡ Ok rates
-      by_parts true t said s untagged ok = let f : false ≡ true = rw t at untagged in absurd (cc)
-      by_parts false t (Err fault) s untagged ok = let f : false ≡ true = rw s at ok in absurd (cc)
-      by_parts false t (Ok said) s untagged ok = rw (t, s) refl
+  system_line_told :
+      (rates : Rates) (text : List ℕ) → is_system_line rate text ≡ true → system_rates rate rates text ≡ Ok rates
+  system_line_told rates text h =
+      by_parts (is_tag text) refl (system_line rate text) refl (and_left (not (is_tag text)) _ h)
+      (and_right (not (is_tag text)) _ h) where
+        by_parts :
+            (tag : Bool) → is_tag text ≡ tag → (said : Result (Unit {0}) TextFault) → system_line rate text ≡ said
+            → not (is_tag text) ≡ true → is_ok (system_line rate text) ≡ true → system_rates rate rates text ≡ Ok rates
+        by_parts true t said s untagged ok = let f : false ≡ true = rw t at untagged in absurd (cc)
+        by_parts false t (Err fault) s untagged ok = let f : false ≡ true = rw s at ok in absurd (cc)
+        by_parts false t (Ok said) s untagged ok = rw (t, s) refl
 
-pub told_in-system :
-    (rates : Rates) (lines : List (List ℕ)) → list_all is_system_line lines ≡ true
-    → told_in section.System rates lines ≡ Ok rates
-told_in-system rates [] h = refl
-told_in-system rates (text ∷ lines) h =
-    rw (system_line_told rates text (and_left (is_system_line text) (list_all is_system_line lines) h))
-    (told_in-system rates lines (and_right (is_system_line text) (list_all is_system_line lines) h))
+  pub told_in-system :
+      (rates : Rates) (lines : List (List ℕ)) → list_all (is_system_line rate) lines ≡ true
+      → told_in section.System rates lines ≡ Ok rates
+  told_in-system rates [] h = refl
+  told_in-system rates (text ∷ lines) h =
+      rw (system_line_told rates text (and_left (is_system_line rate text) (list_all (is_system_line rate) lines) h))
+      (told_in-system rates lines (and_right (is_system_line rate text) (list_all (is_system_line rate) lines) h))
 
-pub told_in-sequence :
-    (rates : Rates) (lines : List (List ℕ)) → told_in section.Sequence rates lines ≡ told_rates rates lines
-told_in-sequence rates [] = refl
-told_in-sequence rates (text ∷ lines) =
-    by_first (sequence_rates rates text) refl (λ next. told_in-sequence next lines) where
-      by_first :
-          (first : Result Rates TextFault) → sequence_rates rates text ≡ first
-          → ((next : Rates) → told_in section.Sequence next lines ≡ told_rates next lines)
-          → told_in section.Sequence rates (text ∷ lines) ≡ told_rates rates (text ∷ lines)
-      by_first (Ok next) e ih = rw e (ih next)
-      by_first (Err fault) e ih = rw e refl
+  pub told_in-sequence :
+      (rates : Rates) (lines : List (List ℕ)) → told_in section.Sequence rates lines ≡ told_rates rate rates lines
+  told_in-sequence rates [] = refl
+  told_in-sequence rates (text ∷ lines) =
+      by_first (sequence_rates rate rates text) refl (λ next. told_in-sequence next lines) where
+        by_first :
+            (first : Result Rates TextFault) → sequence_rates rate rates text ≡ first
+            → ((next : Rates) → told_in section.Sequence next lines ≡ told_rates rate next lines)
+            → told_in section.Sequence rates (text ∷ lines) ≡ told_rates rate rates (text ∷ lines)
+        by_first (Ok next) e ih = rw e (ih next)
+        by_first (Err fault) e ih = rw e refl
 
 -- SEQUENCE is there, since it tells both rates
 pub has_sequence :
-    (sequence : Option (List (List ℕ))) → told_rates no_rates (lines_of_section sequence) ≡ Ok both_rates
-    → is_some sequence ≡ true
-has_sequence None h = let e : no_rates ≡ both_rates = cc in ap (λ (r : Rates). r.sample_rate) e
-has_sequence (Some lines) h = refl
+    (rate : ℕ) (sequence : Option (List (List ℕ)))
+    → told_rates rate no_rates (lines_of_section sequence) ≡ Ok both_rates → is_some sequence ≡ true
+has_sequence rate None h = let e : no_rates ≡ both_rates = cc in ap (λ (r : Rates). r.sample_rate) e
+has_sequence rate (Some lines) h = refl

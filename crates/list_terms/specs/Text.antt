@@ -1,11 +1,12 @@
 -- The project that the text of a list spells, or its first fault: the line, and the leftmost fault of that line.
-use Rattle.std.specs.Prelude.{ℕ, ◌+◌, ◌==◌, ◌&&◌, ◌||◌, not, max, nat_le, Bool, true, false, List, [], ◌∷◌, ◌++◌, length, Option, None, Some, Result, Ok, Err, if◌then◌else◌, codes, option_map, unwrap_or, is_some}
+use Rattle.std.specs.Prelude.{ℕ, ◌+◌, ◌==◌, ◌&&◌, ◌||◌, not, max, nat_le, Bool, true, false, List, [], ◌∷◌, ◌++◌, length, Option, None, Some, Result, Ok, Err, if◌then◌else◌, codes, option_and_then, option_map, unwrap_or, is_ok, is_some}
 use Rattle.std.specs.Char.{is_ascii_alphanumeric}
 use Rattle.std.specs.List.{list_all, list_any}
 use Rattle.sampletime.specs.TimeCode.{default_separators}
 use Rattle.sound_terms.specs.declared.Event.{Event}
 use Rattle.work_terms.specs.Refusals.{Refusal, Where, Line, LineEntry, LineIndex}
 use Rattle.list_terms.specs.declared.Notice.{Notice}
+use Rattle.list_terms.specs.declared.Opened.{Opened}
 use Rattle.list_terms.specs.declared.Section.{Section}
 use Rattle.list_terms.specs.declared.Section.TheVariants as section
 use Rattle.list_terms.specs.declared.Stage.{Stage}
@@ -19,7 +20,7 @@ use Rattle.list_terms.specs.Names.{begins_with}
 use Rattle.list_terms.specs.Steps.{◌>>=◌, ok_map, err_map}
 use Rattle.list_terms.specs.Lines.{lines_of}
 use Rattle.list_terms.specs.Tokens.{TokenText, token_at, trimmed, behind_blanks}
-use Rattle.list_terms.specs.Fields.{is_same_name, is_keyword, number_field, end_line}
+use Rattle.list_terms.specs.Fields.{is_same_name, is_keyword, number_field, end_line, told_rate}
 use Rattle.list_terms.specs.declared.OpenEntry.{OpenEntry}
 use Rattle.list_terms.specs.declared.Rates.{Rates}
 use Rattle.list_terms.specs.EntryLines.{source_fields, event_fields, entry_with, remark, sequence_line, system_line}
@@ -240,15 +241,15 @@ untagged text said = if is_tag text then Err fault.SectionMismatch else said
 abbrev pub system_rates : ℕ → Rates → List ℕ → Result Rates TextFault
 system_rates rate rates text = untagged text (system_line rate text >>= (λ _. Ok rates))
 
-abbrev pub sequence_rates : Rates → List ℕ → Result Rates TextFault
-sequence_rates rates text = untagged text (sequence_line rates text)
+abbrev pub sequence_rates : ℕ → Rates → List ℕ → Result Rates TextFault
+sequence_rates rate rates text = untagged text (sequence_line rate rates text)
 
 -- the rates that the header told, with a line of this section
 abbrev pub rates_with : ℕ → Section → Rates → List ℕ → Result Rates TextFault
 rates_with rate section.Version rates text = Ok rates
 rates_with rate section.Project rates text = Ok rates
 rates_with rate section.System rates text = system_rates rate rates text
-rates_with rate section.Sequence rates text = sequence_rates rates text
+rates_with rate section.Sequence rates text = sequence_rates rate rates text
 rates_with rate section.TrackList rates text = Ok rates
 rates_with rate section.SourceIndex rates text = Ok rates
 rates_with rate section.EventList rates text = Ok rates
@@ -424,19 +425,152 @@ where_of (location.Index line index) = LineIndex line index
 abbrev pub text_refusal : LocatedFault → Refusal
 text_refusal f = record { number = fault_number f.fault; place = where_of f.location; late = false }
 
--- the project that the text spells at 25 frames a second, or the refusal of its first fault
+-- ---- the rate of frames
+
+-- how far the sections of a list are passed: the stage, the name of the open section, and those that were opened
+pub record Outline : Type 0 where
+  pub stage : Stage
+  pub name : List ℕ
+  pub opened : Opened
+
+abbrev pub nothing_passed : Outline
+nothing_passed = record {
+  stage = stage.Before;
+  name = [];
+  opened = record {
+    version = false;
+    project = false;
+    system = false;
+    sequence = false;
+    track_list = false;
+    source_index = false;
+    event_list = false;
+  };
+}
+
+abbrev pub has_opened : Opened → Section → Bool
+has_opened opened section.Version = opened.version
+has_opened opened section.Project = opened.project
+has_opened opened section.System = opened.system
+has_opened opened section.Sequence = opened.sequence
+has_opened opened section.TrackList = opened.track_list
+has_opened opened section.SourceIndex = opened.source_index
+has_opened opened section.EventList = opened.event_list
+has_opened opened section.Skipped = false
+has_opened opened section.Unsupported = false
+
+abbrev pub with_opened : Opened → Section → Opened
+with_opened opened section.Version = record opened { version = true }
+with_opened opened section.Project = record opened { project = true }
+with_opened opened section.System = record opened { system = true }
+with_opened opened section.Sequence = record opened { sequence = true }
+with_opened opened section.TrackList = record opened { track_list = true }
+with_opened opened section.SourceIndex = record opened { source_index = true }
+with_opened opened section.EventList = record opened { event_list = true }
+with_opened opened section.Skipped = opened
+with_opened opened section.Unsupported = opened
+
+-- the section of this name begins; None: for a second time
+unfoldable pub opens : Outline → List ℕ → Option Outline
+opens o name = if has_opened o.opened (section_of name) then None else Some (record {
+  stage = stage.Inside (section_of name);
+  name = name;
+  opened = with_opened o.opened (section_of name);
+})
+
+-- a line that doesn't begin with `<` and is cut whole into tokens
+abbrev pub is_cut_whole : List ℕ → Bool
+is_cut_whole text = not (is_tag text) && is_ok (end_line text)
+
+-- a line that may stand in this section, whatever its fields say
+abbrev pub may_stand : Section → List ℕ → Bool
+may_stand section.Version text = true
+may_stand section.Project text = true
+may_stand section.System text = is_cut_whole text
+may_stand section.Sequence text = is_cut_whole text
+may_stand section.TrackList text = true
+may_stand section.SourceIndex text = is_cut_whole text
+may_stand section.EventList text = is_cut_whole text
+may_stand section.Skipped text = true
+may_stand section.Unsupported text = length (trimmed text) == 0
+
+-- a line before the list, one between its sections, and one inside a section; None: it can't stand there
+unfoldable pub passed_before : Outline → List ℕ → Option Outline
+passed_before o text =
+    if length text == 0 then Some o
+    else if is_list_begin text then Some (record o { stage = stage.Outside }) else None
+
+unfoldable pub passed_outside : Outline → List ℕ → Option Outline
+passed_outside o text =
+    if length text == 0 then Some o
+    else if is_end (codes "ADL") text then Some (record o { stage = stage.Behind })
+    else option_and_then (opens o) (opened_name text)
+
+unfoldable pub passed_inside : Outline → Section → List ℕ → Option Outline
+passed_inside o section text =
+    if is_end o.name (trimmed text) then Some (record o { stage = stage.Outside })
+    else if may_stand section text then Some o else None
+
+unfoldable pub passed : Outline → List ℕ → Option Outline
+passed o text = at_stage o.stage where
+  at_stage : Stage → Option Outline
+  at_stage stage.Before = passed_before o (trimmed text)
+  at_stage stage.Outside = passed_outside o (trimmed text)
+  at_stage (stage.Inside section) = passed_inside o section text
+  at_stage stage.Behind = None
+
+-- the next token of a line and what follows; None: there is none, or it is broken
+abbrev pub whole_token : List ℕ → Option (TokenText × List ℕ)
+whole_token line = of_token (token_at line) where
+  of_token : Result (Option (TokenText × List ℕ)) TextFault → Option (TokenText × List ℕ)
+  of_token (Err fault) = None
+  of_token (Ok next) = next
+
+-- the rate that a line tells behind `(SEQ_FRAME_RATE)`
+unfoldable pub rate_of_line : List ℕ → Option ℕ
+rate_of_line line = option_and_then of_keyword (whole_token line) where
+  of_keyword : TokenText × List ℕ → Option ℕ
+  of_keyword (token, rest) = if is_keyword (codes "SEQ_FRAME_RATE") token
+      then option_and_then (λ next. told_rate next.0.content) (whole_token rest) else None
+
+-- the line stands in SEQUENCE
+abbrev pub is_in_sequence : Outline → List ℕ → Bool
+is_in_sequence o text = at_stage o.stage where
+  of_section : Section → Bool
+  of_section section.Version = false
+  of_section section.Project = false
+  of_section section.System = false
+  of_section section.Sequence = not (is_end o.name (trimmed text))
+  of_section section.TrackList = false
+  of_section section.SourceIndex = false
+  of_section section.EventList = false
+  of_section section.Skipped = false
+  of_section section.Unsupported = false
+
+  at_stage : Stage → Bool
+  at_stage stage.Before = false
+  at_stage stage.Outside = false
+  at_stage (stage.Inside section) = of_section section
+  at_stage stage.Behind = false
+
+abbrev pub rate_in : Outline → List ℕ → Option ℕ
+rate_in o text = if is_in_sequence o text then rate_of_line text else None
+
+-- The rate of these lines: the first one that a line of SEQUENCE tells. It is 25 where none does, or where a line before
+-- it can't stand where it stands.
+unfoldable pub rate_from : Outline → List (List ℕ) → ℕ
+rate_from o [] = 25
+rate_from o (text ∷ lines) = elim (rate_in o text) [
+  | Some rate ↦ rate
+  | None ↦ elim (passed o text) [ Some next ↦ rate_from next lines | None ↦ 25 ]
+]
+
+-- the rate of frames of a text
+unfoldable pub rate_of : List ℕ → ℕ
+rate_of text = rate_from nothing_passed (lines_of text)
+
+-- ---- the text
+
+-- the project that the text spells at its rate, or the refusal of its first fault
 unfoldable pub text_value : List ℕ → Result ListProject Refusal
-text_value text = err_map text_refusal (read_from 25 nothing_read 0 (lines_of text))
-
--- the leftmost fault of a line in its context, and the context behind a line without one
-abbrev pub line_fault : Context → ℕ → List ℕ → Option LocatedFault
-line_fault c line text = of_reading (with_line 25 c line text) where
-  of_reading : Result Context LocatedFault → Option LocatedFault
-  of_reading (Ok next) = None
-  of_reading (Err fault) = Some fault
-
-abbrev pub context_after : Context → ℕ → List ℕ → Context
-context_after c line text = of_reading (with_line 25 c line text) where
-  of_reading : Result Context LocatedFault → Context
-  of_reading (Ok next) = next
-  of_reading (Err fault) = c
+text_value text = err_map text_refusal (read_from (rate_of text) nothing_read 0 (lines_of text))

@@ -1,6 +1,7 @@
 -- What holds of every project that a list spells.
 use Rattle.std.specs.Prelude.{◌≡◌, ℕ, ◌+◌, ◌-◌, ◌≤◌, ◌==◌, ◌&&◌, not, nat_le, Bool, true, false, List, [], ◌∷◌, length, map, Option, None, Some, Result, Ok, Err, is_ok, is_some, unwrap_or, bytes_eq, codes, IsTrue}
 use Rattle.std.specs.List.{list_all, IsDistinct}
+use Rattle.sampletime.specs.FrameRate.{is_rate}
 use Rattle.sampletime.specs.TimeCode.{are_separators, day, default_separators}
 use Rattle.sound_terms.specs.declared.Channels.{Channels}
 use Rattle.sound_terms.specs.declared.Event.{Event}
@@ -118,31 +119,32 @@ abbrev pub both_rates : Rates
 both_rates = record { sample_rate = true; frame_rate = true }
 
 -- a line of SYSTEM that says nothing which isn't supported
-abbrev pub is_system_line : List ℕ → Bool
-is_system_line text = not (is_tag text) && is_ok (system_line 25 text)
+abbrev pub is_system_line : ℕ → List ℕ → Bool
+is_system_line rate text = not (is_tag text) && is_ok (system_line rate text)
 
 -- the rates that lines of SEQUENCE tell behind others, where none is at fault
-abbrev pub told_rates : Rates → List (List ℕ) → Result Rates TextFault
-told_rates rates [] = Ok rates
-told_rates rates (text ∷ lines) = sequence_rates rates text >>= (λ told. told_rates told lines)
+abbrev pub told_rates : ℕ → Rates → List (List ℕ) → Result Rates TextFault
+told_rates rate rates [] = Ok rates
+told_rates rate rates (text ∷ lines) = sequence_rates rate rates text >>= (λ told. told_rates rate told lines)
 
--- the kept lines of a header: at most 65535, none of which ends its section; SEQUENCE tells both rates
-pub record IsHeader (header : Header) : Type 0 where
+-- the kept lines of a header: at most 65535, none of which ends its section; SEQUENCE tells both rates, and no other
+-- rate of frames than this one
+pub record IsHeader (rate : ℕ) (header : Header) : Type 0 where
   pub version : IsTrue (are_kept (codes "VERSION") header.version)
   pub project : IsTrue (are_kept (codes "PROJECT") header.project)
   pub system : IsTrue (are_kept (codes "SYSTEM") header.system)
   pub sequence : IsTrue (are_kept (codes "SEQUENCE") header.sequence)
   pub track_list : IsTrue (are_kept (codes "TRACKLIST") header.track_list)
-  pub settings : IsTrue (list_all is_system_line (lines_of_section header.system))
-  pub rates : told_rates no_rates (lines_of_section header.sequence) ≡ Ok both_rates
+  pub settings : IsTrue (list_all (is_system_line rate) (lines_of_section header.system))
+  pub rates : told_rates rate no_rates (lines_of_section header.sequence) ≡ Ok both_rates
   pub few : line_count header ≤ 65535
 
 -- ---- the whole project
 
--- a project that some list spells, at 25 frames a second
+-- a project that some list spells, at one of the three rates of frames
 pub record IsProject (project : ListProject) : Type 0 where
-  pub header : IsHeader project.header
-  pub rate : project.rate ≡ 25
+  pub header : IsHeader project.rate project.header
+  pub rate : IsTrue (is_rate project.rate)
   pub sources : AreSources project.sources
   pub events : AreEvents project.events
   pub separators : IsTrue (are_separators project.separators)

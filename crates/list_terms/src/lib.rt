@@ -57,6 +57,18 @@ pub struct Rates {
     pub frame_rate: bool,
 }
 
+/// Which of the seven sections of a list were opened.
+#[derive(Clone, Copy, Debug, PartialEq, Eq)]
+pub struct Opened {
+    pub version: bool,
+    pub project: bool,
+    pub system: bool,
+    pub sequence: bool,
+    pub track_list: bool,
+    pub source_index: bool,
+    pub event_list: bool,
+}
+
 /// What is wrong with the text of a list.
 #[derive(Clone, Copy, Debug, PartialEq, Eq)]
 pub enum TextFault {

@@ -1,2 +1,3 @@
-mod Filling
+mod Located
+mod Medium
 mod Zeros

@@ -1,23 +1,18 @@
-// Why a medium isn't written.
+// Why a piece isn't copied.
 ghost use Rattle.std.specs.Prelude.{◌≡◌};
 ghost use Rattle.mediacopy.specs.Fault.{number_of};
 
-use shelf::DeviceFault;
-use std::alloc::AllocError;
 use thiserror::Error;
 
-/// Why a medium isn't written. What is written of it is unfinished.
+/// Why a piece isn't copied: a device failed.
 #[derive(Clone, Copy, Debug, PartialEq, Eq, Error)]
 pub enum CopyFault {
     /// 22
     #[error("the source can't be read")]
     Source,
-    /// 62
+    /// 62: what is written of the medium is unfinished.
     #[error("the medium can't be written")]
     Output,
-    /// 63
-    #[error("out of memory")]
-    Memory,
 }
 
 impl CopyFault {
@@ -28,29 +23,6 @@ impl CopyFault {
         match self {
             CopyFault::Source => 22,
             CopyFault::Output => 62,
-            CopyFault::Memory => 63,
         }
-    }
-}
-
-impl From<DeviceFault> for CopyFault {
-    ghost use Rattle.std.specs.Prelude.{◌≡◌};
-    ghost use Rattle.mediacopy.specs.declared.fault.CopyFault.TheVariants.{Output};
-
-    ghost from_gives = { λ _ fault. fault ≡ Output };
-
-    fn from(_: DeviceFault) -> Self {
-        CopyFault::Output
-    }
-}
-
-impl From<AllocError> for CopyFault {
-    ghost use Rattle.std.specs.Prelude.{◌≡◌};
-    ghost use Rattle.mediacopy.specs.declared.fault.CopyFault.TheVariants.{Memory};
-
-    ghost from_gives = { λ _ fault. fault ≡ Memory };
-
-    fn from(_: AllocError) -> Self {
-        CopyFault::Memory
     }
 }

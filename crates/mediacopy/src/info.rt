@@ -1,14 +1,13 @@
 // What a medium tells of itself.
-ghost use Rattle.std.specs.Prelude.{◌≡◌, ◌+◌, ◌^◌, ◌<◌, ◌↔◌, ℕ, IsTrue, IfOk, OnErr, Err, unwrap_or, option_map};
+ghost use Rattle.std.specs.Prelude.{◌≡◌, ◌+◌, ◌^◌, ◌<◌, ◌≤◌, ◌↔◌, ℕ, List, IsTrue, length, unwrap_or, option_map};
 ghost use Rattle.sound_terms.specs.Media.{medium_info};
-ghost use Rattle.sound_terms.specs.Waves.{zeros};
+ghost use Rattle.sound_terms.specs.Waves.{data_place, header_of, zeros};
 ghost use Rattle.wavwrite.specs.Info.{Fits};
+ghost use Rattle.mediacopy.specs.Copied.{HasFrames, IsMedium};
 
-use crate::CopyFault;
 use sound_terms::{Bext, Run};
-use std::alloc::Global;
 use wavread::Sound;
-use wavwrite::{SoundInfo, fits_with};
+use wavwrite::SoundInfoRef;
 
 /// The texts of a source, zeros where it has none, under this time reference.
 #[tactic(auto, unfolding(sound_terms::specs::Waves::zeros))]
@@ -30,27 +29,26 @@ fn bext_at(bext: &Option<Bext>, time_reference: u64) -> Bext
 
 /// What the medium of a run tells of itself: the channels, the depth, the texts and the CodingHistory of its source,
 /// and the time of the run's first frame, where the source's first frame stands at `base`.
-pub fn info_of(alloc: Global, sound: &Sound, base: u64, run: &Run) -> Result<SoundInfo, CopyFault>
+pub fn info_of<'a>(sound: &'a Sound, base: u64, run: &Run) -> SoundInfoRef<'a>
     requires { base + run.now.first < 2 ^ 64 }
-    ensures info { IfOk result (λ info. info ≡ medium_info sound.now base run.now) }
-    ensures only_memory { OnErr result (result ≡ Err CopyFault.Memory) }
+    ensures { result ≡ medium_info sound.now base run.now }
 {
-    let _ = sound.channels();
+    let channels = sound.channels();
     let bext = bext_at(sound.bext(), base + run.first);
-    let history = Vec::from_slice(alloc, sound.history())?;
-    SoundInfo::new(sound.channels(), sound.depth(), run.length, bext, history).ok_or(
-        CopyFault::Memory,
-    )
+    SoundInfoRef::over(channels, sound.depth(), run.length, bext, sound.history())
 }
 
-/// Whether the size fields of RIFF can tell the length of the medium of a run.
-pub fn fits(sound: &Sound, run: &Run) -> bool
-    ensures { (base : ℕ) → IsTrue result ↔ Fits (medium_info sound.now base run.now) }
+/// What the medium of a run is read as: 64 bits can tell its length, and of a source that has all of its frames it reads
+/// back and has the samples of the run. It does nothing.
+pub fn reads_back(sound: &Sound, base: u64, run: &Run)
+    requires in_day { base + run.now.first < 2 ^ 64 }
+    requires short { run.now.length < 2 ^ 48 }
+    ensures fits { Fits (medium_info sound.now base run.now) }
+    ensures medium { run.now.first + run.now.length ≤ sound.now.frames
+        → (source : List ℕ) → HasFrames sound.now source → IsMedium sound.now source base run.now }
+    ensures head { length (header_of (medium_info sound.now base run.now))
+        ≡ data_place (medium_info sound.now base run.now) }
 {
-    fits_with(
-        sound.channels(),
-        sound.depth(),
-        run.length,
-        sound.history().len(),
-    )
+    let info = info_of(sound, base, run);
+    info.reads_back();
 }

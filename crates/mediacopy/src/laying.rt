@@ -1,14 +1,12 @@
 // Lays media out at their full length.
-ghost use Rattle.std.specs.Prelude.{◌≡◌, ◌≢◌, ◌++◌, ◌≤◌, ◌-◌, List, Some, ⊤, ℕ, IsTrue, OnOk};
-ghost use Rattle.sound_terms.specs.Waves.{zeros};
+ghost use Rattle.std.specs.Prelude.{◌≡◌, ◌≢◌, ◌++◌, ◌≤◌, ◌-◌, List, Some, ⊤, ℕ, IsTrue, OnOk, length};
+ghost use Rattle.sound_terms.specs.Waves.{data_place, zeros};
 ghost use Rattle.shelf.specs.Frame.{OnlyWrites};
 ghost use Rattle.wavwrite.specs.Info.{Fits};
 ghost use Rattle.mediacopy.specs.Copied.{laid_out};
 
-use crate::CopyFault;
 use shelf::{Bench, DeviceFault};
-use std::alloc::Global;
-use wavwrite::{SoundInfo, data_length, header};
+use wavwrite::SoundInfoRef;
 
 /// Adds so many zeros at the end of a file.
 fn append_zeros<B: Bench>(bench: &mut B, name: &str, count: u64) -> Result<(), DeviceFault>
@@ -27,25 +25,24 @@ fn append_zeros<B: Bench>(bench: &mut B, name: &str, count: u64) -> Result<(), D
     Ok(())
 }
 
-/// Makes the file of this header with every sample zero. `Output` where its device failed, `Memory` where no memory was
-/// left.
+/// Makes the file of this header with every sample zero. The header is made in `room`, which is long enough for it, so
+/// this takes no memory.
 pub fn lay_out<B: Bench>(
-    alloc: Global,
     bench: &mut B,
     name: &str,
-    info: &SoundInfo,
-) -> Result<(), CopyFault>
-    requires { Fits info.now }
+    info: &SoundInfoRef,
+    room: &mut [u8],
+) -> Result<(), DeviceFault>
+    requires fits { Fits info.now }
+    requires room { data_place info.now ≤ length room.old }
     ensures laid { IsTrue (B.honest bench.old) → OnOk result (B.stored bench.new name.now ≡ Some (laid_out info.now)) }
-    ensures only_writes { OnlyWrites B.Bench (λ n. n ≢ name.now) bench.old bench.new result
-        (λ fault. fault ≡ CopyFault.Output) (λ _ failed. failed name.now) }
+    ensures only_writes { OnlyWrites B.Bench (λ n. n ≢ name.now) bench.old bench.new result (λ _. ⊤)
+        (λ _ failed. failed name.now) }
 {
-    let Ok(head) = header(alloc, info) else {
-        return Err(CopyFault::Memory);
-    };
+    let head = &mut room[..info.header_length()];
+    info.put_header(head);
     bench.create(name)?;
-    bench.append(name, &head)?;
-    let size = data_length(info);
-    append_zeros(bench, name, size + size % 2)?;
-    Ok(())
+    bench.append(name, head)?;
+    let size = info.data_length();
+    append_zeros(bench, name, size + size % 2)
 }

@@ -1,2 +1,3 @@
+mod MoreTold
 mod Told
 mod Turns

@@ -2,13 +2,14 @@
 use Rattle.std.proofs.Common.{◌≡◌, ℕ, true, List, ◌⊎◌, Some, Ok, sym, ap, ◌∙◌, ⊎_elim, inl, inr}
 use Rattle.std.specs.Prelude.{Contains, slice_get}
 use Rattle.std.proofs.lemmas.Option.{get_or_from_slice_get, slice_get_within}
+use Rattle.work_terms.specs.Disk.{Files}
 use Rattle.list_terms.specs.Binding.{is_used}
 use Rattle.list_terms.specs.Project.{ListProject, Source}
 use Rattle.list_terms.specs.Text.{text_value}
 use Rattle.riff.specs.declared.fault.MediaFault.{MediaFault}
 use Rattle.riff.specs.declared.fault.MediaFault.TheVariants.{Memory}
 use Rattle.sourceindex.specs.Own.{IsSourceAt}
-use Rattle.opening.specs.Own.{IsOfBinding, IsOfOpening}
+use Rattle.opening.specs.Own.{ComesFirst, IsFirst, IsOfBinding, IsOfOpening}
 use Rattle.opening.specs.declared.fault.Fault.{Fault}
 use Rattle.opening.specs.declared.fault.Fault.TheVariants as fault
 
@@ -34,3 +35,10 @@ opening_own text project (fault.List list) spelt of = tt
 opening_own text project (fault.Entry entry) spelt of = tt
 opening_own text project (fault.SameName index) spelt of = (project, spelt, of)
 opening_own text project (fault.Media source media) spelt of = (project, spelt, of)
+
+pub opening_first : (text : List ℕ) (files : Files) (project : ListProject) (told : Fault) → text_value text ≡ Ok project
+    → ComesFirst project files told → IsFirst text files told
+opening_first text files project (fault.List list) spelt first = tt
+opening_first text files project (fault.Entry entry) spelt first = tt
+opening_first text files project (fault.SameName index) spelt first = tt
+opening_first text files project (fault.Media source media) spelt first = (project, spelt, first)

@@ -1,3 +1,5 @@
 pub mod Commands
 pub mod Faults
+pub mod Further
 pub mod Own
+pub mod Paths

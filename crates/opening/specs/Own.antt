@@ -1,7 +1,9 @@
 -- Which faults opening a list may tell.
-use Rattle.std.specs.Prelude.{◌≡◌, ℕ, true, List, Contains, Ok, ◌⊎◌}
+use Rattle.std.specs.Prelude.{◌≡◌, ℕ, true, List, Contains, Ok, Some, ◌⊎◌, slice_get, take}
 use Rattle.list_terms.specs.Project.{ListProject}
-use Rattle.list_terms.specs.Binding.{is_used}
+use Rattle.work_terms.specs.Disk.{Files}
+use Rattle.list_terms.specs.Binding.{Binding, is_used, nothing_bound}
+use Rattle.list_terms.specs.Bound.{with_sources}
 use Rattle.list_terms.specs.Text.{text_value}
 use Rattle.riff.specs.declared.fault.MediaFault.TheVariants.{Memory}
 use Rattle.opening.specs.declared.fault.Fault.{Fault}
@@ -26,3 +28,16 @@ IsOfOpening text (fault.SameName index) = OfText text (λ project. is_used proje
 IsOfOpening text (fault.Media source fault) =
     OfText text (λ project. Contains project.sources source
     × ((is_used project.events source.number ≡ true) ⊎ (fault ≡ Memory)))
+
+-- no index before the one whose file is told is at fault
+abbrev pub ComesFirst : ListProject → Files → Fault → Type 0
+ComesFirst project files (fault.Media source media) =
+    (place : ℕ) × (slice_get project.sources place ≡ Some source)
+    × ((binding : Binding) × (with_sources files project.events nothing_bound (take place project.sources) ≡ Ok binding))
+ComesFirst project files _ = Unit {0}
+
+-- so it is in the project whose text this is
+abbrev pub IsFirst : List ℕ → Files → Fault → Type 0
+IsFirst text files (fault.Media source media) =
+    OfText text (λ project. ComesFirst project files (fault.Media source media))
+IsFirst text files _ = Unit {0}

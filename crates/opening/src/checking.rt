@@ -4,7 +4,7 @@ ghost use Rattle.work_terms.specs.Refusals.{Answers};
 ghost use Rattle.list_terms.specs.Heard.{project_fault};
 ghost use Rattle.opening.specs.Commands.{ReadsSources, RefusesBadText, Reports};
 ghost use Rattle.opening.specs.Faults.{refusal_of};
-ghost use Rattle.opening.specs.Own.{IsOfOpening};
+ghost use Rattle.opening.specs.Own.{IsFirst, IsOfOpening};
 
 use crate::Fault;
 use crate::open::open_project;
@@ -39,6 +39,7 @@ pub fn check_project<S: Shelf>(alloc: Global, list: &[u8], shelf: &mut S) -> Res
     ensures report { IsTrue (S.honest shelf.old) → IfOk result (Reports list.now (S.stored shelf.old)) }
     ensures bad_text { RefusesBadText list.now result }
     ensures own { IfErr result (IsOfOpening list.now) }
+    ensures in_turn { IsTrue (S.honest shelf.old) → IfErr result (IsFirst list.now (S.stored shelf.old)) }
     ensures only_reads { ReadsSources S.Shelf shelf.old shelf.new result }
 {
     let checked = open_project(alloc, list, shelf)?;

@@ -1,15 +1,17 @@
 // Opens the project of a list.
 ghost use Rattle.std.specs.Prelude.{◌≡◌, ◌≤◌, Err, Ok, false, IsTrue, IfOk, IfErr, MatchBool, ⊤};
+ghost use Rattle.work_terms.specs.Disk.{Files};
 ghost use Rattle.work_terms.specs.Refusals.{Answers, is_excused, turn_of};
 ghost use Rattle.list_terms.specs.Bound.{binding_of};
 ghost use Rattle.list_terms.specs.Heard.{IsAccepted, project_fault};
 ghost use Rattle.list_terms.specs.Text.{text_value};
 ghost use Rattle.adlread.specs.Spells.{Spells};
 ghost use Rattle.sourceindex.specs.Fault as binding;
+ghost use Rattle.sourceindex.specs.Own as binding_own;
 ghost use Rattle.sourceindex.specs.Own.{IsOfProject};
 ghost use Rattle.opening.specs.Commands.{ReadsSources, RefusesBadText};
 ghost use Rattle.opening.specs.Faults.{refusal_of};
-ghost use Rattle.opening.specs.Own.{IsOfBinding, IsOfOpening};
+ghost use Rattle.opening.specs.Own.{ComesFirst, IsFirst, IsOfBinding, IsOfOpening};
 
 use crate::Fault;
 use adlmodel::Project;
@@ -28,6 +30,7 @@ fn read_list(alloc: Global, list: &[u8]) -> Result<Project, Fault>
     ensures first { IfErr result (λ fault. (refusal_of fault).number ≤ 18) }
     ensures early { IfErr result (λ fault. (refusal_of fault).late ≡ false) }
     ensures own { IfErr result (IsOfOpening list.now) }
+    ensures in_turn { (files : Files) → IfErr result (IsFirst list.now files) }
 {
     match read(alloc, list) {
         Ok(project) => Ok(project),
@@ -40,6 +43,7 @@ fn told_of(project: Project, fault: BindFault) -> Fault
     requires { IsOfProject project fault }
     ensures refusal { refusal_of result ≡ binding.refusal_of project.sources fault }
     ensures own { IsOfBinding project result }
+    ensures in_turn { (files : Files) → binding_own.ComesFirst project files fault → ComesFirst project files result }
 {
     match fault {
         BindFault::SameName { index } => Fault::SameName { index },
@@ -68,6 +72,7 @@ fn bind_project<S: Shelf>(
         (binding_of project (S.stored shelf.old) ≡ Err (refusal_of fault))) }
     ensures second { IfErr result (λ fault. turn_of (refusal_of fault) ≡ 2) }
     ensures own { IfErr result (IsOfBinding project) }
+    ensures in_turn { IsTrue (S.honest shelf.old) → IfErr result (ComesFirst project (S.stored shelf.old)) }
     ensures only_reads { ReadsSources S.Shelf shelf.old shelf.new result }
 {
     match bind(alloc, &project, shelf) {
@@ -87,6 +92,7 @@ pub fn open_project<S: Shelf>(alloc: Global, list: &[u8], shelf: &mut S) -> Resu
         → Answers refusal_of result (project_fault list.now (S.stored shelf.old)) }
     ensures bad_text { RefusesBadText list.now result }
     ensures own { IfErr result (IsOfOpening list.now) }
+    ensures in_turn { IsTrue (S.honest shelf.old) → IfErr result (IsFirst list.now (S.stored shelf.old)) }
     ensures only_reads { ReadsSources S.Shelf shelf.old shelf.new result }
 {
     let project = read_list(alloc, list)?;

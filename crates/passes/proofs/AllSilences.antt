@@ -1,13 +1,12 @@
--- The silences of groups are those of their pieces, and what is called silent is so.
+-- The silences of groups are those of their pieces.
 use Rattle.std.proofs.Common.{◌≡◌, ◌∙◌, List, [], ◌∷◌, ◌++◌, refl, sym, ap}
 use Rattle.std.specs.Prelude.{Bool}
 use Rattle.std.specs.List.{flat_map}
 use Rattle.sound_terms.specs.declared.piece.Piece.{Piece}
 use Rattle.sound_terms.specs.Mix.{Reading}
-use Rattle.sound_terms.specs.Groups.{Agrees, pieces_of}
+use Rattle.sound_terms.specs.Groups.{pieces_of}
 use Rattle.sound_terms.specs.Passes.{silences}
 use Rattle.passes.specs.Silent.{is_silent_in, silences_of}
-use Rattle.passes.specs.Laws.{silent_is}
 
 silences-append : (r : Reading) (a b : List Piece) → silences_of r (a ++ b) ≡ silences_of r a ++ silences_of r b
 silences-append r [] b = refl
@@ -18,11 +17,3 @@ all_silences r [] = refl
 all_silences r (group ∷ groups) =
     ap (λ (rest : List Bool). silences_of r group ++ rest) (all_silences r groups)
     ∙ sym (silences-append r group (pieces_of groups))
-
--- the reading agrees with what it calls silent
-agrees_with : (r : Reading) (pieces : List Piece) → Agrees r pieces (silences_of r pieces)
-agrees_with r [] = tt
-agrees_with r (p ∷ ps) = ((silent_is r p).0, agrees_with r ps)
-
-pub agrees : (r : Reading) (groups : List (List Piece)) → Agrees r (pieces_of groups) (silences r groups)
-agrees r groups = agrees_with r (pieces_of groups)

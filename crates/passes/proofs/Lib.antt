@@ -8,3 +8,4 @@ pub mod Longer
 pub mod Kept
 pub mod JoinedCuts
 pub mod Regrouped
+pub mod Sounding

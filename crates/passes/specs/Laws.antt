@@ -1,14 +1,14 @@
--- A piece is called silent exactly where it is.
+-- A piece is called silent exactly where it is, and a reading agrees with what it calls silent.
 use Rattle.std.proofs.Common.{◌≡◌, ℕ, zero, suc, ◌+◌, ◌<◌, true, arith, refl}
-use Rattle.std.specs.Prelude.{ℤ, pos, ◌↔◌}
+use Rattle.std.specs.Prelude.{ℤ, pos, ◌↔◌, List, [], ◌∷◌}
 use Rattle.std.specs.Ordering.{int_eq}
 use Rattle.std.proofs.lemmas.Bool.{and_parts}
 use Rattle.std.proofs.lemmas.Int.{ints}
 use Rattle.sound_terms.specs.declared.piece.Piece.{Piece}
 use Rattle.sound_terms.specs.Mix.{Reading}
-use Rattle.sound_terms.specs.Groups.{IsSilent}
-use Rattle.sound_terms.specs.Passes.{are_zero, is_zero_channel}
-use Rattle.passes.specs.Silent.{is_silent_in}
+use Rattle.sound_terms.specs.Groups.{Agrees, IsSilent, pieces_of}
+use Rattle.sound_terms.specs.Passes.{are_zero, is_zero_channel, silences}
+use Rattle.passes.specs.Silent.{is_silent_in, silences_of}
 
 is_zero : (z : ℤ) → int_eq z (pos 0) ≡ true → z ≡ pos 0
 is_zero z e = grind (arith, ints)
@@ -68,3 +68,16 @@ pub silent_is : (r : Reading) (p : Piece) → (is_silent_in r p ≡ true) ↔ Is
 silent_is r p =
     let is = zero_channels r p.file p.first p.width p.frame p.length in
     let called = called_channels r p.file p.first p.width p.frame p.length in (is, called)
+
+-- the reading agrees with what it calls silent
+agrees_with : (r : Reading) (pieces : List Piece) → Agrees r pieces (silences_of r pieces)
+agrees_with r [] = tt
+agrees_with r (p ∷ ps) = ((silent_is r p).0, agrees_with r ps)
+
+pub agrees : (r : Reading) (groups : List (List Piece)) → Agrees r (pieces_of groups) (silences r groups)
+agrees r groups = agrees_with r (pieces_of groups)
+
+-- what calls nothing silent agrees with every reading
+pub agrees_none : (r : Reading) (pieces : List Piece) → Agrees r pieces []
+agrees_none r [] = tt
+agrees_none r (p ∷ ps) = tt

@@ -4,3 +4,4 @@ pub mod Fault
 pub mod Laws
 pub mod Looks
 pub mod Silent
+pub mod Standard

@@ -2,7 +2,7 @@
 use Rattle.std.specs.Prelude.{ℕ, Bool, List, map, Result}
 use Rattle.sound_terms.specs.declared.piece.Piece.{Piece}
 use Rattle.sound_terms.specs.Mix.{Reading}
-use Rattle.sound_terms.specs.Passes.{are_zero, join_cuts, regroup, without_silent}
+use Rattle.sound_terms.specs.Passes.{are_zero}
 use Rattle.passes.specs.Looks.{IsLookedAt, LooksTo}
 use Rattle.passes.specs.declared.samples.Samples as samples
 use Rattle.passes.specs.declared.fault.PassFault.{PassFault}
@@ -14,10 +14,6 @@ is_silent_in reading p = are_zero reading p.file p.first p.width p.frame p.lengt
 
 abbrev pub silences_of : Reading → List Piece → List Bool
 silences_of reading pieces = map (is_silent_in reading) pieces
-
--- what is left of groups of which these pieces are called silent: joined, and grouped again
-abbrev pub joined_anew : List (List Piece) → List Bool → List (List Piece)
-joined_anew groups silent = regroup (join_cuts (without_silent groups silent))
 
 -- 52: the samples of a file couldn't be read
 abbrev pub IsDevice : PassFault → Type 0

@@ -1,19 +1,16 @@
 // Pieces that continue one another, as groups again.
-ghost use Rattle.std.specs.Prelude.{◌≡◌, ℕ, map, IfOk, IfErr, OnOk, Some};
-ghost use Rattle.sound_terms.specs.Mix.{Reading};
-ghost use Rattle.sound_terms.specs.Groups.{are_whole, mix_of, reads};
+ghost use Rattle.std.specs.Prelude.{◌≡◌, false, map, IfOk, OnOk, Some};
 ghost use Rattle.sound_terms.specs.Passes as spec;
 ghost use Rattle.passes.specs.Ends as ends;
 ghost use Rattle.passes.specs.Ends.{IsFirst, follows, group_end, group_follows};
-ghost use Rattle.passes.specs.declared.fault.PassFault.TheVariants.{Memory};
 
-use crate::PassFault;
 use crate::ends::{End, FLAT, RISE};
 use crate::marks::Marks;
 use crate::output::Output;
 use crate::waiting::Waiting;
+use crate::{Pass, PassFault};
 use interval::{Group, Intervals, Piece, Shape};
-use std::alloc::AllocError;
+use std::alloc::{AllocError, Global};
 
 /// The first of two places, where there are any.
 fn earlier(one: Option<usize>, other: Option<usize>) -> Option<usize>
@@ -103,15 +100,25 @@ fn grouped(intervals: Intervals) -> Result<Vec<Group>, AllocError>
 
 /// Puts a rise, a flat part and a fall that continue one another into one group again: each group is added to the end
 /// of the first one that it may follow, so that a file is written for all of them together.
-pub fn regroup(intervals: Intervals) -> Result<Intervals, PassFault>
-    ensures gives { IfOk result (λ new. new ≡ spec.regroup intervals) }
-    ensures keeps_mix { (reading : Reading) (channel time : ℕ)
-        → IfOk result (λ new. mix_of reading new channel time ≡ mix_of reading intervals channel time) }
-    ensures keeps_whole { IfOk result (λ new. are_whole new ≡ are_whole intervals) }
-    ensures same_reads { (file channel frame : ℕ)
-        → IfOk result (λ new. reads new file channel frame ≡ reads intervals file channel frame) }
-    ensures memory { IfErr result (λ fault. fault ≡ Memory) }
-{
-    let _ = intervals.groups();
-    Ok(Intervals::of(grouped(intervals)?))
+#[derive(Debug, Drop)]
+pub struct Regroup;
+
+impl Pass for Regroup {
+    ghost gives = { λ _ groups _. spec.regroup groups };
+
+    ghost looking = { λ _. false };
+
+    fn looks(&self) -> bool {
+        false
+    }
+
+    fn apply(
+        &mut self,
+        _alloc: Global,
+        intervals: Intervals,
+        _silent: &[bool],
+    ) -> Result<Intervals, PassFault> {
+        let _ = intervals.groups();
+        Ok(Intervals::of(grouped(intervals)?))
+    }
 }

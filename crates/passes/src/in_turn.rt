@@ -1,42 +1,41 @@
-// The standard passes, one after the other.
-ghost use Rattle.std.specs.Prelude.{◌≡◌, ℕ, IsTrue, IfErr, IfOk};
-ghost use Rattle.sound_terms.specs.Mix.{Reading};
-ghost use Rattle.sound_terms.specs.Groups.{are_whole, mix_of, reads};
-ghost use Rattle.sound_terms.specs.Passes.{silences, standard_groups};
-ghost use Rattle.passes.specs.Silent.{AsksFor, joined_anew as joined_groups};
+// Passes, one after the other.
+ghost use Rattle.std.specs.Prelude.{◌≡◌, ℕ, [], IsTrue, IfErr, IfOk, if◌then◌else◌};
+ghost use Rattle.sound_terms.specs.Groups.{SameMix, are_whole, mix_of, reads};
+ghost use Rattle.sound_terms.specs.Passes.{in_turn, silences, standard_groups};
+ghost use Rattle.passes.specs.Silent.{AsksFor};
+ghost use Rattle.passes.specs.Standard.{AreStandard, reads_sounding};
 ghost use Rattle.passes.specs.declared.fault.PassFault.TheVariants.{Memory};
 
-use crate::{PassFault, Samples, drop_silent, join_cuts, regroup, silent_of, split_fades};
+use crate::{Pass, PassFault, Samples, silent_of};
 use interval::Intervals;
 use std::alloc::Global;
 
-/// What is left of pieces that stand alone: without the groups that are called silent, joined, and grouped again.
-/// `silent` answers for the pieces in order, as for `drop_silent`.
-pub fn joined_anew(split: Intervals, silent: &[bool]) -> Result<Intervals, PassFault>
-    ensures gives { IfOk result (λ new. new ≡ joined_groups split silent.now) }
-    ensures keeps_mix { (reading : Reading) → silent.now ≡ silences reading split → (channel time : ℕ)
-        → IfOk result (λ new. mix_of reading new channel time ≡ mix_of reading split channel time) }
-    ensures keeps_whole { IfOk result (λ new. IsTrue (are_whole split) → IsTrue (are_whole new)) }
+/// Applies a pass, which is dropped then.
+pub fn turn(
+    alloc: Global,
+    mut pass: Box<dyn Pass>,
+    intervals: Intervals,
+    silent: &[bool],
+) -> Result<Intervals, PassFault>
+    ensures given { IfOk result (λ new. new ≡ gives pass intervals silent.now) }
+    ensures keeps_mix { IfOk result (λ new. SameMix intervals silent.now new) }
+    ensures keeps_whole { IfOk result (λ new. IsTrue (are_whole intervals) → IsTrue (are_whole new)) }
     ensures reads_no_more { (file channel frame : ℕ)
-        → IfOk result (λ new. IsTrue (reads new file channel frame) → IsTrue (reads split file channel frame)) }
+        → IfOk result (λ new. IsTrue (reads new file channel frame) → IsTrue (reads intervals file channel frame)) }
     ensures memory { IfErr result (λ fault. fault ≡ Memory) }
 {
-    let sounding = drop_silent(split, silent)?;
-    let joined = join_cuts(sounding)?;
-    let grouped = regroup(joined)?;
-    Ok(grouped)
+    pass.apply(alloc, intervals, silent)
 }
 
-/// What is left of the sound where each fade is a piece of its own, groups of silent pieces are left out, cuts are
-/// joined, and pieces that continue one another are groups again. Each piece is asked for once, after the fades are
-/// split.
-pub fn standard<P: Samples>(
+/// Asks what is silent where a pass looks, and applies it.
+fn asked<P: Samples>(
     alloc: Global,
+    pass: Box<dyn Pass>,
     intervals: Intervals,
     samples: &mut P,
 ) -> Result<Intervals, PassFault>
-    ensures gives { IsTrue (P.honest samples.old)
-        → IfOk result (λ new. new ≡ standard_groups (P.reading samples.old) intervals) }
+    ensures given { IsTrue (P.honest samples.old) → IfOk result (λ new.
+        new ≡ gives pass intervals (if looking pass then silences (P.reading samples.old) intervals else [])) }
     ensures keeps_mix { IsTrue (P.honest samples.old) → (channel time : ℕ)
         → IfOk result (λ new. mix_of (P.reading samples.old) new channel time
         ≡ mix_of (P.reading samples.old) intervals channel time) }
@@ -45,8 +44,42 @@ pub fn standard<P: Samples>(
         → IfOk result (λ new. IsTrue (reads new file channel frame) → IsTrue (reads intervals file channel frame)) }
     ensures looks { AsksFor P.Samples samples.old samples.new result }
 {
-    let split = split_fades(intervals)?;
-    let silent = silent_of(alloc, &split, samples)?;
-    let left = joined_anew(split, silent.as_slice())?;
+    if pass.looks() {
+        let silent = silent_of(alloc, &intervals, samples)?;
+        turn(alloc, pass, intervals, silent.as_slice())
+    } else {
+        turn(alloc, pass, intervals, &[])
+    }
+}
+
+/// What passes make of these groups, one after the other. What is silent is asked anew before each pass that looks, and
+/// a pass is dropped once it was applied.
+pub fn run<P: Samples>(
+    alloc: Global,
+    passes: Vec<Box<dyn Pass>>,
+    intervals: Intervals,
+    samples: &mut P,
+) -> Result<Intervals, PassFault>
+    ensures given { IsTrue (P.honest samples.old) → IfOk result (λ new.
+        new ≡ in_turn (λ pass. looking pass) (λ pass. gives pass) (silences (P.reading samples.old)) passes.items intervals) }
+    ensures keeps_mix { IsTrue (P.honest samples.old) → (channel time : ℕ)
+        → IfOk result (λ new. mix_of (P.reading samples.old) new channel time
+        ≡ mix_of (P.reading samples.old) intervals channel time) }
+    ensures standard { IsTrue (P.honest samples.old)
+        → AreStandard (λ pass. looking pass) (λ pass. gives pass) passes.items
+        → IfOk result (λ new. new ≡ standard_groups (P.reading samples.old) intervals) }
+    ensures sounding { IsTrue (P.honest samples.old)
+        → AreStandard (λ pass. looking pass) (λ pass. gives pass) passes.items → (file channel frame : ℕ)
+        → IfOk result (λ new. reads new file channel frame
+        ≡ reads_sounding (P.reading samples.old) intervals file channel frame) }
+    ensures keeps_whole { IfOk result (λ new. IsTrue (are_whole intervals) → IsTrue (are_whole new)) }
+    ensures reads_no_more { (file channel frame : ℕ)
+        → IfOk result (λ new. IsTrue (reads new file channel frame) → IsTrue (reads intervals file channel frame)) }
+    ensures looks { AsksFor P.Samples samples.old samples.new result }
+{
+    let mut left = intervals;
+    for pass in passes {
+        left = asked(alloc, pass, left, samples)?;
+    }
     Ok(left)
 }

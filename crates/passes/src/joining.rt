@@ -1,20 +1,18 @@
 // Flat pieces that go on without a gap, as one.
-ghost use Rattle.std.specs.Prelude.{◌≡◌, ◌∷◌, [], ℕ, map, IfOk, IfErr, OnOk};
+ghost use Rattle.std.specs.Prelude.{◌≡◌, ◌∷◌, [], false, map, IfOk, OnOk};
 ghost use Rattle.sound_terms.specs.declared.piece.Shape.TheVariants.{Flat};
-ghost use Rattle.sound_terms.specs.Mix.{Reading};
-ghost use Rattle.sound_terms.specs.Groups.{IsPiece, are_whole, mix_of, reads};
+ghost use Rattle.sound_terms.specs.Groups.{IsPiece};
 ghost use Rattle.sound_terms.specs.Passes as spec;
 ghost use Rattle.sound_terms.specs.Passes.{lengthened, put_to_first};
 ghost use Rattle.passes.specs.Ends as ends;
 ghost use Rattle.passes.specs.Ends.{IsFirst, end_before, flat_end, is_end};
-ghost use Rattle.passes.specs.declared.fault.PassFault.TheVariants.{Memory};
 
-use crate::PassFault;
 use crate::ends::{End, FLAT};
 use crate::output::Output;
 use crate::waiting::Waiting;
+use crate::{Pass, PassFault};
 use interval::{Group, Intervals, Piece, Shape};
-use std::alloc::AllocError;
+use std::alloc::{AllocError, Global};
 
 /// The piece of a group that is one flat piece.
 fn flat_alone(group: &Group) -> Option<Piece>
@@ -86,15 +84,25 @@ fn joined(intervals: Intervals) -> Result<Vec<Group>, AllocError>
 /// Joins flat pieces that go on without a gap, in destination and source, on the same channels of one file: a group of
 /// one flat piece lengthens the first such group that it goes on from, and every other group stays as it is. A cut that
 /// isn't heard is gone then.
-pub fn join_cuts(intervals: Intervals) -> Result<Intervals, PassFault>
-    ensures gives { IfOk result (λ new. new ≡ spec.join_cuts intervals) }
-    ensures keeps_mix { (reading : Reading) (channel time : ℕ)
-        → IfOk result (λ new. mix_of reading new channel time ≡ mix_of reading intervals channel time) }
-    ensures keeps_whole { IfOk result (λ new. are_whole new ≡ are_whole intervals) }
-    ensures same_reads { (file channel frame : ℕ)
-        → IfOk result (λ new. reads new file channel frame ≡ reads intervals file channel frame) }
-    ensures memory { IfErr result (λ fault. fault ≡ Memory) }
-{
-    let _ = intervals.groups();
-    Ok(Intervals::of(joined(intervals)?))
+#[derive(Debug, Drop)]
+pub struct JoinCuts;
+
+impl Pass for JoinCuts {
+    ghost gives = { λ _ groups _. spec.join_cuts groups };
+
+    ghost looking = { λ _. false };
+
+    fn looks(&self) -> bool {
+        false
+    }
+
+    fn apply(
+        &mut self,
+        _alloc: Global,
+        intervals: Intervals,
+        _silent: &[bool],
+    ) -> Result<Intervals, PassFault> {
+        let _ = intervals.groups();
+        Ok(Intervals::of(joined(intervals)?))
+    }
 }

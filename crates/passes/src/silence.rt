@@ -1,14 +1,12 @@
 // Groups without those that are silent.
-ghost use Rattle.std.specs.Prelude.{◌≡◌, ◌++◌, ℕ, IsTrue, IfOk, IfErr};
+ghost use Rattle.std.specs.Prelude.{◌≡◌, true, IfOk};
 ghost use Rattle.std.specs.List.{list_all};
-ghost use Rattle.sound_terms.specs.Groups.{SameMix, are_whole, reads};
 ghost use Rattle.sound_terms.specs.Passes as spec;
 ghost use Rattle.sound_terms.specs.Passes.{without_silent};
-ghost use Rattle.passes.specs.declared.fault.PassFault.TheVariants.{Memory};
 
-use crate::PassFault;
+use crate::{Pass, PassFault};
 use interval::{Group, Intervals};
-use std::alloc::AllocError;
+use std::alloc::{AllocError, Global};
 
 /// Whether each of these is true.
 fn are_true(flags: &[bool]) -> bool
@@ -40,16 +38,26 @@ fn sounding(intervals: Intervals, silent: &[bool]) -> Result<Vec<Group>, AllocEr
     Ok(sounding)
 }
 
-/// Leaves out each group of which every piece is called silent. `silent` answers for the pieces of all groups in order;
-/// what it doesn't reach is kept.
-pub fn drop_silent(intervals: Intervals, silent: &[bool]) -> Result<Intervals, PassFault>
-    ensures gives { IfOk result (λ new. new ≡ without_silent intervals silent.now) }
-    ensures keeps_mix { IfOk result (λ new. SameMix intervals silent.now new) }
-    ensures keeps_whole { IfOk result (λ new. IsTrue (are_whole intervals) → IsTrue (are_whole new)) }
-    ensures reads_no_more { (file channel frame : ℕ)
-        → IfOk result (λ new. IsTrue (reads new file channel frame) → IsTrue (reads intervals file channel frame)) }
-    ensures memory { IfErr result (λ fault. fault ≡ Memory) }
-{
-    let _ = intervals.groups();
-    Ok(Intervals::of(sounding(intervals, silent)?))
+/// Leaves out each group of which every piece is called silent. What isn't reached by `silent` is kept.
+#[derive(Debug, Drop)]
+pub struct DropSilent;
+
+impl Pass for DropSilent {
+    ghost gives = { λ _ groups silent. without_silent groups silent };
+
+    ghost looking = { λ _. true };
+
+    fn looks(&self) -> bool {
+        true
+    }
+
+    fn apply(
+        &mut self,
+        _alloc: Global,
+        intervals: Intervals,
+        silent: &[bool],
+    ) -> Result<Intervals, PassFault> {
+        let _ = intervals.groups();
+        Ok(Intervals::of(sounding(intervals, silent)?))
+    }
 }

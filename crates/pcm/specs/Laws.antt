@@ -49,7 +49,7 @@ pub samples_in_more : (depth n : ℕ) (bytes : List ℕ)
 samples_in_more depth n bytes = ap (λ k. samples_in depth k bytes) (add-one n) ∙ samples_in-suc depth n bytes
 
 -- what stands behind a sample plays no part in it
-sample_of-take : (depth n : ℕ) (bytes : List ℕ) → depth / 8 ≤ n → sample_of depth (take n bytes) ≡ sample_of depth bytes
+pub sample_of-take : (depth n : ℕ) (bytes : List ℕ) → depth / 8 ≤ n → sample_of depth (take n bytes) ≡ sample_of depth bytes
 sample_of-take depth n bytes room =
     ap (twos_complement (depth / 8)) (little_from-take 0 (depth / 8) n bytes (omega arith))
 

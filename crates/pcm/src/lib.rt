@@ -1,6 +1,7 @@
 //! Samples of RIFF WAVE as numbers and as bytes: two's complement, the lowest byte first.
 #![tactic(auto)]
 
+mod lanes;
 mod word;
 
 ghost use Rattle.std.specs.Prelude.{◌≡◌, ◌*◌, ◌/◌, ◌↔◌, pos, length, IsTrue};
@@ -9,11 +10,9 @@ ghost use Rattle.sound_terms.specs.Depth.{bits_of};
 ghost use Rattle.sound_terms.specs.Waves.{sample_bytes};
 ghost use Rattle.pcm.specs.Samples.{FitsDepth, samples_in};
 
+use lanes::{unpack_lanes, zero_lanes};
 pub use sound_terms::Depth;
-use word::{
-    read_sixteen, read_thirty_two, twenty_four_at, write_ahead, write_sixteen, write_thirty_two,
-    write_twenty_four,
-};
+use word::{sample_at, write_ahead, write_sixteen, write_thirty_two, write_twenty_four};
 
 /// Reads `samples` from `bytes`, which hold one after the other and nothing else: 2, 3 or 4 bytes a sample at 16,
 /// 24 or 32 bits, of every channel in turn.
@@ -24,9 +23,9 @@ pub fn unpack(depth: Depth, bytes: &[u8], samples: &mut [i32])
     ensures again { flat_map (sample_bytes (bits_of depth)) samples.new ≡ bytes.now }
 {
     match depth {
-        Depth::Sixteen => unpack_sixteen(bytes, samples),
-        Depth::TwentyFour => unpack_twenty_four(bytes, samples),
-        Depth::ThirtyTwo => unpack_thirty_two(bytes, samples),
+        Depth::Sixteen => unpack_at(Depth::Sixteen, bytes, samples),
+        Depth::TwentyFour => unpack_at(Depth::TwentyFour, bytes, samples),
+        Depth::ThirtyTwo => unpack_at(Depth::ThirtyTwo, bytes, samples),
     }
 }
 
@@ -49,39 +48,28 @@ pub fn pack(depth: Depth, samples: &[i32], bytes: &mut [u8])
 pub fn all_zero(samples: &[i32]) -> bool
     ensures { IsTrue result ↔ All (λ sample. sample ≡ pos 0) samples.now }
 {
+    let done = zero_lanes(samples);
+    all_zero_plain(&samples[done..])
+}
+
+/// The same, one by one.
+fn all_zero_plain(samples: &[i32]) -> bool
+    ensures { IsTrue result ↔ All (λ sample. sample ≡ pos 0) samples.now }
+{
     samples.iter().all(|sample| *sample == 0)
 }
 
-fn unpack_sixteen(bytes: &[u8], samples: &mut [i32])
-    requires { length bytes.now ≡ length samples.old * 2 }
-    ensures numbers { samples.new ≡ samples_in 16 (length samples.old) bytes.now }
-    ensures fit { All (FitsDepth 16) samples.new }
-    ensures again { flat_map (sample_bytes 16) samples.new ≡ bytes.now }
+/// The same, four samples at a time as far as that goes, and then one by one.
+#[inline(always)]
+fn unpack_at(depth: Depth, bytes: &[u8], samples: &mut [i32])
+    requires { length bytes.now ≡ length samples.old * (bits_of depth / 8) }
+    ensures numbers { samples.new ≡ samples_in (bits_of depth) (length samples.old) bytes.now }
+    ensures fit { All (FitsDepth (bits_of depth)) samples.new }
+    ensures again { flat_map (sample_bytes (bits_of depth)) samples.new ≡ bytes.now }
 {
-    for (i, sample) in samples.iter_mut().enumerate() {
-        *sample = read_sixteen(&bytes[i * 2..]);
-    }
-}
-
-fn unpack_twenty_four(bytes: &[u8], samples: &mut [i32])
-    requires { length bytes.now ≡ length samples.old * 3 }
-    ensures numbers { samples.new ≡ samples_in 24 (length samples.old) bytes.now }
-    ensures fit { All (FitsDepth 24) samples.new }
-    ensures again { flat_map (sample_bytes 24) samples.new ≡ bytes.now }
-{
-    for (i, sample) in samples.iter_mut().enumerate() {
-        *sample = twenty_four_at(bytes, i);
-    }
-}
-
-fn unpack_thirty_two(bytes: &[u8], samples: &mut [i32])
-    requires { length bytes.now ≡ length samples.old * 4 }
-    ensures numbers { samples.new ≡ samples_in 32 (length samples.old) bytes.now }
-    ensures fit { All (FitsDepth 32) samples.new }
-    ensures again { flat_map (sample_bytes 32) samples.new ≡ bytes.now }
-{
-    for (i, sample) in samples.iter_mut().enumerate() {
-        *sample = read_thirty_two(&bytes[i * 4..]);
+    let done = unpack_lanes(depth, bytes, samples);
+    for i in done..samples.len() {
+        samples[i] = sample_at(depth, bytes, i);
     }
 }
 

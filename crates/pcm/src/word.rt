@@ -1,13 +1,15 @@
 // One sample at the front of bytes, at each depth.
-ghost use Rattle.std.specs.Prelude.{◌≡◌, ◌+◌, ◌*◌, ◌≤◌, ◌++◌, length, take, drop};
+ghost use Rattle.std.specs.Prelude.{◌≡◌, ◌+◌, ◌*◌, ◌/◌, ◌≤◌, ◌++◌, length, take, drop};
+ghost use Rattle.sound_terms.specs.Depth.{bits_of};
 ghost use Rattle.sound_terms.specs.Waves.{sample_bytes, sample_of};
 ghost use Rattle.pcm.specs.Samples.{FitsDepth};
 
 use byteorder::{ByteOrder, LittleEndian};
+use sound_terms::Depth;
 
 /// The sample of 16 bits that the bytes begin with.
 #[inline(always)]
-pub fn read_sixteen(bytes: &[u8]) -> i32
+fn read_sixteen(bytes: &[u8]) -> i32
     requires { 2 ≤ length bytes.now }
     ensures { result ≡ sample_of 16 bytes.now }
 {
@@ -34,7 +36,7 @@ fn read_behind(bytes: &[u8]) -> i32
 
 /// Sample i of these of 24 bits.
 #[inline(always)]
-pub fn twenty_four_at(bytes: &[u8], i: usize) -> i32
+fn twenty_four_at(bytes: &[u8], i: usize) -> i32
     requires { (i + 1) * 3 ≤ length bytes.now }
     ensures { result ≡ sample_of 24 (drop (i * 3) bytes.now) }
 {
@@ -47,11 +49,24 @@ pub fn twenty_four_at(bytes: &[u8], i: usize) -> i32
 
 /// The sample of 32 bits that the bytes begin with.
 #[inline(always)]
-pub fn read_thirty_two(bytes: &[u8]) -> i32
+fn read_thirty_two(bytes: &[u8]) -> i32
     requires { 4 ≤ length bytes.now }
     ensures { result ≡ sample_of 32 bytes.now }
 {
     LittleEndian::read_i32(bytes)
+}
+
+/// Sample i of these.
+#[inline(always)]
+pub fn sample_at(depth: Depth, bytes: &[u8], i: usize) -> i32
+    requires { (i + 1) * (bits_of depth / 8) ≤ length bytes.now }
+    ensures { result ≡ sample_of (bits_of depth) (drop (i * (bits_of depth / 8)) bytes.now) }
+{
+    match depth {
+        Depth::Sixteen => read_sixteen(&bytes[i * 2..]),
+        Depth::TwentyFour => twenty_four_at(bytes, i),
+        Depth::ThirtyTwo => read_thirty_two(&bytes[i * 4..]),
+    }
 }
 
 /// Puts a sample of 16 bits over the first bytes.

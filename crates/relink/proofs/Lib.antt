@@ -6,7 +6,6 @@ mod Placing
 mod Playing
 mod MediaUrls
 mod NewLists
-mod GroupSum
 mod Relinked
 mod NoFault
 mod Used

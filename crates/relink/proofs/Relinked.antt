@@ -18,7 +18,7 @@ use Rattle.sound_terms.specs.Media.{CopiesRuns}
 use Rattle.list_terms.specs.Renewed.{numbered, run_base, run_event, run_index, run_indexes}
 use Rattle.relink.specs.Apart.{AreApart}
 use Rattle.relink.specs.Linked.{IsLinkable}
-use Rattle.relink.proofs.GroupSum.{group_sum, same_under}
+use Rattle.sound_terms.specs.PlacedLaws.{group_sum, same_under}
 use Rattle.relink.proofs.NewLists.{number_there}
 
 -- the index of this number

@@ -6,14 +6,9 @@ use Rattle.std.proofs.lemmas.Bool.Decides.{nat_tests}
 use Rattle.std.proofs.lemmas.List.Elements.{All-head, All-tail, All-cons, All-nil}
 use Rattle.sound_terms.specs.declared.piece.Piece.{Piece}
 use Rattle.sound_terms.specs.Groups.{IsGroup, continues, may_follow, rank_of}
-use Rattle.sound_terms.specs.GroupLaws.{GoesOn, length_more, goes_on as next_to}
+use Rattle.sound_terms.specs.GroupLaws.{GoesOn, length_more}
+use Rattle.sound_terms.specs.PlacedLaws.{follows_on}
 use Rattle.sound_terms.specs.Entries.{length_of_group}
-
-pub goes_on : (p q : Piece) → IsTrue (may_follow p q) → GoesOn p q
-goes_on p q follows = next_to p q (and_parts (continues p q) (nat_lt (rank_of p.shape) (rank_of q.shape)) follows).0
-
-pub ranks_rise : (p q : Piece) → IsTrue (may_follow p q) → rank_of p.shape < rank_of q.shape
-ranks_rise p q follows = grind (arith, nat_tests)
 
 -- what holds of each frame of each piece holds of each frame of the group
 abbrev pub OnFrames : (ℕ → ℕ → Type 0) → Piece → Type 0
@@ -30,7 +25,7 @@ on_frames K p (q ∷ qs) is all f from to =
           → (f < p.frame + p.length) ⊎ (p.frame + p.length ≤ f) → K p.file f
       by_side behind (inl own) = All-head (OnFrames K) p (q ∷ qs) all f from own
       by_side behind (inr later) =
-          let next = goes_on p q is.0 in
+          let next = follows_on p q is.0 in
           let whole = length_more p (q ∷ qs) in
           subst (λ (file : ℕ). K file f) next.file
           (behind (omega (arith, next.frame)) (omega (arith, next.frame, whole, to)))
@@ -61,4 +56,4 @@ all_inside p [] is =
 all_inside p (q ∷ qs) is =
     let behind = all_inside q qs is.1 in
     All-cons (IsInside p (length_of_group (p ∷ q ∷ qs))) p (q ∷ qs) (inside_first p (q ∷ qs))
-    (λ i d below. inside_next p q qs (goes_on p q is.0) _ (behind i d below))
+    (λ i d below. inside_next p q qs (follows_on p q is.0) _ (behind i d below))

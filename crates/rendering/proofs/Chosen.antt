@@ -1,4 +1,4 @@
--- The range that was chosen, and that its file fits.
+-- The range that was chosen.
 use Rattle.std.proofs.Common.{◌≡◌, ℕ, ◌≤◌, List, refl, arith}
 use Rattle.std.specs.Prelude.{max}
 use Rattle.sound_terms.specs.declared.Event.{Event}
@@ -16,6 +16,3 @@ pub same_range : (project : ListProject) (options : Options) (events : List Even
     → channels ≡ chosen options.channels (max 1 (greatest_of (λ event. event.dest.last) events))
     → plan.range_of from to channels options.depth ≡ range_of project (values_of options)
 same_range project options events from to channels same first last wide = rw (first, last, wide, same) refl
-
-pub not_above : (n m : ℕ) → ((n ≤ m → ⊥) → ⊥) → n ≤ m
-not_above n m not = grind (arith, not)

@@ -1,6 +1,6 @@
 -- The bytes of blocks, one behind the other, are those of frames.
-use Rattle.std.proofs.Common.{◌≡◌, ℕ, zero, suc, ◌+◌, ◌-◌, ◌*◌, ◌/◌, ◌%◌, ◌<◌, ◌≤◌, List, [], ◌∷◌, ◌++◌, length, refl, sym, ap, ◌∙◌, arith, length-append}
-use Rattle.std.specs.Prelude.{ℤ, Option, Some, unwrap_or}
+use Rattle.std.proofs.Common.{◌≡◌, ℕ, zero, suc, ◌+◌, ◌-◌, ◌*◌, ◌/◌, ◌<◌, ◌≤◌, List, ◌++◌, length, refl, ap, ◌∙◌, arith, length-append}
+use Rattle.std.specs.Prelude.{ℤ}
 use Rattle.std.specs.List.{flat_map}
 use Rattle.std.proofs.lemmas.List.{append_assoc}
 use Rattle.std.proofs.lemmas.List.Concat.{flat_map-append}
@@ -8,9 +8,8 @@ use Rattle.pcm.specs.Laws.{length-sample_bytes}
 use Rattle.sound_terms.specs.Blocks.{block_count, block_frames, block_samples, block_start, frame_samples}
 use Rattle.sound_terms.specs.Mix.{quantized}
 use Rattle.sound_terms.specs.Render.{Range, frame_of, frames_of, render_info, rendering_of}
-use Rattle.sound_terms.specs.Waves.{SoundInfo, data_size, file_of, header_of, sample_bytes, zeros}
-use Rattle.work_terms.specs.Disk.{IsAppended}
-use Rattle.rendering.specs.Written.{block_bytes, first_frames, frames_before, bytes_of_blocks}
+use Rattle.sound_terms.specs.Waves.{file_of, sample_bytes}
+use Rattle.rendering.specs.Written.{block_bytes, frames_before, bytes_of_blocks}
 
 -- ---- a block
 
@@ -38,7 +37,7 @@ frames_packed depth start channels i (suc n) mix =
 
 -- ---- one block behind the other
 
-frames_behind : (depth channels from n m : ℕ) (mix : ℕ → ℕ → ℤ)
+pub frames_behind : (depth channels from n m : ℕ) (mix : ℕ → ℕ → ℤ)
     → frames_of depth mix channels from n ++ frames_of depth mix channels (from + n) m
     ≡ frames_of depth mix channels from (n + m)
 frames_behind depth channels from zero m mix =
@@ -68,19 +67,6 @@ block_behind range mix first k behind inside =
     ∙ frames_behind range.depth range.channels (block_start range first) n (block_frames range k) mix
     ∙ ap (λ (n : ℕ). frames_of range.depth mix range.channels (block_start range first) n) more
 
--- blocks behind all before them
-pub blocks_more : (range : Range) (mix : ℕ → ℕ → ℤ) (first last : ℕ) → first < last → last ≤ block_count range
-    → first_frames range mix (frames_before range first) ++ bytes_of_blocks range mix first last
-    ≡ first_frames range mix (frames_before range last)
-blocks_more range mix first last some inside =
-    let n = frames_before range last - frames_before range first in
-    let start : block_start range first ≡ range.from + frames_before range first = omega (arith, some, inside) in
-    let more : frames_before range first + n ≡ frames_before range last = omega (arith, some, inside) in
-    ap (λ (time : ℕ). first_frames range mix (frames_before range first)
-    ++ frames_of range.depth mix range.channels time n) start
-    ∙ frames_behind range.depth range.channels range.from (frames_before range first) n mix
-    ∙ ap (λ (n : ℕ). first_frames range mix n) more
-
 -- ---- the file
 
 length-frame_of : (depth time channel n : ℕ) (mix : ℕ → ℕ → ℤ)
@@ -91,25 +77,12 @@ length-frame_of depth time channel (suc n) mix =
     length-append (sample_bytes depth sample) (frame_of depth mix time (suc channel) n)
     ∙ omega (arith, length-sample_bytes depth sample, length-frame_of depth time (suc channel) n mix)
 
-length-frames_of : (depth channels from n : ℕ) (mix : ℕ → ℕ → ℤ)
+pub length-frames_of : (depth channels from n : ℕ) (mix : ℕ → ℕ → ℤ)
     → length (frames_of depth mix channels from n) ≡ n * (channels * (depth / 8))
 length-frames_of depth channels from zero mix = omega arith
 length-frames_of depth channels from (suc n) mix =
     length-append (frame_of depth mix from 1 channels) (frames_of depth mix channels (suc from) n)
     ∙ omega (arith, length-frame_of depth from 1 channels mix, length-frames_of depth channels (suc from) n mix)
-
--- the header, all samples, and the pad
-pub whole_file : (range : Range) (mix : ℕ → ℕ → ℤ) (info : SoundInfo) → info ≡ render_info range
-    → (header_of info ++ first_frames range mix (range.to - range.from)) ++ zeros (data_size info % 2)
-    ≡ rendering_of range mix
-unfolding rendering_of file_of
-whole_file range mix info same =
-    let samples = first_frames range mix (range.to - range.from) in
-    let size : data_size info ≡ length samples =
-    ap data_size same ∙ sym (length-frames_of range.depth range.channels range.from (range.to - range.from) mix) in
-    append_assoc (header_of info) samples (zeros (data_size info % 2))
-    ∙ ap (λ (n : ℕ). header_of info ++ (samples ++ zeros (n % 2))) size
-    ∙ ap (λ (i : SoundInfo). header_of i ++ (samples ++ zeros (length samples % 2))) same
 
 -- ---- one mix for another
 
@@ -141,18 +114,3 @@ unfolding rendering_of
 rendering_same range mix other same =
     ap (λ (samples : List ℕ). file_of (render_info range) samples)
     (frames_same range.depth range.channels range.from (range.to - range.from) mix other same)
-
--- these bytes behind those that were there
-pub appended_to : (old new : Option (List ℕ)) (front more all : List ℕ) → IsAppended more old new → old ≡ Some front
-    → front ++ more ≡ all → new ≡ Some all
-appended_to old new front more all is there whole =
-    let same : is.file ≡ front = ap (λ (file : Option (List ℕ)). unwrap_or file []) (sym is.there ∙ there) in
-    is.appended ∙ ap (λ (file : List ℕ). Some (file ++ more)) same ∙ ap Some whole
-
-pub no_zeros : zeros 0 ≡ []
-unfolding zeros
-no_zeros = refl
-
-pub one_zero : 0 ∷ [] ≡ zeros 1
-unfolding zeros
-one_zero = refl

@@ -1,5 +1,7 @@
+mod Asked
 mod Chosen
 mod Frames
-mod Played
+mod Parts
 mod Ranges
-mod Wrote
+mod Steps
+mod Zeros

@@ -2,16 +2,15 @@
 use Rattle.std.specs.Prelude.{◌≡◌, ℕ, ◌-◌, ◌≤◌, nat_le, false, List, Option, None, Some, if◌then◌else◌}
 use Rattle.std.specs.Option.{ForSome}
 use Rattle.sound_terms.specs.Depth.{bits_of}
-use Rattle.sound_terms.specs.Waves.{is_large}
-use Rattle.sound_terms.specs.Render.{Range, ReadsBack, render_info, rendering_of}
+use Rattle.sound_terms.specs.Render.{Range, ReadsBack, rendering_of}
 use Rattle.work_terms.specs.Disk.{Files}
 use Rattle.work_terms.specs.Refusals.{Refusal, Nowhere}
 use Rattle.list_terms.specs.Project.{ListProject}
 use Rattle.list_terms.specs.Binding.{Binding}
-use Rattle.list_terms.specs.Accepted.{OptionValues, first_fault, range_of}
+use Rattle.list_terms.specs.Accepted.{OptionValues, range_of}
 use Rattle.list_terms.specs.Heard.{project_mix}
 use Rattle.rendering.specs.declared.options.Options.{Options}
-use Rattle.rendering.specs.declared.rendered.Rendered.{Rendered}
+use Rattle.rendering.specs.declared.work.Rendered.{Rendered}
 
 -- what was chosen
 abbrev pub values_of : Options → OptionValues
@@ -31,18 +30,14 @@ pub record HasRange (rendered : Rendered) (range : Range) : Type 0 where
   pub frames : rendered.frames ≡ range.to - range.from
   pub channels : rendered.channels ≡ range.channels
 
--- 58: the range is empty; 61: its file would be too long for RIFF
+-- 58: the range is empty
 abbrev pub empty_fault : Range → Option Refusal
 empty_fault range =
     if nat_le range.to range.from then Some (record { number = 58; place = Nowhere; late = false }) else None
 
-abbrev pub size_fault : Range → Option Refusal
-size_fault range =
-    if is_large (render_info range) then Some (record { number = 61; place = Nowhere; late = false }) else None
-
 -- the first fault of rendering a project without a fault
 abbrev pub render_fault : ListProject → OptionValues → Option Refusal
-render_fault project values = first_fault (empty_fault (range_of project values)) (size_fault (range_of project values))
+render_fault project values = empty_fault (range_of project values)
 
 -- The file is that of the exact sums of a bound project over its sources, rounded and clipped, and it reads back so.
 pub record IsRendered (project : ListProject) (binding : Binding) (values : OptionValues) (sources : Files)

@@ -1,8 +1,6 @@
 -- The rendered file: the bytes of its samples, and calls that write no other.
-use Rattle.std.specs.Prelude.{◌≢◌, ℕ, ◌-◌, ◌*◌, ◌/◌, min, ℤ, List, Result, codes}
+use Rattle.std.specs.Prelude.{◌≢◌, ℕ, ◌-◌, ◌*◌, min, ℤ, List, Result, codes}
 use Rattle.std.specs.List.{flat_map}
-use Rattle.sound_terms.specs.declared.Format.{Format}
-use Rattle.sound_terms.specs.Depth.{bits_of}
 use Rattle.sound_terms.specs.Blocks.{block_length, block_start, mixed_block}
 use Rattle.sound_terms.specs.Render.{Range, frames_of}
 use Rattle.sound_terms.specs.Waves.{sample_bytes}
@@ -16,10 +14,6 @@ block_bytes range mix k = flat_map (sample_bytes range.depth) (mixed_block range
 -- the bytes of the first n frames
 abbrev pub first_frames : Range → (ℕ → ℕ → ℤ) → ℕ → List ℕ
 first_frames range mix n = frames_of range.depth mix range.channels range.from n
-
--- the bytes of a whole block of this format
-abbrev pub block_size : Format → ℕ
-block_size format = block_length * format.channels * (bits_of format.depth / 8)
 
 -- the frames before block k
 abbrev pub frames_before : Range → ℕ → ℕ

@@ -1,16 +1,15 @@
-//! Renders a project without a fault to one sound file, block by block.
+//! A rendering of a project without a fault as a value: one sound file, whose blocks are jobs.
 #![tactic(auto)]
 
+mod blocks;
 mod fault;
+mod jobs;
+mod layout;
 mod options;
-mod playing;
-mod preparing;
-mod ranging;
-mod rendered;
-mod room;
-mod writing;
+mod span;
+mod work;
 
 pub use fault::RenderFault;
 pub use options::Options;
-pub use rendered::{Rendered, render};
 pub use sound_terms::Depth;
+pub use work::{Rendered, Rendering};

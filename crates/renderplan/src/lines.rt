@@ -1,5 +1,5 @@
 // The instructions of the pieces that sound in a block.
-ghost use Rattle.std.specs.Prelude.{◌≡◌, ◌+◌, ◌<◌, ◌≤◌, ◌++◌, length, OnOk, option_to_list};
+ghost use Rattle.std.specs.Prelude.{◌≡◌, ◌+◌, ◌<◌, ◌≤◌, ◌++◌, ◌∷◌, [], length, take, option_to_list};
 ghost use Rattle.std.specs.List.{All, flat_map};
 ghost use Rattle.sampletime.specs.TimeCode.{day};
 ghost use Rattle.sound_terms.specs.Groups.{IsPiece};
@@ -8,7 +8,6 @@ ghost use Rattle.renderplan.specs.Reaches.{AreReaches};
 
 use crate::reach::Reach;
 use sound_terms::{Instruction, Piece, Stretch};
-use std::alloc::AllocError;
 
 /// The samples of a block, `frames` from the time `from` on, on channels from 1.
 #[derive(Clone, Copy)]
@@ -44,22 +43,37 @@ fn line_of(piece: &Piece, window: Window) -> Option<Instruction>
     })
 }
 
-/// Adds what of the pieces sounds in a block, in their order. `reaches` tells what can be passed over.
-pub fn push_lines(
+/// Writes an instruction behind the first `count`; gives how many there are then.
+pub fn put(program: &mut [Instruction], count: usize, line: Instruction) -> usize
+    requires { count < length program.old }
+    ensures one { result ≡ count + 1 }
+    ensures written { take result program.new ≡ take count program.old ++ line ∷ [] }
+{
+    program[count] = line;
+    count + 1
+}
+
+/// Writes what of the pieces sounds in a block, in their order, behind the first `count` instructions; gives how many
+/// there are then. `reaches` tells what can be passed over.
+pub fn put_lines(
     pieces: &[Piece],
     reaches: &[Reach],
     window: Window,
-    program: &mut Vec<Instruction>,
-) -> Result<(), AllocError>
+    program: &mut [Instruction],
+    count: usize,
+) -> usize
     requires sound { All IsPiece pieces.now }
     requires in_day { window.from + window.frames ≤ day }
     requires channels { window.channels ≤ 64 }
     requires each { length reaches.now ≡ length pieces.now }
     requires far { AreReaches pieces.now reaches.now }
-    ensures { OnOk result (program.new.items
-        ≡ program.old.items ++ flat_map (lines_of window.from window.frames window.channels) pieces.now) }
+    requires room { count + length pieces.now ≤ length program.old }
+    ensures few { result ≤ count + length pieces.now }
+    ensures written { take result program.new
+        ≡ take count program.old ++ flat_map (lines_of window.from window.frames window.channels) pieces.now }
 {
     let end = window.from + u64::from(window.frames);
+    let mut count = count;
     let mut next = 0;
     while next < pieces.len() {
         let reach = reaches[pieces.len() - 1 - next];
@@ -67,10 +81,10 @@ pub fn push_lines(
             next += reach.count;
         } else {
             if let Some(line) = line_of(&pieces[next], window) {
-                program.push(line)?;
+                count = put(program, count, line);
             }
             next += 1;
         }
     }
-    Ok(())
+    count
 }

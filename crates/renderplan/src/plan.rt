@@ -1,5 +1,5 @@
 // The plan of a rendering.
-ghost use Rattle.std.specs.Prelude.{◌≡◌, ◌+◌, ◌<◌, ◌≤◌, ◌↔◌, List, IfOk, IfErr, IsErrOf};
+ghost use Rattle.std.specs.Prelude.{◌≡◌, ◌+◌, ◌<◌, ◌≤◌, ◌↔◌, List, length, take, IfOk, IsErrOf};
 ghost use Rattle.std.specs.List.{All};
 ghost use Rattle.sound_terms.specs.Sounds.{SoundFacts};
 ghost use Rattle.sound_terms.specs.Media.{IsPieceOf};
@@ -10,11 +10,11 @@ ghost use Rattle.sound_terms.specs.Blocks.{BlockState, IsBlockProgram, LiesInFil
 ghost use Rattle.renderplan.specs.Planned.{IsPlan, range_of};
 
 use crate::PlanFault;
-use crate::lines::{Window, push_lines};
+use crate::lines::{Window, put, put_lines};
 use crate::reach::{Reach, reaches_of};
 use interval::Intervals;
 use sampletime::SampleTime;
-use sound_terms::{Depth, Instruction, Piece};
+use sound_terms::{Depth, Format, Instruction, Piece};
 use std::alloc::{AllocError, Global};
 use std::marker::Model;
 
@@ -118,11 +118,30 @@ impl Plan {
         left.min(BLOCK_LENGTH) as u32
     }
 
-    /// The instructions of block k.
-    fn program(&self, k: u64) -> Result<Vec<Instruction>, AllocError>
-        requires { k < block_count self.now.range }
-        ensures program { IfOk result (λ program. program.items
-            ≡ program_of self.now.pieces self.now.range self.now.depth k) }
+    /// The most instructions that the program of a block has: one a piece, and two.
+    pub fn most_instructions(&self) -> usize
+        ensures { result ≡ length self.now.pieces + 2 }
+    {
+        self.pieces.len() + 2
+    }
+
+    /// The channels and the depth of its samples.
+    pub fn format(&self) -> Format
+        ensures format { result ≡ record { channels = self.now.range.channels; depth = self.now.depth } }
+        ensures planned { IsPlan self.now }
+    {
+        Format {
+            channels: self.channels,
+            depth: self.depth,
+        }
+    }
+
+    /// Writes the instructions of block k; gives how many.
+    fn write_block(&self, k: u64, program: &mut [Instruction]) -> usize
+        requires there { k < block_count self.now.range }
+        requires room { length program.old ≡ length self.now.pieces + 2 }
+        ensures program { take result program.new ≡ program_of self.now.pieces self.now.range self.now.depth k }
+        ensures few { result ≤ length program.new }
         ensures planned { IsPlan self.now }
     {
         let window = Window {
@@ -130,36 +149,32 @@ impl Plan {
             frames: self.frames_of(k),
             channels: self.channels,
         };
-        let mut program = Vec::new(*self.pieces.allocator());
-        program.push(Instruction::Start {
+        let start = Instruction::Start {
             frames: window.frames,
-        })?;
-        push_lines(
-            self.pieces.as_slice(),
-            self.reaches.as_slice(),
-            window,
-            &mut program,
-        )?;
-        program.push(Instruction::Emit { depth: self.depth })?;
-        Ok(program)
+        };
+        let pieces = self.pieces.as_slice();
+        let reaches = self.reaches.as_slice();
+        let first = put(program, 0, start);
+        let end = put_lines(pieces, reaches, window, program, first);
+        put(program, end, Instruction::Emit { depth: self.depth })
     }
 
-    /// The program of block k, counted from 0: it hands out the block's samples, frame by frame.
-    pub fn block(&self, k: u64) -> Result<Vec<Instruction>, PlanFault>
-        requires { k < block_count self.now.range }
-        ensures program { IfOk result (λ program. program.items
-            ≡ program_of self.now.pieces self.now.range self.now.depth k) }
-        ensures sums { IfOk result (λ program. (reading : Reading) → All (PlaysFull reading) program.items
+    /// Writes the program of block k, counted from 0, over the first instructions; gives how many it has. It hands out
+    /// the block's samples, frame by frame.
+    pub fn block(&self, k: u64, program: &mut [Instruction]) -> usize
+        requires there { k < block_count self.now.range }
+        requires room { length program.old ≡ length self.now.pieces + 2 }
+        ensures few { result ≤ length program.new }
+        ensures program { take result program.new ≡ program_of self.now.pieces self.now.range self.now.depth k }
+        ensures sums { (reading : Reading) → All (PlaysFull reading) (take result program.new)
             → (start : BlockState)
-            → (executed_all reading self.now.range.channels program.items start).out
-            ≡ mixed_block self.now.range (sum_of reading self.now.pieces) k) }
-        ensures formed { IfOk result (λ program.
-            IsBlockProgram (block_frames self.now.range k) self.now.range.channels self.now.depth program.items) }
+            → (executed_all reading self.now.range.channels (take result program.new) start).out
+            ≡ mixed_block self.now.range (sum_of reading self.now.pieces) k }
+        ensures formed { IsBlockProgram (block_frames self.now.range k) self.now.range.channels self.now.depth
+            (take result program.new) }
         ensures inside { (sounds : List SoundFacts) → All (IsPieceOf sounds) self.now.pieces
-            → IfOk result (λ program. All (LiesInFiles sounds) program.items) }
-        ensures only_memory { IfErr result (λ fault. fault ≡ PlanFault.Memory) }
+            → All (LiesInFiles sounds) (take result program.new) }
     {
-        let program = self.program(k)?;
-        Ok(program)
+        self.write_block(k, program)
     }
 }

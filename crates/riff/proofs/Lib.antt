@@ -1,4 +1,5 @@
 pub mod Forms
+pub mod Indexed
 pub mod OneMore
 pub mod Reading
 pub mod Refused

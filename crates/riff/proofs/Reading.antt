@@ -1,5 +1,5 @@
 -- Bytes that were read stand in the file.
-use Rattle.std.proofs.Common.{◌≡◌, ℕ, ◌+◌, ◌-◌, ◌≤◌, List, [], ◌∷◌, Option, Some, length, take, drop, get_or, refl, sym, ap, subst, ◌∙◌, arith}
+use Rattle.std.proofs.Common.{◌≡◌, ℕ, ◌+◌, ◌-◌, ◌≤◌, List, Option, Some, length, take, drop, sym, ap, subst, ◌∙◌, arith}
 use Rattle.std.proofs.lemmas.List.{drop-take, drop-drop, take-take}
 use Rattle.facts.specs.Tests.{same_some}
 use Rattle.byteorder.specs.Endian.{little_number}
@@ -7,7 +7,7 @@ use Rattle.byteorder.specs.Numbers.{little_from-take}
 use Rattle.sound_terms.specs.Chunks.{number_at}
 use Rattle.work_terms.specs.Disk.{IsRange}
 use Rattle.riff.specs.declared.head.Head.{Head}
-use Rattle.riff.specs.declared.sizes.Entry.{Entry}
+use Rattle.riff.specs.declared.entry.Entry.{Entry}
 use Rattle.riff.specs.Found.{HasHead, IsAhead}
 use Rattle.riff.specs.Sizes.{HasEntry}
 
@@ -63,20 +63,16 @@ head_front file at bytes head ahead enough id size =
     let none : at + 0 ≡ at = omega arith in
     subst (λ n. HasHead file n head) none (head_ahead file at 0 bytes head ahead (omega arith) id size)
 
--- the first four of a list
-four : (bytes : List ℕ) → 4 ≤ length bytes
-    → get_or bytes 0 0 ∷ get_or bytes 1 0 ∷ get_or bytes 2 0 ∷ get_or bytes 3 0 ∷ [] ≡ take 4 bytes
-four (a ∷ b ∷ c ∷ d ∷ rest) enough = refl
-four (a ∷ b ∷ c ∷ []) enough = absurd (omega arith)
-four (a ∷ b ∷ []) enough = absurd (omega arith)
-four (a ∷ []) enough = absurd (omega arith)
-four [] enough = absurd (omega arith)
-
--- an entry of the table in twelve bytes that were read
-pub entry_ahead : (file : List ℕ) (at : ℕ) (bytes : List ℕ) (entry : Entry) → IsAhead file at bytes → length bytes ≡ 12
-    → entry.id ≡ get_or bytes 0 0 ∷ get_or bytes 1 0 ∷ get_or bytes 2 0 ∷ get_or bytes 3 0 ∷ []
-    → entry.size ≡ little_number 8 (drop 4 bytes) → HasEntry file at entry
-entry_ahead file at bytes entry ahead twelve id size = record {
-  id = id ∙ four bytes (omega arith) ∙ ap (take 4) ahead.same ∙ take-take 4 (length bytes) _ (omega arith);
-  size = size ∙ number_ahead file at 4 8 bytes ahead (omega arith);
-}
+-- an entry of the table in bytes that were read
+pub entry_ahead : (file : List ℕ) (at offset : ℕ) (bytes : List ℕ) (entry : Entry) → IsAhead file at bytes
+    → offset + 12 ≤ length bytes
+    → entry.id ≡ take 4 (drop offset bytes) → entry.size ≡ number_at 8 4 (drop offset bytes)
+    → HasEntry file (at + offset) entry
+entry_ahead file at offset bytes entry ahead within id size =
+    let place : at + (offset + 4) ≡ at + offset + 4 = omega arith in
+    record {
+      id = id ∙ ap (take 4) (ahead_at file at offset bytes ahead (omega arith))
+          ∙ take-take 4 (length bytes - offset) _ (omega arith);
+      size = size ∙ ap (little_number 8) (drop-drop 4 offset bytes)
+          ∙ number_ahead file at (offset + 4) 8 bytes ahead (omega arith) ∙ ap (λ n. number_at 8 n file) place;
+    }

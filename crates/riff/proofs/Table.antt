@@ -2,7 +2,7 @@
 use Rattle.std.proofs.Common.{◌≡◌, ℕ, suc, ◌+◌, List, Some, true, false, take, drop, sym, ap, ◌∙◌, bytes_eq}
 use Rattle.std.proofs.lemmas.List.{drop-drop}
 use Rattle.byteorder.specs.Endian.{little_number}
-use Rattle.riff.specs.declared.sizes.Entry.{Entry}
+use Rattle.riff.specs.declared.entry.Entry.{Entry}
 use Rattle.riff.specs.Sizes.{HasEntry, entry_from}
 
 -- another id

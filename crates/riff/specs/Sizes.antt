@@ -1,16 +1,20 @@
 -- The sizes of chunks, as they stand or as `ds64` tells them.
-use Rattle.std.specs.Prelude.{◌≡◌, ℕ, ◌+◌, List, take, drop, Option, None, Some, Result, Ok, Err, MatchBool, option_map, find, bytes_eq}
+use Rattle.std.specs.Prelude.{◌≡◌, ℕ, ◌+◌, List, take, drop, Option, None, Some, IfSome, Result, Ok, Err, MatchBool, option_map, find, bytes_eq}
+use Rattle.std.specs.BTreeMap.{get, BTreeMap}
+use Rattle.std.specs.Ordering.{nat_cmp}
+use Rattle.byteorder.specs.Endian.{little_number}
 use Rattle.sound_terms.specs.declared.Ds64.{Ds64}
 use Rattle.sound_terms.specs.Chunks.{number_at, table_of}
 use Rattle.work_terms.specs.Refusals.{is_excused}
 use Rattle.riff.specs.declared.fault.MediaFault.{MediaFault}
 use Rattle.riff.specs.declared.fault.MediaFault.TheVariants.{BadDs64}
 use Rattle.riff.specs.declared.head.Head.{Head}
-use Rattle.riff.specs.declared.sizes.Entry.{Entry}
+use Rattle.riff.specs.declared.entry.Entry.{Entry}
 use Rattle.riff.specs.declared.sizes.Size.{Size}
-use Rattle.riff.specs.declared.sizes.Size.TheVariants.{Told, InTable}
+use Rattle.riff.specs.declared.sizes.Size.TheVariants.{Told, InTable, Missing}
 use Rattle.riff.specs.Fault.{number_of}
 use Rattle.riff.specs.Found.{layout_by}
+use Rattle.riff.specs.Ids.{IsId}
 
 -- the size in the first entry of an id, of so many entries from this place on
 abbrev pub entry_from : List ℕ → ℕ → ℕ → List ℕ → Option ℕ
@@ -19,6 +23,20 @@ entry_from file at entries id =
 
 abbrev pub entry_size : List ℕ → ℕ → List ℕ → Option ℕ
 entry_size file entries id = entry_from file 48 entries id
+
+-- the map has the size in the first entry of each id, of so many entries of the table, by the number of the id
+abbrev pub IsIndexed : List ℕ → ℕ → BTreeMap ℕ ℕ → Type 0
+IsIndexed file entries map =
+    (id : List ℕ) → IsId id → get nat_cmp map (little_number 4 id) ≡ entry_size file entries id
+
+-- the entries of the table: none in RIFF
+abbrev pub entries_of : Option Ds64 → ℕ
+entries_of None = 0
+entries_of (Some ds64) = ds64.entries
+
+-- the index, where there is one, is of the whole table
+abbrev pub IsIndexOf : List ℕ → Option Ds64 → Option (BTreeMap ℕ ℕ) → Type 0
+IsIndexOf file sizes index = IfSome index (IsIndexed file (entries_of sizes))
 
 -- these are the id and the size that stand at this place
 pub record HasEntry (file : List ℕ) (at : ℕ) (entry : Entry) : Type 0 where
@@ -29,10 +47,17 @@ pub record HasEntry (file : List ℕ) (at : ℕ) (entry : Entry) : Type 0 where
 abbrev pub head_size : List ℕ → Option Ds64 → Head → Option ℕ
 head_size file sizes head = (layout_by file sizes).size_of head.id head.size
 
--- it is told, or one of so many entries tells it
+-- this is it, or one of so many entries tells it, or none does
+abbrev pub HasEntrySize : Option ℕ → ℕ → Size → Type 0
+HasEntrySize size entries (Told n) = size ≡ Some n
+HasEntrySize size entries (InTable n) = n ≡ entries
+HasEntrySize size entries Missing = size ≡ None
+
+-- it is told, or one of so many entries tells it, or none does
 abbrev pub HasSize : List ℕ → Option Ds64 → Head → Size → Type 0
 HasSize file sizes head (Told size) = head_size file sizes head ≡ Some size
 HasSize file sizes head (InTable entries) = head_size file sizes head ≡ entry_size file entries head.id
+HasSize file sizes head Missing = head_size file sizes head ≡ None
 
 -- the size, or that there is none; an I/O error may come in place of both
 abbrev pub TellsSize : List ℕ → Option Ds64 → Head → Result ℕ MediaFault → Type 0

@@ -2,10 +2,12 @@
 //! `fmt `.
 #![tactic(auto)]
 
+mod entry;
 mod fault;
 mod form;
 mod found;
 mod head;
+mod index;
 mod pcm_format;
 mod sizes;
 mod wave;
@@ -13,4 +15,4 @@ mod wave;
 pub use fault::MediaFault;
 pub use pcm_format::read_fmt;
 pub use sound_terms::{Depth, Format, SoundFault, Span};
-pub use wave::{Chunks, walk};
+pub use wave::{Chunks, walk, walk_indexed};

@@ -1,71 +1,74 @@
 // The sizes of chunks: as they stand, or as `ds64` tells them (EBU Tech 3306).
-ghost use Rattle.std.specs.Prelude.{◌≡◌, ℕ, List, Some, IsTrue, IfOk, IsErrOf};
+ghost use Rattle.std.specs.Prelude.{◌≡◌, ◌+◌, ◌*◌, ℕ, List, Some, IsTrue, IfOk, IfSome, IsErrOf, length};
+ghost use Rattle.std.specs.Option.{option_or};
 ghost use Rattle.shelf.specs.Frame.{OnlyReads};
-ghost use Rattle.riff.specs.Sizes.{HasSize, HasEntry, TellsSize, entry_size};
+ghost use Rattle.riff.specs.Found.{IsAhead};
+ghost use Rattle.riff.specs.Sizes.{HasSize, HasEntrySize, IsIndexed, IsIndexOf, TellsSize, entry_from, entry_size};
 
 use crate::MediaFault;
+use crate::entry::{BLOCK, ENTRY_LENGTH, Entry, TABLE, key_of};
 use crate::head::Head;
-use byteorder::{ByteOrder, LittleEndian};
+use crate::index::Index;
 use shelf::{Shelf, ShelfFault};
 use sound_terms::Ds64;
 
 /// The size that stands for one that `ds64` tells.
 const IN_DS64: u32 = 0xffff_ffff;
 
-/// Where the table of `ds64` begins: behind the head of the form, that of `ds64` and its 28 bytes of fields.
-const TABLE: u64 = 48;
-
-/// The bytes of an entry of the table: the id of a chunk, and its size.
-const ENTRY_LENGTH: u64 = 12;
-
-/// How many bytes the contents of a chunk have, or that one of so many entries of the table tells it.
+/// How many bytes the contents of a chunk have; or that one of so many entries of the table tells it, or none.
 #[derive(Clone, Copy)]
 pub enum Size {
     Told(u64),
     InTable(u32),
+    Missing,
 }
 
-/// The size of the chunk of this head.
-pub fn size_of(sizes: &Option<Ds64>, head: &Head) -> Size
-    ensures { (file : List ℕ) → HasSize file sizes.now head.now result }
+/// The size of the chunk of this head, by the index of the table where there is one.
+pub fn size_of(sizes: &Option<Ds64>, index: &Option<Index>, head: &Head) -> Size
+    ensures { (file : List ℕ) → IsIndexOf file sizes.now index.now → HasSize file sizes.now head.now result }
 {
     match sizes {
         Some(ds64) if head.size == IN_DS64 => {
             if head.id == *b"data" {
                 Size::Told(ds64.data_size)
             } else {
-                Size::InTable(ds64.entries)
+                size_in(ds64.entries, index, &head.id)
             }
         }
         _ => Size::Told(u64::from(head.size)),
     }
 }
 
-/// An entry of the table of `ds64`: the size of the chunks of this id.
-#[derive(Clone, Copy)]
-struct Entry {
-    id: [u8; 4],
-    size: u64,
-}
-
-/// Reads the entry at this place.
-fn entry_at<S: Shelf>(shelf: &mut S, name: &str, at: u64) -> Result<Entry, ShelfFault>
-    ensures entry { IsTrue (S.honest shelf.old) → (file : List ℕ) → S.stored shelf.old name.now ≡ Some file
-        → IfOk result (HasEntry file at) }
-    ensures not_missing { IsErrOf result ShelfFault.NotFound → ⊥ }
-    ensures only_reads { OnlyReads S.Shelf shelf.old shelf.new result (λ fault. fault ≡ ShelfFault.Device)
-        (λ _ failed. failed name.now) }
+/// The size in the first entry of an id, of so many, by their index where there is one.
+fn size_in(entries: u32, index: &Option<Index>, id: &[u8; 4]) -> Size
+    ensures { (file : List ℕ) → IfSome index.now (IsIndexed file entries)
+        → HasEntrySize (entry_size file entries id.now) entries result }
 {
-    let mut bytes = [0u8; 12];
-    shelf.read_at(name, at, &mut bytes)?;
-    let [a, b, c, d, ..] = bytes;
-    Ok(Entry {
-        id: [a, b, c, d],
-        size: LittleEndian::read_u64(&bytes[4..]),
-    })
+    let Some(index) = index else {
+        return Size::InTable(entries);
+    };
+    match index.get(&key_of(id)) {
+        Some(size) => Size::Told(*size),
+        None => Size::Missing,
+    }
 }
 
-/// Looks an id up in the table of so many entries: the size in its first entry.
+/// The size in the first entry of an id, of so many entries in these bytes.
+fn size_among(bytes: &[u8], count: usize, id: [u8; 4]) -> Option<u64>
+    requires { length bytes.now ≡ 12 * count }
+    ensures { (file : List ℕ) (at rest : ℕ) → IsAhead file at bytes.now
+        → entry_from file at (count + rest) id ≡ option_or result (entry_from file (at + 12 * count) rest id) }
+{
+    for i in 0..count {
+        let entry = Entry::of(&bytes[ENTRY_LENGTH * i..]);
+        if entry.id == id {
+            return Some(entry.size);
+        }
+    }
+    None
+}
+
+/// Looks an id up in the table of so many entries, in blocks: the size in its first entry.
 fn entry_of<S: Shelf>(
     shelf: &mut S,
     name: &str,
@@ -78,11 +81,16 @@ fn entry_of<S: Shelf>(
     ensures only_reads { OnlyReads S.Shelf shelf.old shelf.new result (λ fault. fault ≡ ShelfFault.Device)
         (λ _ failed. failed name.now) }
 {
-    for i in 0..entries {
-        let entry = entry_at(shelf, name, TABLE + ENTRY_LENGTH * u64::from(i))?;
-        if entry.id == id {
-            return Ok(Some(entry.size));
+    let mut block = [0u8; 4092];
+    let mut done = 0;
+    while done < entries {
+        let count = BLOCK.min(entries - done);
+        let bytes = &mut block[..count as usize * ENTRY_LENGTH];
+        shelf.read_at(name, TABLE + ENTRY_LENGTH as u64 * u64::from(done), bytes)?;
+        if let Some(size) = size_among(bytes, count as usize, id) {
+            return Ok(Some(size));
         }
+        done += count;
     }
     Ok(None)
 }
@@ -92,18 +100,20 @@ pub fn told_size<S: Shelf>(
     shelf: &mut S,
     name: &str,
     sizes: &Option<Ds64>,
+    index: &Option<Index>,
     head: &Head,
 ) -> Result<u64, MediaFault>
     ensures told { IsTrue (S.honest shelf.old) → (file : List ℕ) → S.stored shelf.old name.now ≡ Some file
-        → TellsSize file sizes.now head.now result }
+        → IsIndexOf file sizes.now index.now → TellsSize file sizes.now head.now result }
     ensures no_memory { IsErrOf result MediaFault.Memory → ⊥ }
     ensures only_reads { OnlyReads S.Shelf shelf.old shelf.new result (λ fault. fault ≡ MediaFault.Device)
         (λ _ failed. failed name.now) }
 {
-    match size_of(sizes, head) {
+    match size_of(sizes, index, head) {
         Size::Told(size) => Ok(size),
         Size::InTable(entries) => entry_of(shelf, name, entries, head.id)?.ok_or(
             MediaFault::BadDs64,
         ),
+        Size::Missing => Err(MediaFault::BadDs64),
     }
 }

@@ -6,15 +6,18 @@ ghost use Rattle.sound_terms.specs.Walks.{walked};
 ghost use Rattle.riff.specs.Fault.{number_of, as_media};
 ghost use Rattle.riff.specs.Form.{IsLaid};
 ghost use Rattle.riff.specs.Found.{IsAhead, IsWalked, IsInside, EndInside, WalksOn, heads_of};
+ghost use Rattle.riff.specs.Sizes.{IsIndexOf};
 ghost use Rattle.riff.specs.Walk.{MediaWalksOn, chunks_view, chunk_count, walked_file};
 
 use crate::MediaFault;
 use crate::form::{Form, read_form};
 use crate::found::Found;
 use crate::head::{HEAD_LENGTH, Head};
+use crate::index::{Index, index_of};
 use crate::sizes::{Size, size_of, told_size};
 use shelf::Shelf;
 use sound_terms::{Ds64, SoundFault, Span};
+use std::alloc::Global;
 
 /// How many bytes are read at once.
 const AHEAD: usize = 4096;
@@ -39,6 +42,7 @@ pub struct Chunks {
 fn walk_ahead(
     found: &mut Found,
     sizes: &Option<Ds64>,
+    index: &Option<Index>,
     bytes: &[u8],
     end: u64,
     first: u64,
@@ -46,7 +50,7 @@ fn walk_ahead(
     requires head { 8 ≤ length bytes.now }
     requires within { length bytes.now ≤ first }
     requires inside { IsInside end first found.old }
-    ensures walked { (file : List ℕ) → IsAhead file (end - first) bytes.now
+    ensures walked { (file : List ℕ) → IsIndexOf file sizes.now index.now → IsAhead file (end - first) bytes.now
         → IsWalked file sizes.now end first found.old
         → WalksOn file sizes.now end found.new result }
     ensures inside { IfOk result (λ left. IsInside end left found.new) }
@@ -56,7 +60,7 @@ fn walk_ahead(
     let mut left = first;
     while first - left <= last {
         let head = Head::of(&bytes[(first - left) as usize..]);
-        let Size::Told(size) = size_of(sizes, &head) else {
+        let Size::Told(size) = size_of(sizes, index, &head) else {
             break;
         };
         left = found.take_in(&head, size, end, left)?;
@@ -71,6 +75,7 @@ fn walk_on<S: Shelf>(
     name: &str,
     found: &mut Found,
     sizes: &Option<Ds64>,
+    index: &Option<Index>,
     end: u64,
     left: u64,
     ahead: &mut [u8],
@@ -79,7 +84,8 @@ fn walk_on<S: Shelf>(
     requires room { 8 ≤ length ahead.old }
     requires inside { IsInside end left found.old }
     ensures walked { IsTrue (S.honest shelf.old) → (file : List ℕ) → S.stored shelf.old name.now ≡ Some file
-        → IsWalked file sizes.now end left found.old → MediaWalksOn file sizes.now end found.new result }
+        → IsIndexOf file sizes.now index.now → IsWalked file sizes.now end left found.old
+        → MediaWalksOn file sizes.now end found.new result }
     ensures inside { IfOk result (λ rest. IsInside end rest found.new) }
     ensures less { IfOk result (λ rest. rest < left) }
     ensures no_memory { IsErrOf result MediaFault.Memory → ⊥ }
@@ -89,12 +95,12 @@ fn walk_on<S: Shelf>(
     let count = left.min(ahead.len() as u64) as usize;
     let bytes = &mut ahead[..count];
     shelf.read_at(name, end - left, bytes)?;
-    let rest = walk_ahead(found, sizes, bytes, end, left)?;
+    let rest = walk_ahead(found, sizes, index, bytes, end, left)?;
     if rest < left {
         return Ok(rest);
     }
     let head = Head::of(bytes);
-    let size = told_size(shelf, name, sizes, &head)?;
+    let size = told_size(shelf, name, sizes, index, &head)?;
     let rest = found.take_in(&head, size, end, left)?;
     Ok(rest)
 }
@@ -104,16 +110,17 @@ fn walk_form<S: Shelf>(
     shelf: &mut S,
     name: &str,
     form: &Form,
+    index: &Option<Index>,
     end: u64,
     ahead: &mut [u8],
 ) -> Result<Chunks, MediaFault>
     requires room { 8 ≤ length ahead.old }
     requires few { 8 * heads_of form.now.sizes + form.now.left + 12 ≤ end }
     ensures exact { IsTrue (S.honest shelf.old) → (file : List ℕ) → S.stored shelf.old name.now ≡ Some file
-        → length file ≡ end → IsLaid file end form.now.sizes form.now.left
+        → length file ≡ end → IsLaid file end form.now.sizes form.now.left → IsIndexOf file form.now.sizes index.now
         → Gives chunks_view (λ fault. fault) number_of result (as_media (walked file)) }
     ensures seen { IsTrue (S.honest shelf.old) → (file : List ℕ) → S.stored shelf.old name.now ≡ Some file
-        → length file ≡ end → IsLaid file end form.now.sizes form.now.left
+        → length file ≡ end → IsLaid file end form.now.sizes form.now.left → IsIndexOf file form.now.sizes index.now
         → IfOk result (λ chunks. chunks.seen ≡ chunk_count file) }
     ensures few { IfOk result (λ chunks. 8 * chunks.seen + 12 ≤ end) }
     ensures ends { IfOk result (λ chunks. EndInside end (chunks_view chunks)) }
@@ -124,7 +131,16 @@ fn walk_form<S: Shelf>(
     let mut found = Found::nothing(form.heads());
     let mut left = form.left;
     while left >= HEAD_LENGTH {
-        left = walk_on(shelf, name, &mut found, &form.sizes, end, left, ahead)?;
+        left = walk_on(
+            shelf,
+            name,
+            &mut found,
+            &form.sizes,
+            index,
+            end,
+            left,
+            ahead,
+        )?;
     }
     let chunks = found.chunks()?;
     Ok(Chunks {
@@ -160,5 +176,31 @@ pub fn walk<S: Shelf>(shelf: &mut S, name: &str) -> Result<Chunks, MediaFault>
     let end = shelf.length(name)?;
     let form = read_form(shelf, name, end)?;
     let mut ahead = [0u8; AHEAD];
-    walk_form(shelf, name, &form, end, &mut ahead)
+    walk_form(shelf, name, &form, &None, end, &mut ahead)
+}
+
+/// Finds the chunks that count, as [`walk`] does, over an index of the table of `ds64`: each entry is read once, however
+/// many chunks have their size there. `Memory` where no memory was left.
+pub fn walk_indexed<S: Shelf>(
+    alloc: Global,
+    shelf: &mut S,
+    name: &str,
+) -> Result<Chunks, MediaFault>
+    ensures exact { IsTrue (S.honest shelf.old)
+        → Gives chunks_view (λ fault. fault) number_of result (walked_file (S.stored shelf.old name.now)) }
+    ensures seen { IsTrue (S.honest shelf.old) → (file : List ℕ) → S.stored shelf.old name.now ≡ Some file
+        → IfOk result (λ chunks. chunks.seen ≡ chunk_count file) }
+    ensures few { IsTrue (S.honest shelf.old) → (file : List ℕ) → S.stored shelf.old name.now ≡ Some file
+        → IfOk result (λ chunks. 8 * chunks.seen + 12 ≤ length file) }
+    ensures inside { IsTrue (S.honest shelf.old) → (file : List ℕ) → S.stored shelf.old name.now ≡ Some file
+        → IfOk result (λ chunks. EndInside (length file) (chunks_view chunks)) }
+    ensures ends { IfOk result (λ chunks. (end : ℕ) × (end < 2 ^ 64) × EndInside end (chunks_view chunks)) }
+    ensures only_reads { OnlyReads S.Shelf shelf.old shelf.new result (λ fault. fault ≡ MediaFault.Device)
+        (λ _ failed. failed name.now) }
+{
+    let end = shelf.length(name)?;
+    let form = read_form(shelf, name, end)?;
+    let index = Some(index_of(alloc, shelf, name, &form.sizes)?);
+    let mut ahead = [0u8; AHEAD];
+    walk_form(shelf, name, &form, &index, end, &mut ahead)
 }

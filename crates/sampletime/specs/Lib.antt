@@ -1,2 +1,5 @@
+pub mod FrameRate
+pub mod RateLaws
 pub mod TimeCode
 pub mod TimeLaws
+pub mod TimeVectors

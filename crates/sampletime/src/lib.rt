@@ -1,19 +1,19 @@
 //! AES31 time code at 48000 samples a second: the text `hh:mm:ss:ff/rrrr` and the number of samples that it means.
 //!
-//! A day has 4,147,200,000 samples. A second has 25 frames of 1920 samples, so the last field, the remainder, goes
-//! from 0000 to 1919. Each of the four separators is one of `:`, `;`, `.`, `,`, `|`, `=` and `/`; what a separator
+//! A day has 4,147,200,000 samples. A second has 24, 25 or 30 frames, of 2000, 1920 or 1600 samples, so the last field,
+//! the remainder, goes from 0000 to 1999, 1919 or 1599. Each of the four separators is one of `:`, `;`, `.`, `,`, `|`, `=` and `/`; what a separator
 //! says beyond that isn't interpreted. The day's end, 24 hours and all else zero, is a time too.
 #![tactic(auto)]
 
 ghost use Rattle.std.specs.Prelude.{◌≡◌, ◌≤◌, ◌<◌, ◌+◌, ◌/◌, ◌%◌, [], ◌∷◌, SomeIff, IsTrue, IfSome};
+ghost use Rattle.sampletime.specs.FrameRate.{frames_per_second};
 ghost use Rattle.sampletime.specs.TimeCode as time_code;
-ghost use Rattle.sampletime.specs.TimeCode.{day, are_separators, default_separators, samples_of, samples_of_parts, is_in_day, text_of, text_of_parts, time_of_parts};
+ghost use Rattle.sampletime.specs.TimeCode.{day, are_separators, default_separators, frame_samples, samples_of, samples_of_parts, is_in_day, text_of, text_of_parts, time_of_parts};
 
+mod frame_rate;
+
+pub use frame_rate::Rate;
 use std::marker::Model;
-
-const FRAMES_PER_SECOND: u64 = 25;
-
-const SAMPLES_PER_FRAME: u64 = 1920;
 
 const SAMPLES_PER_SECOND: u64 = 48_000;
 
@@ -179,12 +179,14 @@ struct Parts {
 
 impl Parts {
     /// The fields of a time, each within its limit.
-    fn of(time: SampleTime) -> Self
+    fn of(time: SampleTime, rate: Rate) -> Self
         ensures hours { result.hours ≡ time / 172800000 }
         ensures minutes { result.minutes ≡ time / 2880000 % 60 }
         ensures seconds { result.seconds ≡ time / 48000 % 60 }
-        ensures frames { result.frames ≡ time / 1920 % 25 }
-        ensures remainder { result.remainder ≡ time % 1920 }
+        ensures frames { result.frames ≡ time / frame_samples (frames_per_second rate) % frames_per_second rate }
+        ensures remainder { result.remainder ≡ time % frame_samples (frames_per_second rate) }
+        ensures few_frames { result.frames ≤ 29 }
+        ensures few_samples { result.remainder ≤ 1999 }
         ensures in_day { time ≤ day }
     {
         let samples = time.get();
@@ -193,40 +195,40 @@ impl Parts {
             hours: (seconds / 3600) as u8,
             minutes: (seconds / 60 % 60) as u8,
             seconds: (seconds % 60) as u8,
-            frames: (samples / SAMPLES_PER_FRAME % FRAMES_PER_SECOND) as u8,
-            remainder: (samples % SAMPLES_PER_FRAME) as u16,
+            frames: rate.frame_in_second(samples),
+            remainder: rate.remainder_of(samples),
         }
     }
 
     /// The time that these fields mean; `None` where one is past its limit or the day's end is passed.
-    fn time(self) -> Option<SampleTime>
+    fn time(self, rate: Rate) -> Option<SampleTime>
         ensures time { SomeIff result
-            (IsTrue (is_in_day 25 self.hours self.minutes self.seconds self.frames self.remainder))
-            (samples_of_parts 25 self.hours self.minutes self.seconds self.frames self.remainder) }
+            (IsTrue (is_in_day (frames_per_second rate) self.hours self.minutes self.seconds self.frames self.remainder))
+            (samples_of_parts (frames_per_second rate) self.hours self.minutes self.seconds self.frames
+            self.remainder) }
         ensures in_day { IfSome result (λ time. time ≤ day) }
     {
-        let frames = u64::from(self.frames);
-        let remainder = u64::from(self.remainder);
         if self.minutes < 60
             && self.seconds < 60
-            && frames < FRAMES_PER_SECOND
-            && remainder < SAMPLES_PER_FRAME
+            && self.frames < rate.frames_per_second()
+            && self.remainder < rate.samples_per_frame()
         {
             let minutes = u64::from(self.hours) * 60 + u64::from(self.minutes);
             let seconds = minutes * 60 + u64::from(self.seconds);
-            SampleTime::new(seconds * SAMPLES_PER_SECOND + frames * SAMPLES_PER_FRAME + remainder)
+            let frames = rate.samples_of_frames(self.frames);
+            SampleTime::new(seconds * SAMPLES_PER_SECOND + frames + u64::from(self.remainder))
         } else {
             None
         }
     }
 
     /// The time, beside these bytes as separators; `None` where either is refused.
-    fn parted_by(self, separators: [u8; 4]) -> Option<(SampleTime, Separators)>
-        ensures value { result ≡ time_of_parts 25 (Some self.hours) (Some self.minutes) (Some self.seconds)
+    fn parted_by(self, separators: [u8; 4], rate: Rate) -> Option<(SampleTime, Separators)>
+        ensures value { result ≡ time_of_parts (frames_per_second rate) (Some self.hours) (Some self.minutes) (Some self.seconds)
             (Some self.frames) (Some self.remainder) separators }
         ensures in_day { IfSome result (λ p. p.0 ≤ day) }
     {
-        let time = self.time()?;
+        let time = self.time(rate)?;
         let separators = Separators::new(separators)?;
         Some((time, separators))
     }
@@ -252,14 +254,15 @@ impl Parts {
     }
 }
 
-/// The time and the separators of a time text of 16 bytes, `hh:mm:ss:ff/rrrr` with any four separators.
+/// The time and the separators of a time text of 16 bytes, `hh:mm:ss:ff/rrrr` with any four separators, at a rate.
 ///
-/// Hours are 00 to 23, minutes and seconds 00 to 59, frames 00 to 24 and the remainder 0000 to 1919, or the text is
-/// the day's end, 24 hours and all else zero. Every other text is `None`: nothing is carried into the next field.
-pub fn parse_time(text: &[u8]) -> Option<(SampleTime, Separators)>
-    ensures value { result ≡ samples_of 25 text.now }
+/// Hours are 00 to 23, minutes and seconds 00 to 59, frames and the remainder below those of a second and of a frame
+/// (24 and 2000, 25 and 1920, or 30 and 1600), or the text is the day's end, 24 hours and all else zero. Every other
+/// text is `None`: nothing is carried into the next field.
+pub fn parse_time(text: &[u8], rate: Rate) -> Option<(SampleTime, Separators)>
+    ensures value { result ≡ samples_of (frames_per_second rate) text.now }
     ensures in_day { IfSome result (λ p. p.0 ≤ day) }
-    ensures again { IfSome result (λ p. text.now ≡ text_of 25 p.0 p.1) }
+    ensures again { IfSome result (λ p. text.now ≡ text_of (frames_per_second rate) p.0 p.1) }
 {
     match text {
         &[h, h2, a, m, m2, b, s, s2, c, f, f2, d, r, r2, r3, r4] => parse_fields(
@@ -269,6 +272,7 @@ pub fn parse_time(text: &[u8]) -> Option<(SampleTime, Separators)>
             [f, f2],
             [r, r2, r3, r4],
             [a, b, c, d],
+            rate,
         ),
         _ => None,
     }
@@ -282,8 +286,9 @@ fn parse_fields(
     frames: [u8; 2],
     remainder: [u8; 4],
     separators: [u8; 4],
+    rate: Rate,
 ) -> Option<(SampleTime, Separators)>
-    ensures value { result ≡ time_of_parts 25 (time_code.two_digits hours) (time_code.two_digits minutes)
+    ensures value { result ≡ time_of_parts (frames_per_second rate) (time_code.two_digits hours) (time_code.two_digits minutes)
         (time_code.two_digits seconds) (time_code.two_digits frames) (time_code.four_digits remainder) separators }
     ensures in_day { IfSome result (λ p. p.0 ≤ day) }
 {
@@ -294,14 +299,14 @@ fn parse_fields(
         frames: two_digits(frames)?,
         remainder: four_digits(remainder)?,
     };
-    parts.parted_by(separators)
+    parts.parted_by(separators, rate)
 }
 
-/// The time text of a time, with these separators: 16 bytes that [`parse_time`] reads as both again.
+/// The time text of a time at a rate, with these separators: 16 bytes that [`parse_time`] reads as both again.
 #[tactic(auto, using(crate::proofs::RoundTrip::time_is_again))]
-pub fn text_of(time: SampleTime, separators: Separators) -> [u8; 16]
-    ensures text { result ≡ text_of 25 time separators }
-    ensures again { samples_of 25 result ≡ Some (time, separators) }
+pub fn text_of(time: SampleTime, separators: Separators, rate: Rate) -> [u8; 16]
+    ensures text { result ≡ text_of (frames_per_second rate) time separators }
+    ensures again { samples_of (frames_per_second rate) result ≡ Some (time, separators) }
 {
-    Parts::of(time).text(separators)
+    Parts::of(time, rate).text(separators)
 }

@@ -1,4 +1,2 @@
-pub mod Frame
 pub mod Fault
-pub mod FileName
-pub mod Memory
+pub mod Frame

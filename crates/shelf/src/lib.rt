@@ -2,18 +2,11 @@
 #![tactic(auto)]
 
 mod bench;
-mod failures;
 mod fault;
-mod folder;
-mod memory;
-mod progress;
-mod reason;
 mod source;
+mod watch;
 
 pub use bench::Bench;
 pub use fault::{DeviceFault, ShelfFault};
-pub use folder::{FolderBench, FolderShelf, Overwrite};
-pub use memory::{MemoryBench, MemoryShelf};
-pub use progress::{Progress, Unwatched};
-pub use reason::Reasons;
 pub use source::Shelf;
+pub use watch::{Unwatched, Watch};

@@ -18,6 +18,7 @@ pub mod Media
 pub mod Mix
 pub mod OrderLaws
 pub mod Passes
+pub mod PlacedLaws
 pub mod Render
 pub mod SoundFault
 pub mod SoundFiles

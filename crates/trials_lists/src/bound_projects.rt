@@ -1,15 +1,16 @@
-// Projects over files in memory: what is told of those that are accepted, and which fault the others have.
+// Projects over files in memory: bound and checked, whatever fails meanwhile, and the runs that are kept of them.
 use crate::whole_lists::{ENTRY, SOURCE, list};
 use adlmodel::Notice;
 use adlread::read;
 use mediaset::{Run, runs};
 use opening::{Accepted, Fault, check_project};
 use projectcheck::{check, from_checked};
-use shelf::{MemoryShelf, Shelf};
+use shelf::Shelf;
 use sound_terms::{Bext, BoundIndex, Depth, Home};
 use sourceindex::bind;
 use std::alloc::Global;
 use std::test::Fail;
+use stores::MemoryShelf;
 use wavwrite::{SoundInfo, header};
 
 /// A shelf with the mono file `A.wav` of 16 bits with these samples, the first at this time.
@@ -86,103 +87,6 @@ const TWO_PATHS: &str = "(Index) 0001 (F) \"URL:file:///x/A.wav\" _ 00.00.00.00/
 (Index) 0002 (F) \"URL:file:///y/A.wav\" _ 01.00.00.00/0000 _
 ";
 
-/// An entry that plays the third and the fourth sample of index 2, the first of which stands at one hour.
-const SECOND: &str =
-    "(Entry) 0001 (Cut) I 0002 1 1 01.00.00.00/0002 01.00.00.00/0000 01.00.00.00/0002\n";
-
-#[test]
-fn a_base_other_than_its_files_is_told(rt: HostRuntime) -> Result<(), Fail> {
-    let alloc = rt.alloc();
-    let unused = |at| Notice { kind: 3, at };
-    let other = |at| Notice { kind: 4, at };
-    for (entry, time_reference, notices) in [
-        (ENTRY, 0, [unused(2)].as_slice()),
-        (ENTRY, 172_800_000, &[other(1), unused(2)]),
-        (SECOND, 0, &[unused(1), other(2)]),
-        (SECOND, 172_800_000, &[unused(1)]),
-    ] {
-        let mut shelf = four(alloc, time_reference)?;
-        let told = accepted(alloc, TWO_PATHS, entry, &mut shelf)?;
-        assert_eq!(rt;
-            told.notices.as_slice(),
-            notices,
-            "{entry} {time_reference}"
-        );
-        assert_eq!(rt; (told.entries, told.indexes), (1, 1));
-    }
-    Ok(())
-}
-
-#[test]
-fn a_file_at_fault_is_told(rt: HostRuntime) -> Result<(), Fail> {
-    let alloc = rt.alloc();
-    let mut none = MemoryShelf::new(alloc);
-    assert_eq!(rt; refused(alloc, SOURCE, ENTRY, &mut none)?, Some((21, 1)));
-    assert_eq!(rt;
-        refused(alloc, SOURCE, "", &mut none)?,
-        None,
-        "no entry names it"
-    );
-    let mut other = MemoryShelf::new(alloc).with_file("A.wav", b"RIFF\0\0\0\0AVI ")?;
-    assert_eq!(rt; refused(alloc, SOURCE, ENTRY, &mut other)?, Some((23, 1)));
-    let second = "(Entry) 2 (Cut) I 2 1 1 01.00.00.00/0000 02.00.00.00/0000 02.00.00.00/0001\n";
-    let entries = format!(in alloc; "{ENTRY}{second}")?;
-    let mut shelf = four(alloc, 0)?;
-    assert_eq!(rt;
-        refused(alloc, TWO_PATHS, entries.as_str(), &mut shelf)?,
-        Some((30, 2))
-    );
-    Ok(())
-}
-
-/// The fault of entry 7 over a file of four samples from one hour on. It begins with `front`, its index and channels,
-/// and plays the file from `start` on, at sample 10 behind one hour and up to sample `end`; its own lines may follow.
-fn refused_entry(
-    alloc: Global,
-    front: &str,
-    start: &str,
-    end: &str,
-) -> Result<Option<(u8, u32)>, Fail> {
-    let mut shelf = four(alloc, 172_800_000)?;
-    let source = "(Index) 1 (F) \"URL:file://localhost/A.wav\" _ _ _\n";
-    let entry = format!(in alloc;
-        "(Entry) 0007 (Cut) I {front} {start} 01.00.00.00/0010 01.00.00.00/{end}\n"
-    )?;
-    refused(alloc, source, entry.as_str(), &mut shelf)
-}
-
-#[test]
-fn an_entry_at_fault_is_told(rt: HostRuntime) -> Result<(), Fail> {
-    let alloc = rt.alloc();
-    for (front, start, end, number) in [
-        ("2 1 1", "01.00.00.00/0000", "0014", 41),
-        ("1 2 1", "01.00.00.00/0000", "0009", 42),
-        ("1 2 1", "01.00.00.00/0000", "0014", 44),
-        ("1 2 1", "01.00.00.00/0000", "0010", 44),
-        ("1 1 1", "01.00.00.00/0000", "0015", 46),
-        ("1 1 1", "01.00.00.00/0003", "0012", 46),
-        ("1 1 1", "00.59.59.24/1919", "0011", 46),
-    ] {
-        let fault = refused_entry(alloc, front, start, end)?;
-        assert_eq!(rt; fault, Some((number, 7)), "{front} {start} {end}");
-    }
-    let nowhere = refused_entry(alloc, "1 1 1", "00.00.00.00/0000", "0010")?;
-    assert_eq!(rt; nowhere, None, "of no length");
-    Ok(())
-}
-
-#[test]
-fn fades_may_be_as_long_as_their_entry(rt: HostRuntime) -> Result<(), Fail> {
-    for (fall, fault) in [(1, None), (2, Some((43, 7)))] {
-        let end = format!(in rt.alloc();
-            "0014\n(Infade) 00.00.00.00/0003 LIN _ _ _\n(Outfade) 00.00.00.00/000{fall} LIN _ _ _"
-        )?;
-        let told = refused_entry(rt.alloc(), "1 1 1", "01.00.00.00/0000", end.as_str())?;
-        assert_eq!(rt; told, fault, "{fall}");
-    }
-    Ok(())
-}
-
 // Tried with each allocation failing in turn, where no answer but the whole one or out of memory may come.
 #[test]
 fn a_list_is_checked_whole_or_not_at_all(rt: HostRuntime) -> Result<(), Fail> {
@@ -213,12 +117,6 @@ fn a_failing_file_is_told(rt: HostRuntime) -> Result<(), Fail> {
     Ok(())
 }
 
-/// Two entries that play the frames 10 to 13 and 24 to 27.
-const APART: &str =
-    "(Entry) 0001 (Cut) I 0001 1 1 00.00.00.00/0010 01.00.00.00/0000 01.00.00.00/0004
-(Entry) 0002 (Cut) I 0001 1 1 00.00.00.00/0024 01.00.00.00/0004 01.00.00.00/0008
-";
-
 /// The frames that are kept of a list over a shelf.
 fn kept(alloc: Global, text: &str, shelf: &mut MemoryShelf, handle: u64) -> Result<Vec<Run>, Fail> {
     let project = read(alloc, text.as_bytes())?;
@@ -227,27 +125,6 @@ fn kept(alloc: Global, text: &str, shelf: &mut MemoryShelf, handle: u64) -> Resu
     let intervals = from_checked(alloc, &checked)?;
     let homes = checked.bound().homes(alloc)?;
     Ok(runs(alloc, &intervals, homes.as_slice(), handle)?)
-}
-
-#[test]
-fn frames_near_one_another_are_one_run(rt: HostRuntime) -> Result<(), Fail> {
-    let alloc = rt.alloc();
-    let mut shelf = shelf_with(alloc, 0, &[1; 30])?;
-    let text = list(alloc, SOURCE, APART)?;
-    let run = |first, length| Run {
-        file: 0,
-        first,
-        length,
-    };
-    for (handle, want) in [
-        (0, [run(10, 4), run(24, 4)].as_slice()),
-        (4, &[run(6, 12), run(20, 10)]),
-        (5, &[run(5, 25)]),
-    ] {
-        let kept = kept(alloc, text.as_str(), &mut shelf, handle)?;
-        assert_eq!(rt; kept.as_slice(), want, "handle {handle}");
-    }
-    Ok(())
 }
 
 /// A list of two indexes of one file, with entries of 200 samples: one plays the frames 100 to 299, the other 200 to

@@ -1,28 +1,16 @@
-// Renderings over files in memory: the bytes of blocks that are appended some at once.
+// Renderings over files in memory: their jobs, done one after the other.
 ghost use Rattle.std.specs.Prelude.{◌≤◌};
 
 use crate::whole_lists::list;
 use opening::open_project;
-use rendering::{Options, RenderFault, render};
-use shelf::{MemoryBench, MemoryShelf, Progress};
+use rendering::{Options, Rendered, Rendering};
+use schedule::JobMaker;
+use shelf::DeviceFault;
 use sound_terms::{Bext, Depth};
 use std::alloc::{AllocError, Global};
 use std::test::Fail;
+use stores::{MemoryBench, MemoryShelf};
 use wavwrite::{SoundInfo, header};
-
-/// How often it was told how far a rendering had come, and the frames that there were at last.
-#[derive(Clone, Copy, Debug, PartialEq, Eq)]
-struct Told {
-    times: u64,
-    frames: u64,
-}
-
-impl Progress for Told {
-    fn reached(&mut self, done: u64, _whole: u64) {
-        self.times = self.times.saturating_add(1);
-        self.frames = done;
-    }
-}
 
 /// The header of a file that begins at midnight.
 fn head(alloc: Global, channels: u8, depth: Depth, frames: u64) -> Result<Vec<u8>, Fail> {
@@ -58,7 +46,40 @@ fn whole(alloc: Global, channels: &str, end: &str) -> Result<String, AllocError>
     list(alloc, source, entry.as_str())
 }
 
-/// Renders all that sounds of a list over the file `A.wav`, on so many channels; what was told of it, and its fault.
+/// How many jobs a rendering has, the greatest frames of one, and what was rendered.
+#[derive(Clone, Copy, Debug, PartialEq, Eq)]
+struct Told {
+    jobs: u32,
+    most: u64,
+    rendered: Rendered,
+}
+
+/// Does all jobs of a rendering, the last one first; gives the greatest frames of one.
+fn do_all(
+    alloc: Global,
+    rendering: &mut Rendering,
+    shelf: &mut MemoryShelf,
+    bench: &mut MemoryBench,
+) -> Result<u64, Fail> {
+    let mut most = 0;
+    let count = rendering.count();
+    for done in 0..count {
+        let job = count - 1 - done;
+        if job >= rendering.count() {
+            return Err("a job less".into());
+        }
+        most = most.max(rendering.frames(job));
+        let mut bytes = vec![in alloc; 0; rendering.size(job)]?;
+        rendering.make(job, shelf, bytes.as_mut_slice())?;
+        if job >= rendering.count() || bytes.len() != rendering.size(job) {
+            return Err("another job".into());
+        }
+        rendering.place(job, bytes.as_slice(), bench)?;
+    }
+    Ok(most)
+}
+
+/// Renders all that sounds of a list over the file `A.wav`, on so many channels.
 fn rendered(
     alloc: Global,
     file: &[u8],
@@ -66,7 +87,7 @@ fn rendered(
     channels: u8,
     depth: Depth,
     bench: &mut MemoryBench,
-) -> Result<(Told, Option<RenderFault>), Fail>
+) -> Result<Told, Fail>
     requires { (1 ≤ channels) × (channels ≤ 64) }
 {
     let mut shelf = MemoryShelf::new(alloc).with_file("A.wav", file)?;
@@ -77,22 +98,27 @@ fn rendered(
         channels: Some(channels),
         depth,
     };
-    let mut told = Told {
-        times: 0,
-        frames: 0,
-    };
-    let result = render(alloc, &checked, &options, &mut shelf, bench, &mut told);
-    Ok((told, result.err()))
+    let mut rendering = Rendering::plan(alloc, &checked, &options)?;
+    rendering.lay_out(bench)?;
+    let most = do_all(alloc, &mut rendering, &mut shelf, bench)?;
+    rendering.finish(bench)?;
+    Ok(Told {
+        jobs: rendering.count(),
+        most,
+        rendered: rendering.rendered(),
+    })
 }
 
 #[test]
-fn blocks_are_appended_some_at_once(rt: HostRuntime) -> Result<(), Fail> {
+fn a_rendering_is_its_jobs(rt: HostRuntime) -> Result<(), Fail> {
     let alloc = rt.alloc();
-    for (frames, end, times) in [
-        (100, "00.00.00.00/0100", 1),
-        (49_152, "00.00.01.00/1152", 1),
-        (49_153, "00.00.01.00/1153", 2),
-        (102_500, "00.00.02.03/0740", 3),
+    // up to 64 blocks one block is a job, and else as many as make 4 MiB: 256 of 16,384 bytes
+    for (frames, end, jobs, most) in [
+        (100, "00.00.00.00/0100", 1, 100),
+        (4097, "00.00.00.02/0257", 2, 4096),
+        (262_144, "00.00.05.11/1024", 64, 4096),
+        (262_145, "00.00.05.11/1025", 1, 262_145),
+        (1_048_577, "00.00.21.21/0257", 2, 1_048_576),
     ] {
         let file = sound(alloc, 2, frames)?;
         let text = whole(alloc, "1~2", end)?;
@@ -105,7 +131,18 @@ fn blocks_are_appended_some_at_once(rt: HostRuntime) -> Result<(), Fail> {
             Depth::Sixteen,
             &mut bench,
         )?;
-        assert_eq!(rt; told, (Told { times, frames }, None));
+        let rendered = Rendered {
+            frames,
+            channels: 2,
+        };
+        assert_eq!(rt;
+            told,
+            (Told {
+                jobs,
+                most,
+                rendered
+            })
+        );
         let bytes = bench.bytes("render.wav").ok_or("no file")?;
         assert!(rt; bytes == file.as_slice(), "{frames}");
     }
@@ -113,7 +150,31 @@ fn blocks_are_appended_some_at_once(rt: HostRuntime) -> Result<(), Fail> {
 }
 
 #[test]
-fn a_block_of_more_bytes_is_appended_alone(rt: HostRuntime) -> Result<(), Fail> {
+fn odd_samples_are_padded(rt: HostRuntime) -> Result<(), Fail> {
+    let alloc = rt.alloc();
+    let file = sound(alloc, 1, 3)?;
+    let text = whole(alloc, "1", "00.00.00.00/0003")?;
+    let mut bench = MemoryBench::new(alloc);
+    rendered(
+        alloc,
+        file.as_slice(),
+        text.as_str(),
+        1,
+        Depth::TwentyFour,
+        &mut bench,
+    )?;
+    let mut wanted = head(alloc, 1, Depth::TwentyFour, 3)?;
+    for place in 0..3 {
+        wanted.push(0)?;
+        wanted.extend_from_slice(&sample(place))?;
+    }
+    wanted.push(0)?;
+    assert!(rt; bench.bytes("render.wav").ok_or("no file")? == wanted.as_slice());
+    Ok(())
+}
+
+#[test]
+fn a_job_of_many_channels_is_one_block(rt: HostRuntime) -> Result<(), Fail> {
     let alloc = rt.alloc();
     let file = sound(alloc, 1, 4100)?;
     let text = whole(alloc, "1", "00.00.00.02/0260")?;
@@ -126,11 +187,7 @@ fn a_block_of_more_bytes_is_appended_alone(rt: HostRuntime) -> Result<(), Fail> 
         Depth::ThirtyTwo,
         &mut bench,
     )?;
-    let twice = Told {
-        times: 2,
-        frames: 4100,
-    };
-    assert_eq!(rt; told, (twice, None));
+    assert_eq!(rt; (told.jobs, told.most), (2, 4096));
     let mut wanted = head(alloc, 64, Depth::ThirtyTwo, 4100)?;
     for place in 0..4100 {
         wanted.extend_from_slice(&[0; 2])?;
@@ -142,29 +199,26 @@ fn a_block_of_more_bytes_is_appended_alone(rt: HostRuntime) -> Result<(), Fail> 
 }
 
 #[test]
-fn a_rendering_ends_where_its_output_fails(rt: HostRuntime) -> Result<(), Fail> {
+fn a_file_is_laid_out_by_few_writes(rt: HostRuntime) -> Result<(), Fail> {
     let alloc = rt.alloc();
     let file = sound(alloc, 2, 49_153)?;
     let text = whole(alloc, "1~2", "00.00.01.00/1153")?;
-    // it is made, its header is appended, then twice its samples, and it is synced
-    for (call, times, frames) in [
-        (0, 0, 0),
-        (1, 0, 0),
-        (2, 0, 0),
-        (3, 1, 49_152),
-        (4, 2, 49_153),
-    ] {
+    let mut shelf = MemoryShelf::new(alloc).with_file("A.wav", file.as_slice())?;
+    let checked = open_project(alloc, text.as_bytes(), &mut shelf)?;
+    let options = Options {
+        from: None,
+        to: None,
+        channels: Some(2),
+        depth: Depth::Sixteen,
+    };
+    let rendering = Rendering::plan(alloc, &checked, &options)?;
+    // it is made, its header is appended, and then its samples in steps of at most 65,536 bytes
+    for call in 0..6 {
         let mut bench = MemoryBench::new(alloc).failing(call, 1);
-        let told = rendered(
-            alloc,
-            file.as_slice(),
-            text.as_str(),
-            2,
-            Depth::Sixteen,
-            &mut bench,
-        )?;
-        let output = Some(RenderFault::Output);
-        assert_eq!(rt; told, (Told { times, frames }, output), "{call}");
+        assert_eq!(rt; rendering.lay_out(&mut bench), (Err(DeviceFault)), "{call}");
     }
+    let mut bench = MemoryBench::new(alloc).failing(6, 1);
+    rendering.lay_out(&mut bench)?;
+    assert_eq!(rt; rendering.finish(&mut bench), (Err(DeviceFault)));
     Ok(())
 }

@@ -1,9 +1,10 @@
 // Lists that are written.
 use adlread::read;
 use adlwrite::{WriteFault, text_of, write};
-use shelf::{Bench, MemoryBench};
+use shelf::Bench;
 use std::alloc::Global;
 use std::test::Fail;
+use stores::MemoryBench;
 
 const WRITTEN: &str = "<ADL>\r
 <VERSION>\r
@@ -103,5 +104,24 @@ fn a_copy_is_the_same_project(rt: HostRuntime) -> Result<(), Fail> {
     assert!(rt; copy.try_copy()?.into_source(2).is_none());
     let source = copy.into_source(1).ok_or("no source")?;
     assert_eq!(rt; source.number(), 12_345);
+    Ok(())
+}
+
+#[test]
+fn a_list_is_written_at_its_rate(rt: HostRuntime) -> Result<(), Fail> {
+    let text = "<ADL>\r
+<SEQUENCE>\r
+(SEQ_SAMPLE_RATE) S48000\r
+(SEQ_FRAME_RATE) 30\r
+</SEQUENCE>\r
+<SOURCE_INDEX>\r
+(Index) 0001 (F) \"URL:file://localhost/A.wav\" _ 00.00.04.29/1590 _\r
+</SOURCE_INDEX>\r
+<EVENT_LIST>\r
+</EVENT_LIST>\r
+</ADL>\r
+";
+    let written = again(rt.alloc(), text)?;
+    assert_eq!(rt; written.as_slice(), text.as_bytes());
     Ok(())
 }

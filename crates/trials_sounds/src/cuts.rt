@@ -3,7 +3,7 @@ ghost use Rattle.std.specs.Prelude.{◌≤◌};
 ghost use Rattle.sound_terms.specs.Groups.{IsPiece, IsRamp};
 
 use interval::{Group, Intervals, Piece, Shape};
-use passes::{join_cuts, regroup};
+use passes::{JoinCuts, Pass, Regroup};
 use std::test::Fail;
 
 /// Ten frames of a file in this shape, each ten at this distance behind the ten before.
@@ -96,7 +96,7 @@ fn are_alone(intervals: &Intervals, pieces: &[Piece]) -> bool {
 fn a_thousand_pieces_that_go_on_are_one(rt: HostRuntime) -> Result<(), Fail> {
     let given = thousand(&rt, 10, true)?;
     let plain = joined_plainly(&rt, &given)?;
-    let joined = join_cuts(given)?;
+    let joined = JoinCuts.apply(rt.alloc(), given, &[])?;
     assert_eq!(rt; plain.len(), 1);
     assert!(rt; are_alone(&joined, plain.as_slice()));
     Ok(())
@@ -106,7 +106,7 @@ fn a_thousand_pieces_that_go_on_are_one(rt: HostRuntime) -> Result<(), Fail> {
 fn a_thousand_pieces_with_gaps_stay_apart(rt: HostRuntime) -> Result<(), Fail> {
     let given = thousand(&rt, 11, true)?;
     let plain = joined_plainly(&rt, &given)?;
-    let joined = join_cuts(given)?;
+    let joined = JoinCuts.apply(rt.alloc(), given, &[])?;
     assert_eq!(rt; plain.len(), 1000);
     assert!(rt; are_alone(&joined, plain.as_slice()));
     Ok(())
@@ -169,7 +169,7 @@ fn are_grouped(intervals: &Intervals, groups: &[Vec<Piece>]) -> bool {
 fn a_thousand_pieces_are_groups_of_three(rt: HostRuntime) -> Result<(), Fail> {
     let given = thousand(&rt, 10, false)?;
     let plain = grouped_plainly(&rt, &given)?;
-    let grouped = regroup(given)?;
+    let grouped = Regroup.apply(rt.alloc(), given, &[])?;
     assert_eq!(rt; plain.len(), 334);
     assert!(rt; are_grouped(&grouped, plain.as_slice()));
     Ok(())
@@ -179,7 +179,7 @@ fn a_thousand_pieces_are_groups_of_three(rt: HostRuntime) -> Result<(), Fail> {
 fn a_thousand_pieces_with_gaps_stay_alone(rt: HostRuntime) -> Result<(), Fail> {
     let given = thousand(&rt, 11, false)?;
     let plain = grouped_plainly(&rt, &given)?;
-    let grouped = regroup(given)?;
+    let grouped = Regroup.apply(rt.alloc(), given, &[])?;
     assert_eq!(rt; plain.len(), 1000);
     assert!(rt; are_grouped(&grouped, plain.as_slice()));
     Ok(())

@@ -1,17 +1,15 @@
-// Entries as groups of pieces, cut in two, without what is silent, and as events again.
-ghost use Rattle.std.specs.Prelude.{false, pos, ⊤, ◌≡◌, ◌≤◌, ◌+◌, IfOk};
+// Entries as groups of pieces, cut in two, and as events again.
+ghost use Rattle.std.specs.Prelude.{◌≡◌, ◌≤◌, ◌+◌, IfOk};
 ghost use Rattle.sampletime.specs.TimeCode.{day};
 ghost use Rattle.sound_terms.specs.Entries.{IsPlayable};
 
 use interval::{Intervals, Piece, Placed, Shape, group_of};
-use passes::{Samples, drop_silent, silent_of, split_fades, standard};
 use sampletime::SampleTime;
-use shelf::ShelfFault;
 use sound_terms::{BoundIndex, Channels, Event, Fade};
 use std::test::Fail;
 
 /// A file whose first frame is at midnight.
-const MIDNIGHT: BoundIndex = BoundIndex {
+pub(crate) const MIDNIGHT: BoundIndex = BoundIndex {
     number: 1,
     file: 0,
     base: 0,
@@ -55,7 +53,7 @@ fn entry_of(last: u8, length: u64, rise: u64, fall: u64) -> Result<Event, Fail>
 }
 
 /// An entry of 12 stereo samples from midnight on, with both fades of four.
-fn entry() -> Result<Event, Fail>
+pub(crate) fn entry() -> Result<Event, Fail>
     ensures { IfOk result (λ event. IsPlayable MIDNIGHT event) }
 {
     entry_of(2, 12, 4, 4)
@@ -79,7 +77,7 @@ fn an_entry_has_an_in_fade_a_middle_and_an_out_fade(rt: HostRuntime) -> Result<(
 }
 
 /// The groups of this one entry.
-fn intervals(rt: &HostRuntime, event: &Event) -> Result<Intervals, Fail>
+pub(crate) fn intervals(rt: &HostRuntime, event: &Event) -> Result<Intervals, Fail>
     requires { IsPlayable MIDNIGHT event.now }
 {
     let alloc = rt.alloc();
@@ -135,71 +133,5 @@ fn a_group_is_an_event_again(rt: HostRuntime) -> Result<(), Fail> {
         fall: 4,
     };
     assert_eq!(rt; events.as_slice(), [event].as_slice());
-    Ok(())
-}
-
-/// A stereo file of 12 frames: the left is silent, the right sounds in the first four and the last four.
-#[derive(Drop)]
-struct OneSide {
-    asked: u64,
-}
-
-impl Samples for OneSide {
-    ghost reading = { λ _ _ _ _. pos 0 };
-
-    ghost honest = { λ _. false };
-
-    ghost failures = { λ _. 0 };
-
-    ghost failed_at = { λ _ _. ⊤ };
-
-    fn all_zero(
-        &mut self,
-        _file: u32,
-        first: u8,
-        width: u8,
-        from: u64,
-        length: u64,
-    ) -> Result<bool, ShelfFault> {
-        self.asked = self.asked.saturating_add(1);
-        let has_right = first == 2 || width == 2;
-        let sounds = length > 0 && (from < 4 || from.saturating_add(length) > 8);
-        Ok(!(has_right && sounds))
-    }
-}
-
-#[test]
-fn the_silent_middle_of_an_entry_goes(rt: HostRuntime) -> Result<(), Fail> {
-    let split = split_fades(intervals(&rt, &entry()?)?)?;
-    assert_eq!(rt; split.groups().len(), 3);
-    let mut samples = OneSide { asked: 0 };
-    let silent = silent_of(rt.alloc(), &split, &mut samples)?;
-    assert_eq!(rt; silent.as_slice(), [false, true, false].as_slice());
-    assert_eq!(rt; samples.asked, 3);
-    let sounding = drop_silent(split, silent.as_slice())?;
-    assert!(rt; sounding.whole());
-    assert_eq!(rt; sounding.groups().len(), 2);
-    for (group, start) in sounding.groups().iter().zip([0, 8]) {
-        assert_eq!(rt; group.pieces().len(), 1);
-        assert_eq!(rt;
-            (group.pieces()[0].start, group.pieces()[0].length),
-            (start, 4)
-        );
-    }
-    Ok(())
-}
-
-#[test]
-fn the_standard_passes_leave_the_fades_of_an_entry_with_a_silent_middle(
-    rt: HostRuntime,
-) -> Result<(), Fail> {
-    let mut samples = OneSide { asked: 0 };
-    let left = standard(rt.alloc(), intervals(&rt, &entry()?)?, &mut samples)?;
-    assert_eq!(rt; samples.asked, 3);
-    assert_eq!(rt; left.groups().len(), 2);
-    for (group, start) in left.groups().iter().zip([0, 8]) {
-        assert_eq!(rt; group.pieces().len(), 1);
-        assert_eq!(rt; (group.start(), group.pieces()[0].length), (start, 4));
-    }
     Ok(())
 }

@@ -10,9 +10,17 @@ mod cuts;
 #[cfg(test)]
 mod files;
 #[cfg(test)]
+mod flat_cut;
+#[cfg(test)]
 mod intervals;
 #[cfg(test)]
+mod kernels;
+#[cfg(test)]
+mod pass_lists;
+#[cfg(test)]
 mod samples;
+#[cfg(test)]
+mod silences;
 #[cfg(test)]
 mod sums;
 #[cfg(test)]

@@ -4,4 +4,4 @@
 #[cfg(test)]
 mod folders;
 #[cfg(test)]
-mod stores;
+mod memory;

@@ -8,7 +8,7 @@ ghost use Rattle.wavread.specs.Facts.{sound_of_file};
 use crate::Sound;
 use crate::bext_chunk::read_told;
 use crate::format_chunk::read_format;
-use riff::{MediaFault, walk};
+use riff::{MediaFault, walk_indexed};
 use shelf::Shelf;
 use std::alloc::Global;
 
@@ -23,7 +23,7 @@ fn copy_of(alloc: Global, name: &str) -> Result<String, MediaFault>
 /// Reads what the file of this name says (EBU Tech 3285, 3306): its format, how many frames it has and where, and the
 /// fields and CodingHistory of its `bext`, of which 65,536 bytes are kept. Samples aren't read.
 ///
-/// In turn the faults of [`riff::walk`], `BadFormat` and `WrongRate`. `Device` where a read fails, `Memory` where no
+/// In turn the faults of [`riff::walk_indexed`], `BadFormat` and `WrongRate`. `Device` where a read fails, `Memory` where no
 /// memory was left.
 pub fn open<S: Shelf>(alloc: Global, shelf: &mut S, name: &str) -> Result<Sound, MediaFault>
     ensures exact { IsTrue (S.honest shelf.old)
@@ -33,7 +33,7 @@ pub fn open<S: Shelf>(alloc: Global, shelf: &mut S, name: &str) -> Result<Sound,
     ensures only_reads { OnlyReads S.Shelf shelf.old shelf.new result (λ fault. fault ≡ MediaFault.Device)
         (λ _ failed. failed name.now) }
 {
-    let chunks = walk(shelf, name)?;
+    let chunks = walk_indexed(alloc, shelf, name)?;
     let format = read_format(shelf, name, chunks.format)?;
     let told = read_told(alloc, shelf, name, chunks.bext)?;
     let name = copy_of(alloc, name)?;

@@ -1,10 +1,9 @@
 -- What a written file tells of itself, where it fits.
-use Rattle.std.proofs.Common.{◌≡◌, ℕ, sym, false, ◌⊎◌, inl, inr, arith}
-use Rattle.std.proofs.lemmas.Bool.Decides.{nat_tests}
+use Rattle.std.proofs.Common.{◌≡◌, ℕ, sym, ◌⊎◌, inl, inr}
 use Rattle.sound_terms.specs.declared.Depth.{Depth}
 use Rattle.sound_terms.specs.declared.Depth.TheVariants.{Sixteen, TwentyFour, ThirtyTwo}
 use Rattle.sound_terms.specs.Depth.{bits_of}
-use Rattle.sound_terms.specs.Waves.{SoundInfo, is_large}
+use Rattle.sound_terms.specs.Waves.{SoundInfo}
 use Rattle.wavwrite.specs.Info.{IsWithin, Fits}
 
 -- the depths of PCM
@@ -23,11 +22,8 @@ named_depth Sixteen depth e = inl (sym e)
 named_depth TwentyFour depth e = inr (inl (sym e))
 named_depth ThirtyTwo depth e = inr (inr (sym e))
 
--- what a file can tell of itself in RIFF
+-- what a file can tell of itself
 pub record IsInfo (info : SoundInfo) : Type 0 where
   pub within : IsWithin info
   pub depth : IsDepth info.depth
-  pub small : is_large info ≡ false
-
-pub small_info : (info : SoundInfo) → Fits info → is_large info ≡ false
-small_info info fits = grind (arith, nat_tests)
+  pub fits : Fits info

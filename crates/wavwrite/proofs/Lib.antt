@@ -2,8 +2,9 @@ pub mod ContentReads
 pub mod FileInfo
 pub mod FileReads
 pub mod FormatReads
-pub mod FourChunks
 pub mod FrameReads
 pub mod HeaderBytes
 pub mod RenderReads
+pub mod Rf64Reads
 pub mod RiffReads
+pub mod WaveChunks

@@ -26,8 +26,12 @@ pub record IsWithin (info : SoundInfo) : Type 0 where
   pub history_fits : length info.history ≤ 65536
 
 -- the size field of RIFF can tell the length
+abbrev pub FitsRiff : SoundInfo → Type 0
+FitsRiff info = file_length info - 8 ≤ 4294967294
+
+-- 64 bits can tell the length
 abbrev pub Fits : SoundInfo → Type 0
-Fits info = file_length info - 8 ≤ 4294967294
+Fits info = file_length info < 2 ^ 64
 
 -- what is read of a written file of this name
 abbrev pub facts_of : List ℕ → SoundInfo → SoundFacts

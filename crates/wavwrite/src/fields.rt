@@ -1,39 +1,45 @@
-// Fields of a file, each put behind what stands there: little endian numbers, zeros, and the head of a chunk.
-ghost use Rattle.std.specs.Prelude.{◌≡◌, ◌≤◌, ◌++◌, OnOk};
-ghost use Rattle.sound_terms.specs.Waves.{u16_bytes, u32_bytes, zeros, chunk_head};
+// Fields of a file, each put behind the bytes that stand in front of it: little endian numbers, and the head of a chunk.
+ghost use Rattle.std.specs.Prelude.{◌≡◌, ◌≤◌, ◌+◌, ◌++◌, length, take};
+ghost use Rattle.sound_terms.specs.Waves.{u16_bytes, u32_bytes, chunk_head};
 
-use std::alloc::AllocError;
+/// Puts a word behind the first `at` bytes, and answers where it ends.
+pub fn put(out: &mut [u8], at: usize, word: &[u8]) -> usize
+    requires { at + length word.now ≤ length out.old }
+    ensures put { take result out.new ≡ take at out.old ++ word.now }
+    ensures end { result ≡ at + length word.now }
+{
+    let end = at + word.len();
+    out[at..end].copy_from_slice(word);
+    end
+}
 
-/// A number of 16 bits more, little endian.
+/// Puts a number of 16 bits, little endian.
 #[tactic(auto, unfolding(sound_terms::specs::Waves::u16_bytes))]
-pub fn push_u16(out: &mut Vec<u8>, number: u16) -> Result<(), AllocError>
-    ensures { OnOk result (out.new.items ≡ out.old.items ++ u16_bytes number) }
+pub fn put_u16(out: &mut [u8], at: usize, number: u16) -> usize
+    requires { at + 2 ≤ length out.old }
+    ensures put { take result out.new ≡ take at out.old ++ u16_bytes number }
+    ensures end { result ≡ at + 2 }
 {
-    out.extend_from_slice(&number.to_le_bytes())
+    put(out, at, &number.to_le_bytes())
 }
 
-/// A number of 32 bits more, little endian.
+/// Puts a number of 32 bits, little endian.
 #[tactic(auto, unfolding(sound_terms::specs::Waves::u32_bytes))]
-pub fn push_u32(out: &mut Vec<u8>, number: u32) -> Result<(), AllocError>
-    ensures { OnOk result (out.new.items ≡ out.old.items ++ u32_bytes number) }
+pub fn put_u32(out: &mut [u8], at: usize, number: u32) -> usize
+    requires { at + 4 ≤ length out.old }
+    ensures put { take result out.new ≡ take at out.old ++ u32_bytes number }
+    ensures end { result ≡ at + 4 }
 {
-    out.extend_from_slice(&number.to_le_bytes())
+    put(out, at, &number.to_le_bytes())
 }
 
-/// So many zeros more.
-#[tactic(auto, unfolding(sound_terms::specs::Waves::zeros))]
-pub fn push_zeros(out: &mut Vec<u8>, count: usize) -> Result<(), AllocError>
-    requires { count ≤ 28 }
-    ensures { OnOk result (out.new.items ≡ out.old.items ++ zeros count) }
-{
-    out.resize(out.len() + count, 0)
-}
-
-/// The head of a chunk more: its id, and the size of its contents.
+/// Puts the head of a chunk: its id, and the size of its contents.
 #[tactic(auto, unfolding(sound_terms::specs::Waves::chunk_head))]
-pub fn push_chunk_head(out: &mut Vec<u8>, id: &[u8; 4], size: u32) -> Result<(), AllocError>
-    ensures { OnOk result (out.new.items ≡ out.old.items ++ chunk_head id.now size) }
+pub fn put_chunk_head(out: &mut [u8], at: usize, id: &[u8; 4], size: u32) -> usize
+    requires { at + 8 ≤ length out.old }
+    ensures put { take result out.new ≡ take at out.old ++ chunk_head id.now size }
+    ensures end { result ≡ at + 8 }
 {
-    out.extend_from_slice(id)?;
-    push_u32(out, size)
+    let at = put(out, at, id);
+    put_u32(out, at, size)
 }

@@ -3,14 +3,15 @@ ghost use Rattle.std.specs.Prelude.{◌≡◌, ◌≤◌, length, SomeIff};
 ghost use Rattle.sound_terms.specs.Depth.{bits_of};
 ghost use Rattle.wavwrite.specs.Info.{info_of};
 
+use crate::SoundInfoRef;
 use sound_terms::{Bext, Depth};
 use std::marker::Model;
 
 /// The most bytes of a CodingHistory (EBU Tech 3285, 2.3) that are carried.
-const HISTORY_LIMIT: usize = 65_536;
+pub const HISTORY_LIMIT: usize = 65_536;
 
 /// The most channels of a file.
-const MOST_CHANNELS: u8 = 64;
+pub const MOST_CHANNELS: u8 = 64;
 
 /// What a sound file tells of itself beside its samples: 1 to 64 channels, the bits of a sample, the count of frames,
 /// and the fields of its `bext` with a CodingHistory of at most 65,536 bytes (EBU Tech 3285, 2.3).
@@ -59,6 +60,19 @@ impl SoundInfo {
             bext,
             history,
         })
+    }
+
+    /// The same, over the CodingHistory that stands here.
+    pub fn lent(&self) -> SoundInfoRef<'_>
+        ensures { result ≡ self.now }
+    {
+        SoundInfoRef::over(
+            self.channels,
+            self.depth,
+            self.frames,
+            self.bext,
+            self.history.as_slice(),
+        )
     }
 
     /// The channels, 1 to 64.

@@ -6,7 +6,7 @@ use Rattle.list_terms.specs.declared.TextFault.TheVariants as fault
 use Rattle.list_terms.specs.Project.{ListProject}
 use Rattle.list_terms.specs.Steps.{err_map}
 use Rattle.list_terms.specs.Lines.{lines_of}
-use Rattle.list_terms.specs.Text.{LocatedFault, fault_number, nothing_read, read_from, text_refusal, text_value}
+use Rattle.list_terms.specs.Text.{LocatedFault, fault_number, nothing_read, rate_of, read_from, text_refusal, text_value}
 use Rattle.adlread.specs.declared.fault.AdlFault.{AdlFault}
 use Rattle.adlread.specs.declared.fault.AdlFault.TheVariants.{Text, Memory}
 use Rattle.adlread.specs.Fault.{Reads, refusal}
@@ -45,10 +45,18 @@ gives_from_reads (Err Memory) reading h = tt
 
 exact_from_reads :
     (text : List ℕ) (result : Result ListProject AdlFault)
-    → Reads (λ p. p) result (read_from 25 nothing_read 0 (lines_of text))
+    → Reads (λ p. p) result (read_from (rate_of text) nothing_read 0 (lines_of text))
     → Gives (λ p. p) refusal (λ r. r.number) result (text_value text)
 unfolding text_value
-exact_from_reads text result h = gives_from_reads result (read_from 25 nothing_read 0 (lines_of text)) h
+exact_from_reads text result h = gives_from_reads result (read_from (rate_of text) nothing_read 0 (lines_of text)) h
+
+-- what was read at the rate of the text
+at_its_rate :
+    (text : List ℕ) (result : Result ListProject AdlFault) (rate : ℕ) → rate ≡ rate_of text
+    → Reads (λ p. p) result (read_from rate nothing_read 0 (lines_of text))
+    → Reads (λ p. p) result (read_from (rate_of text) nothing_read 0 (lines_of text))
+at_its_rate text result rate same h =
+    subst (λ r. Reads (λ p. p) result (read_from r nothing_read 0 (lines_of text))) same h
 
 spelled_from_exact :
     (text : List ℕ) (result : Result ListProject AdlFault)
@@ -59,7 +67,7 @@ spelled_from_exact text (Err fault) h = tt
 
 faulty_from_reads :
     (text : List ℕ) (result : Result ListProject AdlFault)
-    → Reads (λ p. p) result (read_from 25 nothing_read 0 (lines_of text))
+    → Reads (λ p. p) result (read_from (rate_of text) nothing_read 0 (lines_of text))
     → IfErr result (λ fault. is_memory (refusal fault).number ≡ false → (project : ListProject) → Spells text project
     → ⊥)
 unfolding text_value
@@ -73,17 +81,21 @@ faulty_from_reads text (Err (Text fault location)) h = λ _ project spells.
 faulty_from_reads text (Err Memory) h = λ no project spells. let wrong : true ≡ false = no in cc
 
 pub returns-clause-exact : goal.returns-clause-exact
-returns-clause-exact c = exact_from_reads c.args.text.now c.read_lines.result c.read_lines.ensures
+returns-clause-exact c = exact_from_reads c.args.text.now c.read_lines.result
+    (at_its_rate c.args.text.now c.read_lines.result _ c.rate_of-rate.ensures c.read_lines.ensures)
 
 pub returns-clause-spelled : goal.returns-clause-spelled
 returns-clause-spelled c =
     spelled_from_exact c.args.text.now c.read_lines.result
-    (exact_from_reads c.args.text.now c.read_lines.result c.read_lines.ensures)
+    (exact_from_reads c.args.text.now c.read_lines.result
+    (at_its_rate c.args.text.now c.read_lines.result _ c.rate_of-rate.ensures c.read_lines.ensures))
 
 pub returns-clause-only : goal.returns-clause-only
 returns-clause-only c project spells =
     subst (Gives (λ p. p) refusal (λ r. r.number) c.read_lines.result) (value_of c.args.text.now project spells)
-    (exact_from_reads c.args.text.now c.read_lines.result c.read_lines.ensures)
+    (exact_from_reads c.args.text.now c.read_lines.result
+    (at_its_rate c.args.text.now c.read_lines.result _ c.rate_of-rate.ensures c.read_lines.ensures))
 
 pub returns-clause-faulty : goal.returns-clause-faulty
-returns-clause-faulty c = faulty_from_reads c.args.text.now c.read_lines.result c.read_lines.ensures
+returns-clause-faulty c = faulty_from_reads c.args.text.now c.read_lines.result
+    (at_its_rate c.args.text.now c.read_lines.result _ c.rate_of-rate.ensures c.read_lines.ensures)

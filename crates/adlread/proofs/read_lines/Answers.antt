@@ -1,5 +1,6 @@
 use Rattle.std.proofs.Common.{◌≡◌, ◌+◌, false, ap, sym, ◌∙◌}
 use Rattle.std.specs.List.{list_all}
+use Rattle.sampletime.specs.FrameRate.{frames_per_second}
 use Rattle.list_terms.specs.Lines.{LinesLeft}
 use Rattle.list_terms.specs.Text.{Context, is_behind, nothing_read, read_from}
 use Rattle.list_terms.specs.WholeProject.{is_line_byte}
@@ -10,9 +11,9 @@ use Rattle.adlread.proofs.read_lines.Goals as goal
 
 pub lines-init : goal.lines-init
 lines-init c = record {
-  same = ap (λ (d : Context). read_from 25 d c.new-lines.result.number c.new-lines.result.lines) c.in_ok-draft.ensures
-      ∙ ap (λ (left : LinesLeft). read_from 25 nothing_read left.number left.lines) c.new-lines.ensures;
-  so_far = rw c.in_ok-draft.ensures IsSoFar-nothing;
+  same = ap (λ (d : Context). read_from (frames_per_second c.args.rate) d c.new-lines.result.number c.new-lines.result.lines) c.in_ok-draft.ensures
+      ∙ ap (λ (left : LinesLeft). read_from (frames_per_second c.args.rate) nothing_read left.number left.lines) c.new-lines.ensures;
+  so_far = rw c.in_ok-draft.ensures (IsSoFar-nothing (frames_per_second c.args.rate));
   whole = ap (λ (left : LinesLeft). list_all (list_all is_line_byte) left.lines) c.new-lines.ensures
       ∙ lines_of-lines c.args.text.now;
 }
@@ -22,7 +23,7 @@ finish-requires c =
     let whole =
     first_of-lines c.lines.lines.lines c.next_line.new.self.lines c.in-Some.line.now c.in-Some.ensures.line.0
     c.lines.invariant.whole in
-    IsSoFar-line (context_of c.lines.draft) (context_of c.add.new.self)
+    IsSoFar-line (frames_per_second c.args.rate) (context_of c.lines.draft) (context_of c.add.new.self)
     c.number.result c.in-Some.line.now c.lines.invariant.so_far whole
     c.in_ok-add.ensures
 
@@ -35,12 +36,12 @@ lines-preserved c =
     let before : false ≡ is_behind c.add.new.self.stage = sym c.if-is_behind.false ∙ c.is_behind.ensures in
     let number : c.number.result ≡ c.lines.lines.number + 1 = c.number.ensures ∙ c.in-Some.ensures.line.1 in
     record {
-      same = ap (λ n. read_from 25 (context_of c.add.new.self) n c.next_line.new.self.lines) (sym c.number.ensures)
-          ∙ read_from-step (context_of c.lines.draft) (context_of c.add.new.self)
+      same = ap (λ n. read_from (frames_per_second c.args.rate) (context_of c.add.new.self) n c.next_line.new.self.lines) (sym c.number.ensures)
+          ∙ read_from-step (frames_per_second c.args.rate) (context_of c.lines.draft) (context_of c.add.new.self)
           c.lines.lines.number c.number.result c.in-Some.line.now
           c.lines.lines.lines c.next_line.new.self.lines first number c.in_ok-add.ensures before
           ∙ c.lines.invariant.same;
-      so_far = IsSoFar-line (context_of c.lines.draft) (context_of c.add.new.self)
+      so_far = IsSoFar-line (frames_per_second c.args.rate) (context_of c.lines.draft) (context_of c.add.new.self)
           c.number.result c.in-Some.line.now c.lines.invariant.so_far whole
           c.in_ok-add.ensures;
       whole = rest_of-lines c.lines.lines.lines c.next_line.new.self.lines c.in-Some.line.now first

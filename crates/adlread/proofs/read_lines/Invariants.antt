@@ -1,5 +1,6 @@
 use Rattle.std.proofs.Common.{◌≡◌, true, length}
 use Rattle.std.specs.List.{list_all}
+use Rattle.sampletime.specs.FrameRate.{frames_per_second}
 use Rattle.list_terms.specs.Lines.{lines_of}
 use Rattle.list_terms.specs.Text.{nothing_read, read_from}
 use Rattle.list_terms.specs.WholeProject.{is_line_byte}
@@ -10,9 +11,9 @@ use Rattle.adlread.proofs.read_lines.Given as goal
 -- what is left to read, behind what was read so far, gives what the whole gives
 abbrev pub invariant-lines : goal.invariant-lines
 invariant-lines l = record {
-  same : read_from 25 (context_of l.draft) l.lines.number l.lines.lines
-      ≡ read_from 25 nothing_read 0 (lines_of l.fn.text);
-  so_far : IsSoFar (context_of l.draft);
+  same : read_from (frames_per_second l.rate) (context_of l.draft) l.lines.number l.lines.lines
+      ≡ read_from (frames_per_second l.rate) nothing_read 0 (lines_of l.fn.text);
+  so_far : IsSoFar (frames_per_second l.rate) (context_of l.draft);
   whole : list_all (list_all is_line_byte) l.lines.lines ≡ true;
 }
 

@@ -3,7 +3,7 @@ use Rattle.facts.specs.Filling.{three_filled}
 use Rattle.sound_terms.specs.Waves.{u32_bytes, u64_bytes}
 use Rattle.sound_terms.specs.Ds64.{ds64_of, ds64_bytes}
 use Rattle.sound_terms.specs.Laws.{length-u64_bytes}
-use Rattle.rf64.proofs.Fields.{ds64_again}
+use Rattle.rf64.specs.Laws.{ds64_again}
 use Rattle.rf64.proofs.ds64_bytes.Goals as goal
 
 bytes_put : goal.returns-clause-bytes

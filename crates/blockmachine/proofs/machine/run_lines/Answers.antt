@@ -15,7 +15,7 @@ use Rattle.list_terms.specs.Heard.{reading_by}
 use Rattle.pcm.specs.Samples.{FitsDepth}
 use Rattle.blockmachine.specs.Alone.{filling}
 use Rattle.blockmachine.specs.Playing.{Plays}
-use Rattle.blockmachine.specs.Sums.{channel_room}
+use Rattle.blockmachine.specs.Sums.{AreSums, channel_room}
 use Rattle.blockmachine.proofs.Fits.{fits_block}
 use Rattle.blockmachine.proofs.Filled.{hands_itself_out}
 use Rattle.blockmachine.proofs.machine.run_lines.Goals as goal
@@ -70,17 +70,17 @@ returns-clause-ran g c = λ honest frames start long.
     let lines = c.args.lines.now in
     let begun : BlockState = record start { frames = frames; sums = λ i channel. pos 0 } in
     let added : BlockState = executed_all reading channels lines begun in
-    let sums = c.in_ok-add_all.ensures.added honest channels begun c.clear.ensures in
+    let sums = c.in_ok-add_all.ensures.added honest channels begun c.clear.ensures.zero in
     let count : length c.args.out.now / channels ≡ frames =
     ap (λ n. n / channels) long ∙ mul-div_left frames c.requires.some_channels in
     let kept = frames_kept reading channels lines begun c.requires.added in
-    c.emit.ensures added.sums sums
+    c.emit.ensures added.sums (subst (λ (l : List ℤ). AreSums l added.sums) (sym c.as_slice.ensures) sums)
     ∙ ap (block_samples (bits_of c.args.depth) added.sums channels 0) (count ∙ sym kept)
     ∙ sym (ap (λ (state : BlockState). state.out)
     (executed_all-append reading channels lines (Emit c.args.depth ∷ []) begun))
 
 pub returns-clause-fit : goal.returns-clause-fit
 returns-clause-fit g c =
-    let all : ℕ → ℕ → ℤ = λ i channel. slice_index_or c.add_all.new.sums ((channel - 1) * channel_room + i) (pos 0) in
+    let all : ℕ → ℕ → ℤ = λ i channel. slice_index_or c.as_slice.result.now ((channel - 1) * channel_room + i) (pos 0) in
     rw (c.emit.ensures all (λ i channel room first there. refl))
     (fits_block c.args.depth all c.args.channels 0 (length c.args.out.now / c.args.channels))

@@ -18,5 +18,5 @@ returns-clause-added g c = λ honest before are.
     let reading : Reading = reading_by (g.S.Shelf.stored c.args.shelf.now) c.args.sounds.now in
     let plays = c.in_ok-read_part.ensures.plays honest sound found in
     let told = subst (λ (bits : ℕ). Plays reading part sound.channels bits frames) (sym c.depth.ensures) plays in
-    c.add_frames.ensures reading (subst (λ (n : ℕ). Plays reading part n (bits_of c.depth.result) frames)
+    c.add.ensures.added reading (subst (λ (n : ℕ). Plays reading part n (bits_of c.depth.result) frames)
     (sym c.channels-channels.ensures.channels) told) before are

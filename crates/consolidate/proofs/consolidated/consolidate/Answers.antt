@@ -1,11 +1,15 @@
-use Rattle.std.proofs.Common.{◌≡◌, ◌∙◌, IsTrue, None, rules, subst, sym}
+use Rattle.std.proofs.Common.{◌≡◌, ◌∙◌, IsTrue, None, Ok, Err, rules, subst, sym}
 use Rattle.std.proofs.lemmas.Result.{err_from_is_err_and}
 use Rattle.list_terms.specs.Binding.{Binding}
 use Rattle.list_terms.specs.Project.{ListProject}
 use Rattle.consolidation.specs.Consolidated.{IsWorkOf, work_fault}
 use Rattle.consolidate.specs.Fault.{refusal_of}
 use Rattle.consolidate.proofs.Due.{none_due, one_accepted, one_work, opening_due_of_work}
-use Rattle.consolidate.proofs.Stores.{stopped_behind, stopped_early}
+use Rattle.consolidation.specs.declared.written.Written as consolidation
+use Rattle.consolidate.specs.Rounds.{ConsolidatesInRounds, ConsolidatesList}
+use Rattle.consolidate.specs.declared.consolidated.Written.{Written}
+use Rattle.consolidate.proofs.Rounds.{consolidates_list, ends_map, none_ended}
+use Rattle.consolidate.proofs.Stores.{answered_as, opened_before, refused_as, stopped_early}
 use Rattle.consolidate.proofs.consolidated.consolidate.Goals as goal
 
 pub returns-in_err-checked : goal.returns-in_err-checked
@@ -26,6 +30,10 @@ returns-in_err-checked g c =
       own = search rules;
       named = search rules;
       list_last = search rules;
+      rounds = λ honest right. none_ended Written c.args.list.now fault
+          (ConsolidatesList c.args.list.now c.args.handle sources (g.S.Shelf.failures c.args.shelf.now)
+          (g.B.Bench.failures c.args.bench.now) (g.S.Shelf.failures c.open.new.shelf)
+          (g.B.Bench.failures c.args.bench.now) (g.B.Bench.stored c.args.bench.now)) told.own;
       stores = stopped_early g.S.Shelf g.B.Bench c.args.shelf.now c.open.new.shelf c.args.bench.now fault
           (g.met.B.Bench.only_now c.args.bench.now) told.only_reads (search rules);
     })
@@ -57,9 +65,27 @@ returns-in_err-written g c =
       own = told.own list;
       named = search rules;
       list_last = search rules;
-      stores = stopped_behind g.S.Shelf g.B.Bench c.args.shelf.now c.open.new.shelf c.consolidate_checked.new.shelf
-          c.args.bench.now c.consolidate_checked.new.bench fault (g.met.B.Bench.only_now c.args.bench.now)
-          opened.only_reads told.only_reads told.only_writes told.early;
+      rounds = λ honest right. ends_map consolidation.Written Written fault
+          (ConsolidatesInRounds checked.project checked.bound c.args.handle (g.S.Shelf.stored c.open.new.shelf)
+          (g.S.Shelf.failures c.open.new.shelf) (g.B.Bench.failures c.args.bench.now)
+          (g.S.Shelf.failures c.consolidate_checked.new.shelf) (g.B.Bench.failures c.consolidate_checked.new.bench)
+          (g.B.Bench.stored c.consolidate_checked.new.bench))
+          (ConsolidatesList list c.args.handle sources
+          (g.S.Shelf.failures c.args.shelf.now) (g.B.Bench.failures c.args.bench.now)
+          (g.S.Shelf.failures c.consolidate_checked.new.shelf) (g.B.Bench.failures c.consolidate_checked.new.bench)
+          (g.B.Bench.stored c.consolidate_checked.new.bench))
+          (λ ended run. consolidates_list list c.args.handle checked.project checked.bound sources
+          (g.S.Shelf.stored c.open.new.shelf) (g.S.Shelf.failures c.args.shelf.now)
+          (g.S.Shelf.failures c.open.new.shelf) (g.B.Bench.failures c.args.bench.now)
+          (g.S.Shelf.failures c.consolidate_checked.new.shelf) (g.B.Bench.failures c.consolidate_checked.new.bench)
+          (g.B.Bench.stored c.consolidate_checked.new.bench) ended
+          opened.only_reads.same (opened.only_reads.cause.left tt) (opened.accepted honest) run)
+          (told.rounds (rw c.open.ensures.only_reads.honest_same honest) right list
+          (rw c.open.ensures.only_reads.same (opened.accepted honest)));
+      stores = opened_before g.S.Shelf g.B.Bench c.args.shelf.now c.open.new.shelf c.consolidate_checked.new.shelf
+          c.args.bench.now c.consolidate_checked.new.bench (Err fault) opened.only_reads
+          (refused_as g.S.Shelf g.B.Bench consolidation.Written Written c.open.new.shelf
+          c.consolidate_checked.new.shelf c.args.bench.now c.consolidate_checked.new.bench fault told.stores);
     })
 
 pub returns : goal.returns
@@ -80,7 +106,8 @@ returns g c =
         binding = binding;
         spelled = opened.spelled;
         accepted = opened.accepted honest_shelf;
-        written = rw c.open.ensures.only_reads.same at (told.written (honest_now honest_shelf) honest_bench);
+        written = rw c.open.ensures.only_reads.same at (told.written (honest_now honest_shelf) honest_bench list
+            (rw c.open.ensures.only_reads.same (opened.accepted honest_shelf)));
         notices = opened.notices;
       };
       durable = search rules;
@@ -90,12 +117,22 @@ returns g c =
           rw c.open.ensures.only_reads.same
           (subst (λ (e : Binding). IsWorkOf project e handle sources work) (sym same.1)
           (subst (λ (r : ListProject). IsWorkOf r bound handle sources work) (sym same.0) is_work)) in
-          subst (λ (e : Binding). work_fault e work ≡ None) same.1 (told.refusals (honest_now honest) work now);
+          told.refusals (honest_now honest) work now;
       bad_list = λ honest refusal due.
           (tt, λ _. let none = sym (none_due list sources project binding (opened.accepted honest)) ∙ due in cc);
       bad_text = λ refusal bad. (tt, λ _. let same = sym opened.spelt ∙ bad in cc);
       own = tt;
       named = search rules;
       list_last = search rules;
-      stores = search rules;
+      rounds = λ honest right. consolidates_list list handle project binding sources
+          (g.S.Shelf.stored c.open.new.shelf) (g.S.Shelf.failures c.args.shelf.now)
+          (g.S.Shelf.failures c.open.new.shelf) (g.B.Bench.failures c.args.bench.now)
+          (g.S.Shelf.failures c.consolidate_checked.new.shelf) (g.B.Bench.failures c.consolidate_checked.new.bench)
+          (g.B.Bench.stored c.consolidate_checked.new.bench) None
+          opened.only_reads.same (opened.only_reads.cause.left tt) (opened.accepted honest)
+          (told.rounds (honest_now honest) right list (rw c.open.ensures.only_reads.same (opened.accepted honest)));
+      stores = opened_before g.S.Shelf g.B.Bench c.args.shelf.now c.open.new.shelf c.consolidate_checked.new.shelf
+          c.args.bench.now c.consolidate_checked.new.bench (Ok _) opened.only_reads
+          (answered_as g.S.Shelf g.B.Bench consolidation.Written Written c.open.new.shelf
+          c.consolidate_checked.new.shelf c.args.bench.now c.consolidate_checked.new.bench _ _ told.stores);
     }

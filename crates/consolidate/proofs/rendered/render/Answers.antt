@@ -1,9 +1,14 @@
-use Rattle.std.proofs.Common.{◌∙◌, rules, sym}
+use Rattle.std.proofs.Common.{◌≡◌, ◌∙◌, IsTrue, Option, Ok, Err, None, ℕ, rules, subst, sym}
 use Rattle.std.proofs.lemmas.Result.{err_from_is_err_and}
+use Rattle.job_terms.specs.Workers.{End}
 use Rattle.rendering.specs.Rendering.{values_of}
+use Rattle.rendering.specs.declared.work.Rendered as rendering
 use Rattle.consolidate.specs.Fault.{refusal_of}
+use Rattle.consolidate.specs.Rounds.{RendersInRounds, RendersList}
+use Rattle.consolidate.specs.declared.rendered.Rendered.{Rendered}
 use Rattle.consolidate.proofs.Due.{opening_due, range_due}
-use Rattle.consolidate.proofs.Stores.{stopped_behind, stopped_early}
+use Rattle.consolidate.proofs.Rounds.{ends_map, none_ended, renders_list}
+use Rattle.consolidate.proofs.Stores.{answered_as, opened_before, refused_as, stopped_early}
 use Rattle.consolidate.proofs.rendered.render.Goals as goal
 
 pub returns-in_err-checked : goal.returns-in_err-checked
@@ -20,6 +25,11 @@ returns-in_err-checked g c =
       bad_text = told.bad_text;
       own = search rules;
       named = search rules;
+      rounds = λ honest right. none_ended Rendered c.args.list.now fault
+          (RendersList c.args.list.now (values_of c.args.options.now) (g.S.Shelf.stored c.args.shelf.now)
+          (g.S.Shelf.failures c.args.shelf.now) (g.B.Bench.failures c.args.bench.now)
+          (g.S.Shelf.failures c.open.new.shelf) (g.B.Bench.failures c.args.bench.now)
+          (g.B.Bench.stored c.args.bench.now)) told.own;
       stores = stopped_early g.S.Shelf g.B.Bench c.args.shelf.now c.open.new.shelf c.args.bench.now fault
           (g.met.B.Bench.only_now c.args.bench.now) told.only_reads (search rules);
     })
@@ -30,18 +40,63 @@ returns-in_err-rendered g c =
     let fault = c.in_err-rendered.field-0.0 in
     let opened = c.in_ok-checked.ensures in
     let told = c.in_err-rendered.ensures in
+    let checked = c.in_ok-checked.field-0.checked in
+    let values = values_of c.args.options.now in
     rw (p.1, p.2) (record {
       rendered = search rules;
       durable = search rules;
       report = tt;
       refusals = λ honest.
-          let values = values_of c.args.options.now in
           rw (range_due c.args.list.now values (g.S.Shelf.stored c.args.shelf.now) _ _ (opened.accepted honest))
           told.refusals;
       bad_text = λ refusal bad. let same = sym opened.spelt ∙ bad in absurd (cc);
       own = told.own c.args.list.now;
       named = search rules;
-      stores = stopped_behind g.S.Shelf g.B.Bench c.args.shelf.now c.open.new.shelf c.render_checked.new.shelf
-          c.args.bench.now c.render_checked.new.bench fault (g.met.B.Bench.only_now c.args.bench.now)
-          opened.only_reads told.only_reads told.only_writes told.early;
+      rounds = λ honest right. ends_map rendering.Rendered Rendered fault
+          (RendersInRounds checked.project checked.bound values (g.S.Shelf.stored c.open.new.shelf)
+          (g.S.Shelf.failures c.open.new.shelf) (g.B.Bench.failures c.args.bench.now)
+          (g.S.Shelf.failures c.render_checked.new.shelf) (g.B.Bench.failures c.render_checked.new.bench)
+          (g.B.Bench.stored c.render_checked.new.bench))
+          (RendersList c.args.list.now values (g.S.Shelf.stored c.args.shelf.now)
+          (g.S.Shelf.failures c.args.shelf.now) (g.B.Bench.failures c.args.bench.now)
+          (g.S.Shelf.failures c.render_checked.new.shelf) (g.B.Bench.failures c.render_checked.new.bench)
+          (g.B.Bench.stored c.render_checked.new.bench))
+          (λ ended run. renders_list c.args.list.now values checked.project checked.bound
+          (g.S.Shelf.stored c.args.shelf.now) (g.S.Shelf.stored c.open.new.shelf)
+          (g.S.Shelf.failures c.args.shelf.now) (g.S.Shelf.failures c.open.new.shelf)
+          (g.B.Bench.failures c.args.bench.now) (g.S.Shelf.failures c.render_checked.new.shelf)
+          (g.B.Bench.failures c.render_checked.new.bench) (g.B.Bench.stored c.render_checked.new.bench) ended
+          opened.only_reads.same (opened.only_reads.cause.left tt) (opened.accepted honest) run)
+          (told.rounds (subst IsTrue (sym opened.only_reads.honest_same) honest) right);
+      stores = opened_before g.S.Shelf g.B.Bench c.args.shelf.now c.open.new.shelf c.render_checked.new.shelf
+          c.args.bench.now c.render_checked.new.bench (Err fault) opened.only_reads
+          (refused_as g.S.Shelf g.B.Bench rendering.Rendered Rendered c.open.new.shelf c.render_checked.new.shelf
+          c.args.bench.now c.render_checked.new.bench fault told.stores);
     })
+
+pub returns : goal.returns
+returns g c =
+    let opened = c.in_ok-checked.ensures in
+    let told = c.in_ok-rendered.ensures in
+    let checked = c.in_ok-checked.field-0.checked in
+    let values = values_of c.args.options.now in
+    record {
+      rendered = search rules;
+      durable = search rules;
+      report = search rules;
+      refusals = search rules;
+      bad_text = search rules;
+      own = tt;
+      named = search rules;
+      rounds = λ honest right. renders_list c.args.list.now values checked.project checked.bound
+          (g.S.Shelf.stored c.args.shelf.now) (g.S.Shelf.stored c.open.new.shelf)
+          (g.S.Shelf.failures c.args.shelf.now) (g.S.Shelf.failures c.open.new.shelf)
+          (g.B.Bench.failures c.args.bench.now) (g.S.Shelf.failures c.render_checked.new.shelf)
+          (g.B.Bench.failures c.render_checked.new.bench) (g.B.Bench.stored c.render_checked.new.bench) None
+          opened.only_reads.same (opened.only_reads.cause.left tt) (opened.accepted honest)
+          (told.rounds (subst IsTrue (sym opened.only_reads.honest_same) honest) right);
+      stores = opened_before g.S.Shelf g.B.Bench c.args.shelf.now c.open.new.shelf c.render_checked.new.shelf
+          c.args.bench.now c.render_checked.new.bench (Ok _) opened.only_reads
+          (answered_as g.S.Shelf g.B.Bench rendering.Rendered Rendered c.open.new.shelf c.render_checked.new.shelf
+          c.args.bench.now c.render_checked.new.bench _ _ told.stores);
+    }

@@ -8,17 +8,17 @@ pub returns-clause-left : goal.returns-clause-left
 returns-clause-left g c =
     let binding = c.args.checked.now.bound in record {
       formed = c.groups.ensures.sound;
-      whole = c.in_ok-left.ensures.keeps_whole c.in_ok-intervals.ensures.whole;
-      at_home = still_at_home (sounds_of binding) (homes_of binding) c.in_ok-intervals.intervals c.in_ok-left.left
-          c.groups.ensures.sound.pieces_ok c.in_ok-left.ensures.reads_no_more c.in_ok-intervals.ensures.at_home;
+      whole = c.in_ok-left.ensures.keeps_whole c.requires.whole;
+      at_home = still_at_home (sounds_of binding) (homes_of binding) c.args.intervals c.in_ok-left.left
+          c.groups.ensures.sound.pieces_ok c.in_ok-left.ensures.reads_no_more c.requires.at_home;
     }
 
 pub returns-clause-given : goal.returns-clause-given
 returns-clause-given g c = λ honest. record {
-  gives = rw (c.sounds.ensures.sounds, c.bound.ensures, c.in_ok-intervals.ensures.parts) at
+  gives = rw (c.sounds.ensures.sounds, c.bound.ensures, c.requires.parts) at
       (c.in_ok-left.ensures.gives honest);
   same_mix = λ channel time.
       (rw (c.sounds.ensures.sounds, c.bound.ensures) at (c.in_ok-left.ensures.keeps_mix honest channel time))
-      ∙ c.in_ok-intervals.ensures.same_mix (reading_of (g.S.Shelf.stored c.args.shelf.now) c.args.checked.now.bound)
+      ∙ c.requires.same_mix (reading_of (g.S.Shelf.stored c.args.shelf.now) c.args.checked.now.bound)
       channel time;
 }

@@ -1,5 +1,5 @@
-use Rattle.std.proofs.Common.{◌≡◌, ◌+◌, ◌%◌, ◌++◌, [], ℕ, IsTrue, Some, ap, refl, ◌∙◌}
-use Rattle.sound_terms.specs.Waves.{zeros}
+use Rattle.std.proofs.Common.{◌≡◌, ◌+◌, ◌%◌, ◌++◌, [], ℕ, IsTrue, Some, List, OnOk, ap, refl, subst, ◌∙◌}
+use Rattle.sound_terms.specs.Waves.{header_of, zeros}
 use Rattle.mediacopy.proofs.Zeros.{appended_to, laid}
 use Rattle.mediacopy.proofs.laying.lay_out.Goals as goal
 
@@ -10,9 +10,10 @@ returns-clause-laid g c = λ honest.
     let headed_honest : IsTrue (g.B.Bench.honest c.append.new.self) =
     rw c.append.ensures.only_writes.honest_same created_honest in
     let created = (c.in_ok-create.ensures.created honest).here in
-    let head = c.deref.result.now in
+    let head = header_of c.args.info.now in
     let headed : g.B.Bench.stored c.append.new.self c.args.name.now ≡ Some head =
-    appended_to _ _ [] head head (c.in_ok-append.ensures.appended created_honest).here created refl in
-    c.in_ok-append_zeros.ensures.appended headed_honest head headed
-    ∙ ap (λ (n : ℕ). Some (head ++ zeros (n + n % 2))) c.data_length-size.ensures.value
-    ∙ ap Some (laid c.args.info.now head (c.deref.ensures.value ∙ c.in-Ok.ensures.bytes))
+    appended_to _ _ [] _ head (c.in_ok-append.ensures.appended created_honest).here created c.put_header.ensures in
+    subst (λ (bytes : List ℕ). OnOk c.append_zeros.result
+    (g.B.Bench.stored c.append_zeros.new.bench c.args.name.now ≡ Some bytes))
+    (ap (λ (n : ℕ). head ++ zeros (n + n % 2)) c.data_length-size.ensures.value ∙ laid c.args.info.now head refl)
+    (c.append_zeros.ensures.appended headed_honest head headed)

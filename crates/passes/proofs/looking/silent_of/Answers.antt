@@ -1,5 +1,6 @@
 use Rattle.std.proofs.Common.{◌∙◌}
-use Rattle.passes.proofs.AllSilences.{agrees, all_silences}
+use Rattle.passes.proofs.AllSilences.{all_silences}
+use Rattle.passes.specs.Laws.{agrees}
 use Rattle.passes.proofs.looking.silent_of.Goals as goal
 
 pub returns-clause-answers : goal.returns-clause-answers

@@ -16,7 +16,7 @@ returns-clause-seen g c = λ honest file there.
     let there' = ap (λ (files : Files). files c.args.name.now) kept.same ∙ there in
     c.walk_form.ensures.seen (subst IsTrue (sym opened.honest_same) honest') file
     (ap (λ (files : Files). files c.args.name.now) opened.same ∙ there') whole
-    (c.in_ok-form.ensures.opens honest' file there' whole)
+    (c.in_ok-form.ensures.opens honest' file there' whole) tt
 
 pub returns-clause-few : goal.returns-clause-few
 returns-clause-few g c = λ honest file there.

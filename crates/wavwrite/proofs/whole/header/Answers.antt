@@ -1,19 +1,16 @@
-use Rattle.std.proofs.Common.{◌≡◌, ℕ, List, ◌++◌, ap, ◌∙◌}
-use Rattle.wavwrite.specs.declared.whole.Sizes.{Sizes}
-use Rattle.wavwrite.proofs.HeaderBytes.{told_by, parts_put, form_part}
+use Rattle.std.proofs.Common.{◌≡◌, ℕ, List, length, subst, Ok}
+use Rattle.sound_terms.specs.Waves.{SoundInfo, data_size, file_of}
+use Rattle.sound_terms.specs.SoundFiles.{sound_of}
+use Rattle.wavwrite.specs.Info.{Fits, facts_of}
 use Rattle.wavwrite.proofs.whole.header.Goals as goal
 
-pub returns-clause-bytes : goal.returns-clause-bytes
-returns-clause-bytes c =
-    let info = c.args.info.now in
-    let told = told_by info c.channels.result c.depth.result c.bext.result.now c.history.result.now
-    c.channels.ensures.channels c.depth.ensures c.bext.ensures.text c.bext.ensures.time_reference
-    c.history.ensures.history in
-    let sizes = c.in_ok-sizes.sizes in
-    let known = rw c.in_ok-sizes.ensures.ok_part at c.sizes_of.ensures in
-    let first : c.push_form.new.out.items ≡ form_part sizes.form =
-    c.in_ok-push_form.ensures ∙ ap (λ (bytes : List ℕ). bytes ++ form_part sizes.form) c.new-out.ensures.items in
-    parts_put info sizes.form sizes.sound c.channels.result c.depth.result c.bext.result.now c.history.result.now _ _ _
-    _
-    known.0 told (ap (λ (s : Sizes). s.form) known.1) (ap (λ (s : Sizes). s.sound) known.1)
-    first c.in_ok-push_bext.ensures c.in_ok-push_format.ensures c.in_ok-push_chunk_head.ensures
+-- a written file is read back
+abbrev IsReadBack : SoundInfo → Type 0
+IsReadBack info = (name samples : List ℕ) → Fits info → length samples ≡ data_size info
+    → sound_of name (file_of info samples) ≡ Ok (facts_of name info)
+
+pub returns-in_err-resize-clause-reads_back : goal.returns-in_err-resize-clause-reads_back
+returns-in_err-resize-clause-reads_back c = subst IsReadBack c.lent-info.ensures c.reads_back.ensures.reads_back
+
+pub returns-clause-reads_back : goal.returns-clause-reads_back
+returns-clause-reads_back c = subst IsReadBack c.lent-info.ensures c.reads_back.ensures.reads_back

@@ -1,11 +1,12 @@
 use Rattle.std.proofs.Common.{rules}
+use Rattle.sampletime.specs.FrameRate.{frames_per_second}
 use Rattle.adlread.proofs.Finished.{IsHeader-from_so_far, standard-from_entries}
 use Rattle.adlread.specs.HeaderSoFar.{header_so_far}
 use Rattle.adlread.proofs.draft.Draft.project.Goals as goal
 
 pub new-requires-clause-header : goal.new-requires-clause-header
 new-requires-clause-header c =
-    IsHeader-from_so_far (header_so_far c.args.self.header) c.requires.whole.header c.requires.rates
+    IsHeader-from_so_far (frames_per_second c.args.rate) (header_so_far c.args.self.header) c.requires.whole.header c.requires.rates
 
 pub new-requires-clause-sources : goal.new-requires-clause-sources
 new-requires-clause-sources c = record { numbered = c.args.self.index.whole; texts = c.requires.whole.texts }

@@ -1,0 +1,52 @@
+-- What is said of a request is said of an equal one.
+use Rattle.std.proofs.Common.{◌≡◌, ℕ, Some, refl, subst}
+use Rattle.clap.specs.Walk.{Text}
+use Rattle.commandline.specs.CommandLine.{Asked, Check, Chosen, Render, Consolidate, Explain, ExplainNotice}
+
+-- of a rendering
+abbrev OfRender : (Text → Text → Text → Chosen → Type 0) → Asked → Type 0
+OfRender P (Check list media) = Unit {0}
+OfRender P (Render list media out chosen) = P list media out chosen
+OfRender P (Consolidate list media out handle) = Unit {0}
+OfRender P (Explain number) = Unit {0}
+OfRender P (ExplainNotice number) = Unit {0}
+
+some_same : (one other : Asked) → Some one ≡ Some other → one ≡ other
+some_same one other same = cc
+
+render_alike : (P : Text → Text → Text → Chosen → Type 0) (list media out : Text) (chosen : Chosen)
+    (list' media' out' : Text) (chosen' : Chosen)
+    → Some (Render list media out chosen) ≡ Some (Render list' media' out' chosen')
+    → P list media out chosen → P list' media' out' chosen'
+render_alike P list media out chosen list' media' out' chosen' same holds =
+    subst (OfRender P) (some_same (Render list media out chosen) (Render list' media' out' chosen') same) holds
+
+pub render_fields : (list media out : Text) (chosen : Chosen) (list' media' out' : Text) (chosen' : Chosen)
+    → Some (Render list media out chosen) ≡ Some (Render list' media' out' chosen')
+    → (list ≡ list') × (media ≡ media') × (out ≡ out') × (chosen ≡ chosen')
+render_fields list media out chosen list' media' out' chosen' same =
+    render_alike (λ l m o c. (list ≡ l) × (media ≡ m) × (out ≡ o) × (chosen ≡ c)) list media out chosen
+    list' media' out' chosen' same (refl, refl, refl, refl)
+
+-- of a consolidation
+abbrev OfConsolidate : (Text → Text → Text → ℕ → Type 0) → Asked → Type 0
+OfConsolidate P (Check list media) = Unit {0}
+OfConsolidate P (Render list media out chosen) = Unit {0}
+OfConsolidate P (Consolidate list media out handle) = P list media out handle
+OfConsolidate P (Explain number) = Unit {0}
+OfConsolidate P (ExplainNotice number) = Unit {0}
+
+consolidate_alike : (P : Text → Text → Text → ℕ → Type 0) (list media out : Text) (handle : ℕ)
+    (list' media' out' : Text) (handle' : ℕ)
+    → Some (Consolidate list media out handle) ≡ Some (Consolidate list' media' out' handle')
+    → P list media out handle → P list' media' out' handle'
+consolidate_alike P list media out handle list' media' out' handle' same holds =
+    subst (OfConsolidate P)
+    (some_same (Consolidate list media out handle) (Consolidate list' media' out' handle') same) holds
+
+pub consolidate_fields : (list media out : Text) (handle : ℕ) (list' media' out' : Text) (handle' : ℕ)
+    → Some (Consolidate list media out handle) ≡ Some (Consolidate list' media' out' handle')
+    → (list ≡ list') × (media ≡ media') × (out ≡ out') × (handle ≡ handle')
+consolidate_fields list media out handle list' media' out' handle' same =
+    consolidate_alike (λ l m o h. (list ≡ l) × (media ≡ m) × (out ≡ o) × (handle ≡ h)) list media out handle
+    list' media' out' handle' same (refl, refl, refl, refl)

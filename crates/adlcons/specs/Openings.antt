@@ -1,0 +1,62 @@
+-- Why a command doesn't come to its stores, and what it is to come to them.
+use Rattle.std.specs.Prelude.{◌≡◌, ℕ, true, false, List, Option, None, Some, Result}
+use Rattle.std.specs.declared.io.Error.{Error}
+use Rattle.work_terms.specs.Refusals.{Refusal, Where, Nowhere, File}
+use Rattle.shelf.specs.declared.source.Shelf as source
+use Rattle.shelf.specs.declared.bench.Bench as output
+use Rattle.stores.specs.Folder.{OutputFolder, SourceFolder, folder_named}
+use Rattle.stores.specs.declared.Overwrite.TheVariants as overwrite
+use Rattle.consolidate.specs.declared.Fault.{Fault}
+use Rattle.console.specs.declared.console.Console as console
+use Rattle.adlcons.specs.Answers.{IsAnswered, IsChecked, Tells, accepted_lines, refusal_line}
+use Rattle.adlcons.specs.declared.folders.OpenFault.{OpenFault}
+use Rattle.adlcons.specs.declared.folders.OpenFault.TheVariants as opened
+use Rattle.adlcons.specs.declared.reading.ReadFault.{ReadFault}
+use Rattle.adlcons.specs.declared.reading.ReadFault.TheVariants.{Unreadable, Endless, Memory}
+
+abbrev early : ℕ → Where → Refusal
+early number place = record { number = number; place = place; late = false }
+
+-- the refusal of the list of this path, which isn't read
+abbrev pub refusal_of_read : ReadFault → List ℕ → Refusal
+refusal_of_read (Unreadable reason) path = early 21 (File path)
+refusal_of_read Endless path = early 21 (File path)
+refusal_of_read Memory path = early 18 Nowhere
+
+-- the refusal of a command over this list that writes to this folder
+abbrev pub refusal_of_opening : OpenFault → List ℕ → List ℕ → Refusal
+refusal_of_opening (opened.List fault) list folder = refusal_of_read fault list
+refusal_of_opening (opened.Unlisted reason) list folder = early 20 (File folder)
+refusal_of_opening opened.NotEmpty list folder = early 20 (File folder)
+refusal_of_opening opened.Memory list folder = early 18 Nowhere
+
+-- the command didn't come to its stores, and that is its line
+pub record IsKeptOut {O : Type 0} (out : console.Ghosts O) (list folder : List ℕ) (old new : O) (status : ℕ)
+    : Type 0 where
+  pub fault : OpenFault
+  pub status_is : status ≡ 1
+  pub printed : Tells out old new (refusal_line true (refusal_of_opening fault list folder))
+
+-- a list was checked over the files of this folder
+pub record ChecksFolder {O : Type 0} (shelf : source.Ghosts SourceFolder) (out : console.Ghosts O)
+    (media : List ℕ) (old new : O) (status : ℕ) : Type 0 where
+  pub list : List ℕ
+  pub before : SourceFolder
+  pub after : SourceFolder
+  pub folder : before.folder ≡ folder_named media
+  pub answered : IsAnswered (IsChecked shelf list before after) accepted_lines out old new status
+
+-- a command was called over a list, the files of one folder, and another folder in which it replaces nothing
+pub record WorksInFolders {X O : Type 0}
+    (call : List ℕ → SourceFolder → SourceFolder → OutputFolder → OutputFolder → Result X Fault → Type 0)
+    (report_lines : X → List ℕ) (out : console.Ghosts O) (media target : List ℕ) (old new : O) (status : ℕ)
+    : Type 0 where
+  pub list : List ℕ
+  pub before : SourceFolder
+  pub after : SourceFolder
+  pub empty : OutputFolder
+  pub full : OutputFolder
+  pub folder : before.folder ≡ folder_named media
+  pub output : empty.folder ≡ folder_named target
+  pub careful : empty.overwrite ≡ overwrite.Never
+  pub answered : IsAnswered (call list before after empty full) report_lines out old new status

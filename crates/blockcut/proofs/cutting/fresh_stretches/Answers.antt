@@ -1,0 +1,25 @@
+use Rattle.std.proofs.Common.{◌<◌, List, false, refl, sym, subst, arith}
+use Rattle.std.specs.List.{All}
+use Rattle.blockcut.specs.declared.stretch.Stretch.{Stretch}
+use Rattle.blockcut.specs.Cut.{IsCut, IsFresh, IsShort}
+use Rattle.blockcut.proofs.Cuts.{all-push, cut-push}
+use Rattle.blockcut.proofs.cutting.fresh_stretches.Goals as goal
+
+pub loop-first-preserved : goal.loop-first-preserved
+loop-first-preserved c =
+    let behind = c.min-behind.result in
+    let before = c.loop-first.stretches.items in
+    let is = c.loop-first.invariant in
+    let s : Stretch = record { first = c.loop-first.first; behind = behind; done = false } in
+    let ends = c.min-behind.ensures in
+    let far = c.saturating_add.ensures in
+    let some : c.loop-first.first < behind = omega (arith, ends, far, c.loop-first-test.true, c.requires) in
+    let items = c.in_ok-push.ensures.items in
+    record {
+      within = omega (arith, ends);
+      cut = subst (λ (ss : List Stretch). IsCut 0 ss behind) (sym items)
+          (cut-push before 0 c.loop-first.first s is.cut refl some);
+      fresh = subst (λ (ss : List Stretch). All IsFresh ss) (sym items) (all-push IsFresh before s is.fresh refl);
+      short = subst (λ (ss : List Stretch). All (IsShort c.args.most) ss) (sym items)
+          (all-push (IsShort c.args.most) before s is.short (λ _. omega (arith, ends, far)));
+    }

@@ -1,0 +1,15 @@
+use Rattle.std.proofs.Common.{◌≤◌, ◌-◌}
+use Rattle.std.specs.List.{All}
+use Rattle.blockcut.specs.Cut.{IsCut, IsFresh, IsShort}
+use Rattle.blockcut.proofs.cutting.fresh_stretches.Given as goal
+
+abbrev pub invariant-loop-first : goal.invariant-loop-first
+invariant-loop-first l = record {
+  within : l.first ≤ l.blocks;
+  cut : IsCut 0 l.stretches.items l.first;
+  fresh : All IsFresh l.stretches.items;
+  short : All (IsShort l.most) l.stretches.items;
+}
+
+abbrev pub decreases-loop-first : goal.decreases-loop-first
+decreases-loop-first l = l.blocks - l.first

@@ -1,0 +1,24 @@
+-- Blocks cut into stretches.
+use Rattle.std.specs.Prelude.{◌≡◌, ℕ, ◌-◌, ◌/◌, ◌<◌, ◌≤◌, Bool, false, cond, nat_le, max, List, [], ◌∷◌, slice_index_or}
+use Rattle.blockcut.specs.declared.stretch.Stretch.{Stretch}
+
+-- the stretches follow one another, from one block on up to, and without, another; each has at least one block
+abbrev pub IsCut : ℕ → List Stretch → ℕ → Type 0
+IsCut from [] to = from ≡ to
+IsCut from (s ∷ stretches) to = (s.first ≡ from) × (s.first < s.behind) × IsCut s.behind stretches to
+
+-- none of its blocks is done
+abbrev pub IsFresh : Stretch → Type 0
+IsFresh s = s.done ≡ false
+
+-- what isn't done is at most so many blocks
+abbrev pub IsShort : ℕ → Stretch → Type 0
+IsShort most s = s.done ≡ false → s.behind - s.first ≤ most
+
+-- the stretch is done where its blocks are marked, all or none
+abbrev pub IsUniform : List Bool → Stretch → Type 0
+IsUniform marked s = (b : ℕ) → s.first ≤ b → b < s.behind → slice_index_or marked b false ≡ s.done
+
+-- how many blocks of so many bytes are done at once: one where there are few, else what makes 4 MiB, at least one
+abbrev pub blocks_at_once : (blocks block_size : ℕ) → ℕ
+blocks_at_once blocks block_size = cond (nat_le blocks 64) 1 (max (4194304 / block_size) 1)

@@ -1,0 +1,48 @@
+-- What is known of stretches that blocks were cut into.
+use Rattle.std.proofs.Common.{inl, inr, ℕ, zero, suc, ◌+◌, ◌<◌, ◌≤◌, List, [], ◌∷◌, length, get_or, arith}
+use Rattle.std.proofs.lemmas.Bool.{cases_lt}
+use Rattle.blockcut.specs.declared.stretch.Stretch.{Stretch}
+use Rattle.blockcut.specs.Cut.{IsCut}
+
+-- there are no more of them than blocks
+pub cut-few : (stretches : List Stretch) (from to : ℕ) → IsCut from stretches to → from + length stretches ≤ to
+cut-few [] from to cut = omega (arith, cut)
+cut-few (s ∷ stretches) from to cut = omega (arith, cut.0, cut.1, cut-few stretches s.behind to cut.2)
+
+-- each has a block, and lies between the ends
+pub cut-inside : (stretches : List Stretch) (from to k : ℕ) (d : Stretch) → IsCut from stretches to
+    → k < length stretches
+    → (from ≤ (get_or stretches k d).first) × ((get_or stretches k d).first < (get_or stretches k d).behind)
+    × ((get_or stretches k d).behind ≤ to)
+cut-inside [] from to k d cut below = absurd (omega (arith, below))
+cut-inside (s ∷ stretches) from to zero d cut below =
+    (omega (arith, cut.0), cut.1, omega (arith, cut-few stretches s.behind to cut.2))
+cut-inside (s ∷ stretches) from to (suc k) d cut below =
+    let rest = cut-inside stretches s.behind to k d cut.2 (omega (arith, below)) in
+    (omega (arith, cut.0, cut.1, rest.0), rest.1, rest.2)
+
+-- a block of one of them
+pub record IsInside (stretches : List Stretch) (d : Stretch) (b : ℕ) : Type 0 where
+  pub place : ℕ
+  pub there : place < length stretches
+  pub behind_first : (get_or stretches place d).first ≤ b
+  pub before_end : b < (get_or stretches place d).behind
+
+-- each block is in one of them
+pub cut-covers : (stretches : List Stretch) (from to b : ℕ) (d : Stretch) → IsCut from stretches to → from ≤ b → b < to
+    → IsInside stretches d b
+cut-covers [] from to b d cut behind before = absurd (omega (arith, cut, behind, before))
+cut-covers (s ∷ stretches) from to b d cut behind before = elim (cases_lt b s.behind) [
+  | inl inside ↦ record {
+    place = 0;
+    there = omega arith;
+    behind_first = omega (arith, cut.0, behind);
+    before_end = inside;
+  }
+  | inr past ↦ let rest = cut-covers stretches s.behind to b d cut.2 past before in record {
+    place = suc rest.place;
+    there = omega (arith, rest.there);
+    behind_first = rest.behind_first;
+    before_end = rest.before_end;
+  }
+]

@@ -1,0 +1,177 @@
+-- How clap's words on a parse lead to what the words ask for.
+use Rattle.std.proofs.Common.{◌≡◌, ◌∙◌, ◌⊎◌, ℕ, inl, inr, Bool, true, false, ◌||◌, List, [], ◌∷◌, Option, None, Some, refl, ap, sym, subst, codes}
+use Rattle.std.specs.Prelude.{option_and_then}
+use Rattle.std.specs.List.{list_any}
+use Rattle.std.specs.Str.{bytes_eq}
+use Rattle.clap.specs.Words.{App, HasKind, IsAmong, Kinds, Row, Text, fault_of, first_of, first_value, is_simple, is_simple_and_free, kind_of, rows_of, subcommand_of}
+use Rattle.clap.specs.declared.parser.matches.Found.{Found}
+use Rattle.clap.specs.declared.error.Error.{Error}
+use Rattle.clap.specs.declared.error.ErrorKind.{ErrorKind}
+use Rattle.clap.specs.declared.error.ErrorKind.TheVariants as kind
+use Rattle.clap.proofs.OnLiterals.{clap_on_literals}
+use Rattle.clap.proofs.WalkLemmas.{first_value-rows}
+use Rattle.commandline.specs.CommandLine.{Asked, Check, explained, adlcons_app, channels_in, chosen_of, depth_in, handle_of, number_in, asked, asked_over, asked_to, asks_for_help, is_shown, named_by, request_of, unless_faulty, words_fault}
+
+is_simple-here : is_simple adlcons_app ≡ true
+unfolding clap_on_literals
+is_simple-here = refl
+
+is_free-here : is_simple_and_free adlcons_app ≡ true
+unfolding clap_on_literals
+is_free-here = refl
+
+pub is_simple-adlcons : (app : App) → app ≡ adlcons_app → is_simple app ≡ true
+is_simple-adlcons app same = ap is_simple same ∙ is_simple-here
+
+pub is_free-adlcons : (app : App) → app ≡ adlcons_app → is_simple_and_free app ≡ true
+is_free-adlcons app same = ap is_simple_and_free same ∙ is_free-here
+
+pub fault_of-adlcons : (app : App) (words : List Text) → app ≡ adlcons_app → fault_of app words ≡ words_fault words
+unfolding words_fault
+fault_of-adlcons app words same = ap (λ (a : App). fault_of a words) same
+
+pub subcommand_of-adlcons : (app : App) (words : List Text) → app ≡ adlcons_app
+    → option_and_then asked (subcommand_of app words) ≡ named_by words
+unfolding named_by
+subcommand_of-adlcons app words same = ap (λ (a : App). option_and_then asked (subcommand_of a words)) same
+
+-- a value by its name, among the rows of a parse
+pub row_of_value : (found : Found) (id : Text) (value : Option Text) → value ≡ first_value found id
+    → first_of id (rows_of found) ≡ value
+row_of_value found id value e = sym (first_value-rows found id) ∙ sym e
+
+pub asked-without_list : (name : Text) (found : Found) → None ≡ first_value found (codes "LIST")
+    → asked_over name (rows_of found) ≡ None
+asked-without_list name found missing = rw (row_of_value found (codes "LIST") None missing) refl
+
+pub asked-without_media : (name list : Text) (found : Found) → Some list ≡ first_value found (codes "LIST")
+    → None ≡ first_value found (codes "MEDIA") → asked_over name (rows_of found) ≡ None
+asked-without_media name list found one missing =
+    rw (row_of_value found (codes "LIST") (Some list) one, row_of_value found (codes "MEDIA") None missing) refl
+
+pub asked-check : (name list media : Text) (found : Found) → bytes_eq name (codes "check") ≡ true
+    → Some list ≡ first_value found (codes "LIST")
+    → Some media ≡ first_value found (codes "MEDIA") → asked_over name (rows_of found) ≡ Some (Check list media)
+asked-check name list media found named one two =
+    rw (row_of_value found (codes "LIST") (Some list) one, row_of_value found (codes "MEDIA") (Some media) two, named)
+    refl
+
+pub asked-without_out : (name list media : Text) (found : Found) → bytes_eq name (codes "check") ≡ false
+    → Some list ≡ first_value found (codes "LIST")
+    → Some media ≡ first_value found (codes "MEDIA") → None ≡ first_value found (codes "OUT")
+    → asked_over name (rows_of found) ≡ None
+asked-without_out name list media found other one two missing =
+    rw (
+      row_of_value found (codes "LIST") (Some list) one,
+      row_of_value found (codes "MEDIA") (Some media) two,
+      other,
+      row_of_value found (codes "OUT") None missing,
+    ) refl
+
+pub asked-all : (name list media out : Text) (found : Found) → bytes_eq name (codes "check") ≡ false
+    → Some list ≡ first_value found (codes "LIST")
+    → Some media ≡ first_value found (codes "MEDIA") → Some out ≡ first_value found (codes "OUT")
+    → asked_over name (rows_of found) ≡ asked_to name list media out (rows_of found)
+asked-all name list media out found other one two three =
+    rw (
+      row_of_value found (codes "LIST") (Some list) one,
+      row_of_value found (codes "MEDIA") (Some media) two,
+      other,
+      row_of_value found (codes "OUT") (Some out) three,
+    ) refl
+
+pub asked-explain : (name : Text) (found : Found) (what number : Option Text) → bytes_eq name (codes "explain") ≡ true
+    → what ≡ first_value found (codes "WHAT") → number ≡ first_value found (codes "NUMBER")
+    → asked (name, rows_of found) ≡ explained what number
+asked-explain name found what number named one two =
+    rw (named, row_of_value found (codes "WHAT") what one, row_of_value found (codes "NUMBER") number two) refl
+
+pub handle_read : (found : Found) (text : Text) → Some text ≡ first_value found (codes "handle")
+    → handle_of (rows_of found) ≡ number_in 0 4147200000 text
+handle_read found text given = rw (row_of_value found (codes "handle") (Some text) given) refl
+
+pub chosen-without_depth : (found : Found) → None ≡ first_value found (codes "depth") → chosen_of (rows_of found) ≡ None
+chosen-without_depth found missing = rw (row_of_value found (codes "depth") None missing) refl
+
+pub chosen-bad_depth : (found : Found) (text : Text) → Some text ≡ first_value found (codes "depth")
+    → None ≡ depth_in text → chosen_of (rows_of found) ≡ None
+chosen-bad_depth found text given bad = rw (row_of_value found (codes "depth") (Some text) given, ← bad) refl
+
+pub chosen-bad_channels : (found : Found) (text : Text) (depth : ℕ) (channels : Option Text)
+    → Some text ≡ first_value found (codes "depth") → Some depth ≡ depth_in text
+    → channels ≡ first_value found (codes "channels") → None ≡ channels_in channels → chosen_of (rows_of found) ≡ None
+chosen-bad_channels found text depth channels given deep named bad =
+    rw (
+      row_of_value found (codes "depth") (Some text) given,
+      ← deep,
+      row_of_value found (codes "channels") channels named,
+      ← bad,
+    ) refl
+
+pub chosen-all : (found : Found) (text : Text) (depth : ℕ) (channels from to : Option Text) (count : Option ℕ)
+    → Some text ≡ first_value found (codes "depth")
+    → Some depth ≡ depth_in text → channels ≡ first_value found (codes "channels") → Some count ≡ channels_in channels
+    → from ≡ first_value found (codes "from") → to ≡ first_value found (codes "to")
+    → chosen_of (rows_of found) ≡ Some (record { from = from; to = to; channels = count; depth = depth })
+chosen-all found text depth channels from to count given deep named read first last =
+    rw (
+      row_of_value found (codes "depth") (Some text) given,
+      ← deep,
+      row_of_value found (codes "channels") channels named,
+      ← read,
+      row_of_value found (codes "from") from first,
+      row_of_value found (codes "to") to last,
+    ) refl
+
+-- ---- what clap says of an error
+
+among-refused : (kinds : Kinds) (kind : ErrorKind) (named : Option Asked) → IsAmong kind kinds
+    → unless_faulty kinds named ≡ None
+among-refused [] kind named bad = absurd bad
+among-refused (k ∷ ks) kind named among = refl
+
+neither-left : (x y : Bool) → (x || y) ≡ false → x ≡ false
+neither-left true y e = cc
+neither-left false y e = refl
+
+neither-right : (x y : Bool) → (x || y) ≡ false → y ≡ false
+neither-right true y e = cc
+neither-right false y e = e
+
+among-shown : (kinds : Kinds) (kind : ErrorKind) → IsAmong kind kinds → list_any is_shown kinds ≡ false
+    → is_shown kind ≡ false
+among-shown [] kind bad none = absurd bad
+among-shown (k ∷ ks) kind (inl same) none = rw same (neither-left (is_shown k) (list_any is_shown ks) none)
+among-shown (k ∷ ks) kind (inr among) none =
+    among-shown ks kind among (neither-right (is_shown k) (list_any is_shown ks) none)
+
+-- an error other than out of memory comes where the words ask for nothing
+pub refused-by : (app : App) (words : List Text) (error : Error) → app ≡ adlcons_app
+    → HasKind (fault_of app words) error
+    → (kind_of error ≡ kind.OutOfMemory) ⊎ (request_of words ≡ None)
+refused-by app words error same (inl memory) = inl memory
+refused-by app words error same (inr among) =
+    inr (among-refused (words_fault words) (kind_of error) (named_by words)
+    (subst (IsAmong (kind_of error)) (fault_of-adlcons app words same) among))
+
+-- where the words don't ask for help, the error isn't help
+pub mistaken-by : (app : App) (words : List Text) (error : Error) → app ≡ adlcons_app
+    → HasKind (fault_of app words) error
+    → asks_for_help words ≡ false → is_shown (kind_of error) ≡ false
+mistaken-by app words error same (inl memory) none = ap is_shown memory
+mistaken-by app words error same (inr among) none =
+    among-shown (words_fault words) (kind_of error)
+    (subst (IsAmong (kind_of error)) (fault_of-adlcons app words same) among) none
+
+-- matches without a fault are those of the words
+pub requested-by : (app : App) (words : List Text) (rows : Option (Text × List Row)) → app ≡ adlcons_app
+    → fault_of app words ≡ []
+    → rows ≡ subcommand_of app words → request_of words ≡ option_and_then asked rows
+requested-by app words rows same none read =
+    ap (λ (kinds : Kinds). unless_faulty kinds (named_by words)) (sym (fault_of-adlcons app words same) ∙ none)
+    ∙ sym (ap (option_and_then asked) read ∙ subcommand_of-adlcons app words same)
+
+-- words without a fault ask for no help
+pub helpless-by : (app : App) (words : List Text) → app ≡ adlcons_app → fault_of app words ≡ []
+    → asks_for_help words ≡ false
+helpless-by app words same none = ap (list_any is_shown) (sym (fault_of-adlcons app words same) ∙ none)

@@ -1,0 +1,39 @@
+use Rattle.std.proofs.Common.{◌∙◌, inr, sym}
+use Rattle.std.proofs.lemmas.Result.{err_from_is_err_and}
+use Rattle.clap.specs.Words.{subcommand_rows_of}
+use Rattle.clap.specs.Walk.{texts}
+use Rattle.commandline.proofs.CommandLineLaws.{helpless-by, is_free-adlcons, is_simple-adlcons, mistaken-by, refused-by, requested-by}
+use Rattle.commandline.proofs.request.parse.Goals as goal
+
+pub returns-in_err-matches-clause-refused : goal.returns-in_err-matches-clause-refused
+returns-in_err-matches-clause-refused c =
+    let p = err_from_is_err_and c.from_residual-in_err-matches.result c.from_residual-in_err-matches.ensures.1 in
+    let app = c.in_ok-command.ensures in
+    rw (p.1, p.2) (refused-by _ (texts c.args.words.now) c.in_err-matches.field-0.0 app
+    (c.in_err-matches.ensures.kinds (is_free-adlcons _ app)))
+
+pub returns-in_err-matches-clause-mistake : goal.returns-in_err-matches-clause-mistake
+returns-in_err-matches-clause-mistake c =
+    let p = err_from_is_err_and c.from_residual-in_err-matches.result c.from_residual-in_err-matches.ensures.1 in
+    let app = c.in_ok-command.ensures in
+    rw (p.1, p.2) (mistaken-by _ (texts c.args.words.now) c.in_err-matches.field-0.0 app
+    (c.in_err-matches.ensures.kinds (is_free-adlcons _ app)))
+
+pub returns-in-Some-clause-read : goal.returns-in-Some-clause-read
+returns-in-Some-clause-read c =
+    let app = c.in_ok-command.ensures in
+    requested-by _ (texts c.args.words.now) (subcommand_rows_of c.in_ok-matches.matches) app
+    (c.in_ok-matches.ensures.kinds (is_free-adlcons _ app))
+    (c.in_ok-matches.ensures.ok.2 (is_simple-adlcons _ app)).1 ∙ sym c.in-Some.ensures
+
+pub returns-clause-refused : goal.returns-clause-refused
+returns-clause-refused c =
+    let app = c.in_ok-command.ensures in
+    inr (requested-by _ (texts c.args.words.now) (subcommand_rows_of c.in_ok-matches.matches) app
+    (c.in_ok-matches.ensures.kinds (is_free-adlcons _ app))
+    (c.in_ok-matches.ensures.ok.2 (is_simple-adlcons _ app)).1 ∙ sym c.in-None.ensures)
+
+pub returns-in-Some-clause-no_help : goal.returns-in-Some-clause-no_help
+returns-in-Some-clause-no_help c =
+    let app = c.in_ok-command.ensures in
+    helpless-by _ (texts c.args.words.now) app (c.in_ok-matches.ensures.kinds (is_free-adlcons _ app))

@@ -1,0 +1,177 @@
+-- What the program's words may be, as a value of clap's, and what they ask for.
+use Rattle.std.specs.Prelude.{ℕ, ◌&&◌, nat_le, nat_lt, Bool, true, false, List, [], ◌∷◌, length, Option, None, Some, option_and_then, option_map, if◌then◌else◌, codes}
+use Rattle.std.specs.Char.{digit_value}
+use Rattle.std.specs.List.{list_all, list_any}
+use Rattle.std.specs.Str.{bytes_eq}
+use Rattle.std.specs.Str.Parse.{digits_value, without_leading_plus}
+use Rattle.std.specs.Option.{option_map_or}
+use Rattle.clap.specs.Words.{App, Kinds, Row, Rule, Shape, Text, fault_of, first_of, new_app, new_rule, subcommand_of, with_rule, with_subcommand}
+use Rattle.clap.specs.declared.error.ErrorKind.{ErrorKind}
+use Rattle.clap.specs.declared.error.ErrorKind.TheVariants.{DisplayHelp, DisplayVersion}
+
+-- a word that has to be given, by its place
+abbrev pub place_rule : Text → Rule
+place_rule id = record (new_rule id) { required = true }
+
+-- an option of this name, which has a value and may be left out
+abbrev pub option_rule : Text → Rule
+option_rule id = record (new_rule id) { long = Some id; value_names = 1 }
+
+-- one that has this value where it is left out
+abbrev pub default_rule : Text → Text → Rule
+default_rule id default = record (option_rule id) { defaults = default ∷ [] }
+
+-- a command over the list and the folder of its media
+abbrev pub over_media : Text → App
+over_media name = with_rule (with_rule (new_app name) (place_rule (codes "LIST"))) (place_rule (codes "MEDIA"))
+
+abbrev pub check_shape : Shape
+check_shape = (over_media (codes "check")).top
+
+-- and over the folder that is written to
+abbrev pub over_folders : Text → App
+over_folders name = with_rule (over_media name) (place_rule (codes "OUT"))
+
+abbrev pub consolidate_shape : Shape
+consolidate_shape = (with_rule (over_folders (codes "consolidate")) (default_rule (codes "handle") (codes "48000"))).top
+
+abbrev pub render_shape : Shape
+render_shape =
+    let places = over_folders (codes "render") in
+    let timed = with_rule (with_rule places (option_rule (codes "from"))) (option_rule (codes "to")) in
+    (with_rule (with_rule timed (option_rule (codes "channels"))) (default_rule (codes "depth") (codes "24"))).top
+
+-- The program itself: it has a version and wants a command, and its words are those behind its name.
+abbrev pub top_app : App
+top_app = record {
+  top = record (new_app (codes "adlcons")).top {
+    has_version = true;
+    no_binary_name = true;
+    arg_required_else_help = true;
+    subcommand_required = true;
+  };
+  subs = [];
+}
+
+-- the number of a refusal, or `notice` and the number of one; each may be left out
+abbrev pub explain_shape : Shape
+explain_shape =
+    (with_rule (with_rule (new_app (codes "explain")) (new_rule (codes "WHAT"))) (new_rule (codes "NUMBER"))).top
+
+-- the four commands; clap adds `help`
+abbrev pub adlcons_app : App
+adlcons_app =
+    let checking = with_subcommand top_app check_shape in
+    let writing = with_subcommand (with_subcommand checking consolidate_shape) render_shape in
+    with_subcommand writing explain_shape
+
+-- what is chosen of a rendering: times by their texts, a number of channels, and the bits of a sample
+pub record Chosen : Type 0 where
+  pub from : Option Text
+  pub to : Option Text
+  pub channels : Option ℕ
+  pub depth : ℕ
+
+-- What the program is asked for: a command with its list, the folder of its media, and the folder that is written to;
+-- or what the number of a refusal or of a notice means, or all of them.
+pub data Asked : Type 0 where
+  Check : (list media : Text) → Asked
+  Render : (list media out : Text) → (chosen : Chosen) → Asked
+  Consolidate : (list media out : Text) → (handle : ℕ) → Asked
+  Explain : (number : Option Text) → Asked
+  ExplainNotice : (number : Option Text) → Asked
+
+-- decimal digits, one at least
+abbrev pub is_numeral : Text → Bool
+is_numeral digits = nat_le 1 (length digits) && list_all (λ digit. nat_lt (digit_value digit) 10) digits
+
+-- the number from one bound to another that decimal digits spell, behind a plus or not
+abbrev pub number_in : (low high : ℕ) → Text → Option ℕ
+number_in low high text =
+    let digits = without_leading_plus text in
+    let value = digits_value 10 digits in
+    if is_numeral digits && nat_le low value && nat_le value high then Some value else None
+
+-- a handle is no longer than a day
+abbrev pub handle_of : List Row → Option ℕ
+handle_of rows = option_and_then (number_in 0 4147200000) (first_of (codes "handle") rows)
+
+abbrev pub depth_in : Text → Option ℕ
+depth_in text =
+    if bytes_eq text (codes "16") then Some 16
+    else if bytes_eq text (codes "24") then Some 24
+    else if bytes_eq text (codes "32") then Some 32
+    else None
+
+-- none are chosen, or 1 to 64
+abbrev pub channels_in : Option Text → Option (Option ℕ)
+channels_in None = Some None
+channels_in (Some text) = option_map (λ channels. Some channels) (number_in 1 64 text)
+
+abbrev pub chosen_by : List Row → ℕ → Option ℕ → Chosen
+chosen_by rows depth channels =
+    record { from = first_of (codes "from") rows; to = first_of (codes "to") rows; channels = channels; depth = depth }
+
+abbrev pub chosen_of : List Row → Option Chosen
+chosen_of rows =
+    option_and_then (λ depth. option_map (chosen_by rows depth) (channels_in (first_of (codes "channels") rows)))
+    (option_and_then depth_in (first_of (codes "depth") rows))
+
+-- the command of this name that writes to a folder
+abbrev pub asked_to : Text → (list media out : Text) → List Row → Option Asked
+asked_to name list media out rows =
+    if bytes_eq name (codes "render") then option_map (λ chosen. Render list media out chosen) (chosen_of rows)
+    else if bytes_eq name (codes "consolidate")
+    then option_map (λ handle. Consolidate list media out handle) (handle_of rows)
+    else None
+
+-- the command of this name over a list and its media
+abbrev pub asked_by : Text → (list media : Text) → List Row → Option Asked
+asked_by name list media rows =
+    if bytes_eq name (codes "check") then Some (Check list media)
+    else option_and_then (λ out. asked_to name list media out rows) (first_of (codes "OUT") rows)
+
+abbrev pub asked_over : Text → List Row → Option Asked
+asked_over name rows = option_and_then (λ list. option_and_then (λ media. asked_by name list media rows)
+    (first_of (codes "MEDIA") rows)) (first_of (codes "LIST") rows)
+
+-- which number is to be explained: behind a word other than `notice` there is no second one
+abbrev pub explained : (what number : Option Text) → Option Asked
+explained None number = Some (Explain None)
+explained (Some what) number =
+    if bytes_eq what (codes "notice") then Some (ExplainNotice number)
+    else option_map_or (λ _. None) number (Some (Explain (Some what)))
+
+-- the command of this name, whose words are read by what they are called
+abbrev pub asked : Text × List Row → Option Asked
+asked (name, rows) =
+    if bytes_eq name (codes "explain")
+    then explained (first_of (codes "WHAT") rows) (first_of (codes "NUMBER") rows)
+    else asked_over name rows
+
+-- the kinds of error that these words may be answered with, where memory is there
+unfoldable pub words_fault : List Text → Kinds
+words_fault words = fault_of adlcons_app words
+
+-- the command that the words name
+unfoldable pub named_by : List Text → Option Asked
+named_by words = option_and_then asked (subcommand_of adlcons_app words)
+
+-- what is asked for where there is no fault
+abbrev pub unless_faulty : Kinds → Option Asked → Option Asked
+unless_faulty [] named = named
+unless_faulty (kind ∷ kinds) named = None
+
+-- what the words ask for
+abbrev pub request_of : List Text → Option Asked
+request_of words = unless_faulty (words_fault words) (named_by words)
+
+-- help or the version, which is no mistake
+abbrev pub is_shown : ErrorKind → Bool
+is_shown DisplayHelp = true
+is_shown DisplayVersion = true
+is_shown _ = false
+
+-- the words ask for help or for the version
+abbrev pub asks_for_help : List Text → Bool
+asks_for_help words = list_any is_shown (words_fault words)

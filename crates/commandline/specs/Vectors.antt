@@ -1,0 +1,186 @@
+-- Worked examples of words and of what they ask for.
+use Rattle.std.specs.Prelude.{◌≡◌, [], ◌∷◌, None, Some, refl, codes, true, false}
+use Rattle.clap.specs.declared.error.ErrorKind.TheVariants.{DisplayHelp, DisplayHelpOnMissingArgumentOrSubcommand, DisplayVersion, InvalidSubcommand, MissingRequiredArgument, UnknownArgument}
+use Rattle.clap.proofs.OnLiterals.{clap_on_literals}
+use Rattle.commandline.specs.CommandLine.{Check, Chosen, Render, Consolidate, Explain, ExplainNotice, asks_for_help, named_by, request_of, words_fault}
+
+-- ---- good words
+
+-- the whole range, on all channels, at 24 bits
+abbrev default_choice : Chosen
+default_choice = record { from = None; to = None; channels = None; depth = 24 }
+
+checks : request_of (codes "check" ∷ codes "L.adl" ∷ codes "M" ∷ []) ≡ Some (Check (codes "L.adl") (codes "M"))
+unfolding words_fault named_by clap_on_literals
+checks = refl
+
+chooses : request_of (codes "render" ∷ codes "L" ∷ codes "M" ∷ codes "O"
+    ∷ codes "--depth" ∷ codes "16" ∷ codes "--channels=2" ∷ codes "--from" ∷ codes "x" ∷ [])
+    ≡ Some (Render (codes "L") (codes "M") (codes "O")
+    (record { from = Some (codes "x"); to = None; channels = Some 2; depth = 16 }))
+unfolding words_fault named_by clap_on_literals
+chooses = refl
+
+handles : request_of (codes "consolidate" ∷ codes "--handle" ∷ codes "0" ∷ codes "L" ∷ codes "M" ∷ codes "O" ∷ [])
+    ≡ Some (Consolidate (codes "L") (codes "M") (codes "O") 0)
+unfolding words_fault named_by clap_on_literals
+handles = refl
+
+-- ---- numbers out of range, which are mistakes
+
+no_channel : request_of (codes "render" ∷ codes "L" ∷ codes "M" ∷ codes "O" ∷ codes "--channels" ∷ codes "65" ∷ [])
+    ≡ None
+unfolding words_fault named_by clap_on_literals
+no_channel = refl
+
+no_depth : request_of (codes "render" ∷ codes "L" ∷ codes "M" ∷ codes "O" ∷ codes "--depth" ∷ codes "20" ∷ []) ≡ None
+unfolding words_fault named_by clap_on_literals
+no_depth = refl
+
+long_handle : request_of (codes "consolidate" ∷ codes "L" ∷ codes "M" ∷ codes "O"
+    ∷ codes "--handle" ∷ codes "4147200001" ∷ []) ≡ None
+unfolding words_fault named_by clap_on_literals
+long_handle = refl
+
+-- ---- commands and places
+
+renders : request_of (codes "render" ∷ codes "L.adl" ∷ codes "M" ∷ codes "O" ∷ [])
+    ≡ Some (Render (codes "L.adl") (codes "M") (codes "O") default_choice)
+unfolding words_fault named_by clap_on_literals
+renders = refl
+
+consolidates : request_of (codes "consolidate" ∷ codes "L.adl" ∷ codes "M" ∷ codes "O" ∷ [])
+    ≡ Some (Consolidate (codes "L.adl") (codes "M") (codes "O") 48000)
+unfolding words_fault named_by clap_on_literals
+consolidates = refl
+
+-- `-` is a word like others, for standard input
+consolidates_input : request_of (codes "consolidate" ∷ codes "-" ∷ codes "M" ∷ codes "O" ∷ [])
+    ≡ Some (Consolidate (codes "-") (codes "M") (codes "O") 48000)
+unfolding words_fault named_by clap_on_literals
+consolidates_input = refl
+
+-- behind `--` a word may begin with `-`
+renders_dashed : request_of (codes "render" ∷ codes "--" ∷ codes "-L" ∷ codes "-M" ∷ codes "--help" ∷ [])
+    ≡ Some (Render (codes "-L") (codes "-M") (codes "--help") default_choice)
+unfolding words_fault named_by clap_on_literals
+renders_dashed = refl
+
+renders_any_text : request_of (codes "render" ∷ codes "A B.adl" ∷ codes "" ∷ codes "a=b" ∷ [])
+    ≡ Some (Render (codes "A B.adl") (codes "") (codes "a=b") default_choice)
+unfolding words_fault named_by clap_on_literals
+renders_any_text = refl
+
+explains : request_of (codes "explain" ∷ codes "46" ∷ []) ≡ Some (Explain (Some (codes "46")))
+unfolding words_fault named_by clap_on_literals
+explains = refl
+
+explains_notice : request_of (codes "explain" ∷ codes "notice" ∷ codes "3" ∷ []) ≡ Some (ExplainNotice (Some (codes "3")))
+unfolding words_fault named_by clap_on_literals
+explains_notice = refl
+
+explains_notices : request_of (codes "explain" ∷ codes "notice" ∷ []) ≡ Some (ExplainNotice None)
+unfolding words_fault named_by clap_on_literals
+explains_notices = refl
+
+explains_all : request_of (codes "explain" ∷ []) ≡ Some (Explain None)
+unfolding words_fault named_by clap_on_literals
+explains_all = refl
+
+-- ---- mistakes
+
+too_few : words_fault (codes "render" ∷ codes "L.adl" ∷ codes "M" ∷ []) ≡ MissingRequiredArgument ∷ []
+unfolding words_fault clap_on_literals
+too_few = refl
+
+none_behind : words_fault (codes "consolidate" ∷ []) ≡ MissingRequiredArgument ∷ []
+unfolding words_fault clap_on_literals
+none_behind = refl
+
+too_many : words_fault (codes "render" ∷ codes "L.adl" ∷ codes "M" ∷ codes "O" ∷ codes "P" ∷ []) ≡ UnknownArgument ∷ []
+unfolding words_fault clap_on_literals
+too_many = refl
+
+unknown_command : words_fault (codes "relink" ∷ codes "L.adl" ∷ codes "M" ∷ [])
+    ≡ UnknownArgument ∷ InvalidSubcommand ∷ []
+unfolding words_fault clap_on_literals
+unknown_command = refl
+
+capital_command : words_fault (codes "Render" ∷ codes "L.adl" ∷ codes "M" ∷ codes "O" ∷ [])
+    ≡ UnknownArgument ∷ InvalidSubcommand ∷ []
+unfolding words_fault clap_on_literals
+capital_command = refl
+
+two_numbers : request_of (codes "explain" ∷ codes "13" ∷ codes "46" ∷ []) ≡ None
+unfolding words_fault named_by clap_on_literals
+two_numbers = refl
+
+three_words : words_fault (codes "explain" ∷ codes "notice" ∷ codes "3" ∷ codes "4" ∷ []) ≡ UnknownArgument ∷ []
+unfolding words_fault clap_on_literals
+three_words = refl
+
+unknown_option : words_fault (codes "render" ∷ codes "L.adl" ∷ codes "M" ∷ codes "O"
+    ∷ codes "--order" ∷ codes "time" ∷ []) ≡ UnknownArgument ∷ []
+unfolding words_fault clap_on_literals
+unknown_option = refl
+
+unknown_short_option : words_fault (codes "-x" ∷ codes "render" ∷ codes "L.adl" ∷ codes "M" ∷ codes "O" ∷ [])
+    ≡ UnknownArgument ∷ []
+unfolding words_fault clap_on_literals
+unknown_short_option = refl
+
+version_of_command : words_fault (codes "render" ∷ codes "--version" ∷ []) ≡ UnknownArgument ∷ []
+unfolding words_fault clap_on_literals
+version_of_command = refl
+
+no_words : words_fault [] ≡ DisplayHelpOnMissingArgumentOrSubcommand ∷ []
+unfolding words_fault clap_on_literals
+no_words = refl
+
+-- a mistake asks for nothing, and not for help
+too_few_asks : request_of (codes "render" ∷ codes "L.adl" ∷ codes "M" ∷ []) ≡ None
+unfolding words_fault named_by clap_on_literals
+too_few_asks = refl
+
+too_few_helps : asks_for_help (codes "render" ∷ codes "L.adl" ∷ codes "M" ∷ []) ≡ false
+unfolding words_fault clap_on_literals
+too_few_helps = refl
+
+no_words_help : asks_for_help [] ≡ false
+unfolding words_fault clap_on_literals
+no_words_help = refl
+
+-- ---- help and the version
+
+help : words_fault (codes "--help" ∷ []) ≡ DisplayHelp ∷ []
+unfolding words_fault clap_on_literals
+help = refl
+
+short_help : words_fault (codes "-h" ∷ []) ≡ DisplayHelp ∷ []
+unfolding words_fault clap_on_literals
+short_help = refl
+
+help_of_render : words_fault (codes "render" ∷ codes "--help" ∷ []) ≡ DisplayHelp ∷ []
+unfolding words_fault clap_on_literals
+help_of_render = refl
+
+help_of_consolidate : words_fault (codes "consolidate" ∷ codes "L.adl" ∷ codes "--help" ∷ []) ≡ DisplayHelp ∷ []
+unfolding words_fault clap_on_literals
+help_of_consolidate = refl
+
+version : words_fault (codes "--version" ∷ []) ≡ DisplayVersion ∷ []
+unfolding words_fault clap_on_literals
+version = refl
+
+help_asks : asks_for_help (codes "render" ∷ codes "--help" ∷ []) ≡ true
+unfolding words_fault clap_on_literals
+help_asks = refl
+
+-- `help` is help; a word behind it that names no command is a mistake
+help_as_command : words_fault (codes "help" ∷ []) ≡ DisplayHelp ∷ InvalidSubcommand ∷ []
+unfolding words_fault clap_on_literals
+help_as_command = refl
+
+help_as_command_asks : asks_for_help (codes "help" ∷ []) ≡ true
+unfolding words_fault clap_on_literals
+help_as_command_asks = refl

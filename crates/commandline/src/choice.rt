@@ -1,0 +1,15 @@
+// What the words choose of a rendering.
+ghost use Rattle.std.specs.Prelude.{◌≡◌, true};
+ghost use Rattle.commandline.specs.Channels.{are_few};
+
+use sound_terms::Depth;
+
+/// What is chosen of a rendering: the texts of its times, a number of channels from 1 to 64, and the depth.
+#[derive(Clone, Copy, Debug, PartialEq, Eq)]
+pub struct Chosen<'a> {
+    pub from: Option<&'a str>,
+    pub to: Option<&'a str>,
+    pub channels: Option<u8>,
+    pub depth: Depth,
+    ghost few_channels: { are_few channels ≡ true },
+}

@@ -1,0 +1,210 @@
+// What the program's words may be, as clap's command.
+ghost use Rattle.std.specs.Prelude.{◌≡◌, IfOk, false};
+ghost use Rattle.clap.specs.Words.{app_of, new_rule, rule_of, shape_of, with_rule};
+ghost use Rattle.clap.specs.declared.Command.TheViews.{out-Command as fields_of};
+ghost use Rattle.commandline.specs.CommandLine.{adlcons_app, check_shape, consolidate_shape, default_rule, explain_shape, option_rule, over_folders, over_media, place_rule, render_shape, top_app};
+
+use clap::{Arg, Command};
+use std::alloc::{AllocError, Global};
+
+/// The program's command line: `check`, `consolidate` and `render`, each over a list and its media, and `explain`. It
+/// reads the words behind the program's name.
+pub fn command<'a>(alloc: Global) -> Result<Command<'a>, AllocError>
+    ensures { IfOk result (λ command. app_of command ≡ adlcons_app) }
+{
+    top_command(alloc)?
+        .subcommand(check_command(alloc)?)?
+        .subcommand(consolidate_command(alloc)?)?
+        .subcommand(render_command(alloc)?)?
+        .subcommand(explain_command(alloc)?)
+}
+
+/// What the statuses mean, for the help.
+const STATUSES: &str = "\
+Status: 0 done, 1 refused, 2 the words can't be read.
+A refusal is one line with its number and its place.
+'adlcons explain 46' tells what 46 means and what to do.
+Example: adlcons render session.adl sources rendered";
+
+/// The program itself, which wants a command.
+fn top_command<'a>(alloc: Global) -> Result<Command<'a>, AllocError>
+    ensures { IfOk result (λ command. app_of command ≡ top_app) }
+{
+    Command::new(alloc, "adlcons")
+        .about("Checks, consolidates and renders audio decision lists (AES31-3) over WAVE files")
+        .after_help(STATUSES)
+        .version("0.1.0")
+        .no_binary_name(true)
+        .arg_required_else_help(true)
+        .subcommand_required(true)
+        .bin_name("adlcons")
+}
+
+/// The command that checks a list.
+fn check_command<'a>(alloc: Global) -> Result<Command<'a>, AllocError>
+    ensures shape { IfOk result (λ command. shape_of command ≡ check_shape) }
+    ensures local { IfOk result (λ command. (fields_of command).has_globals ≡ false) }
+{
+    over_media(
+        alloc,
+        "check",
+        "Check a list and the files that it uses, and write nothing",
+        "Example: adlcons check session.adl sources",
+    )
+}
+
+/// The command that consolidates a list.
+fn consolidate_command<'a>(alloc: Global) -> Result<Command<'a>, AllocError>
+    ensures shape { IfOk result (λ command. shape_of command ≡ consolidate_shape) }
+    ensures local { IfOk result (λ command. (fields_of command).has_globals ≡ false) }
+{
+    let command = over_folders(
+        alloc,
+        "consolidate",
+        "Write new media of just the frames that a list plays, and a list",
+        "Example: adlcons consolidate session.adl sources consolidated --handle 96000",
+    )?;
+    let help = "Frames kept on each side of what plays";
+    with_default(alloc, command, "handle", "N", "48000", help)
+}
+
+/// The command that renders a list.
+fn render_command<'a>(alloc: Global) -> Result<Command<'a>, AllocError>
+    ensures shape { IfOk result (λ command. shape_of command ≡ render_shape) }
+    ensures local { IfOk result (λ command. (fields_of command).has_globals ≡ false) }
+{
+    let command = over_folders(
+        alloc,
+        "render",
+        "Render a list to one sound file, OUT/render.wav",
+        "Example: adlcons render session.adl sources rendered --depth 16",
+    )?;
+    let from = "The first sample, hh.mm.ss.ff/rrrr [default: the first in]";
+    let command = with_option(alloc, command, "from", "T", from)?;
+    let to = "The time behind the last sample [default: the last out]";
+    let command = with_option(alloc, command, "to", "T", to)?;
+    let channels = "Channels, 1 to 64 [default: all that entries name]";
+    let command = with_option(alloc, command, "channels", "N", channels)?;
+    with_default(
+        alloc,
+        command,
+        "depth",
+        "D",
+        "24",
+        "Bits of a sample: 16, 24 or 32",
+    )
+}
+
+/// A command over a list and the folder of its media.
+fn over_media<'a>(
+    alloc: Global,
+    name: &'a str,
+    about: &'a str,
+    example: &'a str,
+) -> Result<Command<'a>, AllocError>
+    ensures app { IfOk result (λ command. app_of command ≡ over_media name.entry.now) }
+    ensures local { IfOk result (λ command. (fields_of command).has_globals ≡ false) }
+{
+    let command = Command::new(alloc, name).about(about).after_help(example);
+    let list = "The list, a file; - is standard input";
+    let command = with_place(alloc, command, "LIST", list)?;
+    with_place(
+        alloc,
+        command,
+        "MEDIA",
+        "The folder of the list's WAVE files",
+    )
+}
+
+/// A command that writes to a folder besides.
+fn over_folders<'a>(
+    alloc: Global,
+    name: &'a str,
+    about: &'a str,
+    example: &'a str,
+) -> Result<Command<'a>, AllocError>
+    ensures app { IfOk result (λ command. app_of command ≡ over_folders name.entry.now) }
+    ensures local { IfOk result (λ command. (fields_of command).has_globals ≡ false) }
+{
+    let command = over_media(alloc, name, about, example)?;
+    let out = "The folder to write to, which is there and empty";
+    with_place(alloc, command, "OUT", out)
+}
+
+/// The command that tells what the numbers of refusals mean.
+fn explain_command<'a>(alloc: Global) -> Result<Command<'a>, AllocError>
+    ensures shape { IfOk result (λ command. shape_of command ≡ explain_shape) }
+    ensures local { IfOk result (λ command. (fields_of command).has_globals ≡ false) }
+{
+    let command = Command::new(alloc, "explain")
+        .about("Tell what the number of a refusal or notice means, and what to do")
+        .after_help("Examples: adlcons explain 46, adlcons explain notice 3");
+    let what = "The number of a refusal, or 'notice'; without it all refusals";
+    let command = with_word(alloc, command, "WHAT", what)?;
+    let number = "Behind 'notice': its number; without it all notices";
+    with_word(alloc, command, "NUMBER", number)
+}
+
+/// The command with one more word that may be left out.
+fn with_word<'a>(
+    alloc: Global,
+    command: Command<'a>,
+    id: &'a str,
+    help: &'a str,
+) -> Result<Command<'a>, AllocError>
+    ensures app { IfOk result (λ added. app_of added ≡ with_rule (app_of command.entry) (new_rule id.entry.now)) }
+    ensures local { IfOk result (λ added. (fields_of added).has_globals ≡ (fields_of command.entry).has_globals) }
+{
+    command.arg(Arg::new(alloc, id).help(help))
+}
+
+/// The command with one more word that has to be given.
+fn with_place<'a>(
+    alloc: Global,
+    command: Command<'a>,
+    id: &'a str,
+    help: &'a str,
+) -> Result<Command<'a>, AllocError>
+    ensures app { IfOk result (λ added. app_of added ≡ with_rule (app_of command.entry) (place_rule id.entry.now)) }
+    ensures local { IfOk result (λ added. (fields_of added).has_globals ≡ (fields_of command.entry).has_globals) }
+{
+    command.arg(Arg::new(alloc, id).required(true).help(help))
+}
+
+/// An option of this name, whose value the help calls `value`.
+fn option<'a>(alloc: Global, id: &'a str, value: &'a str, help: &'a str) -> Arg<'a>
+    ensures rule { rule_of result ≡ option_rule id.entry.now }
+    ensures local { result.global ≡ false }
+{
+    Arg::new(alloc, id).long(id).value_name(value).help(help)
+}
+
+/// The command with one more option.
+fn with_option<'a>(
+    alloc: Global,
+    command: Command<'a>,
+    id: &'a str,
+    value: &'a str,
+    help: &'a str,
+) -> Result<Command<'a>, AllocError>
+    ensures app { IfOk result (λ added. app_of added ≡ with_rule (app_of command.entry) (option_rule id.entry.now)) }
+    ensures local { IfOk result (λ added. (fields_of added).has_globals ≡ (fields_of command.entry).has_globals) }
+{
+    command.arg(option(alloc, id, value, help))
+}
+
+/// The command with one more option, which has a value where it is left out.
+fn with_default<'a>(
+    alloc: Global,
+    command: Command<'a>,
+    id: &'a str,
+    value: &'a str,
+    default: &'a str,
+    help: &'a str,
+) -> Result<Command<'a>, AllocError>
+    ensures app { IfOk result
+        (λ added. app_of added ≡ with_rule (app_of command.entry) (default_rule id.entry.now default.entry.now)) }
+    ensures local { IfOk result (λ added. (fields_of added).has_globals ≡ (fields_of command.entry).has_globals) }
+{
+    command.arg(option(alloc, id, value, help).default_value(default))
+}

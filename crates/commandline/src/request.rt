@@ -1,0 +1,191 @@
+// What the program's words ask for.
+ghost use Rattle.std.specs.Prelude.{◌≡◌, ◌≤◌, ◌⊎◌, Some, None, true, false, IfOk, IfErr, IfSome, option_and_then, option_map};
+ghost use Rattle.clap.specs.Words.{found_of, kind_of, rows_of, subcommand_rows_of};
+ghost use Rattle.clap.specs.Walk.{texts};
+ghost use Rattle.clap.specs.declared.error.ErrorKind.TheVariants.{OutOfMemory};
+ghost use Rattle.sound_terms.specs.Depth.{bits_of};
+ghost use Rattle.commandline.specs.CommandLine as line;
+ghost use Rattle.commandline.specs.Channels.{are_few};
+ghost use Rattle.commandline.specs.CommandLine.{asked, asked_over, asks_for_help, is_shown, request_of};
+ghost use Rattle.commandline.specs.Request as spec;
+ghost use Rattle.commandline.specs.Request.{asked_of};
+
+use crate::choice::Chosen;
+use crate::command::command;
+use clap::error::ErrorKind;
+use clap::{ArgMatches, Error};
+use sound_terms::Depth;
+use std::alloc::Global;
+
+/// The words of a command over a list: the list (a file, `-` is standard input), the folder of its media, and the
+/// folder that is written to.
+#[derive(Clone, Copy, Debug, PartialEq, Eq)]
+pub struct Places<'a> {
+    pub list: &'a str,
+    pub media: &'a str,
+    pub out: &'a str,
+}
+
+/// What the program is asked for.
+#[derive(Clone, Copy, Debug, PartialEq, Eq)]
+pub enum Request<'a> {
+    /// Checks the list over the folder of its media.
+    Check(&'a str, &'a str),
+    /// Renders the list to one sound file.
+    Render(Places<'a>, Chosen<'a>),
+    /// Writes a list over new media, with handles of so many frames.
+    Consolidate(Places<'a>, u64),
+    /// Tells what the number of a refusal means, or what all of them mean.
+    Explain(Option<&'a str>),
+    /// Tells what the number of a notice means, or what all of them mean.
+    ExplainNotice(Option<&'a str>),
+}
+
+/// Reads the words behind the program's name. The error is clap's: a mistake in the words, a request for help or for
+/// the version, or out of memory.
+pub fn parse<'a>(alloc: Global, words: &'a [&'a str]) -> Result<Request<'a>, Error>
+    ensures read { IfOk result (λ request. request_of (texts words.entry.now) ≡ Some (asked_of request)) }
+    ensures no_help { IfOk result (λ _. asks_for_help (texts words.entry.now) ≡ false) }
+    ensures refused { IfErr result
+        (λ error. (kind_of error ≡ OutOfMemory) ⊎ (request_of (texts words.entry.now) ≡ None)) }
+    ensures mistake { IfErr result
+        (λ error. asks_for_help (texts words.entry.now) ≡ false → is_shown (kind_of error) ≡ false) }
+{
+    let mut command = command(alloc)?;
+    let matches = command.try_get_matches_from_mut(words)?;
+    match request_in(&matches) {
+        Some(request) => Ok(request),
+        None => Err(command.error(ErrorKind::ValueValidation, mistake_of(&matches))?),
+    }
+}
+
+/// What is told of words that clap takes and that ask for nothing.
+fn mistake_of(matches: &ArgMatches<'_>) -> &'static str {
+    match matches.subcommand() {
+        Some(("consolidate", _)) => "a handle is 0 to 4147200000 frames",
+        Some(("render", _)) => "there are 1 to 64 channels, and a depth is 16, 24 or 32",
+        _ => "one number can be explained, and behind the word notice that of a notice",
+    }
+}
+
+/// What the matches of the words ask for.
+fn request_in<'a>(matches: &ArgMatches<'a>) -> Option<Request<'a>>
+    ensures { option_map asked_of result ≡ option_and_then asked (subcommand_rows_of matches.now) }
+{
+    let (name, words) = matches.subcommand()?;
+    request_by(name, words)
+}
+
+/// What the command of this name asks for by these words.
+fn request_by<'a>(name: &str, words: &ArgMatches<'a>) -> Option<Request<'a>>
+    ensures { option_map asked_of result ≡ asked (name.now, rows_of (found_of words.now)) }
+{
+    if name == "explain" {
+        let what = words.get_str("WHAT");
+        let number = words.get_str("NUMBER");
+        return explained(what, number);
+    }
+    request_over(name, words)
+}
+
+/// Which number is to be explained: that of a refusal, or behind `notice` that of a notice.
+fn explained<'a>(what: Option<&'a str>, number: Option<&'a str>) -> Option<Request<'a>>
+    ensures { option_map asked_of result
+        ≡ line.explained (option_map (λ text. text.now) what.entry) (option_map (λ text. text.now) number.entry) }
+{
+    let Some(word) = what else {
+        return Some(Request::Explain(None));
+    };
+    if word == "notice" {
+        return Some(Request::ExplainNotice(number));
+    }
+    match number {
+        None => Some(Request::Explain(Some(word))),
+        Some(_) => None,
+    }
+}
+
+/// What the command of this name asks for over a list and its media.
+fn request_over<'a>(name: &str, words: &ArgMatches<'a>) -> Option<Request<'a>>
+    ensures { option_map asked_of result ≡ asked_over name.now (rows_of (found_of words.now)) }
+{
+    let list = words.get_str("LIST")?;
+    let media = words.get_str("MEDIA")?;
+    if name == "check" {
+        return Some(Request::Check(list, media));
+    }
+    let out = words.get_str("OUT")?;
+    request_to(name, Places { list, media, out }, words)
+}
+
+/// What the command of this name asks for over places that it writes to.
+fn request_to<'a>(name: &str, places: Places<'a>, words: &ArgMatches<'a>) -> Option<Request<'a>>
+    ensures { option_map asked_of result
+        ≡ line.asked_to name.now places.entry.list.now places.entry.media.now places.entry.out.now
+        (rows_of (found_of words.now)) }
+{
+    match name {
+        "render" => Some(Request::Render(places, chosen_in(words)?)),
+        "consolidate" => Some(Request::Consolidate(places, handle_in(words)?)),
+        _ => None,
+    }
+}
+
+/// The handle that the words choose, in frames.
+fn handle_in(words: &ArgMatches<'_>) -> Option<u64>
+    ensures { result ≡ line.handle_of (rows_of (found_of words.now)) }
+{
+    number_in(0, 4_147_200_000, words.get_str("handle")?)
+}
+
+/// What the words choose of a rendering.
+fn chosen_in<'a>(words: &ArgMatches<'a>) -> Option<Chosen<'a>>
+    ensures { option_map spec.chosen_of result ≡ line.chosen_of (rows_of (found_of words.now)) }
+{
+    let depth = depth_in(words.get_str("depth")?)?;
+    let channels = channels_in(words.get_str("channels"))?;
+    Some(Chosen {
+        from: words.get_str("from"),
+        to: words.get_str("to"),
+        channels,
+        depth,
+    })
+}
+
+/// The depth that a text names.
+fn depth_in(text: &str) -> Option<Depth>
+    ensures { option_map bits_of result ≡ line.depth_in text.now }
+{
+    match text {
+        "16" => Some(Depth::Sixteen),
+        "24" => Some(Depth::TwentyFour),
+        "32" => Some(Depth::ThirtyTwo),
+        _ => None,
+    }
+}
+
+/// The channels that a text names, where there is one: 1 to 64.
+fn channels_in(text: Option<&str>) -> Option<Option<u8>>
+    ensures read { result ≡ line.channels_in (option_map (λ text. text.now) text.entry) }
+    ensures few { IfSome result (λ channels. are_few channels ≡ true) }
+{
+    match text {
+        None => Some(None),
+        Some(text) => Some(Some(number_in(1, 64, text)? as u8)),
+    }
+}
+
+/// The number from one bound to another that a text spells in decimal digits, behind a plus or not.
+fn number_in(low: u64, high: u64, text: &str) -> Option<u64>
+    ensures value { result ≡ line.number_in low high text.now }
+    ensures within { IfSome result (λ number. (low ≤ number) × (number ≤ high)) }
+{
+    let Ok(number) = text.parse::<u64>() else {
+        return None;
+    };
+    if low <= number && number <= high {
+        Some(number)
+    } else {
+        None
+    }
+}

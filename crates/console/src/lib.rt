@@ -1,0 +1,13 @@
+//! What the program prints on, and the lines that it prints there.
+#![tactic(auto)]
+
+mod console;
+mod lines;
+mod names;
+mod place;
+mod printer;
+
+pub use console::Console;
+pub use lines::{Counts, put_counts, put_notices, put_refusal, put_refused};
+pub use place::{Place, Refusal, put_counted, put_place};
+pub use printer::Printer;

@@ -1,0 +1,78 @@
+// The lines of the output.
+ghost use Rattle.std.specs.Prelude.{◌++◌, ◌∷◌, []};
+ghost use Rattle.console.specs.Lines.{counts_text, notice_text, notices_text, refusal_text, refused, two_digits};
+ghost use Rattle.console.specs.Places.{where_of};
+ghost use Rattle.console.specs.Printing.{Prints};
+
+use crate::console::Console;
+use crate::place::{Refusal, put_counted, put_number, put_place};
+use list_terms::Notice;
+
+/// Prints a refusal as a line, without the line's end.
+pub fn put_refusal<C: Console>(console: &mut C, refusal: Refusal<'_>)
+    ensures { Prints C.contents C.failures console.old console.new
+        (refusal_text refusal.entry.number (where_of refusal.entry.place)) }
+{
+    put_refused(console, refusal.number);
+    put_place(console, refusal.place);
+}
+
+/// Prints the number of a refusal, before its place.
+pub fn put_refused<C: Console>(console: &mut C, number: u8)
+    ensures { Prints C.contents C.failures console.old console.new (refused number) }
+{
+    console.put(b"refused ");
+    put_two_digits(console, number);
+}
+
+/// Prints a number in two digits at least.
+fn put_two_digits<C: Console>(console: &mut C, number: u8)
+    ensures { Prints C.contents C.failures console.old console.new (two_digits number) }
+{
+    if number < 10 {
+        put_counted(console, "0", u64::from(number));
+    } else {
+        put_number(console, u64::from(number));
+    }
+}
+
+/// Prints notices, each in a line of its own.
+pub fn put_notices<C: Console>(console: &mut C, notices: &[Notice])
+    ensures { Prints C.contents C.failures console.old console.new (notices_text notices.now) }
+{
+    for notice in notices {
+        put_notice(console, *notice);
+    }
+}
+
+/// Prints a notice, and the end of its line: one of the list stands at its line, one of a file at its index.
+fn put_notice<C: Console>(console: &mut C, notice: Notice)
+    ensures { Prints C.contents C.failures console.old console.new (notice_text notice ++ 10 ∷ []) }
+{
+    put_counted(console, "notice ", u64::from(notice.kind));
+    let place = if notice.kind <= 2 {
+        " at line "
+    } else {
+        " at index "
+    };
+    put_counted(console, place, notice.at);
+    console.put(b"\n");
+}
+
+/// Words round two counts.
+#[derive(Clone, Copy)]
+pub struct Counts<'a> {
+    pub before: &'a str,
+    pub between: &'a str,
+    pub behind: &'a str,
+}
+
+/// Prints what was done as two counts between words, without the line's end.
+pub fn put_counts<C: Console>(console: &mut C, words: Counts<'_>, first: u64, second: u64)
+    ensures { Prints C.contents C.failures console.old console.new
+        (counts_text words.entry.before.now words.entry.between.now words.entry.behind.now first second) }
+{
+    put_counted(console, words.before, first);
+    put_counted(console, words.between, second);
+    console.put(words.behind.as_bytes());
+}

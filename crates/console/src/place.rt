@@ -1,0 +1,145 @@
+// A refusal and its place.
+ghost use Rattle.std.specs.Prelude.{◌≡◌, ◌-◌, ◌++◌, codes, decimal, length, replicate};
+ghost use Rattle.list_terms.specs.Renewed.{media_name};
+ghost use Rattle.console.specs.Lines.{counted, named, place_text};
+ghost use Rattle.console.specs.Places.{where_of};
+ghost use Rattle.console.specs.Printing.{Prints};
+ghost use Rattle.console.specs.declared.place.Place.TheVariants as place;
+
+use crate::console::Console;
+use crate::names::put_name;
+use itoa::Buffer;
+
+/// The place that a refusal names. Lines are counted from 1; entries, indexes and jobs go by their numbers.
+#[derive(Clone, Copy, Debug, PartialEq, Eq)]
+pub enum Place<'a> {
+    Nowhere,
+    Line(u64),
+    LineEntry { line: u64, entry: u32 },
+    LineIndex { line: u64, index: u32 },
+    IndexFile { index: u32, name: &'a str },
+    Index(u32),
+    Entry(u32),
+    File(&'a str),
+    /// The medium of this number that a consolidation writes: `M00001.wav` and so on.
+    Medium(u32),
+    Job(u32),
+}
+
+/// A refusal: its number, two digits at least, and its place.
+#[derive(Clone, Copy, Debug, PartialEq, Eq)]
+pub struct Refusal<'a> {
+    pub number: u8,
+    pub place: Place<'a>,
+}
+
+impl<'a> Refusal<'a> {
+    /// There was no memory before there was a list.
+    pub const MEMORY: Refusal<'static> = Refusal {
+        number: 18,
+        place: Place::Nowhere,
+    };
+
+    /// A refusal that names a file or a folder.
+    pub fn of_file(number: u8, name: &'a str) -> Refusal<'a>
+        ensures { result ≡ record { number = number; place = place.File name.entry } }
+    {
+        Refusal {
+            number,
+            place: Place::File(name),
+        }
+    }
+}
+
+/// Prints a number in decimal digits.
+pub fn put_number<C: Console>(console: &mut C, number: u64)
+    ensures { Prints C.contents C.failures console.old console.new (decimal number) }
+{
+    let mut buffer = Buffer::new();
+    let digits: &str = buffer.format(number);
+    console.put(digits.as_bytes());
+}
+
+/// Prints words, and a number behind them.
+pub fn put_counted<C: Console>(console: &mut C, words: &str, number: u64)
+    ensures { Prints C.contents C.failures console.old console.new (counted words.now number) }
+{
+    console.put(words.as_bytes());
+    put_number(console, number);
+}
+
+/// Prints words, and a name behind them.
+fn put_named<C: Console>(console: &mut C, words: &str, name: &str)
+    ensures { Prints C.contents C.failures console.old console.new (named words.now name.now) }
+{
+    console.put(words.as_bytes());
+    put_name(console, name);
+}
+
+/// Prints words with a number, and others with another.
+fn put_both<C: Console>(console: &mut C, words: &str, number: u64, others: &str, other: u64)
+    ensures { Prints C.contents C.failures console.old console.new
+        (counted words.now number ++ counted others.now other) }
+{
+    put_counted(console, words, number);
+    put_counted(console, others, other);
+}
+
+/// Prints the medium of this number as a place.
+fn put_medium<C: Console>(console: &mut C, number: u64)
+    ensures { Prints C.contents C.failures console.old console.new (named (codes " at file ") (media_name number)) }
+{
+    console.put(b" at file M");
+    put_digits(console, number);
+}
+
+/// Prints the name of a medium from its number on, which has five digits at least.
+fn put_digits<C: Console>(console: &mut C, number: u64)
+    ensures { Prints C.contents C.failures console.old console.new
+        (replicate (5 - length (decimal number)) 48 ++ (decimal number ++ codes ".wav")) }
+{
+    let mut buffer = Buffer::new();
+    let digits: &str = buffer.format(number);
+    console.put(zeros_before(digits.len()));
+    console.put(digits.as_bytes());
+    console.put(b".wav");
+}
+
+/// The zeros before so many digits, which make them five.
+fn zeros_before(digits: usize) -> &'static [u8]
+    ensures { result.now ≡ replicate (5 - digits) 48 }
+{
+    match digits {
+        0 => b"00000",
+        1 => b"0000",
+        2 => b"000",
+        3 => b"00",
+        4 => b"0",
+        _ => b"",
+    }
+}
+
+/// Prints the place of a refusal, behind its number.
+pub fn put_place<C: Console>(console: &mut C, place: Place<'_>)
+    ensures { Prints C.contents C.failures console.old console.new (place_text (where_of place.entry)) }
+{
+    match place {
+        Place::Nowhere => {}
+        Place::Line(line) => put_counted(console, " at line ", line),
+        Place::LineEntry { line, entry } => {
+            put_both(console, " at line ", line, " entry ", u64::from(entry))
+        }
+        Place::LineIndex { line, index } => {
+            put_both(console, " at line ", line, " index ", u64::from(index))
+        }
+        Place::IndexFile { index, name } => {
+            put_counted(console, " at index ", u64::from(index));
+            put_named(console, " file ", name);
+        }
+        Place::Index(index) => put_counted(console, " at index ", u64::from(index)),
+        Place::Entry(entry) => put_counted(console, " at entry ", u64::from(entry)),
+        Place::File(name) => put_named(console, " at file ", name),
+        Place::Medium(number) => put_medium(console, u64::from(number)),
+        Place::Job(job) => put_counted(console, " at job ", u64::from(job)),
+    }
+}

@@ -1,0 +1,72 @@
+// Where the program prints: a writer, in one write a line.
+ghost use Rattle.std.specs.Prelude.{◌≡◌, IfOk, IsOk, IsErr};
+ghost use Rattle.std.specs.Io.Buffered.{writer_contents, writer_inner};
+ghost use Rattle.work_terms.specs.Disk.{HasCause};
+
+use crate::console::Console;
+use std::alloc::Global;
+use std::fmt::Display;
+use std::io;
+use std::io::{BufWriter, Write};
+
+/// A writer that takes what is put in one write, where it has at most 8192 bytes, and counts what it didn't take.
+#[derive(Drop)]
+pub struct Printer<W: Write + Drop> {
+    writer: BufWriter<W>,
+    failures: u64,
+}
+
+impl<W: Write + Drop> Printer<W> {
+    /// A printer that hasn't failed.
+    pub fn new(alloc: Global, writer: W) -> io::Result<Self>
+        ensures fresh { IfOk result (λ printer. printer.failures ≡ 0) }
+        ensures writer { IfOk result (λ printer. writer_inner printer.writer ≡ writer) }
+    {
+        Ok(Printer {
+            writer: BufWriter::new(alloc, writer)?,
+            failures: 0,
+        })
+    }
+
+    /// Counts a failure of the writer. The count stays at its last value.
+    fn count(&mut self, outcome: io::Result<()>)
+        ensures writer { self.new.writer ≡ self.old.writer }
+        ensures cause { HasCause self.old.failures self.new.failures (IsOk outcome) (IsErr outcome) }
+    {
+        if outcome.is_err() {
+            self.failures = self.failures.saturating_add(1);
+        }
+    }
+}
+
+impl<W: Write + Drop> Console for Printer<W> {
+    ghost contents = { λ printer. writer_contents W.contents printer.writer };
+
+    ghost failures = { λ printer. printer.failures };
+
+    fn put(&mut self, text: &[u8]) {
+        let outcome = self.writer.write_all(text);
+        self.count(outcome);
+    }
+
+    fn end_line(&mut self) {
+        let ended = self.writer.write_all(b"\n");
+        self.count(ended);
+        let sent = self.writer.flush();
+        self.count(sent);
+    }
+
+    fn print<D: Display + Drop>(&mut self, text: D) {
+        let outcome = self.writer.write_fmt(text);
+        self.count(outcome);
+        let sent = self.writer.flush();
+        self.count(sent);
+    }
+
+    fn print_line<D: Display + Drop>(&mut self, text: D) {
+        let outcome = self.writer.writeln(text);
+        self.count(outcome);
+        let sent = self.writer.flush();
+        self.count(sent);
+    }
+}

@@ -1,0 +1,54 @@
+-- The jobs of a command: those of one worker alone, in rounds, from the files that it laid out on.
+use Rattle.std.specs.Prelude.{◌≡◌, ◌≢◌, ℕ, ⊤, true, false, Option, None, Some, List, Result, Ok, Err, codes}
+use Rattle.sound_terms.specs.Render.{rendering_of}
+use Rattle.work_terms.specs.Disk.{Files}
+use Rattle.job_terms.specs.Workers.{End, GivenUp, Jobs, jobs_over}
+use Rattle.list_terms.specs.Accepted.{OptionValues, range_of}
+use Rattle.list_terms.specs.Binding.{Binding}
+use Rattle.list_terms.specs.Heard.{IsAccepted, project_mix}
+use Rattle.list_terms.specs.Project.{ListProject}
+use Rattle.schedule.specs.Rounds.{RunsInRounds}
+use Rattle.consolidation.specs.Jobs.{whole_of, work_of}
+use Rattle.consolidation.specs.Planned.{IsPlanOf, MediaPlan}
+use Rattle.consolidate.specs.declared.fault.Fault.{Fault}
+use Rattle.consolidate.specs.declared.fault.Fault.TheVariants as fault
+
+-- how the jobs ended: with all done, or with one given up; nothing is said of a call that ended before or behind them
+abbrev pub EndsOf : {X : Type 0} → Result X Fault → (Option End → Type 0) → Type 0
+EndsOf (Ok x) P = P None
+EndsOf (Err (fault.GivenUp job)) P = P (Some (GivenUp job))
+EndsOf (Err _) P = ⊤
+
+-- the jobs make the rendering of a project, all in one file
+pub record RendersInRounds (project : ListProject) (binding : Binding) (values : OptionValues) (sources : Files)
+    (shelf_old bench_old shelf_new bench_new : ℕ) (written : Files) (ended : Option End) : Type 0 where
+  pub jobs : Jobs
+  pub named : (k : ℕ) → jobs.name k ≡ codes "render.wav"
+  pub run : RunsInRounds false jobs (λ _. rendering_of (range_of project values) (project_mix sources project binding))
+      shelf_old bench_old shelf_new bench_new written ended
+
+-- of the project of an accepted list
+pub record RendersList (text : List ℕ) (values : OptionValues) (sources : Files)
+    (shelf_old bench_old shelf_new bench_new : ℕ) (written : Files) (ended : Option End) : Type 0 where
+  pub project : ListProject
+  pub binding : Binding
+  pub accepted : IsAccepted text sources project binding
+  pub run : RendersInRounds project binding values sources shelf_old bench_old shelf_new bench_new written ended
+
+-- the jobs make the media of a consolidation of a project; the list may be written behind them
+pub record ConsolidatesInRounds (project : ListProject) (binding : Binding) (handle : ℕ) (sources : Files)
+    (shelf_old bench_old shelf_new bench_new : ℕ) (written : Files) (ended : Option End) : Type 0 where
+  pub plan : MediaPlan
+  pub planned : IsPlanOf project binding handle true sources plan
+  pub media : Files
+  pub behind : (n : List ℕ) → n ≢ codes "consolidated.adl" → written n ≡ media n
+  pub run : RunsInRounds false (jobs_over (work_of plan) sources) (whole_of plan sources)
+      shelf_old bench_old shelf_new bench_new media ended
+
+-- of the project of an accepted list
+pub record ConsolidatesList (text : List ℕ) (handle : ℕ) (sources : Files)
+    (shelf_old bench_old shelf_new bench_new : ℕ) (written : Files) (ended : Option End) : Type 0 where
+  pub project : ListProject
+  pub binding : Binding
+  pub accepted : IsAccepted text sources project binding
+  pub run : ConsolidatesInRounds project binding handle sources shelf_old bench_old shelf_new bench_new written ended

@@ -1,0 +1,114 @@
+use Rattle.std.proofs.Common.{◌≡◌, ◌∙◌, ◌≤◌, ℕ, List, All, ap, arith, length, refl, true}
+use Rattle.std.specs.List.{list_any}
+use Rattle.std.proofs.lemmas.List.Elements.{All-weaker}
+use Rattle.std.proofs.lemmas.Result.{err_from_is_err_and}
+use Rattle.sound_terms.specs.declared.piece.Home.{Home}
+use Rattle.sound_terms.specs.declared.piece.Piece.{Piece}
+use Rattle.sound_terms.specs.declared.piece.Run.{Run}
+use Rattle.sound_terms.specs.Homes.{AreHomes, kept_of, place_by}
+use Rattle.sound_terms.specs.Kept.{AreRuns}
+use Rattle.sound_terms.specs.Waves.{is_large}
+use Rattle.list_terms.specs.BoundHomes.{IsBinding, homes_of}
+use Rattle.list_terms.specs.Heard.{sounds_of}
+use Rattle.relink.specs.declared.fault.RelinkFault.TheVariants as relink
+use Rattle.work_terms.specs.Refusals.{IsDue}
+use Rattle.wavwrite.specs.Info.{Fits}
+use Rattle.list_terms.specs.Binding.{Binding}
+use Rattle.consolidation.specs.Consolidated.{Work, work_fault}
+use Rattle.consolidation.specs.Fault.{refusal_of}
+use Rattle.consolidation.specs.Own.{IsOfLinking}
+use Rattle.consolidation.specs.Planned.{AreLeft, IsAddressed, IsMediumRun}
+use Rattle.consolidation.specs.Work.{run_info}
+use Rattle.consolidation.specs.declared.fault.ConsolidationFault.{ConsolidationFault}
+use Rattle.consolidation.specs.declared.fault.ConsolidationFault.TheVariants as fault
+use Rattle.consolidation.proofs.Addressed.{all_addressed}
+use Rattle.consolidation.proofs.Due.{next_in_turn, nothing_due, too_many_groups}
+use Rattle.consolidation.proofs.planning.plan_of.Goals as goal
+
+-- a fault of the list comes in turn
+linking_due : (work : Work) (count : ℕ) (f : ConsolidationFault) → length work.groups ≡ count
+    → length work.runs ≤ 32767
+    → IsOfLinking count f → IsDue (refusal_of f) (work_fault work)
+linking_due work count (fault.Relink relink.TooManyEntries) counted few many =
+    too_many_groups work few (omega (arith, counted, many))
+linking_due work count (fault.Relink relink.Memory) counted few own =
+    next_in_turn work (refusal_of (fault.Relink relink.Memory)) few (omega arith)
+linking_due work count fault.Intervals counted few many = elim many [ ]
+linking_due work count (fault.Pass _) counted few many = elim many [ ]
+linking_due work count (fault.Runs _) counted few many = elim many [ ]
+
+-- the runs that were found, each of which can become a medium if it isn't too long
+found_runs : (bound binding : Binding) (homes : List Home) (groups : List (List Piece)) (handle : ℕ) (runs : List Run)
+    → bound ≡ binding
+    → IsBinding bound → AreHomes (homes_of bound) → homes ≡ homes_of bound → AreLeft binding groups
+    → AreRuns (kept_of groups homes handle) (place_by homes) runs
+    → All (IsAddressed (sounds_of binding) (homes_of binding)) runs
+found_runs bound binding homes groups handle runs same is apart homes_is left are =
+    let are' : AreRuns (kept_of groups (homes_of binding) handle) (place_by (homes_of binding)) runs =
+    rw (homes_is, same) at are in
+    all_addressed binding (rw same at is) (rw same at apart) groups handle left.at_home runs are'
+
+-- the work that they are of
+work_runs : (bound binding : Binding) (homes : List Home) (groups : List (List Piece)) (handle : ℕ) (runs : List Run)
+    (work : Work) → bound ≡ binding
+    → homes ≡ homes_of bound → work.groups ≡ groups
+    → ((others : List Run) → AreRuns (kept_of groups homes handle) (place_by homes) others → others ≡ runs)
+    → AreRuns (kept_of work.groups (homes_of binding) handle) (place_by (homes_of binding)) work.runs → work.runs ≡ runs
+work_runs bound binding homes groups handle runs work same homes_is left one are =
+    one work.runs (rw (homes_is, same, ← left) are)
+
+pub returns-in_err-text-clause-refusals : goal.returns-in_err-text-clause-refusals
+returns-in_err-text-clause-refusals c = λ work groups are.
+    let binding = c.args.checked.now.bound in
+    let p = err_from_is_err_and c.from_residual-in_err-text.result c.from_residual-in_err-text.ensures.1 in
+    let same =
+    work_runs c.bound-bound.result.now binding c.deref.result.now c.args.intervals c.args.handle
+    c.in_ok-runs.runs.items work
+    c.bound-bound.ensures (c.deref.ensures.value ∙ c.in-Ok.ensures.homes) groups c.in_ok-runs.ensures.one are in
+    let few : length work.runs ≤ 32767 = rw same c.in_ok-runs.ensures.few in
+    rw (p.1, p.2) (linking_due work (length c.args.intervals) c.in_err-text.field-0.0 (ap length groups)
+    few c.in_err-text.ensures.own)
+
+pub all_read_back-requires : goal.all_read_back-requires
+all_read_back-requires c =
+    let binding = c.args.checked.now.bound in
+    let addressed =
+    found_runs c.bound-bound.result.now binding c.deref.result.now c.args.intervals c.args.handle
+    c.in_ok-runs.runs.items
+    c.bound-bound.ensures c.sounds.ensures.bound c.in-Ok.ensures.apart (c.deref.ensures.value ∙ c.in-Ok.ensures.homes)
+    c.requires.left c.in_ok-runs.ensures.kept in
+    let homes : c.deref-4.result.now ≡ homes_of binding =
+    c.deref-4.ensures.value ∙ c.in-Ok.ensures.homes ∙ ap homes_of c.bound-bound.ensures in
+    rw (c.deref-5.ensures.value, homes, c.sounds.ensures.sounds, c.bound-bound.ensures) addressed
+
+pub returns-clause-planned : goal.returns-clause-planned
+returns-clause-planned c =
+    let binding = c.args.checked.now.bound in
+    let runs = c.in_ok-runs.runs.items in
+    let homes : c.deref.result.now ≡ homes_of binding =
+    c.deref.ensures.value ∙ c.in-Ok.ensures.homes ∙ ap homes_of c.bound-bound.ensures in
+    let homes_fit : c.deref-4.result.now ≡ homes_of binding =
+    c.deref-4.ensures.value ∙ c.in-Ok.ensures.homes ∙ ap homes_of c.bound-bound.ensures in
+    record {
+      sounds = c.sounds-3.ensures.sounds ∙ ap sounds_of c.bound-bound.ensures;
+      homes = c.in-Ok.ensures.homes ∙ ap homes_of c.bound-bound.ensures;
+      few = c.in_ok-runs.ensures.few;
+      kept = rw homes at c.in_ok-runs.ensures.kept;
+      media = rw (c.deref-5.ensures.value, homes_fit, c.sounds.ensures.sounds, c.bound-bound.ensures) at
+          c.all_read_back.ensures;
+      text = rw (c.deref-2.ensures.value, c.deref-3.ensures.value, c.in-Ok.ensures.homes, c.bound-bound.ensures)
+          at c.in_ok-text.ensures.text;
+      entries = ap length c.groups.ensures.lent;
+      linked = rw c.deref-2.ensures.value at c.in_ok-text.ensures.linked;
+    }
+
+pub returns-clause-refusals : goal.returns-clause-refusals
+returns-clause-refusals c = λ work groups are.
+    let binding = c.args.checked.now.bound in
+    let same =
+    work_runs c.bound-bound.result.now binding c.deref.result.now c.args.intervals c.args.handle
+    c.in_ok-runs.runs.items work
+    c.bound-bound.ensures (c.deref.ensures.value ∙ c.in-Ok.ensures.homes) groups c.in_ok-runs.ensures.one are in
+    let few : length work.runs ≤ 32767 = rw same c.in_ok-runs.ensures.few in
+    let some : length work.groups ≤ 32767 = rw groups c.in_ok-text.ensures.few_entries in
+    nothing_due work few some

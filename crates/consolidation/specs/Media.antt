@@ -1,0 +1,17 @@
+-- Media by the runs that they are of.
+use Rattle.std.specs.Prelude.{◌≡◌, ◌≢◌, ℕ, ◌+◌, ◌≤◌, List, Some, slice_get}
+use Rattle.sound_terms.specs.declared.piece.Run.{Run}
+use Rattle.work_terms.specs.Disk.{Files}
+use Rattle.list_terms.specs.Renewed.{media_name}
+use Rattle.mediacopy.specs.Copied.{laid_out}
+use Rattle.consolidation.specs.Planned.{MediaPlan}
+use Rattle.consolidation.specs.Work.{run_info}
+
+-- the name of none of so many media
+abbrev pub IsNoMedium : ℕ → List ℕ → Type 0
+IsNoMedium media name = (number : ℕ) → 1 ≤ number → number ≤ media → name ≢ media_name number
+
+-- the medium of the run at this place is laid out
+abbrev pub IsLaidOut : MediaPlan → Files → ℕ → Type 0
+IsLaidOut plan written k = (run : Run) → slice_get plan.runs k ≡ Some run
+    → written (media_name (k + 1)) ≡ Some (laid_out (run_info plan.sounds plan.homes run))

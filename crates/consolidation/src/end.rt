@@ -1,0 +1,93 @@
+// Ends a consolidation: its media are synced, and then the list over them is written.
+ghost use Rattle.std.specs.Prelude.{◌≡◌, ◌≢◌, ◌<◌, ◌+◌, ℕ, IfErr, IfOk, IsTrue, List, OnOk, codes, length, true, ⊤};
+ghost use Rattle.work_terms.specs.Disk.{Files, IsDurable, ReadsTo};
+ghost use Rattle.list_terms.specs.Binding.{Binding};
+ghost use Rattle.list_terms.specs.Heard.{IsAccepted};
+ghost use Rattle.list_terms.specs.Project.{ListProject};
+ghost use Rattle.list_terms.specs.Renewed.{media_name};
+ghost use Rattle.shelf.specs.Frame.{OnlyWrites};
+ghost use Rattle.consolidation.specs.Consolidated.{AreDurable, IsConsolidated, IsElsewhere};
+ghost use Rattle.consolidation.specs.Fault.{FailsIn};
+ghost use Rattle.consolidation.specs.Jobs.{HoldsMedia};
+ghost use Rattle.consolidation.specs.Planned.{IsPlanOf};
+ghost use Rattle.consolidation.specs.Sizes.{written_of};
+ghost use Rattle.consolidation.specs.There.{AreThere};
+ghost use Rattle.consolidation.specs.Work.{SoundsTheSame};
+ghost use Rattle.consolidation.specs.declared.fault.WriteFault.TheVariants as fault;
+
+use crate::list::write_list;
+use crate::sizes::sizes_of;
+use crate::{Consolidation, WriteFault, Written};
+use shelf::Bench;
+
+impl<'a> Consolidation<'a> {
+    /// Syncs the medium of the run at this place.
+    fn sync_medium<B: Bench>(&self, place: usize, bench: &mut B) -> Result<(), WriteFault>
+        requires { place < length self.now.runs }
+        ensures durable { IsTrue (B.honest bench.old)
+            → OnOk result (IsDurable (media_name (place + 1)) (B.stored bench.new) (B.may_leave bench.new)) }
+        ensures crash { (c : Files) → B.may_leave bench.new c → B.may_leave bench.old c }
+        ensures medium { IfErr result (λ told. told ≢ fault.List) }
+        ensures only_reads { ReadsTo B.stored B.honest B.failures B.failed_at bench.old bench.new result (λ _. ⊤)
+            FailsIn }
+    {
+        match bench.sync(self.names[place].as_str()) {
+            Ok(()) => Ok(()),
+            Err(_) => Err(WriteFault::Medium {
+                number: place as u32 + 1,
+            }),
+        }
+    }
+
+    /// Syncs the media of all runs.
+    fn sync_media<B: Bench>(&self, bench: &mut B) -> Result<(), WriteFault>
+        ensures durable { IsTrue (B.honest bench.old) → OnOk result ((k : ℕ) → k < length self.now.runs
+            → IsDurable (media_name (k + 1)) (B.stored bench.new) (B.may_leave bench.new)) }
+        ensures crash { (c : Files) → B.may_leave bench.new c → B.may_leave bench.old c }
+        ensures media { IfErr result (λ told. told ≢ fault.List) }
+        ensures only_reads { ReadsTo B.stored B.honest B.failures B.failed_at bench.old bench.new result (λ _. ⊤)
+            FailsIn }
+    {
+        for place in 0..self.runs.len() {
+            self.sync_medium(place, bench)?;
+        }
+        Ok(())
+    }
+
+    /// What is told of it once it is written.
+    fn written(&self) -> Written
+        ensures { result ≡ written_of self.now }
+    {
+        Written {
+            media: self.runs.len() as u32,
+            entries: self.entries,
+            sizes: sizes_of(self.sounds, &self.runs, self.text.len()),
+        }
+    }
+
+    /// Syncs the media, each once, and then writes the list over them and syncs it: an unfinished output has no list.
+    pub fn finish<B: Bench>(&self, bench: &mut B) -> Result<Written, WriteFault>
+        ensures same_sound { IsTrue (B.honest bench.old) → (text : List ℕ) (project : ListProject) (binding : Binding)
+            (handle : ℕ) (sources : Files) → IsAccepted text sources project binding
+            → IsPlanOf project binding handle true sources self.now → AreThere sources self.now.sounds
+            → HoldsMedia self.now sources (B.stored bench.old)
+            → OnOk result (SoundsTheSame text sources (B.stored bench.new)) }
+        ensures written { IsTrue (B.honest bench.old) → (project : ListProject) (binding : Binding) (handle : ℕ)
+            (sources old : Files) → IsPlanOf project binding handle true sources self.now
+            → AreThere sources self.now.sounds → HoldsMedia self.now sources (B.stored bench.old)
+            → ((n : List ℕ) → IsElsewhere (length self.now.runs) n → B.stored bench.old n ≡ old n)
+            → IfOk result (IsConsolidated project binding handle sources old (B.stored bench.new)) }
+        ensures durable { IsTrue (B.honest bench.old)
+            → IfOk result (λ told. AreDurable told.media (B.stored bench.new) (B.may_leave bench.new)) }
+        ensures list_last { IsTrue (B.honest bench.old) → IfErr result (λ told. told ≢ fault.List
+            → B.stored bench.new (codes "consolidated.adl") ≡ B.stored bench.old (codes "consolidated.adl")) }
+        ensures only_writes { OnlyWrites B.Bench (λ n. n ≢ codes "consolidated.adl") bench.old bench.new result (λ _. ⊤)
+            FailsIn }
+    {
+        self.sync_media(bench)?;
+        match write_list(bench, &self.text) {
+            Ok(()) => Ok(self.written()),
+            Err(_) => Err(WriteFault::List),
+        }
+    }
+}

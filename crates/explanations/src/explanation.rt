@@ -1,0 +1,241 @@
+// What is told of a refusal beside its line: what its number means there, what was found, and what to do.
+use crate::column::{Stood, stood_in};
+use crate::meanings::{Spot, meaning_at};
+use crate::names::PrintedName;
+use adlread::{AdlFault, rate_of};
+use consolidate::{Fault, OutputFile};
+use list_terms::Location;
+use percent_encoding::percent_encode_byte;
+use std::fmt;
+use std::fmt::Display;
+use std::io::{Error, ErrorKind};
+
+/// How many bytes of a line at fault are shown, and of what stands at the fault.
+const SHOWN_BYTES: usize = 160;
+
+const STOOD_BYTES: usize = 60;
+
+/// What a command found where it refused: the line at fault, a file that the place doesn't name, what the system said,
+/// and what is unfinished.
+#[derive(Clone, Copy)]
+struct Findings<'a> {
+    line: Option<LineAtFault<'a>>,
+    file: Option<&'a str>,
+    reason: Option<Error>,
+    unfinished: Option<Unfinished>,
+}
+
+/// What lies unfinished in the output.
+#[derive(Clone, Copy)]
+enum Unfinished {
+    File(OutputFile),
+    Whole,
+}
+
+/// What a refusal of a list by a fault means: its number, what it names, and what was found.
+impl<'a> Explanation<'a> {
+    /// The explanation of a fault of a command: what was found in the list, and what the system said of the source or
+    /// the output that failed.
+    pub fn of(
+        fault: &'a Fault,
+        list: &'a [u8],
+        source: Option<Error>,
+        output: Option<Error>,
+    ) -> Explanation<'a> {
+        Explanation {
+            number: fault.number(),
+            spot: spot_of(fault),
+            findings: Findings::of(fault, list, source, output),
+        }
+    }
+
+    /// The explanation of a refusal that names a file or nothing, with what the system said.
+    pub fn by(number: u8, reason: Option<Error>) -> Explanation<'a> {
+        Explanation {
+            number,
+            spot: Spot::File,
+            findings: Findings::by(reason),
+        }
+    }
+}
+
+/// What a fault names.
+fn spot_of(fault: &Fault) -> Spot {
+    match fault {
+        Fault::Project(fault) => project_spot(fault),
+        Fault::Output(_) => Spot::File,
+        Fault::GivenUp { .. } => Spot::Job,
+        _ => Spot::Nowhere,
+    }
+}
+
+/// What a fault of a list names.
+fn project_spot(fault: &opening::Fault) -> Spot {
+    match fault {
+        opening::Fault::List(AdlFault::Text { .. }) => Spot::Line,
+        opening::Fault::List(AdlFault::Memory) => Spot::Nowhere,
+        opening::Fault::SameName { .. } => Spot::Index,
+        opening::Fault::Media { .. } => Spot::IndexFile,
+        opening::Fault::Entry(_) => Spot::Entry,
+    }
+}
+
+/// What a further fault of a list means.
+pub fn further_meaning(fault: &opening::Fault) -> Option<&'static str> {
+    let meaning = meaning_at(fault.number(), project_spot(fault))?;
+    Some(meaning.meaning)
+}
+
+impl<'a> Findings<'a> {
+    /// Nothing but what the system said.
+    fn by(reason: Option<Error>) -> Findings<'a> {
+        Findings {
+            line: None,
+            file: None,
+            reason,
+            unfinished: None,
+        }
+    }
+
+    /// What is found of a fault: in the list, and in what the system said of the source or the output that failed.
+    fn of(
+        fault: &'a Fault,
+        list: &'a [u8],
+        source: Option<Error>,
+        output: Option<Error>,
+    ) -> Findings<'a> {
+        Findings {
+            line: line_at_fault(fault, list),
+            file: match fault {
+                Fault::Silence { name } => Some(name.as_str()),
+                _ => None,
+            },
+            reason: match fault {
+                Fault::Project(opening::Fault::Media { .. }) | Fault::Silence { .. } => source,
+                Fault::GivenUp { .. } => source.or(output),
+                Fault::Output(_) => output,
+                _ => None,
+            },
+            unfinished: unfinished_after(fault, output),
+        }
+    }
+}
+
+/// A line of the list, and what stands in it at the fault.
+#[derive(Clone, Copy)]
+struct LineAtFault<'a> {
+    line: &'a [u8],
+    stood: Stood<'a>,
+}
+
+/// The line at which the fault stands.
+fn line_at_fault<'a>(fault: &Fault, list: &'a [u8]) -> Option<LineAtFault<'a>> {
+    let Fault::Project(opening::Fault::List(AdlFault::Text { fault, location })) = fault else {
+        return None;
+    };
+    let number = match *location {
+        Location::Line { line } | Location::Entry { line, .. } | Location::Index { line, .. } => {
+            line
+        }
+    };
+    let line = line_of(list, number)?;
+    Some(LineAtFault {
+        line,
+        stood: stood_in(line, *fault, rate_of(list)),
+    })
+}
+
+/// What the fault leaves unfinished. A file that was there already isn't the program's.
+fn unfinished_after(fault: &Fault, output: Option<Error>) -> Option<Unfinished> {
+    match fault {
+        Fault::GivenUp { .. } => Some(Unfinished::Whole),
+        Fault::Output(file) => match output {
+            Some(error) if error.kind() == ErrorKind::AlreadyExists => None,
+            _ => Some(Unfinished::File(*file)),
+        },
+        _ => None,
+    }
+}
+
+/// The line of this number, counted from 1, without its end.
+fn line_of(list: &[u8], number: u64) -> Option<&[u8]> {
+    let place = usize::try_from(number.checked_sub(1)?).ok()?;
+    let line = list.split(|byte| *byte == b'\n').nth(place)?;
+    Some(line.strip_suffix(b"\r").unwrap_or(line))
+}
+
+/// The explanation of a refusal with this number, which names this, in one line.
+#[derive(Clone, Copy)]
+pub struct Explanation<'a> {
+    number: u8,
+    spot: Spot,
+    findings: Findings<'a>,
+}
+
+impl fmt::Display for Explanation<'_> {
+    fn fmt<W: fmt::Write>(&self, f: &mut fmt::Formatter<W>) -> fmt::Result {
+        let number = self.number;
+        let meaning = meaning_at(number, self.spot);
+        if let Some(meaning) = meaning {
+            write!(f, "{}: {}", meaning.meaning, meaning.cause)?;
+        }
+        self.findings.fmt(f)?;
+        if let Some(meaning) = meaning {
+            write!(f, "; {}", meaning.remedy)?;
+        }
+        write!(f, " (adlcons explain {number})")
+    }
+}
+
+impl fmt::Display for Findings<'_> {
+    fn fmt<W: fmt::Write>(&self, f: &mut fmt::Formatter<W>) -> fmt::Result {
+        if let Some(line) = self.line {
+            line.fmt(f)?;
+        }
+        if let Some(file) = self.file {
+            let name = PrintedName(file);
+            write!(f, "; the file is: {name}")?;
+        }
+        if let Some(reason) = self.reason {
+            write!(f, "; the system says: {reason}")?;
+        }
+        match self.unfinished {
+            Some(Unfinished::File(file)) => write!(f, "; unfinished in the output: {file}"),
+            Some(Unfinished::Whole) => f.write_str("; what lies in the output is unfinished"),
+            None => Ok(()),
+        }
+    }
+}
+
+impl fmt::Display for LineAtFault<'_> {
+    fn fmt<W: fmt::Write>(&self, f: &mut fmt::Formatter<W>) -> fmt::Result {
+        let column = self.stood.column;
+        if self.stood.text.is_empty() {
+            write!(f, "; the line ends at column {column}")?;
+        } else {
+            let text = Shown(self.stood.text, STOOD_BYTES);
+            write!(f, "; at column {column} stands: {text}")?;
+        }
+        let line = Shown(self.line, SHOWN_BYTES);
+        write!(f, "; the line is: {line}")
+    }
+}
+
+/// The first bytes of a text, so many: printing ASCII as it stands, all else as percent escapes.
+#[derive(Clone, Copy)]
+struct Shown<'a>(&'a [u8], usize);
+
+impl fmt::Display for Shown<'_> {
+    fn fmt<W: fmt::Write>(&self, f: &mut fmt::Formatter<W>) -> fmt::Result {
+        for byte in self.0.iter().take(self.1) {
+            match *byte {
+                b' '..=b'~' => write!(f, "{}", char::from(*byte))?,
+                other => f.write_str(percent_encode_byte(other))?,
+            }
+        }
+        if self.0.len() > self.1 {
+            f.write_str(" ..")?;
+        }
+        Ok(())
+    }
+}

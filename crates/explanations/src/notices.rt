@@ -1,0 +1,102 @@
+// What the numbers of notices mean.
+use std::fmt;
+use thiserror::Error;
+
+/// What a notice of this kind means, and what to do.
+#[derive(Clone, Copy, Debug, PartialEq, Eq)]
+pub struct NoticeMeaning {
+    pub kind: u8,
+    pub meaning: &'static str,
+    pub remedy: &'static str,
+}
+
+/// Each kind, in order.
+pub static NOTICES: [NoticeMeaning; 7] = [
+    NoticeMeaning {
+        kind: 1,
+        meaning: "the section that opens at this line isn't known, and is skipped",
+        remedy: "nothing, if nothing in it is to be heard",
+    },
+    NoticeMeaning {
+        kind: 2,
+        meaning: "the line isn't an (Index) line, and is dropped",
+        remedy: "nothing, if no file is missing",
+    },
+    NoticeMeaning {
+        kind: 3,
+        meaning: "no entry uses this index, so its file isn't opened",
+        remedy: "nothing, or take the index out of the list",
+    },
+    NoticeMeaning {
+        kind: 4,
+        meaning: "the list gives the file's first frame another time than the file does",
+        remedy: "check that this is the right file; the list's time is used",
+    },
+    NoticeMeaning {
+        kind: 5,
+        meaning: "the file's bext chunk is too short, and is ignored",
+        remedy: "nothing; what the chunk says of the file isn't carried over",
+    },
+    NoticeMeaning {
+        kind: 6,
+        meaning: "the file has chunks that aren't carried into new media",
+        remedy: "keep the file, if anyone needs what these chunks say",
+    },
+    NoticeMeaning {
+        kind: 7,
+        meaning: "the file's CodingHistory has more than 65536 bytes, and is cut there",
+        remedy: "keep the file, if anyone needs the rest of it",
+    },
+];
+
+/// What notices of this kind mean.
+pub fn notice_meaning(kind: u8) -> Option<NoticeMeaning> {
+    NOTICES.iter().find(|notice| notice.kind == kind).copied()
+}
+
+/// No notice has the number that was asked for.
+#[derive(Clone, Copy, Debug, PartialEq, Eq, Error)]
+#[error("error: no notice has this number; 'adlcons explain notice' tells all of them")]
+pub struct NoSuchNotice;
+
+/// What one number of a notice means, or all of them.
+#[derive(Clone, Copy)]
+pub struct ExplainedNotices {
+    kind: Option<u8>,
+}
+
+/// What the number of this text means; without one, what all of them mean.
+pub fn notice_meanings_of(number: Option<&str>) -> Result<ExplainedNotices, NoSuchNotice> {
+    let Some(text) = number else {
+        return Ok(ExplainedNotices { kind: None });
+    };
+    let kind = text.parse::<u8>().map_err(|_| NoSuchNotice)?;
+    match notice_meaning(kind) {
+        Some(_) => Ok(ExplainedNotices { kind: Some(kind) }),
+        None => Err(NoSuchNotice),
+    }
+}
+
+impl fmt::Display for ExplainedNotices {
+    fn fmt<W: fmt::Write>(&self, f: &mut fmt::Formatter<W>) -> fmt::Result {
+        for notice in &NOTICES {
+            if self.kind.is_none_or(|kind| kind == notice.kind) {
+                writeln!(f, "notice {}: {}.", notice.kind, notice.meaning)?;
+                writeln!(f, "    Remedy: {}.", notice.remedy)?;
+            }
+        }
+        Ok(())
+    }
+}
+
+/// What notices of one kind mean, in one line beside them.
+impl fmt::Display for NoticeMeaning {
+    fn fmt<W: fmt::Write>(&self, f: &mut fmt::Formatter<W>) -> fmt::Result {
+        let kind = self.kind;
+        write!(
+            f,
+            "notice {kind}: {} (adlcons explain notice {kind})",
+            self.meaning
+        )
+    }
+}

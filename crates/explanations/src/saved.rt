@@ -1,0 +1,21 @@
+// How much a consolidation saved.
+use consolidate::Sizes;
+use std::fmt;
+
+/// How many bytes of samples a consolidation kept.
+#[derive(Clone, Copy)]
+pub struct Saved(pub Sizes);
+
+impl fmt::Display for Saved {
+    fn fmt<W: fmt::Write>(&self, f: &mut fmt::Formatter<W>) -> fmt::Result {
+        let Sizes {
+            sources,
+            kept,
+            written,
+        } = self.0;
+        write!(
+            f,
+            "of {sources} bytes of samples in the sources {kept} are kept; {written} bytes were written"
+        )
+    }
+}

@@ -1,0 +1,134 @@
+// What else is at fault in a list that is refused: the faults of the stage of the first one that don't hang on it.
+ghost use Rattle.std.specs.Prelude.{◌≡◌, ◌≤◌, IfOk, IsTrue, Ok, length};
+ghost use Rattle.list_terms.specs.Text.{text_value};
+ghost use Rattle.opening.specs.Further.{AreAll, AreFurther, AreOfEntries, AreOfFiles, IsCut, WasRead};
+ghost use Rattle.opening.specs.Own.{OfText};
+
+mod entries;
+mod files;
+mod paths;
+
+use crate::Fault;
+use adlread::{Project, read};
+use entries::entry_faults;
+use files::file_faults;
+use shelf::Shelf;
+use sourceindex::bind;
+use std::alloc::{AllocError, Global};
+use thiserror::Error;
+
+/// How many further faults are told.
+const MOST: usize = 20;
+
+/// The further faults of a list: at most 20, in the order in which they would be told, and how many more there are.
+#[derive(Debug, Drop)]
+pub struct Further {
+    pub faults: Vec<Fault>,
+    pub more: usize,
+}
+
+/// The further faults of a list can't be told: the list wasn't read or bound again, or no memory was left.
+#[derive(Clone, Copy, Debug, PartialEq, Eq, Error)]
+#[error("the further faults of the list can't be told")]
+pub struct Untold;
+
+impl From<AllocError> for Untold {
+    fn from(_: AllocError) -> Untold {
+        Untold
+    }
+}
+
+impl Further {
+    /// The first of all these faults, and how many more there are.
+    fn of(all: Vec<Fault>) -> Further
+        ensures cut { IsCut all.items result }
+        ensures few { length result.faults.items ≤ 20 }
+    {
+        let more = all.len().saturating_sub(MOST);
+        let mut faults = all;
+        faults.truncate(MOST);
+        Further { faults, more }
+    }
+}
+
+/// What else is at fault in a list that is refused over these sources, by its first fault. Behind a fault of the text
+/// there is nothing. Behind that of a file, the files that later used indexes name are opened, each by itself and once.
+/// Beside that of an entry, each other entry is looked at by itself.
+pub fn further_faults<S: Shelf>(
+    alloc: Global,
+    list: &[u8],
+    shelf: &mut S,
+    first: &Fault,
+) -> Result<Further, Untold>
+    ensures further { IsTrue (S.honest shelf.old) → IfOk result (AreFurther list.now (S.stored shelf.old) first.now) }
+    ensures few { IfOk result (λ further. length further.faults.items ≤ 20) }
+    ensures only_read { WasRead S.Shelf shelf.old shelf.new }
+{
+    let all = all_faults(alloc, list, shelf, first)?;
+    Ok(Further::of(all))
+}
+
+/// All further faults behind the first one.
+fn all_faults<S: Shelf>(
+    alloc: Global,
+    list: &[u8],
+    shelf: &mut S,
+    first: &Fault,
+) -> Result<Vec<Fault>, Untold>
+    ensures all { IsTrue (S.honest shelf.old)
+        → IfOk result (λ all. AreAll list.now (S.stored shelf.old) first.now all.items) }
+    ensures only_read { WasRead S.Shelf shelf.old shelf.new }
+{
+    match first {
+        Fault::List(_) => Ok(Vec::new(alloc)),
+        Fault::SameName { index } => behind_file(alloc, list, *index, shelf),
+        Fault::Media { source, .. } => behind_file(alloc, list, source.number(), shelf),
+        Fault::Entry(fault) => beside_entry(alloc, list, fault.entry, shelf),
+    }
+}
+
+/// Reads the list again.
+fn read_again(alloc: Global, list: &[u8]) -> Result<Project, Untold>
+    ensures { IfOk result (λ project. text_value list.now ≡ Ok project) }
+{
+    match read(alloc, list) {
+        Ok(project) => Ok(project),
+        Err(_) => Err(Untold),
+    }
+}
+
+/// All faults of the files behind those of this index.
+fn behind_file<S: Shelf>(
+    alloc: Global,
+    list: &[u8],
+    index: u32,
+    shelf: &mut S,
+) -> Result<Vec<Fault>, Untold>
+    ensures of_files { IsTrue (S.honest shelf.old)
+        → IfOk result (λ faults. OfText list.now (λ project. AreOfFiles project (S.stored shelf.old) faults.items)) }
+    ensures only_read { WasRead S.Shelf shelf.old shelf.new }
+{
+    let project = read_again(alloc, list)?;
+    let faults = file_faults(alloc, &project, index, shelf)?;
+    Ok(faults)
+}
+
+/// All faults of entries but of that of this number.
+fn beside_entry<S: Shelf>(
+    alloc: Global,
+    list: &[u8],
+    entry: u32,
+    shelf: &mut S,
+) -> Result<Vec<Fault>, Untold>
+    ensures of_entries { IsTrue (S.honest shelf.old)
+        → IfOk result (λ faults. OfText list.now (λ project.
+        AreOfEntries project (S.stored shelf.old) entry faults.items)) }
+    ensures only_read { WasRead S.Shelf shelf.old shelf.new }
+{
+    let project = read_again(alloc, list)?;
+    let Ok(bound) = bind(alloc, &project, shelf) else {
+        return Err(Untold);
+    };
+    let faults = entry_faults(alloc, &bound, project.events(), entry)?;
+    Ok(faults)
+}

@@ -1,0 +1,42 @@
+// The faults of entries, each by itself.
+ghost use Rattle.std.specs.Prelude.{◌≡◌, IfOk, map, option_map};
+ghost use Rattle.opening.specs.Faults.{refusal_of};
+ghost use Rattle.opening.specs.Further.{fault_beside, faults_beside};
+
+use crate::Fault;
+use projectcheck::{EventFault, fault_of};
+use sound_terms::Event;
+use sourceindex::Bound;
+use std::alloc::{AllocError, Global};
+
+/// What is wrong with an entry, unless it is the one of this number, which is told.
+fn entry_fault(bound: &Bound, event: &Event, told: u32) -> Option<Fault>
+    ensures { option_map refusal_of result ≡ fault_beside bound.now told event.now }
+{
+    if event.number == told {
+        return None;
+    }
+    let fault = fault_of(bound, event)?;
+    Some(Fault::Entry(EventFault {
+        entry: event.number,
+        fault,
+    }))
+}
+
+/// What is wrong with each of these entries but the one of this number, in their order.
+pub fn entry_faults(
+    alloc: Global,
+    bound: &Bound,
+    events: &[Event],
+    told: u32,
+) -> Result<Vec<Fault>, AllocError>
+    ensures { IfOk result (λ faults. map refusal_of faults.items ≡ faults_beside bound.now told events.now) }
+{
+    let mut faults = Vec::new(alloc);
+    for event in events {
+        if let Some(fault) = entry_fault(bound, event, told) {
+            faults.push(fault)?;
+        }
+    }
+    Ok(faults)
+}

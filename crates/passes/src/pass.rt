@@ -1,0 +1,37 @@
+// Passes over groups.
+ghost use Rattle.std.specs.Prelude.{◌≡◌, ℕ, Bool, List, IsTrue, IfOk, IfErr};
+ghost use Rattle.sound_terms.specs.declared.piece.Piece.{Piece};
+ghost use Rattle.sound_terms.specs.Groups.{SameMix, are_whole, reads};
+ghost use Rattle.passes.specs.declared.fault.PassFault.TheVariants.{Memory};
+
+use crate::PassFault;
+use interval::Intervals;
+use std::alloc::Global;
+
+/// A pass over the groups of a sound: it gives other groups, with the same sum on every channel at every time.
+pub trait Pass: Drop {
+    /// The groups that it gives for a list of groups and for what is called silent of their pieces.
+    ghost gives: { Self → List (List Piece) → List Bool → List (List Piece) };
+
+    /// Whether it has to be told what is silent.
+    ghost looking: { Self → Bool };
+
+    /// Whether it has to be told what is silent.
+    fn looks(&self) -> bool
+        ensures { result ≡ looking self.now };
+
+    /// The groups that the pass makes of these. `silent` answers for the pieces of all groups in order; what it doesn't
+    /// reach is not silent.
+    fn apply(
+        &mut self,
+        alloc: Global,
+        intervals: Intervals,
+        silent: &[bool],
+    ) -> Result<Intervals, PassFault>
+        ensures given { IfOk result (λ new. new ≡ gives self.old intervals silent.now) }
+        ensures keeps_mix { IfOk result (λ new. SameMix intervals silent.now new) }
+        ensures keeps_whole { IfOk result (λ new. IsTrue (are_whole intervals) → IsTrue (are_whole new)) }
+        ensures reads_no_more { (file channel frame : ℕ)
+            → IfOk result (λ new. IsTrue (reads new file channel frame) → IsTrue (reads intervals file channel frame)) }
+        ensures memory { IfErr result (λ fault. fault ≡ Memory) };
+}

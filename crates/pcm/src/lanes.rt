@@ -1,0 +1,115 @@
+// Samples four at a time, in the lanes of a vector.
+ghost use Rattle.std.specs.Prelude.{◌≡◌, ◌*◌, ◌/◌, ◌≤◌, ◌∷◌, [], ◌↔◌, pos, length, take, IsTrue};
+ghost use Rattle.std.specs.List.{All};
+ghost use Rattle.sound_terms.specs.Depth.{bits_of};
+ghost use Rattle.pcm.specs.Samples.{samples_in};
+
+use sound_terms::Depth;
+use std::simd::prelude::*;
+
+/// Where the bytes of four samples of 16 bits go: to the upper ends of lanes of 32 bits, with zeros (128) below them.
+const SIXTEEN: [u8; 16] = [
+    128, 128, 0, 1, 128, 128, 2, 3, 128, 128, 4, 5, 128, 128, 6, 7,
+];
+
+/// The same at 24 bits.
+const TWENTY_FOUR: [u8; 16] = [128, 0, 1, 2, 128, 3, 4, 5, 128, 6, 7, 8, 128, 9, 10, 11];
+
+/// The four samples of 16 bits that sixteen bytes begin with.
+#[inline(always)]
+fn four_sixteen(bytes: u8x16) -> [i32; 4]
+    ensures { result ≡ samples_in 16 4 bytes }
+{
+    let lanes = i32x4::from_le_bytes(bytes.swizzle_dyn(u8x16::from_array(SIXTEEN)));
+    (lanes >> i32x4::splat(16)).to_array()
+}
+
+/// The same at 24 bits.
+#[inline(always)]
+fn four_twenty_four(bytes: u8x16) -> [i32; 4]
+    ensures { result ≡ samples_in 24 4 bytes }
+{
+    let lanes = i32x4::from_le_bytes(bytes.swizzle_dyn(u8x16::from_array(TWENTY_FOUR)));
+    (lanes >> i32x4::splat(8)).to_array()
+}
+
+/// The same at 32 bits.
+#[inline(always)]
+fn four_thirty_two(bytes: u8x16) -> [i32; 4]
+    ensures { result ≡ samples_in 32 4 bytes }
+{
+    i32x4::from_le_bytes(bytes).to_array()
+}
+
+/// The same at any depth.
+#[inline(always)]
+fn four_samples(depth: Depth, bytes: u8x16) -> [i32; 4]
+    ensures { result ≡ samples_in (bits_of depth) 4 bytes }
+{
+    match depth {
+        Depth::Sixteen => four_sixteen(bytes),
+        Depth::TwentyFour => four_twenty_four(bytes),
+        Depth::ThirtyTwo => four_thirty_two(bytes),
+    }
+}
+
+/// Puts four samples where four are: one store, where a copy would first ask whether the two overlap.
+#[inline(always)]
+fn put_four(a: i32, b: i32, c: i32, d: i32, samples: &mut [i32])
+    requires { length samples.old ≡ 4 }
+    ensures { samples.new ≡ a ∷ b ∷ c ∷ d ∷ [] }
+{
+    samples[0] = a;
+    samples[1] = b;
+    samples[2] = c;
+    samples[3] = d;
+}
+
+/// Reads samples four at a time from the front of bytes that hold just these, as long as sixteen bytes are left, and
+/// says how many it read.
+#[inline(always)]
+pub fn unpack_lanes(depth: Depth, bytes: &[u8], samples: &mut [i32]) -> usize
+    requires { length bytes.now ≡ length samples.old * (bits_of depth / 8) }
+    ensures some { result ≤ length samples.old }
+    ensures read { take result samples.new ≡ samples_in (bits_of depth) result bytes.now }
+{
+    let width = usize::from(depth.bits() / 8);
+    let mut done = 0;
+    while bytes.len() - done * width >= 16 {
+        let four = four_samples(depth, u8x16::from_slice(&bytes[done * width..]));
+        let [a, b, c, d] = four;
+        put_four(a, b, c, d, &mut samples[done..done + 4]);
+        done += 4;
+    }
+    done
+}
+
+/// Whether four samples are zero.
+#[inline(always)]
+fn are_zero(a: i32, b: i32, c: i32, d: i32) -> bool
+    ensures { IsTrue result ↔ All (λ sample. sample ≡ pos 0) (a ∷ b ∷ c ∷ d ∷ []) }
+{
+    let lanes = i32x4::from_array([a, b, c, d]);
+    lanes.simd_ne(i32x4::splat(0)).to_bitmask() == 0
+}
+
+/// How many samples from the front on are zero, four at a time.
+#[inline(always)]
+pub fn zero_lanes(samples: &[i32]) -> usize
+    ensures some { result ≤ length samples.now }
+    ensures zero { All (λ sample. sample ≡ pos 0) (take result samples.now) }
+{
+    let mut done = 0;
+    while samples.len() - done >= 4 {
+        if !are_zero(
+            samples[done],
+            samples[done + 1],
+            samples[done + 2],
+            samples[done + 3],
+        ) {
+            break;
+        }
+        done += 4;
+    }
+    done
+}

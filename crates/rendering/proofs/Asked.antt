@@ -1,0 +1,43 @@
+-- A rendering planned for a project is the one that was asked for.
+use Rattle.std.proofs.Common.{◌≡◌, ℕ, List, ap, ◌∙◌, arith}
+use Rattle.std.specs.Prelude.{ℤ}
+use Rattle.sound_terms.specs.Blocks.{block_count}
+use Rattle.sound_terms.specs.Groups.{sum_of}
+use Rattle.sound_terms.specs.Render.{Range, rendering_of}
+use Rattle.sound_terms.specs.Sounds.{SoundFacts}
+use Rattle.work_terms.specs.Disk.{Files}
+use Rattle.list_terms.specs.Accepted.{OptionValues, range_of}
+use Rattle.list_terms.specs.Binding.{Binding}
+use Rattle.list_terms.specs.Heard.{project_mix, reading_by, reading_of}
+use Rattle.list_terms.specs.Project.{ListProject}
+use Rattle.blockcut.specs.Laws.{cut-covers}
+use Rattle.rendering.specs.Planned.{IsPlanFor, IsRenderingOf}
+use Rattle.rendering.specs.Work.{IsRenderWork, RenderWork, heard, no_stretch, whole_of}
+use Rattle.rendering.proofs.Frames.{rendering_same}
+use Rattle.rendering.proofs.Parts.{are_parts}
+
+whole_asked : (project : ListProject) (binding : Binding) (values : OptionValues) (work : RenderWork) (sources : Files)
+    → IsPlanFor project binding values work
+    → whole_of work sources ≡ rendering_of (range_of project values) (project_mix sources project binding)
+whole_asked project binding values work sources is =
+    let range = range_of project values in
+    let pieces = work.planned.pieces in
+    let mix : ℕ → ℕ → ℤ = project_mix sources project binding in
+    let played : ℕ → ℕ → ℤ = sum_of (reading_of sources binding) pieces in
+    ap (λ (r : Range). rendering_of r (heard work.planned work.sounds sources)) is.range
+    ∙ ap (λ (sounds : List SoundFacts). rendering_of range (sum_of (reading_by sources sounds) pieces)) is.sounds
+    ∙ rendering_same range played mix (is.mixes sources)
+
+pub asked : (project : ListProject) (binding : Binding) (values : OptionValues) (work : RenderWork)
+    → IsPlanFor project binding values work → IsRenderWork work → IsRenderingOf project binding values work
+asked project binding values work is whole =
+    let some = whole.planned.some in
+    let first = cut-covers work.stretches 0 (block_count work.planned.range) 0 no_stretch whole.cut (omega arith)
+    (omega (arith, some)) in
+    record {
+      range = is.range;
+      some = omega (arith, first.there);
+      parts = λ sources. are_parts work sources whole;
+      whole = λ sources. whole_asked project binding values work sources is;
+      reads_back = is.reads_back;
+    }

@@ -1,0 +1,76 @@
+-- A rendering as jobs: stretches of its blocks, each a place of the rendered file.
+use Rattle.std.specs.Prelude.{ℕ, ◌+◌, ◌-◌, ◌*◌, ◌/◌, ℤ, List, length, slice_index_or, codes, false}
+use Rattle.std.specs.List.{All}
+use Rattle.sound_terms.specs.Blocks.{block_count, block_length}
+use Rattle.sound_terms.specs.Groups.{sum_of}
+use Rattle.sound_terms.specs.Media.{IsPieceOf}
+use Rattle.sound_terms.specs.Render.{Range, render_info, rendering_of}
+use Rattle.sound_terms.specs.Sounds.{SoundFacts}
+use Rattle.sound_terms.specs.Waves.{header_of}
+use Rattle.work_terms.specs.Disk.{Files}
+use Rattle.list_terms.specs.Heard.{reading_by}
+use Rattle.renderplan.specs.Planned.{IsPlan, Planned}
+use Rattle.wavwrite.specs.Info.{Fits}
+use Rattle.job_terms.specs.Workers.{JobsBy}
+use Rattle.blockcut.specs.declared.stretch.Stretch.{Stretch}
+use Rattle.blockcut.specs.Cut.{IsCut}
+use Rattle.rendering.specs.Written.{bytes_of_blocks, frames_before}
+
+-- a plan over opened files
+pub record BlockWork : Type 0 where
+  pub planned : Planned
+  pub sounds : List SoundFacts
+
+-- whose pieces lie in these files
+pub record IsBlockWork (work : BlockWork) : Type 0 where
+  pub planned : IsPlan work.planned
+  pub inside : All (IsPieceOf work.sounds) work.planned.pieces
+
+-- and the stretches into which its blocks are cut
+pub record RenderWork : Type 0 where
+  pub planned : Planned
+  pub sounds : List SoundFacts
+  pub stretches : List Stretch
+
+-- all its blocks, of a file that fits
+pub record IsRenderWork (work : RenderWork) : Type 0 where
+  pub planned : IsPlan work.planned
+  pub cut : IsCut 0 work.stretches (block_count work.planned.range)
+  pub fits : Fits (render_info work.planned.range)
+
+-- what the plan's pieces sound like over these sources
+abbrev pub heard : Planned → List SoundFacts → Files → ℕ → ℕ → ℤ
+heard planned sounds sources = sum_of (reading_by sources sounds) planned.pieces
+
+-- the whole file over these sources
+abbrev pub whole_of : RenderWork → Files → List ℕ
+whole_of work sources = rendering_of work.planned.range (heard work.planned work.sounds sources)
+
+-- the bytes of so many frames
+abbrev pub bytes_for : Range → ℕ → ℕ
+bytes_for range n = n * range.channels * (range.depth / 8)
+
+-- what stands behind the last stretch
+abbrev pub no_stretch : Stretch
+no_stretch = record { first = 0; behind = 0; done = false }
+
+abbrev pub stretch_at : List Stretch → ℕ → Stretch
+stretch_at stretches k = slice_index_or stretches k no_stretch
+
+abbrev pub stretch_frames : Range → Stretch → ℕ
+stretch_frames range s = frames_before range s.behind - frames_before range s.first
+
+-- where a stretch begins in the rendered file
+abbrev pub place_of : Range → Stretch → ℕ
+place_of range s = length (header_of (render_info range)) + s.first * bytes_for range block_length
+
+-- the bytes of each stretch, its blocks' one after the other, at their place in the rendered file
+abbrev pub work_of : RenderWork → JobsBy
+work_of work = record {
+  count = length work.stretches;
+  name = λ _. codes "render.wav";
+  at = λ k. place_of work.planned.range (stretch_at work.stretches k);
+  size = λ k. bytes_for work.planned.range (stretch_frames work.planned.range (stretch_at work.stretches k));
+  bytes = λ sources k. bytes_of_blocks work.planned.range (heard work.planned work.sounds sources)
+      (stretch_at work.stretches k).first (stretch_at work.stretches k).behind;
+}

@@ -1,0 +1,218 @@
+// Blocks that are summed, and their bytes.
+ghost use Rattle.std.specs.Prelude.{◌≡◌, ◌+◌, ◌*◌, ◌<◌, ◌≤◌, ◌++◌, ⊤, IfErr, IfOk, IsTrue, OnOk, length, take};
+ghost use Rattle.std.specs.List.{All};
+ghost use Rattle.sound_terms.specs.Blocks.{block_count, block_frames};
+ghost use Rattle.sound_terms.specs.Media.{IsPieceOf};
+ghost use Rattle.shelf.specs.Frame.{OnlyReads};
+ghost use Rattle.rendering.specs.Work.{bytes_for, heard, stretch_frames};
+ghost use Rattle.rendering.specs.Written.{block_bytes, bytes_of_blocks};
+ghost use Rattle.rendering.specs.declared.fault.RenderFault.TheVariants.{Memory};
+
+use crate::RenderFault;
+use blockcut::Stretch;
+use blockmachine::Machine;
+use pcm::pack;
+use renderplan::{Instruction, Plan};
+use shelf::{DeviceFault, Shelf};
+use std::alloc::Global;
+use std::marker::Model;
+use wavread::Sound;
+
+/// The most frames of a block.
+pub const BLOCK_LENGTH: usize = 4096;
+
+/// The blocks of a plan over opened files: a machine that sums them, and room for the program and the samples of any
+/// one. A clause sees the plan and the files.
+#[derive(Drop)]
+pub struct Blocks<'a> {
+    plan: Plan,
+    sounds: &'a [Sound],
+    machine: Machine,
+    program: Vec<Instruction>,
+    samples: Vec<i32>,
+}
+
+impl<'a> Model for Blocks<'a> {
+    ghost use Rattle.std.specs.Prelude.{◌≡◌, ◌+◌, ◌*◌, length};
+    ghost use Rattle.rendering.specs.Work.{BlockWork, IsBlockWork};
+
+    ghost Value = { BlockWork };
+
+    ghost view = { λ b. record { planned = b.plan; sounds = b.sounds.now } };
+
+    ghost invariant = { λ b. IsBlockWork (record { planned = b.plan; sounds = b.sounds.now })
+        × (b.machine ≡ record { frames = 4096; channels = b.plan.range.channels })
+        × (length b.program.items ≡ length b.plan.pieces + 2)
+        × (length b.samples.items ≡ 4096 * b.plan.range.channels) };
+}
+
+/// Sums block k and writes its samples over `bytes`, which has room for just these. There is room for the program and
+/// the samples of any block. A file that can't be read fails it.
+fn play_block<S: Shelf>(
+    plan: &Plan,
+    k: u64,
+    sounds: &[Sound],
+    shelf: &mut S,
+    machine: &mut Machine,
+    program: &mut [Instruction],
+    samples: &mut [i32],
+    bytes: &mut [u8],
+) -> Result<(), DeviceFault>
+    requires there { k < block_count plan.now.range }
+    requires inside { All (IsPieceOf sounds.now) plan.now.pieces }
+    requires machine { machine.old ≡ record { frames = 4096; channels = plan.now.range.channels } }
+    requires program { length program.old ≡ length plan.now.pieces + 2 }
+    requires samples { length samples.old ≡ 4096 * plan.now.range.channels }
+    requires room { length bytes.old ≡ bytes_for plan.now.range (block_frames plan.now.range k) }
+    ensures played { IsTrue (S.honest shelf.old) → OnOk result
+        (bytes.new ≡ block_bytes plan.now.range (heard plan.now sounds.now (S.stored shelf.old)) k) }
+    ensures ready { machine.new ≡ machine.old }
+    ensures only_reads { OnlyReads S.Shelf shelf.old shelf.new result (λ _. ⊤) (λ _ failed. ⊤) }
+{
+    let format = plan.format();
+    let count = plan.frames_of(k) as usize * usize::from(format.channels);
+    let end = plan.block(k, program);
+    let samples = &mut samples[..count];
+    match machine.run(&program[..end], sounds, shelf, samples) {
+        Ok(()) => {}
+        Err(_) => return Err(DeviceFault),
+    }
+    pack(format.depth, samples, bytes);
+    Ok(())
+}
+
+impl<'a> Blocks<'a> {
+    ghost use Rattle.rendering.specs.Work.{IsBlockWork};
+
+    /// The blocks of a plan over these files.
+    pub fn new(alloc: Global, plan: Plan, sounds: &'a [Sound]) -> Result<Self, RenderFault>
+        requires { All (IsPieceOf sounds.now) plan.pieces }
+        ensures made { IfOk result (λ blocks. blocks ≡ record { planned = plan; sounds = sounds.now }) }
+        ensures only_memory { IfErr result (λ fault. fault ≡ Memory) }
+    {
+        let channels = plan.format().channels;
+        let Ok(machine) = Machine::new(alloc, channels) else {
+            return Err(RenderFault::Memory);
+        };
+        let mut program = Vec::new(alloc);
+        program.resize(plan.most_instructions(), Instruction::Start { frames: 0 })?;
+        let mut samples = Vec::new(alloc);
+        samples.resize(BLOCK_LENGTH * usize::from(channels), 0)?;
+        Ok(Blocks {
+            plan,
+            sounds,
+            machine,
+            program,
+            samples,
+        })
+    }
+
+    /// How many there are: one at least, and fewer than 2^20.
+    pub fn count(&self) -> u32
+        ensures count { result ≡ block_count self.now.planned.range }
+        ensures some { 1 ≤ result }
+        ensures few { result ≤ 1012500 }
+    {
+        self.plan.blocks() as u32
+    }
+
+    /// How many bytes so many frames have.
+    pub fn length_of(&self, frames: usize) -> usize
+        requires { frames ≤ 4147200000 }
+        ensures bytes { result ≡ bytes_for self.now.planned.range frames }
+        ensures some { frames ≤ result }
+        ensures few { result ≤ frames * 256 }
+    {
+        let format = self.plan.format();
+        frames * usize::from(format.channels) * usize::from(format.depth.bits() / 8)
+    }
+
+    /// How many frames a stretch of them has.
+    pub fn frames_in(&self, stretch: &Stretch) -> usize
+        requires some { stretch.now.first < stretch.now.behind }
+        requires there { stretch.now.behind ≤ block_count self.now.planned.range }
+        ensures frames { result ≡ stretch_frames self.now.planned.range stretch.now }
+        ensures few { result ≤ 4147200000 }
+    {
+        let last = stretch.behind - 1;
+        (last - stretch.first) as usize * BLOCK_LENGTH
+            + self.plan.frames_of(u64::from(last)) as usize
+    }
+
+    /// Sums block k and writes its samples over `bytes`, which has room for just these. A file that can't be read
+    /// fails it.
+    fn play<S: Shelf>(&mut self, k: u64, shelf: &mut S, bytes: &mut [u8]) -> Result<(), DeviceFault>
+        requires there { k < block_count self.old.planned.range }
+        requires room { length bytes.old ≡ bytes_for self.old.planned.range (block_frames self.old.planned.range k) }
+        ensures played { IsTrue (S.honest shelf.old) → OnOk result
+            (bytes.new ≡ block_bytes self.old.planned.range
+            (heard self.old.planned self.old.sounds (S.stored shelf.old)) k) }
+        ensures ready { self.new ≡ self.old }
+        ensures only_reads { OnlyReads S.Shelf shelf.old shelf.new result (λ _. ⊤) (λ _ failed. ⊤) }
+    {
+        let machine = &mut self.machine;
+        let program = self.program.as_mut_slice();
+        let samples = self.samples.as_mut_slice();
+        play_block(
+            &self.plan,
+            k,
+            self.sounds,
+            shelf,
+            machine,
+            program,
+            samples,
+            bytes,
+        )
+    }
+
+    /// Sums block k and writes its samples over `bytes` from `at` on, where there is room for them; gives where they
+    /// end. A file that can't be read fails it.
+    fn play_at<S: Shelf>(
+        &mut self,
+        k: u64,
+        shelf: &mut S,
+        bytes: &mut [u8],
+        at: usize,
+    ) -> Result<usize, DeviceFault>
+        requires there { k < block_count self.old.planned.range }
+        requires room { at + bytes_for self.old.planned.range (block_frames self.old.planned.range k)
+            ≤ length bytes.old }
+        ensures played { IsTrue (S.honest shelf.old) → IfOk result (λ end. take end bytes.new ≡ take at bytes.old
+            ++ block_bytes self.old.planned.range
+            (heard self.old.planned self.old.sounds (S.stored shelf.old)) k) }
+        ensures ended { IfOk result
+            (λ end. end ≡ at + bytes_for self.old.planned.range (block_frames self.old.planned.range k)) }
+        ensures ready { self.new ≡ self.old }
+        ensures only_reads { OnlyReads S.Shelf shelf.old shelf.new result (λ _. ⊤) (λ _ failed. ⊤) }
+    {
+        let frames = self.plan.frames_of(k) as usize;
+        let end = at + self.length_of(frames);
+        self.play(k, shelf, &mut bytes[at..end])?;
+        Ok(end)
+    }
+
+    /// Sums the blocks of a stretch and writes their samples over `bytes`, which has room for just these. A file that
+    /// can't be read fails it.
+    pub fn play_stretch<S: Shelf>(
+        &mut self,
+        stretch: &Stretch,
+        shelf: &mut S,
+        bytes: &mut [u8],
+    ) -> Result<(), DeviceFault>
+        requires some { stretch.now.first < stretch.now.behind }
+        requires there { stretch.now.behind ≤ block_count self.old.planned.range }
+        requires room { length bytes.old
+            ≡ bytes_for self.old.planned.range (stretch_frames self.old.planned.range stretch.now) }
+        ensures played { IsTrue (S.honest shelf.old) → OnOk result (bytes.new
+            ≡ bytes_of_blocks self.old.planned.range
+            (heard self.old.planned self.old.sounds (S.stored shelf.old)) stretch.now.first stretch.now.behind) }
+        ensures ready { self.new ≡ self.old }
+        ensures only_reads { OnlyReads S.Shelf shelf.old shelf.new result (λ _. ⊤) (λ _ failed. ⊤) }
+    {
+        let mut end = 0;
+        for k in stretch.first as u64..stretch.behind as u64 {
+            end = self.play_at(k, shelf, bytes, end)?;
+        }
+        Ok(())
+    }
+}

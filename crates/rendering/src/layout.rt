@@ -1,0 +1,67 @@
+// The rendered file at its full length, before its samples stand in it.
+ghost use Rattle.std.specs.Prelude.{◌≡◌, ◌≢◌, ◌++◌, ⊤, codes, false, IsTrue, List, OnOk, Some, ℕ};
+ghost use Rattle.sound_terms.specs.Waves.{zeros};
+ghost use Rattle.work_terms.specs.Disk.{Files, IsDurable};
+ghost use Rattle.shelf.specs.Frame.{OnlyWrites};
+ghost use Rattle.job_terms.specs.Workers.{jobs_over};
+ghost use Rattle.schedule.specs.Filled.{AreFilled};
+ghost use Rattle.rendering.specs.Work.{whole_of, work_of};
+ghost use Rattle.rendering.specs.Written.{WritesRendering};
+
+use crate::Rendering;
+use shelf::{Bench, DeviceFault};
+
+/// The name of the file that is rendered.
+pub const RENDERED: &str = "render.wav";
+
+/// Adds so many zeros at the end of the rendered file.
+fn append_zeros<B: Bench>(bench: &mut B, count: u64) -> Result<(), DeviceFault>
+    ensures appended { IsTrue (B.honest bench.old) → (file : List ℕ)
+        → B.stored bench.old (codes "render.wav") ≡ Some file
+        → OnOk result (B.stored bench.new (codes "render.wav") ≡ Some (file ++ zeros count)) }
+    ensures only_writes { WritesRendering B.Bench bench.old bench.new result (λ _. ⊤) }
+{
+    let block = [0; 65536];
+    let mut left = count;
+    while left > 0 {
+        let more = left.min(65536);
+        bench.append(RENDERED, &block[..more as usize])?;
+        left -= more;
+    }
+    Ok(())
+}
+
+/// Makes the rendered file of these bytes and so many zeros.
+fn begin<B: Bench>(bench: &mut B, head: &[u8], count: u64) -> Result<(), DeviceFault>
+    ensures begun { IsTrue (B.honest bench.old)
+        → OnOk result (B.stored bench.new (codes "render.wav") ≡ Some (head.now ++ zeros count)) }
+    ensures only_writes { WritesRendering B.Bench bench.old bench.new result (λ _. ⊤) }
+{
+    bench.create(RENDERED)?;
+    bench.append(RENDERED, head)?;
+    append_zeros(bench, count)
+}
+
+impl<'a> Rendering<'a> {
+    /// Makes the rendered file at its full length, with every sample zero. `DeviceFault` where that fails: its content
+    /// is then unspecified.
+    pub fn lay_out<B: Bench>(&self, bench: &mut B) -> Result<(), DeviceFault>
+        ensures filled { IsTrue (B.honest bench.old) → (sources : Files) → OnOk result (AreFilled
+            (jobs_over (work_of self.now) sources) (λ _. whole_of self.now sources) (λ _. false)
+            (B.stored bench.new)) }
+        ensures only_writes { WritesRendering B.Bench bench.old bench.new result (λ _. ⊤) }
+    {
+        let size = self.blocks.length_of(self.rendered.frames as usize) as u64;
+        begin(bench, self.head.as_slice(), size + size % 2)
+    }
+
+    /// Syncs the rendered file.
+    pub fn finish<B: Bench>(&self, bench: &mut B) -> Result<(), DeviceFault>
+        ensures durable { IsTrue (B.honest bench.old)
+            → OnOk result (IsDurable (codes "render.wav") (B.stored bench.new) (B.may_leave bench.new)) }
+        ensures same { B.stored bench.new ≡ B.stored bench.old }
+        ensures only_writes { WritesRendering B.Bench bench.old bench.new result (λ _. ⊤) }
+    {
+        bench.sync(RENDERED)
+    }
+}

@@ -1,0 +1,184 @@
+// A rendering of a project, planned before anything is written.
+ghost use Rattle.std.specs.Prelude.{◌≡◌, ◌<◌, ◌≤◌, ◌^◌, IfErr, IfOk};
+ghost use Rattle.std.specs.List.{All};
+ghost use Rattle.work_terms.specs.Refusals.{Answers};
+ghost use Rattle.sound_terms.specs.Blocks.{block_count};
+ghost use Rattle.sound_terms.specs.Media.{IsPieceOf};
+ghost use Rattle.sound_terms.specs.Render.{render_info};
+ghost use Rattle.sound_terms.specs.Waves.{header_of, zeros};
+ghost use Rattle.list_terms.specs.Accepted as accepted;
+ghost use Rattle.list_terms.specs.Heard.{sounds_of};
+ghost use Rattle.renderplan.specs.Planned.{range_of};
+ghost use Rattle.wavwrite.specs.Info.{Fits};
+ghost use Rattle.blockcut.specs.Cut.{IsCut};
+ghost use Rattle.rendering.specs.Fault.{ComesFirst, refusal_of};
+ghost use Rattle.rendering.specs.Planned.{IsPlanFor, IsRenderingOf, MixAs};
+ghost use Rattle.rendering.specs.Rendering.{HasRange, HaveChannels, render_fault, values_of};
+ghost use Rattle.rendering.specs.Work.{IsRenderWork};
+ghost use Rattle.rendering.specs.declared.fault.RenderFault.TheVariants.{Memory};
+
+use crate::blocks::{BLOCK_LENGTH, Blocks};
+use crate::span::{Span, span_of};
+use crate::{Options, RenderFault};
+use blockcut::{Stretch, blocks_at_once, fresh_stretches};
+use projectcheck::{Checked, from_checked};
+use renderplan::Plan;
+use sampletime::SampleTime;
+use sound_terms::{Bext, Depth};
+use std::alloc::{AllocError, Global};
+use std::marker::Model;
+use wavwrite::SoundInfoRef;
+
+/// What was rendered: so many frames of so many channels.
+#[derive(Clone, Copy, Debug, PartialEq, Eq)]
+pub struct Rendered {
+    pub frames: u64,
+    pub channels: u8,
+}
+
+/// A rendering of a project without a fault over its sources to the file `render.wav`: Broadcast Wave (EBU Tech 3285)
+/// whose TimeReference is the time of its first frame, without texts. Entries on the same samples are added; the exact
+/// sum is rounded, halves up, and clipped.
+///
+/// It holds all memory that the rendering takes: room for one block, and the list of its jobs, which are stretches of
+/// blocks. A clause sees the plan, the opened files and the stretches.
+#[derive(Drop)]
+pub struct Rendering<'a> {
+    pub(crate) blocks: Blocks<'a>,
+    pub(crate) rendered: Rendered,
+    pub(crate) head: Vec<u8>,
+    pub(crate) stretches: Vec<Stretch>,
+}
+
+impl<'a> Model for Rendering<'a> {
+    ghost use Rattle.std.specs.Prelude.{◌≡◌};
+    ghost use Rattle.sound_terms.specs.Render.{render_info};
+    ghost use Rattle.sound_terms.specs.Waves.{header_of};
+    ghost use Rattle.rendering.specs.Rendering.{HasRange};
+    ghost use Rattle.rendering.specs.Work.{IsRenderWork, RenderWork};
+
+    ghost Value = { RenderWork };
+
+    ghost view = { λ r. record {
+      planned = r.blocks.planned;
+      sounds = r.blocks.sounds;
+      stretches = r.stretches.items;
+    } };
+
+    ghost invariant = { λ r. IsRenderWork (record {
+      planned = r.blocks.planned;
+      sounds = r.blocks.sounds;
+      stretches = r.stretches.items;
+    })
+        × HasRange r.rendered r.blocks.planned.range
+        × (r.head.items ≡ header_of (render_info r.blocks.planned.range)) };
+}
+
+/// The plan of a span of a project. `Intervals`, `EmptyRange` or `Memory` where there is none.
+fn plan_of(alloc: Global, checked: &Checked, span: &Span, depth: Depth) -> Result<Plan, RenderFault>
+    requires { (1 ≤ span.now.channels) × (span.now.channels ≤ 64) }
+    ensures range { IfOk result (λ plan. plan.range ≡ range_of span.now.from span.now.to span.now.channels depth) }
+    ensures some { IfOk result (λ _. span.now.from < span.now.to) }
+    ensures inside { IfOk result (λ plan. All (IsPieceOf (sounds_of checked.now.bound)) plan.pieces) }
+    ensures mixes { IfOk result (λ plan. MixAs checked.now.project checked.now.bound plan.pieces) }
+    ensures first { IfErr result (ComesFirst (range_of span.now.from span.now.to span.now.channels depth)) }
+{
+    let intervals = from_checked(alloc, checked)?;
+    let plan = Plan::new(alloc, &intervals, span.from, span.to, span.channels, depth)?;
+    Ok(plan)
+}
+
+/// The fields of a file without texts whose first frame stands at this time.
+#[tactic(auto, unfolding(sound_terms::specs::Waves::zeros))]
+fn bext_at(time: SampleTime) -> Bext
+    ensures text { result.text ≡ zeros 338 }
+    ensures time { result.time_reference ≡ time }
+{
+    Bext {
+        text: [0; 338],
+        time_reference: time.get(),
+    }
+}
+
+/// What the file of a span tells of itself.
+fn info_of(span: &Span, depth: Depth) -> SoundInfoRef<'static>
+    requires channels { (1 ≤ span.now.channels) × (span.now.channels ≤ 64) }
+    requires some { span.now.from < span.now.to }
+    ensures info { result ≡ render_info (range_of span.now.from span.now.to span.now.channels depth) }
+    ensures short { result.frames < 2 ^ 48 }
+{
+    let frames = span.to.get() - span.from.get();
+    let bext = bext_at(span.from);
+    SoundInfoRef::over(span.channels, depth, frames, bext, &[])
+}
+
+/// All that stands before the samples of a file.
+fn head_of(alloc: Global, info: &SoundInfoRef) -> Result<Vec<u8>, AllocError>
+    requires { Fits info.now }
+    ensures { IfOk result (λ head. head.items ≡ header_of info.now) }
+{
+    let mut head = Vec::new(alloc);
+    head.resize(info.header_length(), 0)?;
+    info.put_header(head.as_mut_slice());
+    Ok(head)
+}
+
+/// All blocks, cut into stretches that are done at once.
+fn stretches_of(alloc: Global, blocks: &Blocks) -> Result<Vec<Stretch>, RenderFault>
+    ensures cut { IfOk result (λ stretches. IsCut 0 stretches.items (block_count blocks.now.planned.range)) }
+    ensures only_memory { IfErr result (λ fault. fault ≡ Memory) }
+{
+    let count = blocks.count();
+    let most = blocks_at_once(count, blocks.length_of(BLOCK_LENGTH) as u32);
+    let stretches = fresh_stretches(alloc, count, most)?;
+    Ok(stretches)
+}
+
+/// A rendering of what was chosen, where its range isn't empty.
+fn prepared<'a>(
+    alloc: Global,
+    checked: &'a Checked,
+    options: &Options,
+) -> Result<Rendering<'a>, RenderFault>
+    requires { HaveChannels options.now }
+    ensures prepared { IfOk result (IsPlanFor checked.now.project checked.now.bound (values_of options.now)) }
+    ensures first { IfErr result (ComesFirst (accepted.range_of checked.now.project (values_of options.now))) }
+    ensures whole { IfOk result (λ rendering. IsRenderWork rendering) }
+{
+    let span = span_of(checked.project().events(), options);
+    let plan = plan_of(alloc, checked, &span, options.depth)?;
+    let info = info_of(&span, options.depth);
+    info.reads_back();
+    let head = head_of(alloc, &info)?;
+    let rendered = Rendered {
+        frames: info.frames(),
+        channels: info.channels(),
+    };
+    let blocks = Blocks::new(alloc, plan, checked.bound().sounds())?;
+    let stretches = stretches_of(alloc, &blocks)?;
+    Ok(Rendering {
+        blocks,
+        rendered,
+        head,
+        stretches,
+    })
+}
+
+impl<'a> Rendering<'a> {
+    /// A rendering of what was chosen of a project. Nothing of it is written yet, and it takes no more memory.
+    pub fn plan(alloc: Global, checked: &'a Checked, options: &Options) -> Result<Self, RenderFault>
+        requires { HaveChannels options.now }
+        ensures planned { IfOk result (IsRenderingOf checked.now.project checked.now.bound (values_of options.now)) }
+        ensures refusals { Answers refusal_of result (render_fault checked.now.project (values_of options.now)) }
+    {
+        let rendering = prepared(alloc, checked, options)?;
+        Ok(rendering)
+    }
+
+    /// So many frames and channels as it has.
+    pub fn rendered(&self) -> Rendered
+        ensures { HasRange result self.now.planned.range }
+    {
+        self.rendered
+    }
+}

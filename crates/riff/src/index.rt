@@ -1,0 +1,89 @@
+// An index of the table of `ds64` (EBU Tech 3306).
+ghost use Rattle.std.specs.Prelude.{◌≡◌, ◌+◌, ◌*◌, ℕ, List, Some, IsTrue, IfOk, IfErr, OnOk, length, true};
+ghost use Rattle.work_terms.specs.Refusals.{is_excused};
+ghost use Rattle.shelf.specs.Frame.{OnlyReads};
+ghost use Rattle.riff.specs.Fault.{number_of};
+ghost use Rattle.riff.specs.Found.{IsAhead};
+ghost use Rattle.riff.specs.Sizes.{HasEntry, IsIndexed, entries_of};
+
+use crate::MediaFault;
+use crate::entry::{BLOCK, ENTRY_LENGTH, Entry, TABLE, key_of};
+use shelf::Shelf;
+use sound_terms::Ds64;
+use std::alloc::{AllocError, Global};
+use std::collections::BTreeMap;
+
+/// The sizes that a table tells, that of the first entry of each id, by the numbers of the ids.
+pub type Index = BTreeMap<u32, u64>;
+
+/// Takes in an entry, behind those that were taken in.
+fn add_entry(index: &mut Index, entry: &Entry) -> Result<(), AllocError>
+    ensures { (file : List ℕ) (n : ℕ) → HasEntry file (48 + 12 * n) entry.now → IsIndexed file n index.old
+        → OnOk result (IsIndexed file (n + 1) index.new) }
+{
+    let key = key_of(&entry.id);
+    if !index.contains_key(&key) {
+        index.insert(key, entry.size)?;
+    }
+    Ok(())
+}
+
+/// Takes in the entries in these bytes, behind those that were taken in.
+fn add_entries(index: &mut Index, bytes: &[u8], count: usize) -> Result<(), AllocError>
+    requires { length bytes.now ≡ 12 * count }
+    ensures { (file : List ℕ) (n : ℕ) → IsAhead file (48 + 12 * n) bytes.now → IsIndexed file n index.old
+        → OnOk result (IsIndexed file (n + count) index.new) }
+{
+    for i in 0..count {
+        let entry = Entry::of(&bytes[ENTRY_LENGTH * i..]);
+        add_entry(index, &entry)?;
+    }
+    Ok(())
+}
+
+/// How many entries the table has: none in RIFF.
+fn entries_of(sizes: &Option<Ds64>) -> u32
+    ensures { result ≡ entries_of sizes.now }
+{
+    match sizes {
+        Some(ds64) => ds64.entries,
+        None => 0,
+    }
+}
+
+/// Reads the table of `ds64`, in blocks. `Memory` where no memory was left.
+pub fn index_of<S: Shelf>(
+    alloc: Global,
+    shelf: &mut S,
+    name: &str,
+    sizes: &Option<Ds64>,
+) -> Result<Index, MediaFault>
+    ensures indexed { IsTrue (S.honest shelf.old) → (file : List ℕ) → S.stored shelf.old name.now ≡ Some file
+        → IfOk result (IsIndexed file (entries_of sizes.now)) }
+    ensures excused { IfErr result (λ fault. is_excused (number_of fault) ≡ true) }
+    ensures only_reads { OnlyReads S.Shelf shelf.old shelf.new result (λ fault. fault ≡ MediaFault.Device)
+        (λ _ failed. failed name.now) }
+{
+    let entries = entries_of(sizes);
+    let mut index = BTreeMap::new(alloc);
+    let mut block = [0u8; 4092];
+    let mut done = 0;
+    while done < entries {
+        let count = BLOCK.min(entries - done);
+        let bytes = &mut block[..count as usize * ENTRY_LENGTH];
+        shelf.read_at(name, TABLE + ENTRY_LENGTH as u64 * u64::from(done), bytes)?;
+        add_block(&mut index, bytes, count as usize)?;
+        done += count;
+    }
+    Ok(index)
+}
+
+/// Takes in the entries of a block; `Memory` where no memory was left.
+fn add_block(index: &mut Index, bytes: &[u8], count: usize) -> Result<(), MediaFault>
+    requires { length bytes.now ≡ 12 * count }
+    ensures added { (file : List ℕ) (n : ℕ) → IsAhead file (48 + 12 * n) bytes.now → IsIndexed file n index.old
+        → OnOk result (IsIndexed file (n + count) index.new) }
+    ensures memory { IfErr result (λ fault. fault ≡ MediaFault.Memory) }
+{
+    add_entries(index, bytes, count).map_err(|_| MediaFault::Memory)
+}

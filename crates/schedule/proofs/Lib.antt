@@ -1,0 +1,12 @@
+mod Filling
+pub mod Firsts
+mod Keeps
+mod Marked
+mod Rests
+mod Rights
+mod Rounds
+mod Runs
+mod Sound
+mod Stretches
+mod Turns
+pub mod Starting

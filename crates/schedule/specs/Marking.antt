@@ -1,0 +1,98 @@
+-- Marks: which jobs are done, in a file of their own, and what a crash may leave of the output that they speak of.
+use Rattle.std.specs.Prelude.{◌≡◌, ◌≢◌, ℕ, ◌+◌, ◌<◌, ◌≤◌, Bool, true, cond, ◌==◌, Option, None, Some, List, ◌∷◌, length, take, drop, slice_index_or, Result, Ok, Err, ⊤}
+use Rattle.work_terms.specs.Disk.{Files}
+use Rattle.job_terms.specs.Board.{Board, job_at, is_done}
+use Rattle.job_terms.specs.Workers.{End, Jobs, JobsBy, Hand, Nothing, Made}
+use Rattle.job_terms.specs.Workers as words
+use Rattle.schedule.specs.declared.fault.PlaceFault.{PlaceFault}
+use Rattle.schedule.specs.declared.fault.PlaceFault.TheVariants.{Write, Mark}
+
+-- an output that is marked block by block: its name, all its bytes, and the span of each block; how many jobs there are,
+-- and the blocks of each, from one on up to, and without, another; the marks' name and the bytes 1 to 43
+pub record Marking : Type 0 where
+  pub name : List ℕ
+  pub whole : List ℕ
+  pub count : ℕ
+  pub first : ℕ → ℕ
+  pub last : ℕ → ℕ
+  pub jobs : ℕ
+  pub from : ℕ → ℕ
+  pub behind : ℕ → ℕ
+  pub marks : List ℕ
+  pub head : List ℕ
+
+abbrev pub is_marked : List ℕ → ℕ → Bool
+is_marked marks k = slice_index_or marks (44 + k) 0 == 1
+
+-- no block that isn't marked has this byte
+abbrev pub IsFixed : Marking → (ℕ → Bool) → ℕ → Type 0
+IsFixed m marked i = (k : ℕ) → k < m.count → m.first k ≤ i → i < m.last k → marked k ≡ true
+
+pub record Holds (m : Marking) (marked : ℕ → Bool) (file : List ℕ) : Type 0 where
+  pub size : length file ≡ length m.whole
+  pub same : (i : ℕ) → IsFixed m marked i → slice_index_or file i 0 ≡ slice_index_or m.whole i 0
+
+pub record HoldsIn (m : Marking) (marked : ℕ → Bool) (file : Option (List ℕ)) : Type 0 where
+  pub bytes : List ℕ
+  pub there : file ≡ Some bytes
+  pub holds : Holds m marked bytes
+
+pub record IsMarkFile (m : Marking) (marks : List ℕ) : Type 0 where
+  pub front : take 44 marks ≡ 1 ∷ m.head
+  pub size : length marks ≡ 44 + m.count
+
+-- between two events: nothing is pending in the marks, which tell just the blocks of jobs that are done; what is pending
+-- in the output lies in the others
+pub record IsRunning (m : Marking) (done : ℕ → Bool) (outcomes : Files → Type 0) : Type 0 where
+  pub marks : List ℕ
+  pub ours : IsMarkFile m marks
+  pub tell : (job b : ℕ) → job < m.jobs → m.from job ≤ b → b < m.behind job → is_marked marks b ≡ done job
+  pub kept : (c : Files) → outcomes c → c m.marks ≡ Some marks
+  pub wave : (c : Files) → outcomes c → HoldsIn m (is_marked marks) (c m.name)
+
+-- at each moment: the marks are this run's and true of the output, and those of done jobs are set
+pub record Leaves (m : Marking) (done : ℕ → Bool) (c : Files) : Type 0 where
+  pub marks : List ℕ
+  pub there : c m.marks ≡ Some marks
+  pub ours : IsMarkFile m marks
+  pub still : (job b : ℕ) → job < m.jobs → m.from job ≤ b → b < m.behind job → done job ≡ true → is_marked marks b ≡ true
+  pub wave : HoldsIn m (is_marked marks) (c m.name)
+
+-- a work without marks promises nothing of a crash
+abbrev pub IsRunningBy : Option Marking → (ℕ → Bool) → (Files → Type 0) → Type 0
+IsRunningBy None done outcomes = ⊤
+IsRunningBy (Some m) done outcomes = IsRunning m done outcomes
+
+abbrev pub LeavesBy : Option Marking → (ℕ → Bool) → Files → Type 0
+LeavesBy None done c = ⊤
+LeavesBy (Some m) done c = Leaves m done c
+
+-- a file of this name is none that the work writes: no output of a job, and not its marks
+pub record IsNoOutput (work : JobsBy) (marking : Files → Option Marking) (name : List ℕ) : Type 0 where
+  pub jobs : (k : ℕ) → k < work.count → work.name k ≢ name
+  pub marks : (sources : Files) (m : Marking) → marking sources ≡ Some m → m.marks ≢ name
+
+-- one job more is done
+abbrev pub with_done : (ℕ → Bool) → ℕ → ℕ → Bool
+with_done done job k = cond (k == job) true (done k)
+
+-- with the job done, or as before where it couldn't be written; nothing is said where its mark failed
+abbrev pub GoesOn : {X : Type 0} → Option Marking → (ℕ → Bool) → ℕ → (Files → Type 0) → Result X PlaceFault → Type 0
+GoesOn m done job outcomes (Ok _) = IsRunningBy m (with_done done job) outcomes
+GoesOn m done job outcomes (Err Write) = IsRunningBy m done outcomes
+GoesOn m done job outcomes (Err Mark) = ⊤
+
+abbrev pub done_of : Board → ℕ → Bool
+done_of board k = is_done (job_at board k).standing
+
+-- what the worker made are the job's bytes
+abbrev pub IsRight : Jobs → Hand → Type 0
+IsRight jobs Nothing = ⊤
+IsRight jobs (words.Holds ticket) = ⊤
+IsRight jobs (Made ticket bytes) = bytes ≡ jobs.bytes ticket.job
+
+-- after an event, also where it ended the run by a third fault; nothing is said where a mark failed
+abbrev pub RunsOn : Option Marking → (ℕ → Bool) → (Files → Type 0) → Option End → Type 0
+RunsOn m done outcomes None = IsRunningBy m done outcomes
+RunsOn m done outcomes (Some (words.GivenUp job)) = IsRunningBy m done outcomes
+RunsOn m done outcomes (Some words.MarkFailed) = ⊤

@@ -1,0 +1,23 @@
+//! Works as jobs of a board, done by any number of workers one event after the other.
+#![tactic(auto)]
+
+mod events;
+mod fault;
+mod hands;
+mod maker;
+mod placing;
+mod resting;
+mod running;
+mod single;
+mod start;
+mod steps;
+mod worker;
+
+pub use fault::{JobFault, PlaceFault, RunFault};
+pub use maker::JobMaker;
+pub use placing::place_marked;
+pub use resting::resting_board;
+pub use running::run;
+pub use single::{alone, most_bytes};
+pub use start::{Start, fresh_start, from_start};
+pub use worker::Worker;

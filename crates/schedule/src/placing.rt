@@ -1,0 +1,63 @@
+// A stretch of blocks that is written and marked.
+ghost use Rattle.std.specs.Prelude.{◌≡◌, ◌<◌, ◌+◌, ℕ, Bool, false, IsTrue, OnOk, Some, length};
+ghost use Rattle.work_terms.specs.Disk.{Changes, Files, IsDurable, IsWritten, LeavesOnly};
+ghost use Rattle.schedule.specs.Marking.{GoesOn, IsRunning, Leaves, Marking};
+ghost use Rattle.schedule.specs.Placed.{IsStretchOf, IsTornFrom};
+
+use crate::PlaceFault;
+use shelf::{Bench, DeviceFault};
+
+/// Writes the bytes and syncs the file.
+fn write_synced<B: Bench>(
+    bench: &mut B,
+    name: &str,
+    at: u64,
+    bytes: &[u8],
+) -> Result<(), DeviceFault>
+    ensures written { IsTrue (B.honest bench.old)
+        → OnOk result (Changes (IsWritten at bytes.now) name.now (B.stored bench.old) (B.stored bench.new)) }
+    ensures durable { IsTrue (B.honest bench.old)
+        → OnOk result (IsDurable name.now (B.stored bench.new) (B.may_leave bench.new)) }
+    ensures torn { (c : Files) → B.may_leave bench.new c → IsTornFrom (B.may_leave bench.old) name.now at (length bytes.now) c }
+    ensures moments { LeavesOnly B.moment B.left_since bench.old bench.new
+        (IsTornFrom (B.may_leave bench.old) name.now at (length bytes.now)) }
+    ensures honest { B.honest bench.new ≡ B.honest bench.old }
+{
+    match bench.write_at(name, at, bytes) {
+        Ok(()) => {}
+        Err(fault) => return Err(fault),
+    }
+    match bench.sync(name) {
+        Ok(()) => return Ok(()),
+        Err(fault) => return Err(fault),
+    }
+}
+
+/// Writes the bytes of a stretch and syncs them, then writes its marks and syncs these.
+pub fn place_marked<B: Bench>(
+    bench: &mut B,
+    name: &str,
+    at: u64,
+    bytes: &[u8],
+    marks: &str,
+    mark_at: u64,
+    ones: &[u8],
+) -> Result<(), PlaceFault>
+    ensures goes_on { IsTrue (B.honest bench.old) → (m : Marking) (done : ℕ → Bool) (job : ℕ)
+        → IsStretchOf m job name.now at bytes.now marks.now mark_at ones.now → done job ≡ false
+        → IsRunning m done (B.may_leave bench.old) → B.may_leave bench.new (B.stored bench.new)
+        → GoesOn (Some m) done job (B.may_leave bench.new) result }
+    ensures any_moment { IsTrue (B.honest bench.old) → (m : Marking) (done : ℕ → Bool) (job : ℕ)
+        → IsStretchOf m job name.now at bytes.now marks.now mark_at ones.now → done job ≡ false
+        → IsRunning m done (B.may_leave bench.old)
+        → LeavesOnly B.moment B.left_since bench.old bench.new (Leaves m done) }
+{
+    match write_synced(bench, name, at, bytes) {
+        Ok(()) => {}
+        Err(_) => return Err(PlaceFault::Write),
+    }
+    match write_synced(bench, marks, mark_at, ones) {
+        Ok(()) => return Ok(()),
+        Err(_) => return Err(PlaceFault::Mark),
+    }
+}

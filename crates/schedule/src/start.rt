@@ -1,0 +1,99 @@
+// What one worker alone begins with.
+ghost use Rattle.std.specs.Prelude.{◌≡◌, ◌<◌, ◌≤◌, ℕ, false, Some, List, IfOk, IsErrOf, IsTrue, OnOk};
+ghost use Rattle.std.specs.List.{range_with_len};
+ghost use Rattle.job_terms.specs.Board.{board_of};
+ghost use Rattle.job_terms.specs.Workers.{Nothing, jobs_over};
+ghost use Rattle.schedule.specs.Ends.{ended_of};
+ghost use Rattle.schedule.specs.Filled.{AreFilled, AreParts};
+ghost use Rattle.schedule.specs.Marking.{IsNoOutput};
+ghost use Rattle.schedule.specs.Rounds.{RunsInRounds};
+ghost use Rattle.schedule.specs.Run.{HasRoom};
+ghost use Rattle.schedule.specs.declared.fault.JobFault.TheVariants as fault;
+ghost use Rattle.workboard.specs.Indexed.{IsOrder};
+
+use crate::single::{alone, most_bytes};
+use crate::{JobFault, JobMaker, Worker};
+use shelf::{Bench, Shelf, Watch};
+use std::alloc::Global;
+use workboard::{Board, BoardFault};
+
+/// A board of open jobs, and a worker with room for each.
+#[derive(Drop)]
+pub struct Start {
+    pub board: Board,
+    pub worker: Worker,
+}
+
+/// The numbers from 0 on, so many of them.
+fn in_turn(alloc: Global, count: u32) -> Result<Vec<u32>, BoardFault>
+    ensures order { IfOk result (λ order. IsOrder count order.items) }
+    ensures numbers { IfOk result (λ order. order.items ≡ range_with_len 0 count) }
+{
+    let mut order = Vec::new(alloc);
+    for job in 0..count {
+        let Ok(()) = order.push(job) else {
+            return Err(BoardFault::Memory);
+        };
+    }
+    Ok(order)
+}
+
+/// All jobs of a work are open, in the order of their numbers. It takes all memory that the loop over them needs.
+pub fn fresh_start<J: JobMaker>(alloc: Global, maker: &J) -> Result<Start, BoardFault>
+    ensures board { IfOk result (λ start. start.board ≡ board_of (J.work maker.now).count) }
+    ensures empty { IfOk result (λ start. start.worker.hand ≡ Nothing) }
+    ensures room { IfOk result (λ start. HasRoom (J.work maker.now) start.worker.room) }
+{
+    let count = maker.count();
+    let order = in_turn(alloc, count)?;
+    let board = Board::new(alloc, count, order)?;
+    match Worker::with_room(alloc, most_bytes(maker)) {
+        Ok(worker) => Ok(Start { board, worker }),
+        Err(_) => Err(BoardFault::Memory),
+    }
+}
+
+/// Does all jobs of a work whose files are laid out, one worker alone, as `alone` does.
+pub fn from_start<J: JobMaker, S: Shelf, B: Bench, W: Watch>(
+    maker: &mut J,
+    start: &mut Start,
+    shelf: &mut S,
+    bench: &mut B,
+    watch: &mut W,
+) -> Result<(), JobFault>
+    requires board { start.old.board ≡ board_of (J.work maker.old).count }
+    requires empty { start.old.worker.hand ≡ Nothing }
+    requires room { HasRoom (J.work maker.old) start.old.worker.room }
+    ensures rounds { IsTrue (S.honest shelf.old) → IsTrue (B.honest bench.old) → (whole : List ℕ → List ℕ)
+        → AreParts (jobs_over (J.work maker.old) (S.stored shelf.old)) whole
+        → AreFilled (jobs_over (J.work maker.old) (S.stored shelf.old)) whole (λ _. false) (B.stored bench.old)
+        → RunsInRounds (J.marks maker.old) (jobs_over (J.work maker.old) (S.stored shelf.old)) whole
+        (S.failures shelf.old) (B.failures bench.old) (S.failures shelf.new) (B.failures bench.new)
+        (B.stored bench.new) (ended_of result) }
+    ensures finished { IsTrue (S.honest shelf.old) → IsTrue (B.honest bench.old) → (whole : List ℕ → List ℕ)
+        → AreParts (jobs_over (J.work maker.old) (S.stored shelf.old)) whole
+        → AreFilled (jobs_over (J.work maker.old) (S.stored shelf.old)) whole (λ _. false) (B.stored bench.old)
+        → OnOk result ((k : ℕ) → k < (J.work maker.old).count
+        → B.stored bench.new ((J.work maker.old).name k) ≡ Some (whole ((J.work maker.old).name k))) }
+    ensures same_shelf { S.stored shelf.new ≡ S.stored shelf.old }
+    ensures same_honest { S.honest shelf.new ≡ S.honest shelf.old }
+    ensures same_bench { B.honest bench.new ≡ B.honest bench.old }
+    ensures same_work { J.work maker.new ≡ J.work maker.old }
+    ensures others { IsTrue (B.honest bench.old) → (n : List ℕ) → IsNoOutput (J.work maker.old) (J.marking maker.old) n
+        → B.stored bench.new n ≡ B.stored bench.old n }
+    ensures only_marks { IsErrOf result fault.Mark → IsTrue (J.marks maker.old) }
+    ensures later_shelf { S.failures shelf.old ≤ S.failures shelf.new }
+    ensures later_bench { B.failures bench.old ≤ B.failures bench.new }
+{
+    match alone(
+        maker,
+        &mut start.board,
+        &mut start.worker,
+        shelf,
+        bench,
+        watch,
+    ) {
+        Ok(()) => return Ok(()),
+        Err(fault) => return Err(fault),
+    }
+}

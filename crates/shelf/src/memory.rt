@@ -1,8 +1,0 @@
-// Files in memory, read and written at once. Tests make their calls fail where they want to.
-mod bench;
-mod device;
-mod files;
-mod shelf;
-
-pub use bench::MemoryBench;
-pub use shelf::MemoryShelf;

@@ -1,0 +1,131 @@
+-- Frames that were read are zero where those of their file are.
+use Rattle.std.proofs.Common.{◌≡◌, ℕ, zero, suc, ◌+◌, ◌-◌, ◌*◌, ◌/◌, ◌<◌, ◌≤◌, ◌^◌, List, Some, length, take, drop}
+use Rattle.std.proofs.Common.{length-take, length-drop, get_or, All, true, refl, sym, ap, ◌∙◌, arith}
+use Rattle.std.specs.Prelude.{ℤ, pos, negsuc, neg_ℤ, ◌*ℤ◌, ◌↔◌, Option, nat_le, nat_lt, option_map}
+use Rattle.std.proofs.Math.IntN.{negsuc-*ℤ-pos, pos-*ℤ-pos, zero-*ℤ}
+use Rattle.std.proofs.Math.Nat.{div-mul-le_self, mul-div_cancel}
+use Rattle.std.proofs.lemmas.Int.{ints}
+use Rattle.std.proofs.lemmas.Nat.{pow_pos}
+use Rattle.std.proofs.lemmas.Bool.Decides.{nat_tests}
+use Rattle.std.proofs.lemmas.List.{get_or-drop, get_or-take}
+use Rattle.std.proofs.lemmas.List.Elements.{All-from_get_or}
+use Rattle.sound_terms.specs.Sounds.{SoundFacts}
+use Rattle.sound_terms.specs.Media.{frame_length}
+use Rattle.sound_terms.specs.Waves.{sample_of}
+use Rattle.sound_terms.specs.Mix.{full_scale}
+use Rattle.work_terms.specs.Disk.{Files}
+use Rattle.wavread.specs.Facts.{AreFrames}
+use Rattle.silence.specs.declared.part.Part.{Part}
+use Rattle.silence.specs.Zero.{IsFirstSounding, IsFrameZero, IsZeroAt, LiesIn, sound_by}
+use Rattle.silence.proofs.First.{counted_from}
+
+-- a sample is zero where it is at full scale
+none_of : (z : ℤ) (n : ℕ) → 0 < n → z *ℤ pos n ≡ pos 0 → z ≡ pos 0
+none_of (pos m) n some none = ap pos (no_factor m (same (sym (pos-*ℤ-pos m n) ∙ none))) where
+  same : {a b : ℕ} → pos a ≡ pos b → a ≡ b
+  same e = cc
+
+  no_factor : (m : ℕ) → m * n ≡ 0 → m ≡ 0
+  no_factor zero product = refl
+  no_factor (suc m) product = absurd (omega arith)
+none_of (negsuc m) n some none = absurd (below (suc m * n) (grind arith) (sym (negsuc-*ℤ-pos m n) ∙ none)) where
+  below : (k : ℕ) → 0 < k → neg_ℤ (pos k) ≡ pos 0 → ⊥
+  below k more none = grind (arith, ints)
+
+-- where the sample of a frame and a channel begins
+abbrev sample_place : SoundFacts → (frame channel : ℕ) → ℕ
+sample_place facts frame channel = facts.place + (frame * facts.channels + (channel - 1)) * (facts.depth / 8)
+
+-- a sample of an opened file, inside its channels and frames
+heard : (files : Files) (facts : SoundFacts) (channel frame : ℕ) (file : List ℕ) → files facts.name ≡ Some file
+    → frame < facts.frames → 1 ≤ channel → channel ≤ facts.channels → sound_by files facts channel frame
+    ≡ full_scale facts.depth (sample_of facts.depth (drop (sample_place facts frame channel) file))
+unfolding sound_by
+heard files facts channel frame file stored inside first last =
+    let frames : nat_lt frame facts.frames ≡ true = grind (arith, nat_tests) in
+    let low : nat_le 1 channel ≡ true = grind (arith, nat_tests) in
+    let high : nat_le channel facts.channels ≡ true = grind (arith, nat_tests) in
+    rw (stored, frames, low, high) refl
+
+module _ (files : Files) (facts : SoundFacts) (part : Part) (file : List ℕ) (frames : List ℤ) (count : ℕ)
+    (stored : files facts.name ≡ Some file)
+    (are : AreFrames file (facts.place + part.from * frame_length facts) facts.depth frames)
+    (whole : length frames ≡ count * facts.channels) (inside : part.from + count ≤ facts.frames)
+    (lies : LiesIn facts part) where
+  place_told : (j i : ℕ) → facts.place + part.from * frame_length facts + (i * facts.channels + (part.first - 1 + j)) *
+      (facts.depth / 8)
+      ≡ sample_place facts (part.from + i) (part.first + j)
+  place_told j i =
+      let first = lies.from_one in
+      let channel : part.first - 1 + j ≡ part.first + j - 1 = omega arith in rw channel (omega arith)
+
+  sample_told : (j i : ℕ) → j < part.width → i < count → sound_by files facts (part.first + j) (part.from + i)
+      ≡ get_or frames (i * facts.channels + (part.first - 1 + j)) (pos 0) *ℤ pos (2 ^ (48 - facts.depth))
+  sample_told j i wide below =
+      let first = lies.from_one in
+      let last = lies.channels in
+      let row : (i + 1) * facts.channels ≤ count * facts.channels = grind arith in
+      let k = i * facts.channels + (part.first - 1 + j) in
+      let within : k < length frames = omega arith in
+      heard files facts (part.first + j) (part.from + i) file stored (omega arith) (omega arith) (omega arith)
+      ∙ sym (ap (full_scale facts.depth) (are k within
+      ∙ ap (λ m. sample_of facts.depth (drop m file)) (place_told j i)))
+
+  -- what was read is zero in a frame where the part is
+  pub read_zero : (i : ℕ) → i < count → IsFrameZero frames facts.channels part.first part.width i
+      ↔ IsZeroAt (sound_by files facts) part.first part.width (part.from + i)
+  read_zero i below = (to_sound, to_frame) where
+    to_sound : IsFrameZero frames facts.channels part.first part.width i
+        → IsZeroAt (sound_by files facts) part.first part.width (part.from + i)
+    to_sound silent j wide =
+        sample_told j i wide below ∙ ap (λ z. z *ℤ pos (2 ^ (48 - facts.depth))) (silent j wide)
+        ∙ zero-*ℤ (pos (2 ^ (48 - facts.depth)))
+
+    to_frame : IsZeroAt (sound_by files facts) part.first part.width (part.from + i)
+        → IsFrameZero frames facts.channels part.first part.width i
+    to_frame silent j wide =
+        none_of _ (2 ^ (48 - facts.depth)) (pow_pos (48 - facts.depth)) (sym (sample_told j i wide below) ∙ silent j wide)
+
+  -- so the first frame that sounds is the same, counted from the part's
+  pub first_found : part.from + count ≡ part.to → 1 ≤ facts.channels → (found : Option ℕ)
+      → IsFirstSounding (IsFrameZero frames facts.channels part.first part.width) 0 (length frames / facts.channels) found
+      → IsFirstSounding (IsZeroAt (sound_by files facts) part.first part.width) part.from part.to
+      (option_map (λ i. part.from + i) found)
+  first_found ends some found first =
+      let counted : length frames / facts.channels ≡ count =
+      ap (λ n. n / facts.channels) whole ∙ mul-div_cancel count {n = facts.channels} some in
+      rw (← ends) (counted_from (IsFrameZero frames facts.channels part.first part.width)
+      (IsZeroAt (sound_by files facts) part.first part.width) part.from count read_zero found (rw counted at first))
+
+-- these channels of one of the frames
+abbrev pub channels_of : List ℤ → (channels first width i : ℕ) → List ℤ
+channels_of frames channels first width i =
+    take (i * channels + (first - 1) + width - (i * channels + (first - 1))) (drop (i * channels + (first - 1)) frames)
+
+module _ (frames : List ℤ) (channels first width i : ℕ) where
+  there : (j : ℕ) → j < width → get_or (channels_of frames channels first width i) j (pos 0)
+      ≡ get_or frames (i * channels + (first - 1 + j)) (pos 0)
+  there j less =
+      get_or-take (i * channels + (first - 1) + width - (i * channels + (first - 1)))
+      (drop (i * channels + (first - 1)) frames) j (pos 0)
+      (omega arith)
+      ∙ get_or-drop (i * channels + (first - 1)) frames j (pos 0) ∙ ap (λ k. get_or frames k (pos 0)) (omega arith)
+
+  pub frame_zero : first + width ≤ channels + 1 → 1 ≤ first → i < length frames / channels
+      → All (λ z. z ≡ pos 0) (channels_of frames channels first width i)
+      ↔ ((j : ℕ) → j < width → get_or frames (i * channels + (first - 1 + j)) (pos 0) ≡ pos 0)
+  frame_zero last from below = (to_each, to_all) where
+    inside : i * channels + (first - 1) + width ≤ length frames
+    inside =
+        let whole = div-mul-le_self (length frames) channels in
+        let row : (i + 1) * channels ≤ length frames / channels * channels = grind arith in omega arith
+
+    to_each : All (λ z. z ≡ pos 0) (channels_of frames channels first width i)
+        → (j : ℕ) → j < width → get_or frames (i * channels + (first - 1 + j)) (pos 0) ≡ pos 0
+    to_each all j less =
+        sym (there j less) ∙ all j (pos 0) (omega (arith, inside, length-take {A = ℤ}, length-drop {A = ℤ}))
+
+    to_all : ((j : ℕ) → j < width → get_or frames (i * channels + (first - 1 + j)) (pos 0) ≡ pos 0)
+        → All (λ z. z ≡ pos 0) (channels_of frames channels first width i)
+    to_all each = All-from_get_or (λ z. z ≡ pos 0) (channels_of frames channels first width i) (pos 0)
+        (λ j short. let less : j < width = omega (arith, length-take {A = ℤ}) in there j less ∙ each j less)

@@ -1,0 +1,62 @@
+-- A piece is called silent where what it plays of its file is zero.
+use Rattle.std.proofs.Common.{◌≡◌, ℕ, ◌+◌, ◌-◌, Bool, true, false, List, None, Some, refl, sym, ◌∙◌, IsTrue, arith}
+use Rattle.std.specs.Prelude.{◌↔◌, slice_get}
+use Rattle.sound_terms.specs.declared.piece.Piece.{Piece}
+use Rattle.sound_terms.specs.Sounds.{SoundFacts}
+use Rattle.work_terms.specs.Disk.{Files}
+use Rattle.list_terms.specs.Heard.{reading_by}
+use Rattle.passes.specs.Silent.{is_silent_in}
+use Rattle.passes.specs.Laws.{silent_is}
+use Rattle.shelf.specs.declared.fault.ShelfFault.{ShelfFault}
+use Rattle.shelf.specs.declared.fault.ShelfFault.TheVariants as shelf
+use Rattle.silence.specs.declared.part.Part.{Part}
+use Rattle.silence.specs.Zero.{IsZero, part_of, sound_by}
+
+pub device_of : (fault : ShelfFault) → (fault ≡ shelf.NotFound → ⊥) → fault ≡ shelf.Device
+device_of shelf.NotFound other = absurd (other refl)
+device_of shelf.Device other = refl
+
+same_answer : (a b : Bool) → IsTrue a ↔ IsTrue b → a ≡ b
+same_answer true true both = refl
+same_answer true false both = sym (both.0 refl)
+same_answer false true both = both.1 refl
+same_answer false false both = refl
+
+-- the samples of the file of this number
+pub heard_there : (files : Files) (sounds : List SoundFacts) (file : ℕ) (facts : SoundFacts)
+    → slice_get sounds file ≡ Some facts
+    → (channel frame : ℕ) → reading_by files sounds file channel frame ≡ sound_by files facts channel frame
+unfolding sound_by
+heard_there files sounds file facts there channel frame = rw there refl
+
+module _ (files : Files) (sounds : List SoundFacts) (p : Piece) where
+  -- by whether the part of the file that it plays is zero, of which `inside` is what lies inside the file
+  pub silent_by : (facts : SoundFacts) (inside : Part) (answer : Bool) → slice_get sounds p.file ≡ Some facts
+      → IsZero (sound_by files facts) inside ↔ IsZero (sound_by files facts) (part_of p)
+      → IsTrue answer ↔ IsZero (reading_by files sounds p.file) inside
+      → answer ≡ is_silent_in (reading_by files sounds) p
+  silent_by facts inside answer there rest told =
+      same_answer answer (is_silent_in (reading_by files sounds) p) (called, is) where
+        called : IsTrue answer → IsTrue (is_silent_in (reading_by files sounds) p)
+        called silent =
+            let zero : IsZero (sound_by files facts) (part_of p) =
+            rest.0 (λ frame low high j wide.
+            sym (heard_there files sounds p.file facts there (inside.first + j) frame) ∙ told.0 silent frame low high j wide) in
+            (silent_is (reading_by files sounds) p).1
+            (λ j i wide below.
+            heard_there files sounds p.file facts there (p.first + j) (p.frame + i)
+            ∙ zero (p.frame + i) (omega arith) (omega arith) j wide)
+
+        is : IsTrue (is_silent_in (reading_by files sounds) p) → IsTrue answer
+        is silent =
+            let zero : IsZero (sound_by files facts) (part_of p) =
+            λ frame low high j wide.
+            let there_frame : frame ≡ p.frame + (frame - p.frame) = omega arith in
+            sym (heard_there files sounds p.file facts there (p.first + j) frame)
+            ∙ rw there_frame ((silent_is (reading_by files sounds) p).0 silent j (frame - p.frame) wide (omega arith)) in
+            told.1 (λ frame low high j wide.
+            heard_there files sounds p.file facts there (inside.first + j) frame ∙ rest.1 zero frame low high j wide)
+
+  -- of no file nothing is heard
+  pub silent_nowhere : slice_get sounds p.file ≡ None → true ≡ is_silent_in (reading_by files sounds) p
+  silent_nowhere none = sym ((silent_is (reading_by files sounds) p).1 (λ j i wide below. rw none refl))

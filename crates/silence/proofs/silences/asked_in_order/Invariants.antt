@@ -1,0 +1,18 @@
+use Rattle.std.proofs.Common.{◌≡◌, length, IsTrue}
+use Rattle.list_terms.specs.Heard.{reading_by}
+use Rattle.passes.specs.Silent.{is_silent_in}
+use Rattle.shelf.specs.Frame.{IsQuiet}
+use Rattle.silence.specs.Known.{IsSo}
+use Rattle.silence.proofs.Answered.{AreRight}
+use Rattle.silence.proofs.silences.asked_in_order.Given as goal
+
+-- the pieces of the places so far are answered, and nothing has failed
+abbrev pub invariant-loop-place : goal.invariant-loop-place
+invariant-loop-place g l = record {
+  quiet : IsQuiet g.S.Shelf l.fn.shelf l.shelf;
+  whole : length l.silent.items ≡ length l.pieces;
+  known : IsTrue (g.S.Shelf.honest l.fn.shelf) → IsSo (reading_by (g.S.Shelf.stored l.fn.shelf) l.sounds) l.search;
+  right : IsTrue (g.S.Shelf.honest l.fn.shelf)
+      → AreRight (is_silent_in (reading_by (g.S.Shelf.stored l.fn.shelf) l.sounds)) l.pieces l.silent.items l.order
+      l.place-index;
+}

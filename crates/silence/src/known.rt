@@ -1,0 +1,115 @@
+// What is known of the silence of a file.
+ghost use Rattle.std.specs.Prelude.{◌≡◌, ◌*◌, ◌≤◌, is_some, length, slice_get, unwrap_or, List, IsErrOf, IfOk, IsTrue, Some};
+ghost use Rattle.sound_terms.specs.Mix.{Reading};
+ghost use Rattle.sound_terms.specs.Sounds.{SoundFacts};
+ghost use Rattle.list_terms.specs.Heard.{reading_by};
+ghost use Rattle.shelf.specs.Frame.{OnlyReads};
+ghost use Rattle.silence.specs.Known.{IsSo, Reaches, Tells};
+ghost use Rattle.silence.specs.Zero.{LiesIn};
+
+use crate::part::Part;
+use crate::zeros::first_sounding;
+use shelf::{Shelf, ShelfFault};
+use wavread::Sound;
+
+/// A part of a file that is known to be zero, and whether the frame behind it is known to sound.
+#[derive(Clone, Copy)]
+pub struct Known {
+    pub file: u32,
+    pub part: Part,
+    pub sounds: bool,
+}
+
+impl Known {
+    /// Nothing.
+    pub const NOTHING: Known = Known {
+        file: 0,
+        part: Part {
+            first: 1,
+            width: 0,
+            from: 0,
+            to: 0,
+        },
+        sounds: false,
+    };
+
+    /// Whether what is known reaches up to this part of a file.
+    fn reaches(&self, file: u32, part: &Part) -> bool
+        ensures { IsTrue result → Reaches self.now file part.now }
+    {
+        let same_channels = self.part.first == part.first && self.part.width == part.width;
+        let near = self.part.from <= part.from && part.from <= self.part.to;
+        self.file == file && same_channels && near
+    }
+
+    /// What is known of this part of a file before it is looked at: as it was, or nothing.
+    #[tactic(auto, using(crate::proofs::Knowing::nothing_before))]
+    fn up_to(self, file: u32, part: &Part) -> Known
+        ensures reaches { part.now.from ≤ part.now.to → Reaches result file part.now }
+        ensures so { (reading : Reading) → IsSo reading self → IsSo reading result }
+    {
+        if self.reaches(file, part) {
+            return self;
+        }
+        Known {
+            file,
+            part: Part {
+                to: part.from,
+                ..*part
+            },
+            sounds: false,
+        }
+    }
+
+    /// What is known once the frames behind were looked at, those before `to`: which of them is the first that sounds.
+    fn until(self, found: Option<u64>, to: u64) -> Known
+        ensures { result ≡ record {
+          file = self.file;
+          part = record self.part { to = unwrap_or found to };
+          sounds = is_some found;
+        } }
+    {
+        Known {
+            file: self.file,
+            part: Part {
+                to: found.unwrap_or(to),
+                ..self.part
+            },
+            sounds: found.is_some(),
+        }
+    }
+}
+
+/// What is known once a part of a file was looked at. Only what isn't known of it is read, up to the first frame that
+/// sounds.
+pub fn looked_at<S: Shelf>(
+    known: Known,
+    file: u32,
+    part: &Part,
+    sound: &Sound,
+    shelf: &mut S,
+    bytes: &mut [u8],
+    samples: &mut [i32],
+) -> Result<Known, ShelfFault>
+    requires inside { LiesIn sound.now part.now }
+    requires some_samples { 64 ≤ length samples.old }
+    requires room { length samples.old * 4 ≤ length bytes.old }
+    ensures so { IsTrue (S.honest shelf.old) → (sounds : List SoundFacts) → slice_get sounds file ≡ Some sound.now
+        → IsSo (reading_by (S.stored shelf.old) sounds) known
+        → IfOk result (IsSo (reading_by (S.stored shelf.old) sounds)) }
+    ensures tells { IsTrue (S.honest shelf.old) → IfOk result (λ new. Tells new file part.now) }
+    ensures not_missing { IsErrOf result ShelfFault.NotFound → ⊥ }
+    ensures only_reads { OnlyReads S.Shelf shelf.old shelf.new result (λ fault. fault ≡ ShelfFault.Device)
+        (λ _ failed. failed sound.now.name) }
+{
+    let known = known.up_to(file, part);
+    if known.sounds || part.to <= known.part.to {
+        return Ok(known);
+    }
+    let rest = Part {
+        from: known.part.to,
+        ..*part
+    };
+    let found = first_sounding(&rest, sound, shelf, bytes, samples)?;
+    Ok(known.until(found, part.to))
+}

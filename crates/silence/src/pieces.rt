@@ -1,0 +1,45 @@
+// Pieces in the order in which their files are read.
+ghost use Rattle.std.specs.Prelude.{◌≡◌, ℕ, ◌<◌, length, IfOk};
+ghost use Rattle.std.specs.List.{All, Contains};
+ghost use Rattle.sound_terms.specs.Groups as spec;
+
+use interval::{Intervals, Piece};
+use std::alloc::{AllocError, Global};
+
+/// The pieces of all groups, in order.
+pub fn pieces_of(alloc: Global, intervals: &Intervals) -> Result<Vec<Piece>, AllocError>
+    ensures { IfOk result (λ pieces. pieces.items ≡ spec.pieces_of intervals.now) }
+{
+    let mut pieces = Vec::new(alloc);
+    for group in intervals.groups() {
+        pieces.extend_from_slice(group.pieces())?;
+    }
+    Ok(pieces)
+}
+
+/// So many places, from 0 on.
+fn places(alloc: Global, count: usize) -> Result<Vec<usize>, AllocError>
+    ensures inside { IfOk result (λ places. All (λ place. place < count) places.items) }
+    ensures each { IfOk result (λ places. (place : ℕ) → place < count → Contains places.items place) }
+{
+    let mut places = Vec::with_capacity(alloc, count)?;
+    for place in 0..count {
+        places.push(place)?;
+    }
+    Ok(places)
+}
+
+/// Where a piece reads: its file, its channels and its first frame.
+fn key(piece: &Piece) -> (u32, u8, u8, u64) {
+    (piece.file, piece.first, piece.width, piece.frame)
+}
+
+/// The place of each piece, in the order in which their files are read: by file, channels and frame.
+pub fn reading_order(alloc: Global, pieces: &[Piece]) -> Result<Vec<usize>, AllocError>
+    ensures inside { IfOk result (λ places. All (λ place. place < length pieces.now) places.items) }
+    ensures each { IfOk result (λ places. (place : ℕ) → place < length pieces.now → Contains places.items place) }
+{
+    let mut order = places(alloc, pieces.len())?;
+    order.sort_by_key(|place| pieces.get(*place).map(key))?;
+    Ok(order)
+}

@@ -1,0 +1,91 @@
+// A search for silence in opened sound files.
+ghost use Rattle.std.specs.Prelude.{◌≡◌, IfOk, IsTrue, OnOk, OnErr};
+ghost use Rattle.sound_terms.specs.Groups.{IsPiece};
+ghost use Rattle.sound_terms.specs.Mix.{Reading};
+ghost use Rattle.list_terms.specs.Heard.{reading_by};
+ghost use Rattle.passes.specs.Silent.{IsDevice, is_silent_in};
+ghost use Rattle.shelf.specs.Frame.{OnlyReads};
+ghost use Rattle.silence.specs.Fault.{FailsAt};
+ghost use Rattle.silence.specs.Known.{IsSo};
+
+use crate::known::{Known, looked_at};
+use crate::part::Part;
+use interval::Piece;
+use passes::PassFault;
+use shelf::Shelf;
+use std::alloc::{AllocError, Global};
+use std::marker::Model;
+use wavread::Sound;
+
+/// How many samples are read at once, of all channels of a file.
+const SAMPLES: usize = 4096;
+
+/// The bytes of so many samples, of 32 bits at most.
+const BYTES: usize = 4 * SAMPLES;
+
+/// Room for some frames of every file, as bytes and as samples, and what is known of the last file that was looked at.
+/// A clause sees what is known.
+#[derive(Drop)]
+pub struct Search {
+    known: Known,
+    bytes: Vec<u8>,
+    samples: Vec<i32>,
+}
+
+impl Model for Search {
+    ghost use Rattle.std.specs.Prelude.{◌≡◌, length};
+    ghost use Rattle.silence.specs.declared.known.Known.{Known};
+
+    ghost Value = { Known };
+
+    ghost view = { λ search. search.known };
+
+    ghost invariant = { λ search. (length search.bytes.items ≡ 16384) × (length search.samples.items ≡ 4096) };
+}
+
+impl Search {
+    /// A search that knows nothing yet.
+    pub fn new(alloc: Global) -> Result<Self, AllocError>
+        ensures { (reading : Reading) → IfOk result (IsSo reading) }
+    {
+        let mut bytes = Vec::new(alloc);
+        bytes.resize(BYTES, 0)?;
+        let mut samples = Vec::new(alloc);
+        samples.resize(SAMPLES, 0)?;
+        Ok(Search {
+            known: Known::NOTHING,
+            bytes,
+            samples,
+        })
+    }
+
+    /// Whether all that a piece plays is zero. `Device` where a read fails.
+    pub fn is_silent<S: Shelf>(
+        &mut self,
+        piece: &Piece,
+        sounds: &[Sound],
+        shelf: &mut S,
+    ) -> Result<bool, PassFault>
+        requires { IsPiece piece.now }
+        ensures answer { IsTrue (S.honest shelf.old) → IsSo (reading_by (S.stored shelf.old) sounds.now) self.old
+            → IfOk result (λ silent. silent ≡ is_silent_in (reading_by (S.stored shelf.old) sounds.now) piece.now) }
+        ensures known { IsTrue (S.honest shelf.old) → IsSo (reading_by (S.stored shelf.old) sounds.now) self.old
+            → OnOk result (IsSo (reading_by (S.stored shelf.old) sounds.now) self.new) }
+        ensures unchanged { OnErr result (self.new ≡ self.old) }
+        ensures only_reads { OnlyReads S.Shelf shelf.old shelf.new result IsDevice (FailsAt sounds.now) }
+    {
+        let Some(sound) = sounds.get(piece.file as usize) else {
+            return Ok(true);
+        };
+        let part = Part::inside(piece, sound);
+        let bytes = self.bytes.as_mut_slice();
+        let samples = self.samples.as_mut_slice();
+        match looked_at(self.known, piece.file, &part, sound, shelf, bytes, samples) {
+            Ok(known) => {
+                self.known = known;
+                Ok(part.to <= known.part.to)
+            }
+            Err(_) => Err(PassFault::Device { file: piece.file }),
+        }
+    }
+}

@@ -1,0 +1,64 @@
+// Which pieces over opened sound files are silent.
+ghost use Rattle.std.specs.Prelude.{◌≡◌, ◌<◌, ℕ, length, IfOk, IsTrue};
+ghost use Rattle.std.specs.List.{All, Contains};
+ghost use Rattle.sound_terms.specs.Groups as groups;
+ghost use Rattle.sound_terms.specs.Groups.{Agrees, IsPiece};
+ghost use Rattle.sound_terms.specs.Passes.{silences};
+ghost use Rattle.list_terms.specs.Heard.{reading_by};
+ghost use Rattle.passes.specs.Silent.{IsDevice, silences_of};
+ghost use Rattle.shelf.specs.Frame.{OnlyReads};
+ghost use Rattle.silence.specs.Fault.{FailsAt};
+
+use crate::pieces::{pieces_of, reading_order};
+use crate::search::Search;
+use interval::{Intervals, Piece};
+use passes::PassFault;
+use shelf::Shelf;
+use std::alloc::Global;
+use wavread::Sound;
+
+/// For each of these pieces whether it is silent, asked in the order of these places.
+fn asked_in_order<S: Shelf>(
+    alloc: Global,
+    pieces: &[Piece],
+    order: &[usize],
+    sounds: &[Sound],
+    shelf: &mut S,
+) -> Result<Vec<bool>, PassFault>
+    requires pieces { All IsPiece pieces.now }
+    requires inside { All (λ place. place < length pieces.now) order.now }
+    requires each { (place : ℕ) → place < length pieces.now → Contains order.now place }
+    ensures answers { IsTrue (S.honest shelf.old) → IfOk result (λ silent.
+        silent.items ≡ silences_of (reading_by (S.stored shelf.old) sounds.now) pieces.now) }
+    ensures only_reads { OnlyReads S.Shelf shelf.old shelf.new result IsDevice (FailsAt sounds.now) }
+{
+    let mut search = Search::new(alloc)?;
+    let mut silent = Vec::new(alloc);
+    silent.resize(pieces.len(), false)?;
+    for place in order {
+        let answer = search.is_silent(&pieces[*place], sounds, shelf)?;
+        silent[*place] = answer;
+    }
+    Ok(silent)
+}
+
+/// For each piece of the groups, in order, whether all samples that it plays are zero, on all its channels. A stretch
+/// of a file is read once for its silence, however many pieces play it on the same channels.
+pub fn silent_of<S: Shelf>(
+    alloc: Global,
+    intervals: &Intervals,
+    sounds: &[Sound],
+    shelf: &mut S,
+) -> Result<Vec<bool>, PassFault>
+    ensures answers { IsTrue (S.honest shelf.old)
+        → IfOk result (λ silent. silent.items ≡ silences (reading_by (S.stored shelf.old) sounds.now) intervals.now) }
+    ensures agrees { IsTrue (S.honest shelf.old) → IfOk result (λ silent.
+        Agrees (reading_by (S.stored shelf.old) sounds.now) (groups.pieces_of intervals.now) silent.items) }
+    ensures only_reads { OnlyReads S.Shelf shelf.old shelf.new result IsDevice (FailsAt sounds.now) }
+{
+    let _ = intervals.groups();
+    let pieces = pieces_of(alloc, intervals)?;
+    let order = reading_order(alloc, pieces.as_slice())?;
+    let silent = asked_in_order(alloc, pieces.as_slice(), order.as_slice(), sounds, shelf)?;
+    Ok(silent)
+}

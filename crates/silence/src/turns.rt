@@ -1,0 +1,103 @@
+// Passes over opened sound files, one after the other.
+ghost use Rattle.std.specs.Prelude.{◌≡◌, ℕ, [], IfOk, IsTrue, if◌then◌else◌};
+ghost use Rattle.sound_terms.specs.Groups.{are_whole, mix_of, reads};
+ghost use Rattle.sound_terms.specs.Passes.{in_turn, silences, standard_groups};
+ghost use Rattle.list_terms.specs.Heard.{reading_by};
+ghost use Rattle.passes.specs.Silent.{IsDevice};
+ghost use Rattle.passes.specs.Standard.{AreStandard, reads_sounding};
+ghost use Rattle.shelf.specs.Frame.{OnlyReads};
+ghost use Rattle.silence.specs.Fault.{FailsAt};
+
+use crate::silences::silent_of;
+use interval::Intervals;
+use passes::{DropSilent, JoinCuts, Pass, PassFault, Regroup, SplitFades, turn};
+use shelf::Shelf;
+use std::alloc::Global;
+use wavread::Sound;
+
+/// Asks what is silent where a pass looks, and applies it.
+fn asked<S: Shelf>(
+    alloc: Global,
+    pass: Box<dyn Pass>,
+    intervals: Intervals,
+    sounds: &[Sound],
+    shelf: &mut S,
+) -> Result<Intervals, PassFault>
+    ensures given { IsTrue (S.honest shelf.old) → IfOk result (λ new. new ≡ gives pass intervals
+        (if looking pass then silences (reading_by (S.stored shelf.old) sounds.now) intervals else [])) }
+    ensures keeps_mix { IsTrue (S.honest shelf.old) → (channel time : ℕ)
+        → IfOk result (λ new. mix_of (reading_by (S.stored shelf.old) sounds.now) new channel time
+        ≡ mix_of (reading_by (S.stored shelf.old) sounds.now) intervals channel time) }
+    ensures keeps_whole { IfOk result (λ new. IsTrue (are_whole intervals) → IsTrue (are_whole new)) }
+    ensures reads_no_more { (file channel frame : ℕ)
+        → IfOk result (λ new. IsTrue (reads new file channel frame) → IsTrue (reads intervals file channel frame)) }
+    ensures only_reads { OnlyReads S.Shelf shelf.old shelf.new result IsDevice (FailsAt sounds.now) }
+{
+    if pass.looks() {
+        let silent = silent_of(alloc, &intervals, sounds, shelf)?;
+        turn(alloc, pass, intervals, silent.as_slice())
+    } else {
+        turn(alloc, pass, intervals, &[])
+    }
+}
+
+/// What passes make of these groups, one after the other, whose pieces play the sounds of their files' places among
+/// `sounds`. What is silent is asked anew before each pass that looks, and a pass is dropped once it was applied.
+/// `Device` where a read fails.
+pub fn run<S: Shelf>(
+    alloc: Global,
+    passes: Vec<Box<dyn Pass>>,
+    intervals: Intervals,
+    sounds: &[Sound],
+    shelf: &mut S,
+) -> Result<Intervals, PassFault>
+    ensures given { IsTrue (S.honest shelf.old)
+        → IfOk result (λ new. new ≡ in_turn (λ pass. looking pass) (λ pass. gives pass)
+        (silences (reading_by (S.stored shelf.old) sounds.now)) passes.items intervals) }
+    ensures standard { IsTrue (S.honest shelf.old)
+        → AreStandard (λ pass. looking pass) (λ pass. gives pass) passes.items
+        → IfOk result (λ new. new ≡ standard_groups (reading_by (S.stored shelf.old) sounds.now) intervals) }
+    ensures sounding { IsTrue (S.honest shelf.old)
+        → AreStandard (λ pass. looking pass) (λ pass. gives pass) passes.items → (file channel frame : ℕ)
+        → IfOk result (λ new. reads new file channel frame
+        ≡ reads_sounding (reading_by (S.stored shelf.old) sounds.now) intervals file channel frame) }
+    ensures keeps_mix { IsTrue (S.honest shelf.old) → (channel time : ℕ)
+        → IfOk result (λ new. mix_of (reading_by (S.stored shelf.old) sounds.now) new channel time
+        ≡ mix_of (reading_by (S.stored shelf.old) sounds.now) intervals channel time) }
+    ensures keeps_whole { IfOk result (λ new. IsTrue (are_whole intervals) → IsTrue (are_whole new)) }
+    ensures reads_no_more { (file channel frame : ℕ)
+        → IfOk result (λ new. IsTrue (reads new file channel frame) → IsTrue (reads intervals file channel frame)) }
+    ensures only_reads { OnlyReads S.Shelf shelf.old shelf.new result IsDevice (FailsAt sounds.now) }
+{
+    let mut left = intervals;
+    for pass in passes {
+        left = asked(alloc, pass, left, sounds, shelf)?;
+    }
+    Ok(left)
+}
+
+/// What the standard passes make of these groups: each fade is a piece of its own, groups of silent pieces are left
+/// out, cuts are joined, and pieces that continue one another are groups again. `Device` where a read fails.
+pub fn standard<S: Shelf>(
+    alloc: Global,
+    intervals: Intervals,
+    sounds: &[Sound],
+    shelf: &mut S,
+) -> Result<Intervals, PassFault>
+    ensures gives { IsTrue (S.honest shelf.old)
+        → IfOk result (λ new. new ≡ standard_groups (reading_by (S.stored shelf.old) sounds.now) intervals) }
+    ensures keeps_mix { IsTrue (S.honest shelf.old) → (channel time : ℕ) → IfOk result (λ new.
+        mix_of (reading_by (S.stored shelf.old) sounds.now) new channel time
+        ≡ mix_of (reading_by (S.stored shelf.old) sounds.now) intervals channel time) }
+    ensures keeps_whole { IfOk result (λ new. IsTrue (are_whole intervals) → IsTrue (are_whole new)) }
+    ensures reads_no_more { (file channel frame : ℕ)
+        → IfOk result (λ new. IsTrue (reads new file channel frame) → IsTrue (reads intervals file channel frame)) }
+    ensures only_reads { OnlyReads S.Shelf shelf.old shelf.new result IsDevice (FailsAt sounds.now) }
+{
+    let split = SplitFades.apply(alloc, intervals, &[])?;
+    let silent = silent_of(alloc, &split, sounds, shelf)?;
+    let sounding = DropSilent.apply(alloc, split, silent.as_slice())?;
+    let joined = JoinCuts.apply(alloc, sounding, &[])?;
+    let left = Regroup.apply(alloc, joined, &[])?;
+    Ok(left)
+}

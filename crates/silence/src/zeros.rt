@@ -1,0 +1,90 @@
+// The first frame of a part of a sound file that isn't zero, block by block.
+ghost use Rattle.std.specs.Prelude.{◌≡◌, ◌+◌, ◌-◌, ◌*◌, ◌/◌, ◌≤◌, length, IsErrOf, IfOk, IsTrue};
+ghost use Rattle.shelf.specs.Frame.{OnlyReads};
+ghost use Rattle.silence.specs.Zero.{IsFirstSounding, IsFrameZero, IsZeroAt, LiesIn, sound_by};
+
+use crate::part::Part;
+use pcm::all_zero;
+use shelf::{Shelf, ShelfFault};
+use wavread::Sound;
+
+/// The first frame in which not all of these channels are zero, `width` from `first` on (from 1), in frames of so many
+/// channels.
+fn first_in_frames(frames: &[i32], channels: usize, first: usize, width: usize) -> Option<usize>
+    requires some { 1 ≤ channels }
+    requires first { 1 ≤ first }
+    requires last { first + width ≤ channels + 1 }
+    ensures { IsFirstSounding (IsFrameZero frames.now channels first width) 0 (length frames.now / channels) result }
+{
+    for i in 0..frames.len() / channels {
+        let at = i * channels + (first - 1);
+        if !all_zero(&frames[at..at + width]) {
+            return Some(i);
+        }
+    }
+    None
+}
+
+/// The first frame of a part of a file that isn't zero, where the part is short enough to be read at once.
+fn first_in_block<S: Shelf>(
+    part: &Part,
+    sound: &Sound,
+    shelf: &mut S,
+    bytes: &mut [u8],
+    samples: &mut [i32],
+) -> Result<Option<u64>, ShelfFault>
+    requires inside { LiesIn sound.now part.now }
+    requires few { (part.now.to - part.now.from) * sound.now.channels ≤ length samples.old }
+    requires room { length samples.old * 4 ≤ length bytes.old }
+    ensures found { IsTrue (S.honest shelf.old) → IfOk result (IsFirstSounding
+        (IsZeroAt (sound_by (S.stored shelf.old) sound.now) part.now.first part.now.width) part.now.from part.now.to) }
+    ensures not_missing { IsErrOf result ShelfFault.NotFound → ⊥ }
+    ensures only_reads { OnlyReads S.Shelf shelf.old shelf.new result (λ fault. fault ≡ ShelfFault.Device)
+        (λ _ failed. failed sound.now.name) }
+{
+    let channels = usize::from(sound.channels());
+    let count = (part.to - part.from) as usize;
+    let frames = &mut samples[..count * channels];
+    sound.read_frames(shelf, part.from, count, bytes, frames)?;
+    let (first, width) = (usize::from(part.first), usize::from(part.width));
+    match first_in_frames(frames, channels, first, width) {
+        Some(i) => Ok(Some(part.from + i as u64)),
+        None => Ok(None),
+    }
+}
+
+/// The first frame of a part of a file that isn't zero. Each frame is read once, for all its channels, and no block is
+/// read behind the first one that sounds.
+pub fn first_sounding<S: Shelf>(
+    part: &Part,
+    sound: &Sound,
+    shelf: &mut S,
+    bytes: &mut [u8],
+    samples: &mut [i32],
+) -> Result<Option<u64>, ShelfFault>
+    requires inside { LiesIn sound.now part.now }
+    requires some_samples { 64 ≤ length samples.old }
+    requires room { length samples.old * 4 ≤ length bytes.old }
+    ensures found { IsTrue (S.honest shelf.old) → IfOk result (IsFirstSounding
+        (IsZeroAt (sound_by (S.stored shelf.old) sound.now) part.now.first part.now.width) part.now.from part.now.to) }
+    ensures not_missing { IsErrOf result ShelfFault.NotFound → ⊥ }
+    ensures only_reads { OnlyReads S.Shelf shelf.old shelf.new result (λ fault. fault ≡ ShelfFault.Device)
+        (λ _ failed. failed sound.now.name) }
+{
+    let most = samples.len() as u64 / u64::from(sound.channels());
+    let mut at = part.from;
+    while at < part.to {
+        let count = most.min(part.to - at);
+        let block = Part {
+            from: at,
+            to: at + count,
+            ..*part
+        };
+        let found = first_in_block(&block, sound, shelf, bytes, samples)?;
+        if found.is_some() {
+            return Ok(found);
+        }
+        at += count;
+    }
+    Ok(None)
+}

@@ -1,0 +1,3 @@
+pub mod FileName
+pub mod Folder
+pub mod Memory

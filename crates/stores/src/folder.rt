@@ -1,0 +1,11 @@
+// Files in a folder. What it holds and what a crash leaves of it are the file system's: no clause speaks of them.
+mod bench;
+mod failures;
+mod handle;
+mod name;
+mod open_files;
+mod sources;
+
+pub use bench::FolderBench;
+pub use open_files::Overwrite;
+pub use sources::FolderShelf;

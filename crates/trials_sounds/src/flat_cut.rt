@@ -1,0 +1,118 @@
+// A pass of a caller's own, which cuts flat groups at a time.
+ghost use Rattle.std.specs.Prelude.{◌≡◌, ◌++◌, ◌∷◌, [], false, MatchOption, IfOk, IfSome, OnOk};
+ghost use Rattle.std.specs.List.{flat_map};
+ghost use Rattle.sound_terms.specs.Groups.{IsPiece};
+ghost use Rattle.trials_sounds.specs.FlatCut as spec;
+
+use crate::pass_lists::left_of_entry;
+use interval::{Group, Intervals, Piece, Shape};
+use passes::{Pass, PassFault, Regroup, SplitFades};
+use std::alloc::{AllocError, Global};
+use std::test::Fail;
+
+/// Cuts each group of one flat piece that goes on over a time in two.
+#[derive(Drop)]
+struct FlatCut {
+    time: u64,
+}
+
+/// What a group is cut into, where it is one flat piece over this time.
+fn halves(time: u64, group: &Group) -> Option<(Piece, Piece)>
+    ensures cut { MatchOption result (spec.flat_cut time group.now ≡ group.now ∷ [])
+        (λ halves. spec.flat_cut time group.now ≡ (halves.0 ∷ []) ∷ (halves.1 ∷ []) ∷ []) }
+    ensures sound { IfSome result (λ halves. IsPiece halves.0 × IsPiece halves.1) }
+{
+    match group.pieces() {
+        [piece]
+            if piece.shape == Shape::Flat
+                && piece.start < time
+                && time < piece.start + piece.length => {
+            let done = time - piece.start;
+            let front = Piece {
+                length: done,
+                ..*piece
+            };
+            let behind = Piece {
+                start: piece.start + done,
+                frame: piece.frame + done,
+                length: piece.length - done,
+                ..*piece
+            };
+            Some((front, behind))
+        }
+        _ => None,
+    }
+}
+
+/// Adds what a group is cut into.
+fn push_cut(time: u64, group: Group, groups: &mut Vec<Group>) -> Result<(), AllocError>
+    ensures { OnOk result (groups.new.items ≡ groups.old.items ++ spec.flat_cut time group) }
+{
+    let alloc = *groups.allocator();
+    match halves(time, &group) {
+        Some((front, behind)) => {
+            groups.push(Group::alone(alloc, front))?;
+            groups.push(Group::alone(alloc, behind))?;
+        }
+        None => groups.push(group)?,
+    }
+    Ok(())
+}
+
+/// The groups, each flat one cut in two.
+fn cut(time: u64, alloc: Global, intervals: Intervals) -> Result<Vec<Group>, AllocError>
+    ensures { IfOk result (λ groups. groups.items ≡ flat_map (spec.flat_cut time) intervals) }
+{
+    let mut groups = Vec::new(alloc);
+    for group in intervals.into_groups() {
+        push_cut(time, group, &mut groups)?;
+    }
+    Ok(groups)
+}
+
+impl Pass for FlatCut {
+    ghost gives = { λ pass groups _. spec.cut_flats pass.time groups };
+
+    ghost looking = { λ _. false };
+
+    fn looks(&self) -> bool {
+        false
+    }
+
+    fn apply(
+        &mut self,
+        alloc: Global,
+        intervals: Intervals,
+        _silent: &[bool],
+    ) -> Result<Intervals, PassFault> {
+        let _ = intervals.groups();
+        Ok(Intervals::ordered(cut(self.time, alloc, intervals)?)?)
+    }
+}
+
+#[test]
+fn a_flat_group_is_two_behind_a_pass_of_its_own(rt: HostRuntime) -> Result<(), Fail> {
+    let alloc = rt.alloc();
+    let mut passes: Vec<Box<dyn Pass>> = Vec::new(alloc);
+    passes.push(Box::new(alloc, SplitFades)?)?;
+    passes.push(Box::new(alloc, FlatCut { time: 6 })?)?;
+    let (groups, asked) = left_of_entry(&rt, passes)?;
+    assert_eq!(rt;
+        groups.as_slice(),
+        [(0, 4), (4, 2), (6, 2), (8, 4)].as_slice()
+    );
+    assert_eq!(rt; asked, 0);
+    Ok(())
+}
+
+#[test]
+fn fades_go_with_both_parts_of_a_flat_group_that_was_cut(rt: HostRuntime) -> Result<(), Fail> {
+    let alloc = rt.alloc();
+    let mut passes: Vec<Box<dyn Pass>> = Vec::new(alloc);
+    passes.push(Box::new(alloc, SplitFades)?)?;
+    passes.push(Box::new(alloc, FlatCut { time: 6 })?)?;
+    passes.push(Box::new(alloc, Regroup)?)?;
+    let (groups, _) = left_of_entry(&rt, passes)?;
+    assert_eq!(rt; groups.as_slice(), [(0, 6), (6, 6)].as_slice());
+    Ok(())
+}

@@ -1,0 +1,148 @@
+// Kernels beside their plain definitions: at every length, so that each rest behind whole chunks is met, and at each
+// offset of their source.
+ghost use Rattle.std.specs.Prelude.{◌≡◌, ◌*◌, ◌/◌, ◌<◌, ◌≤◌, length};
+ghost use Rattle.sound_terms.specs.Depth.{bits_of};
+
+use pcm::{all_zero, pack, unpack};
+use sound_terms::Depth;
+use std::process::Abort;
+
+/// The longest run of samples, which is many chunks and a rest.
+const LONGEST: usize = 67;
+
+/// The offsets of a source: as many as a chunk has bytes.
+const OFFSETS: usize = 16;
+
+const ROOM: usize = 4 * LONGEST + OFFSETS;
+
+/// The ends of a depth and what lies round zero, in turn.
+fn sample_at(depth: Depth, place: usize) -> i32 {
+    let (least, most) = match depth {
+        Depth::Sixteen => (-32_768, 32_767),
+        Depth::TwentyFour => (-8_388_608, 8_388_607),
+        Depth::ThirtyTwo => (i32::MIN, i32::MAX),
+    };
+    match place % 7 {
+        0 => least,
+        1 => most,
+        2 => -1,
+        3 => 0,
+        4 => 1,
+        5 => least / 2,
+        _ => most / 2,
+    }
+}
+
+/// Byte i of these samples, each of so many bytes, the lowest first.
+fn byte_at(depth: Depth, width: usize, i: usize) -> u8
+    requires some { 0 < width }
+    requires few { width ≤ 4 }
+{
+    let bytes = sample_at(depth, i / width).to_le_bytes();
+    bytes[i % width]
+}
+
+/// Bytes of these samples from an offset on.
+fn source_of(depth: Depth, width: usize, offset: usize) -> [u8; ROOM]
+    requires some { 0 < width }
+    requires few { width ≤ 4 }
+    requires near { offset < 16 }
+{
+    let mut bytes = [0x55; ROOM];
+    for i in 0..4 * LONGEST {
+        bytes[offset + i] = byte_at(depth, width, i);
+    }
+    bytes
+}
+
+/// The bytes are read as the samples that they were made of, and written as they were.
+fn reads_and_writes(
+    rt: &impl Abort,
+    depth: Depth,
+    bytes: &[u8],
+    samples: &mut [i32],
+    again: &mut [u8],
+)
+    requires whole { length bytes.now ≡ length samples.old * (bits_of depth / 8) }
+    requires room { length again.old ≡ length bytes.now }
+{
+    unpack(depth, bytes, samples);
+    pack(depth, samples, again);
+    for (place, sample) in samples.iter().enumerate() {
+        assert_eq!(rt; *sample, sample_at(depth, place));
+    }
+    for (byte, same) in bytes.iter().zip(again.iter()) {
+        assert_eq!(rt; *byte, *same);
+    }
+}
+
+#[test]
+fn sixteen_bits_at_every_length(rt: HostRuntime) {
+    for offset in 0..OFFSETS {
+        let source = source_of(Depth::Sixteen, 2, offset);
+        for count in 0..LONGEST + 1 {
+            let bytes = &source[offset..offset + count * 2];
+            reads_and_writes(
+                &rt,
+                Depth::Sixteen,
+                bytes,
+                &mut [0; LONGEST][..count],
+                &mut [0; ROOM][..count * 2],
+            );
+        }
+    }
+}
+
+#[test]
+fn twenty_four_bits_at_every_length(rt: HostRuntime) {
+    for offset in 0..OFFSETS {
+        let source = source_of(Depth::TwentyFour, 3, offset);
+        for count in 0..LONGEST + 1 {
+            let bytes = &source[offset..offset + count * 3];
+            reads_and_writes(
+                &rt,
+                Depth::TwentyFour,
+                bytes,
+                &mut [0; LONGEST][..count],
+                &mut [0; ROOM][..count * 3],
+            );
+        }
+    }
+}
+
+#[test]
+fn thirty_two_bits_at_every_length(rt: HostRuntime) {
+    for offset in 0..OFFSETS {
+        let source = source_of(Depth::ThirtyTwo, 4, offset);
+        for count in 0..LONGEST + 1 {
+            let bytes = &source[offset..offset + count * 4];
+            reads_and_writes(
+                &rt,
+                Depth::ThirtyTwo,
+                bytes,
+                &mut [0; LONGEST][..count],
+                &mut [0; ROOM][..count * 4],
+            );
+        }
+    }
+}
+
+/// So many samples are silent, and none of them alone may sound.
+fn silent_unless_one_sounds(rt: &impl Abort, samples: &mut [i32]) {
+    assert!(rt; all_zero(samples));
+    for place in 0..samples.len() {
+        samples[place] = sample_at(Depth::ThirtyTwo, place % 2);
+        assert!(rt; !all_zero(samples));
+        samples[place] = 0;
+    }
+}
+
+#[test]
+fn silence_at_every_length(rt: HostRuntime) {
+    for offset in 0..OFFSETS {
+        for count in 0..LONGEST + 1 {
+            let mut samples = [0; LONGEST + OFFSETS];
+            silent_unless_one_sounds(&rt, &mut samples[offset..offset + count]);
+        }
+    }
+}

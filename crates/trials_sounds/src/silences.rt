@@ -1,0 +1,114 @@
+// Silence of opened files: each stretch of a file is read once, however many pieces play it.
+ghost use Rattle.std.specs.Prelude.{◌≤◌};
+ghost use Rattle.sound_terms.specs.Groups.{IsPiece};
+
+use interval::{Group, Intervals, Piece, Shape};
+use shelf::{MemoryShelf, Shelf, ShelfFault};
+use silence::silent_of;
+use std::alloc::Global;
+use std::test::Fail;
+use wavread::open;
+
+/// A shelf that counts the bytes that are read.
+#[derive(Drop)]
+struct Counted {
+    shelf: MemoryShelf,
+    bytes: u64,
+}
+
+impl Shelf for Counted {
+    ghost stored = { λ it. ⟦<MemoryShelf as Shelf>⟧.stored it.shelf };
+
+    ghost honest = { λ it. ⟦<MemoryShelf as Shelf>⟧.honest it.shelf };
+
+    ghost failures = { λ it. ⟦<MemoryShelf as Shelf>⟧.failures it.shelf };
+
+    ghost failed_at = { λ it. ⟦<MemoryShelf as Shelf>⟧.failed_at it.shelf };
+
+    fn length(&mut self, name: &str) -> Result<u64, ShelfFault> {
+        self.shelf.length(name)
+    }
+
+    fn read_at(&mut self, name: &str, at: u64, buffer: &mut [u8]) -> Result<(), ShelfFault> {
+        self.bytes = self.bytes.saturating_add(buffer.len() as u64);
+        self.shelf.read_at(name, at, buffer)
+    }
+}
+
+/// A mono file of 16 bits with 10,000 frames, all of them zero but the one of this number.
+fn file(alloc: Global, sounding: usize) -> Result<Counted, Fail> {
+    let mut file = b"RIFF\x44\x4e\0\0WAVE\
+        fmt \x10\0\0\0\x01\0\x01\0\x80\xbb\0\0\0\x77\x01\0\x02\0\x10\0data\x20\x4e\0\0"
+        .to_vec(alloc)?;
+    for frame in 0..10_000 {
+        let sample: i16 = if frame == sounding { 100 } else { 0 };
+        file.extend_from_slice(&sample.to_le_bytes())?;
+    }
+    Ok(Counted {
+        shelf: MemoryShelf::new(alloc).with_file("A.wav", &file)?,
+        bytes: 0,
+    })
+}
+
+/// So many frames from this one on, at this time.
+fn piece(start: u64, frame: u64, length: u64) -> Piece
+    requires start { start ≤ 10000 }
+    requires frame { frame ≤ 10000 }
+    requires some { 1 ≤ length }
+    requires length { length ≤ 10000 }
+    ensures { IsPiece result }
+{
+    Piece {
+        start,
+        length,
+        frame,
+        file: 0,
+        first: 1,
+        dest: 1,
+        width: 1,
+        shape: Shape::Flat,
+    }
+}
+
+/// Whether each of ten pieces is silent, each so many frames behind the one before, of a file that sounds in one frame;
+/// and how many bytes were read of it.
+fn asked(rt: &HostRuntime, sounding: usize, apart: u64) -> Result<(Vec<bool>, u64), Fail>
+    requires { apart ≤ 500 }
+{
+    let alloc = rt.alloc();
+    let mut shelf = file(alloc, sounding)?;
+    let sounds = [open(alloc, &mut shelf, "A.wav")?];
+    shelf.bytes = 0;
+    let mut groups = Vec::new(alloc);
+    for number in 0..10 {
+        let piece = piece(number, number * apart, 5000);
+        groups.push(Group::alone(alloc, piece))?;
+    }
+    let intervals = Intervals::ordered(groups)?;
+    let silent = silent_of(alloc, &intervals, &sounds, &mut shelf)?;
+    Ok((silent, shelf.bytes))
+}
+
+#[test]
+fn equal_pieces_are_read_once(rt: HostRuntime) -> Result<(), Fail> {
+    let (silent, bytes) = asked(&rt, 9000, 0)?;
+    assert_eq!(rt; silent.as_slice(), [true; 10].as_slice());
+    assert_eq!(rt; bytes, 10_000);
+    Ok(())
+}
+
+#[test]
+fn pieces_that_overlap_are_read_once(rt: HostRuntime) -> Result<(), Fail> {
+    let (silent, bytes) = asked(&rt, 9999, 500)?;
+    assert_eq!(rt; silent.as_slice(), [true; 10].as_slice());
+    assert_eq!(rt; bytes, 19_000);
+    Ok(())
+}
+
+#[test]
+fn a_frame_that_sounds_is_found_once(rt: HostRuntime) -> Result<(), Fail> {
+    let (silent, bytes) = asked(&rt, 4999, 500)?;
+    assert_eq!(rt; silent.as_slice(), [false; 10].as_slice());
+    assert_eq!(rt; bytes, 10_000);
+    Ok(())
+}

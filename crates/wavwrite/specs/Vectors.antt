@@ -1,0 +1,30 @@
+-- Worked examples of headers, where RIFF ends and RF64 begins. Each is computed from the definitions.
+use Rattle.std.specs.Prelude.{◌≡◌, refl, ℕ, [], ◌∷◌, ◌++◌, take, drop, replicate, codes}
+use Rattle.sound_terms.specs.Waves.{SoundInfo, header_of, u16_bytes, u32_bytes, u64_bytes, zeros, chunk_head}
+
+-- so many frames of one channel and 16 bits, without texts
+abbrev mono : ℕ → SoundInfo
+mono frames = record {
+  channels = 1;
+  depth = 16;
+  frames = frames;
+  text = replicate 338 0;
+  time_reference = 0;
+  history = [];
+}
+
+-- one frame too many for RIFF: its first 52 bytes, and the head of `data`
+pub shortest_rf64 : take 52 (header_of (mono 2147483307)) ++ drop 682 (header_of (mono 2147483307)) ≡
+    codes "RF64" ++ (255 ∷ 255 ∷ 255 ∷ 255 ∷ []) ++ codes "WAVEds64" ++ (28 ∷ 0 ∷ 0 ∷ 0 ∷ [])
+    ++ (0 ∷ 0 ∷ 0 ∷ 0 ∷ 1 ∷ 0 ∷ 0 ∷ 0 ∷ []) ++ (86 ∷ 253 ∷ 255 ∷ 255 ∷ 0 ∷ 0 ∷ 0 ∷ 0 ∷ [])
+    ++ (171 ∷ 254 ∷ 255 ∷ 127 ∷ 0 ∷ 0 ∷ 0 ∷ 0 ∷ []) ++ (0 ∷ 0 ∷ 0 ∷ 0 ∷ []) ++ codes "bext"
+    ++ codes "data" ++ (255 ∷ 255 ∷ 255 ∷ 255 ∷ [])
+unfolding header_of u16_bytes u32_bytes u64_bytes zeros chunk_head
+shortest_rf64 = refl
+
+-- one frame fewer
+pub longest_riff : take 52 (header_of (mono 2147483306)) ++ drop 682 (header_of (mono 2147483306)) ≡
+    codes "RIFF" ++ (254 ∷ 255 ∷ 255 ∷ 255 ∷ []) ++ codes "WAVEJUNK" ++ (28 ∷ 0 ∷ 0 ∷ 0 ∷ []) ++ replicate 28 0
+    ++ codes "bext" ++ codes "data" ++ (84 ∷ 253 ∷ 255 ∷ 255 ∷ [])
+unfolding header_of u16_bytes u32_bytes u64_bytes zeros chunk_head
+longest_riff = refl

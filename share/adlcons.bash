@@ -1,0 +1,31 @@
+# Completes the words of adlcons in bash: source it, or put it into the folder of completions as 'adlcons'.
+_adlcons() {
+    local word=${COMP_WORDS[COMP_CWORD]} last=${COMP_WORDS[COMP_CWORD - 1]} options=--help
+    case ${COMP_WORDS[1]} in
+        consolidate) options='--handle --help' ;;
+        render) options='--from --to --channels --depth --help' ;;
+    esac
+    if ((COMP_CWORD == 1)); then
+        mapfile -t COMPREPLY < <(compgen -W "check consolidate render explain help --help --version" -- "$word")
+    elif [[ $last == --depth ]]; then
+        mapfile -t COMPREPLY < <(compgen -W "16 24 32" -- "$word")
+    elif [[ $last == --handle || $last == --from || $last == --to || $last == --channels ]]; then
+        COMPREPLY=()
+    elif [[ $word == -* ]]; then
+        mapfile -t COMPREPLY < <(compgen -W "$options" -- "$word")
+    else
+        case $COMP_CWORD:${COMP_WORDS[1]} in
+            2:explain)
+                local numbers
+                numbers=$(adlcons explain 2>/dev/null | grep -oE '^[0-9]+' | sort -u)
+                mapfile -t COMPREPLY < <(compgen -W "$numbers" -- "$word")
+                ;;
+            2:check | 2:consolidate | 2:render) mapfile -t COMPREPLY < <(compgen -f -- "$word") ;;
+            3:check | 3:consolidate | 3:render | 4:consolidate | 4:render)
+                mapfile -t COMPREPLY < <(compgen -d -- "$word")
+                ;;
+            *:consolidate | *:render) mapfile -t COMPREPLY < <(compgen -W "$options" -- "$word") ;;
+        esac
+    fi
+}
+complete -o filenames -F _adlcons adlcons
