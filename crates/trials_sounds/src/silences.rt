@@ -3,10 +3,11 @@ ghost use Rattle.std.specs.Prelude.{◌≤◌};
 ghost use Rattle.sound_terms.specs.Groups.{IsPiece};
 
 use interval::{Group, Intervals, Piece, Shape};
-use shelf::{MemoryShelf, Shelf, ShelfFault};
+use shelf::{Shelf, ShelfFault};
 use silence::silent_of;
 use std::alloc::Global;
 use std::test::Fail;
+use stores::MemoryShelf;
 use wavread::open;
 
 /// A shelf that counts the bytes that are read.
@@ -70,8 +71,19 @@ fn piece(start: u64, frame: u64, length: u64) -> Piece
     }
 }
 
-/// Whether each of ten pieces is silent, each so many frames behind the one before, of a file that sounds in one frame;
-/// and how many bytes were read of it.
+/// Ten pieces, each so many frames behind the one before.
+fn ten(alloc: Global, apart: u64) -> Result<Intervals, Fail>
+    requires { apart ≤ 500 }
+{
+    let mut groups = Vec::new(alloc);
+    for number in 0..10 {
+        groups.push(Group::alone(alloc, piece(number, number * apart, 5000)))?;
+    }
+    Ok(Intervals::ordered(groups)?)
+}
+
+/// Whether each of ten pieces is silent, so many frames apart in a file that sounds in one frame; and how many bytes
+/// were read of it.
 fn asked(rt: &HostRuntime, sounding: usize, apart: u64) -> Result<(Vec<bool>, u64), Fail>
     requires { apart ≤ 500 }
 {
@@ -79,12 +91,7 @@ fn asked(rt: &HostRuntime, sounding: usize, apart: u64) -> Result<(Vec<bool>, u6
     let mut shelf = file(alloc, sounding)?;
     let sounds = [open(alloc, &mut shelf, "A.wav")?];
     shelf.bytes = 0;
-    let mut groups = Vec::new(alloc);
-    for number in 0..10 {
-        let piece = piece(number, number * apart, 5000);
-        groups.push(Group::alone(alloc, piece))?;
-    }
-    let intervals = Intervals::ordered(groups)?;
+    let intervals = ten(alloc, apart)?;
     let silent = silent_of(alloc, &intervals, &sounds, &mut shelf)?;
     Ok((silent, shelf.bytes))
 }
