@@ -1,3 +1,4 @@
+pub mod Known
 mod MoreTold
 mod Told
 mod Turns

@@ -1,18 +1,17 @@
 -- One more fault behind those told.
 use Rattle.shelf.specs.declared.source.Shelf as source
-use Rattle.std.proofs.Common.{arith, ◌≡◌, ◌∙◌, ◌∷◌, ◌++◌, [], ℕ, true, List, Option, None, Some, ap, sym, map, option_map, refl}
-use Rattle.std.specs.Prelude.{slice_get}
+use Rattle.std.proofs.Common.{arith, ◌≡◌, ◌∙◌, ◌+◌, ◌<◌, ◌∷◌, ◌++◌, [], ℕ, true, List, Option, None, Some, add-one, ap, length, sym, slice_index_or, subst, map, option_map, refl, take, take-suc}
 use Rattle.std.specs.List.{cons_option}
-use Rattle.std.proofs.lemmas.List.{map-append}
-use Rattle.std.proofs.lemmas.List.Elements.{All-append, All-cons, All-nil, filter_map-append}
-use Rattle.std.proofs.lemmas.Option.{get_or_from_slice_get, slice_get_within}
+use Rattle.std.proofs.lemmas.List.{append_assoc, append-nil, map-append}
+use Rattle.std.proofs.lemmas.List.Elements.{filter-append, filter_map-append}
 use Rattle.sound_terms.specs.declared.Event.{Event}
 use Rattle.work_terms.specs.Disk.{Files}
-use Rattle.list_terms.specs.Project.{ListProject, Source}
+use Rattle.list_terms.specs.Names.{Place, place_of_url}
+use Rattle.list_terms.specs.Project.{Source}
 use Rattle.list_terms.specs.Binding.{Binding, is_used}
 use Rattle.opening.specs.Faults.{refusal_of}
 use Rattle.opening.specs.declared.fault.Fault.{Fault}
-use Rattle.opening.specs.Further.{WasRead, AreOfFiles, IsOfFiles, IsOfSource, fault_beside, faults_beside}
+use Rattle.opening.specs.Further.{AreTold, IsToldOf, WasRead, fault_beside, faults_beside, places_of, used_of}
 
 -- the faults of some entries and of one more
 pub one_more_entry : (binding : Binding) (told : ℕ) (events : List Event) (event : Event) (faults : List Fault)
@@ -30,24 +29,56 @@ one_more_entry binding told events event faults fault before here =
     mapped None = refl
     mapped (Some fault) = refl
 
--- a fault of the file of a used source that stands among those of the project
-pub one_more_file : (project : ListProject) (files : Files) (faults : List Fault) (fault : Fault) (place : ℕ)
-    (source : Source)
-    → slice_get project.sources place ≡ Some source → is_used project.events source.number ≡ true
-    → IsOfSource files source fault
-    → AreOfFiles project files faults → AreOfFiles project files (faults ++ fault ∷ [])
-one_more_file project files faults fault place source there used of_source before =
-    All-append (IsOfFiles project files) faults (fault ∷ []) before
-    (All-cons (IsOfFiles project files) fault [] (record {
-      source = source;
-      of_project = (
-        place,
-        slice_get_within project.sources place source there,
-        get_or_from_slice_get project.sources place source source there,
-      );
-      used = used;
-      of_source = of_source;
-    }) (All-nil (IsOfFiles project files)))
+-- what is told of some sources, and then of others
+pub told_further : (files : Files) (named : List Place) (sources more : List Source) (faults further : List Fault)
+    → AreTold files named sources faults → AreTold files (named ++ places_of sources) more further
+    → AreTold files named (sources ++ more) (faults ++ further)
+told_further files named [] more faults further before behind = rw (before, ← append-nil named) behind
+told_further files named (source ∷ sources) more faults further before behind =
+    let (told, rest, is, is_told, are) = before in
+    let here = places_of (source ∷ []) in (
+      told,
+      rest ++ further,
+      ap (λ front. front ++ further) is ∙ cons_option-append told rest further,
+      is_told,
+      told_further files (named ++ here) sources more rest further are
+          (subst (λ places. AreTold files places more further)
+          (ap (λ places. named ++ places) (filter_map-append (λ s. place_of_url s.url) (source ∷ []) sources)
+          ∙ sym (append_assoc named here (places_of sources))) behind),
+    )
+  where
+    cons_option-append : (one : Option Fault) (xs ys : List Fault)
+        → cons_option one xs ++ ys ≡ cons_option one (xs ++ ys)
+    cons_option-append None xs ys = refl
+    cons_option-append (Some x) xs ys = refl
+
+-- what is told of one source
+pub told_one : (files : Files) (named : List Place) (events : List Event) (source : Source) (told : Option Fault)
+    → is_used events source.number ≡ true → IsToldOf files named source told
+    → AreTold files named (used_of events (source ∷ [])) (cons_option told [])
+told_one files named events source told used is = rw used (told, [], refl, is, refl)
+
+-- the place that one source names
+pub named_one : (events : List Event) (source : Source) (place : Place)
+    → is_used events source.number ≡ true → place_of_url source.url ≡ Some place
+    → places_of (used_of events (source ∷ [])) ≡ place ∷ []
+named_one events source place used is = rw (used, is) refl
+
+-- the sources up to one, and that one
+pub used_further : (events : List Event) (sources : List Source) (place : ℕ) (source : Source)
+    → place < length sources → slice_index_or sources place source ≡ source
+    → used_of events (take (place + 1) sources) ≡ used_of events (take place sources) ++ used_of events (source ∷ [])
+used_further events sources place source within there =
+    ap (λ n. used_of events (take n sources)) (add-one place)
+    ∙ ap (used_of events) (take-suc sources place source within ∙ ap (λ s. take place sources ++ s ∷ []) there)
+    ∙ filter-append (λ s. is_used events s.number) (take place sources) (source ∷ [])
+
+-- the places behind those named before
+pub named_further : (named : List Place) (sources more : List Source)
+    → (named ++ places_of sources) ++ places_of more ≡ named ++ places_of (sources ++ more)
+named_further named sources more =
+    append_assoc named (places_of sources) (places_of more)
+    ∙ ap (λ places. named ++ places) (sym (filter_map-append (λ s. place_of_url s.url) sources more))
 
 -- a store that was read, and then read once more
 pub read_on : {S : Type 0} (shelf : source.Ghosts S) {old between new : S} → WasRead shelf old between

@@ -1,22 +1,27 @@
 -- What else is at fault in a list that is refused.
-use Rattle.std.specs.Prelude.{◌≡◌, ◌≤◌, ◌-◌, ◌==◌, ℕ, true, List, [], All, Contains, MatchBool, Option, None, Ok, Err, if◌then◌else◌, length, map, option_map, take}
-use Rattle.std.specs.List.{filter_map}
+use Rattle.std.specs.Prelude.{◌≡◌, ◌≤◌, ◌+◌, ◌-◌, ◌==◌, ◌⊎◌, ℕ, IsTrue, List, [], ◌∷◌, ◌++◌, Option, None, Some, Result, Ok, Err, if◌then◌else◌, drop, length, map, option_map, position, take, unwrap_or}
+use Rattle.std.specs.List.{cons_option, filter, filter_map}
 use Rattle.sound_terms.specs.declared.Event.{Event}
 use Rattle.shelf.specs.declared.source.Shelf as source
 use Rattle.work_terms.specs.Disk.{Files}
 use Rattle.work_terms.specs.Refusals.{Refusal, is_device}
+use Rattle.list_terms.specs.Names.{Place, place_of_url}
 use Rattle.list_terms.specs.Project.{ListProject, Source}
 use Rattle.list_terms.specs.Binding.{Binding, is_used}
 use Rattle.list_terms.specs.Bound.{binding_of}
 use Rattle.list_terms.specs.Accepted.{entry_fault, entry_refusal}
 use Rattle.riff.specs.Fault as media
-use Rattle.sourceindex.specs.Fault.{name_of_source}
+use Rattle.riff.specs.declared.fault.MediaFault.{MediaFault}
+use Rattle.sound_terms.specs.Sounds.{SoundFacts}
 use Rattle.wavread.specs.Facts.{sound_of_file}
 use Rattle.opening.specs.Faults.{refusal_of}
 use Rattle.opening.specs.Own.{OfText}
+use Rattle.opening.specs.Paths.{naming_of, path_among}
 use Rattle.opening.specs.declared.fault.Fault.{Fault}
 use Rattle.opening.specs.declared.fault.Fault.TheVariants as fault
 use Rattle.opening.specs.declared.further.Further.{Further}
+use Rattle.opening.specs.declared.further.paths.Naming.{Naming}
+use Rattle.opening.specs.declared.further.paths.Naming.TheVariants.{First, Again, ByOtherPath}
 
 -- what is wrong with an entry by itself, unless it is the one of this number
 abbrev pub fault_beside : Binding → ℕ → Event → Option Refusal
@@ -26,24 +31,65 @@ fault_beside binding told event =
 abbrev pub faults_beside : Binding → ℕ → List Event → List Refusal
 faults_beside binding told = filter_map (fault_beside binding told)
 
--- the fault of the file of a source: what its file is refused for, where the device didn't fail, or that it has another
--- path
-abbrev pub IsOfSource : Files → Source → Fault → Type 0
-IsOfSource files source (fault.SameName index) = index ≡ source.number
-IsOfSource files source (fault.Media named fault) =
-    (named ≡ source) × MatchBool (is_device (media.number_of fault)) (Unit {0})
-    (sound_of_file (name_of_source source) (files (name_of_source source)) ≡ Err fault)
-IsOfSource files source _ = ⊥
+-- the places that these sources name
+abbrev pub places_of : List Source → List Place
+places_of sources = filter_map (λ source. place_of_url source.url) sources
 
--- the fault of the file of a used source of the project
-pub record IsOfFiles (project : ListProject) (files : Files) (told : Fault) : Type 0 where
-  pub source : Source
-  pub of_project : Contains project.sources source
-  pub used : is_used project.events source.number ≡ true
-  pub of_source : IsOfSource files source told
+-- those of these sources that an entry names
+abbrev pub used_of : List Event → List Source → List Source
+used_of events sources = filter (λ source. is_used events source.number) sources
 
-abbrev pub AreOfFiles : ListProject → Files → List Fault → Type 0
-AreOfFiles project files = All (IsOfFiles project files)
+-- what is wrong with a file by itself
+abbrev pub fault_of_file : Source → Result SoundFacts MediaFault → Option Refusal
+fault_of_file source (Ok facts) = None
+fault_of_file source (Err of) = Some (refusal_of (fault.Media source of))
+
+-- the same where its name is new; 30 where it was named by another path before
+abbrev pub fault_of_name : Files → Source → Place → Naming → Option Refusal
+fault_of_name files source place First = fault_of_file source (sound_of_file place.name (files place.name))
+fault_of_name files source place Again = None
+fault_of_name files source place ByOtherPath = Some (refusal_of (fault.SameName source.number))
+
+-- what is wrong with the file of a source, where these places were named before
+abbrev pub fault_behind : Files → List Place → Source → Option Place → Option Refusal
+fault_behind files named source None = None
+fault_behind files named source (Some place) =
+    fault_of_name files source place (naming_of (path_among place.name named) place.path)
+
+-- the device of the source failed
+abbrev pub IsDeviceOf : Source → Option Fault → Type 0
+IsDeviceOf source (Some (fault.Media named of)) = (named ≡ source) × IsTrue (is_device (media.number_of of))
+IsDeviceOf source _ = ⊥
+
+-- this is told of the file of a source at this place
+abbrev pub IsFileTold : Files → Source → Place → Option Fault → Type 0
+IsFileTold files source place told =
+    (option_map refusal_of told ≡ fault_of_file source (sound_of_file place.name (files place.name)))
+    ⊎ IsDeviceOf source told
+
+-- this is told of a source: what is wrong with its file, or that its device failed
+abbrev pub IsToldOf : Files → List Place → Source → Option Fault → Type 0
+IsToldOf files named source told =
+    (option_map refusal_of told ≡ fault_behind files named source (place_of_url source.url)) ⊎ IsDeviceOf source told
+
+-- these are told of all these sources, in their order, where these places were named before
+abbrev pub AreTold : Files → List Place → List Source → List Fault → Type 0
+AreTold files named [] faults = faults ≡ []
+AreTold files named (source ∷ behind) faults =
+    (told : Option Fault) × (rest : List Fault) × (faults ≡ cons_option told rest)
+    × IsToldOf files named source told × AreTold files (named ++ places_of (source ∷ [])) behind rest
+
+-- how many sources there are up to the one of this number; all of them where there is none
+abbrev pub count_up_to : ℕ → List Source → ℕ
+count_up_to number sources =
+    unwrap_or (option_map (λ place. place + 1) (position (λ source. source.number == number) sources)) (length sources)
+
+-- the faults of the files that used sources behind the one of this number name, each file once
+abbrev pub AreOfFiles : ListProject → Files → ℕ → List Fault → Type 0
+AreOfFiles project files number faults =
+    let count = count_up_to number project.sources in
+    AreTold files (places_of (used_of project.events (take count project.sources)))
+    (used_of project.events (drop count project.sources)) faults
 
 -- the faults of all entries of a bound project but of the one of this number
 abbrev pub AreOfEntries : ListProject → Files → ℕ → List Fault → Type 0
@@ -58,8 +104,9 @@ IsCut all further = (further.faults.items ≡ take 20 all) × (further.more ≡ 
 -- all further faults of the text, the files or the entries, by the first of them
 abbrev pub AreAll : List ℕ → Files → Fault → List Fault → Type 0
 AreAll text files (fault.List first) all = all ≡ []
-AreAll text files (fault.SameName index) all = OfText text (λ project. AreOfFiles project files all)
-AreAll text files (fault.Media source first) all = OfText text (λ project. AreOfFiles project files all)
+AreAll text files (fault.SameName index) all = OfText text (λ project. AreOfFiles project files index all)
+AreAll text files (fault.Media source first) all =
+    OfText text (λ project. AreOfFiles project files source.number all)
 AreAll text files (fault.Entry first) all = OfText text (λ project. AreOfEntries project files first.entry all)
 
 abbrev pub AreFurther : List ℕ → Files → Fault → Further → Type 0

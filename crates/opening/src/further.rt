@@ -105,7 +105,8 @@ fn behind_file<S: Shelf>(
     shelf: &mut S,
 ) -> Result<Vec<Fault>, Untold>
     ensures of_files { IsTrue (S.honest shelf.old)
-        → IfOk result (λ faults. OfText list.now (λ project. AreOfFiles project (S.stored shelf.old) faults.items)) }
+        → IfOk result (λ faults. OfText list.now (λ project.
+        AreOfFiles project (S.stored shelf.old) index faults.items)) }
     ensures only_read { WasRead S.Shelf shelf.old shelf.new }
 {
     let project = read_again(alloc, list)?;

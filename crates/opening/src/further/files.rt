@@ -1,8 +1,11 @@
 // The faults of files, each by itself.
-ghost use Rattle.std.specs.Prelude.{◌≡◌, IfOk, IfSome, IsTrue, Some, true};
-ghost use Rattle.list_terms.specs.Binding.{is_used};
+ghost use Rattle.std.specs.Prelude.{◌≡◌, ◌≤◌, ◌==◌, ◌∷◌, ◌++◌, [], List, IfOk, IsTrue, OnOk, Some, length, position};
+ghost use Rattle.std.specs.List.{cons_option};
+ghost use Rattle.list_terms.specs.Names as names;
 ghost use Rattle.list_terms.specs.Names.{place_of_url};
-ghost use Rattle.opening.specs.Further.{AreOfFiles, IsOfSource, WasRead};
+ghost use Rattle.opening.specs.Further as spec;
+ghost use Rattle.opening.specs.Further.{AreOfFiles, AreTold, IsFileTold, WasRead, places_of, used_of};
+ghost use Rattle.opening.specs.Paths.{Knows};
 
 use super::paths::{Naming, Paths};
 use crate::Fault;
@@ -20,8 +23,8 @@ fn file_fault<S: Shelf>(
     shelf: &mut S,
 ) -> Result<Option<Fault>, AllocError>
     requires { place_of_url source.now.url ≡ Some place.now }
-    ensures of_source { IsTrue (S.honest shelf.old)
-        → IfOk result (λ told. IfSome told (IsOfSource (S.stored shelf.old) source.now)) }
+    ensures told { IsTrue (S.honest shelf.old)
+        → IfOk result (IsFileTold (S.stored shelf.old) source.now place.now) }
     ensures only_read { WasRead S.Shelf shelf.old shelf.new }
 {
     match open(alloc, shelf, place.name()) {
@@ -34,28 +37,107 @@ fn file_fault<S: Shelf>(
     }
 }
 
-/// Notes the file that this source names. Behind the fault that is told, what is wrong with it is given, where no index
-/// before named it.
+/// What is wrong with the file that this source names, where an entry names the source; and notes it.
 fn source_fault<S: Shelf>(
     alloc: Global,
+    used: &UsedNumbers,
     source: &Source,
-    is_behind: bool,
     paths: &mut Paths,
     shelf: &mut S,
 ) -> Result<Option<Fault>, AllocError>
-    ensures of_source { IsTrue (S.honest shelf.old)
-        → IfOk result (λ told. IfSome told (IsOfSource (S.stored shelf.old) source.now)) }
+    ensures told { IsTrue (S.honest shelf.old) → (named : List names.Place) → Knows paths.old named
+        → IfOk result (λ told.
+        AreTold (S.stored shelf.old) named (used_of used.now (source.now ∷ [])) (cons_option told [])) }
+    ensures noted { (named : List names.Place) → Knows paths.old named
+        → OnOk result (Knows paths.new (named ++ places_of (used_of used.now (source.now ∷ [])))) }
     ensures only_read { WasRead S.Shelf shelf.old shelf.new }
 {
+    if !used.contains(source.number()) {
+        return Ok(None);
+    }
     let Some(place) = place_of(alloc, source.url())? else {
         return Ok(None);
     };
     match paths.note(alloc, &place)? {
-        Naming::First if is_behind => file_fault(alloc, source, &place, shelf),
-        Naming::ByOtherPath if is_behind => Ok(Some(Fault::SameName {
+        Naming::First => file_fault(alloc, source, &place, shelf),
+        Naming::Again => Ok(None),
+        Naming::ByOtherPath => Ok(Some(Fault::SameName {
             index: source.number(),
         })),
-        _ => Ok(None),
+    }
+}
+
+/// Notes the file that this source names, where an entry names the source.
+fn note_file(
+    alloc: Global,
+    used: &UsedNumbers,
+    source: &Source,
+    paths: &mut Paths,
+) -> Result<(), AllocError>
+    ensures { (named : List names.Place) → Knows paths.old named
+        → OnOk result (Knows paths.new (named ++ places_of (used_of used.now (source.now ∷ [])))) }
+{
+    if !used.contains(source.number()) {
+        return Ok(());
+    }
+    if let Some(place) = place_of(alloc, source.url())? {
+        let _ = paths.note(alloc, &place)?;
+    }
+    Ok(())
+}
+
+/// Notes the files that the used ones of these sources name.
+fn note_files(
+    alloc: Global,
+    used: &UsedNumbers,
+    sources: &[Source],
+    paths: &mut Paths,
+) -> Result<(), AllocError>
+    ensures { (named : List names.Place) → Knows paths.old named
+        → OnOk result (Knows paths.new (named ++ places_of (used_of used.now sources.now))) }
+{
+    for source in sources {
+        note_file(alloc, used, source, paths)?;
+    }
+    Ok(())
+}
+
+/// What is wrong with the files that the used ones of these sources name, each file once.
+fn tell_files<S: Shelf>(
+    alloc: Global,
+    used: &UsedNumbers,
+    sources: &[Source],
+    paths: &mut Paths,
+    shelf: &mut S,
+) -> Result<Vec<Fault>, AllocError>
+    ensures told { IsTrue (S.honest shelf.old) → (named : List names.Place) → Knows paths.old named
+        → IfOk result (λ faults. AreTold (S.stored shelf.old) named (used_of used.now sources.now) faults.items) }
+    ensures only_read { WasRead S.Shelf shelf.old shelf.new }
+{
+    let mut faults = Vec::new(alloc);
+    for source in sources {
+        if let Some(fault) = source_fault(alloc, used, source, paths, shelf)? {
+            faults.push(fault)?;
+        }
+    }
+    Ok(faults)
+}
+
+/// The place of the source of this number.
+fn place_of_number(sources: &[Source], number: u32) -> Option<usize>
+    ensures { result ≡ position (λ source. source.number == number) sources.now }
+{
+    sources.iter().position(|source| source.number() == number)
+}
+
+/// How many sources there are up to the one of this number; all of them where there is none.
+fn count_up_to(sources: &[Source], number: u32) -> usize
+    ensures count { result ≡ spec.count_up_to number sources.now }
+    ensures within { result ≤ length sources.now }
+{
+    match place_of_number(sources, number) {
+        Some(place) => place + 1,
+        None => sources.len(),
     }
 }
 
@@ -68,21 +150,13 @@ pub fn file_faults<S: Shelf>(
     shelf: &mut S,
 ) -> Result<Vec<Fault>, AllocError>
     ensures of_files { IsTrue (S.honest shelf.old)
-        → IfOk result (λ faults. AreOfFiles project.now (S.stored shelf.old) faults.items) }
+        → IfOk result (λ faults. AreOfFiles project.now (S.stored shelf.old) told faults.items) }
     ensures only_read { WasRead S.Shelf shelf.old shelf.new }
 {
     let used = UsedNumbers::new(alloc, project.events());
     let mut paths = Paths::new(alloc);
-    let mut faults = Vec::new(alloc);
-    let mut is_behind = false;
-    for source in project.sources() {
-        let number = source.number();
-        if used.contains(number) {
-            if let Some(fault) = source_fault(alloc, source, is_behind, &mut paths, shelf)? {
-                faults.push(fault)?;
-            }
-        }
-        is_behind = is_behind || number == told;
-    }
-    Ok(faults)
+    let sources = project.sources();
+    let (before, behind) = sources.split_at(count_up_to(sources, told));
+    note_files(alloc, &used, before, &mut paths)?;
+    tell_files(alloc, &used, behind, &mut paths, shelf)
 }

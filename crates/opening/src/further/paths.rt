@@ -1,7 +1,7 @@
 // By which paths files are named.
-ghost use Rattle.std.specs.Prelude.{◌≡◌, ℕ, List, None, IfOk};
-ghost use Rattle.std.specs.BTreeMap.{get_by_text};
-ghost use Rattle.opening.specs.Paths.{naming_of};
+ghost use Rattle.std.specs.Prelude.{◌≡◌, ◌∷◌, ◌++◌, [], List, IfOk, OnOk};
+ghost use Rattle.list_terms.specs.Names as names;
+ghost use Rattle.opening.specs.Paths.{Knows, naming_of, path_among};
 
 use adlmodel::{Bytes, Place};
 use std::alloc::{AllocError, Global};
@@ -24,7 +24,7 @@ pub struct Paths {
 impl Paths {
     /// No file was named.
     pub fn new(alloc: Global) -> Self
-        ensures { (name : List ℕ) → get_by_text result.paths name ≡ None }
+        ensures { Knows result [] }
     {
         Paths {
             paths: BTreeMap::new(alloc),
@@ -33,8 +33,10 @@ impl Paths {
 
     /// Notes that the file at this place is named, and tells whether it was named before, and by this path.
     pub fn note(&mut self, alloc: Global, place: &Place) -> Result<Naming, AllocError>
-        ensures naming { IfOk result (λ naming. naming
-            ≡ naming_of (get_by_text self.old.paths place.now.name) place.now.path) }
+        ensures naming { (places : List names.Place) → Knows self.old places → IfOk result (λ naming. naming
+            ≡ naming_of (path_among place.now.name places) place.now.path) }
+        ensures noted { (places : List names.Place) → Knows self.old places
+            → OnOk result (Knows self.new (places ++ place.now ∷ [])) }
     {
         if let Some(path) = self.paths.get(place.name()) {
             let is_same = path.as_slice() == place.path();
