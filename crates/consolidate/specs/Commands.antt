@@ -21,7 +21,7 @@ use Rattle.consolidation.specs.Consolidated.{AreDurable, IsElsewhere, IsWorkOf, 
 use Rattle.consolidation.specs.Work.{SoundsTheSame}
 use Rattle.consolidate.specs.Fault.{refusal_of}
 use Rattle.consolidate.specs.Rounds.{ConsolidatesList, EndsOf, RendersList}
-use Rattle.consolidate.specs.Own.{IsOfConsolidation, IsOfProject, IsOfRendering}
+use Rattle.consolidate.specs.Own.{IsFirst, IsOfConsolidation, IsOfProject, IsOfRendering}
 use Rattle.consolidate.specs.declared.fault.Fault.{Fault}
 use Rattle.consolidate.specs.declared.fault.Fault.TheVariants as fault
 use Rattle.consolidate.specs.declared.fault.OutputFile.TheVariants as file
@@ -143,6 +143,7 @@ module _ {S B : Type 0} (shelf : source.Ghosts S) (bench : output.Ghosts B) wher
         → Answers refusal_of result (render_refusal list values (shelf.stored shelf_old))
     pub bad_text : RefusesBadText list result
     pub own : IfErr result (IsOfRendering list)
+    pub in_turn : IsTrue (shelf.honest shelf_old) → IfErr result (IsFirst list (shelf.stored shelf_old))
     pub named : IsTrue (bench.honest bench_old) → (n : List ℕ) → n ≢ codes "render.wav"
         → bench.stored bench_new n ≡ bench.stored bench_old n
     pub rounds : IsTrue (shelf.honest shelf_old) → IsTrue (bench.honest bench_old)
@@ -164,6 +165,7 @@ module _ {S B : Type 0} (shelf : source.Ghosts S) (bench : output.Ghosts B) wher
     pub bad_list : IsTrue (shelf.honest shelf_old) → RefusesBadList list (shelf.stored shelf_old) result
     pub bad_text : RefusesBadText list result
     pub own : IfErr result (IsOfConsolidation list)
+    pub in_turn : IsTrue (shelf.honest shelf_old) → IfErr result (IsFirst list (shelf.stored shelf_old))
     pub named : IsTrue (bench.honest bench_old) → (n : List ℕ) → IsElsewhere 32767 n
         → bench.stored bench_new n ≡ bench.stored bench_old n
     pub list_last : IsTrue (bench.honest bench_old) → IfErr result (λ told. told ≢ fault.Output file.List
@@ -180,6 +182,7 @@ pub record IsChecking {S : Type 0} (shelf : source.Ghosts S) (list : List ℕ) (
   pub report : IsTrue (shelf.honest old) → IfOk result (opening.Reports list (shelf.stored old))
   pub bad_text : RefusesBadText list result
   pub own : IfErr result (IsOfProject list)
+  pub in_turn : IsTrue (shelf.honest old) → IfErr result (IsFirst list (shelf.stored old))
   pub sources : shelf.stored new ≡ shelf.stored old
   pub honest_shelf : shelf.honest new ≡ shelf.honest old
   pub cause_at_source : HasCause (shelf.failures old) (shelf.failures new) (IfErr result (λ fault. ¬ IsSource fault))

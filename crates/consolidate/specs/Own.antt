@@ -1,6 +1,8 @@
 -- Which faults each call may tell.
 use Rattle.std.specs.Prelude.{◌≡◌, ℕ, ◌≤◌, ⊤}
 use Rattle.std.specs.Prelude as bytes
+use Rattle.work_terms.specs.Disk.{Files}
+use Rattle.opening.specs.Own as opening
 use Rattle.opening.specs.Own.{IsOfOpening}
 use Rattle.consolidate.specs.declared.fault.OutputFile.{OutputFile}
 use Rattle.consolidate.specs.declared.fault.OutputFile.TheVariants.{Rendering, Medium, List}
@@ -11,6 +13,11 @@ use Rattle.consolidate.specs.declared.fault.Fault.TheVariants as fault
 abbrev pub IsOfProject : bytes.List ℕ → Fault → Type 0
 IsOfProject text (fault.Project of) = IsOfOpening text of
 IsOfProject text _ = ⊥
+
+-- no index before the one whose file is told is at fault
+abbrev pub IsFirst : bytes.List ℕ → Files → Fault → Type 0
+IsFirst text files (fault.Project of) = opening.IsFirst text files of
+IsFirst text files _ = ⊤
 
 abbrev pub IsRenderedFile : OutputFile → Type 0
 IsRenderedFile Rendering = ⊤

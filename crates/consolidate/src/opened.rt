@@ -6,7 +6,7 @@ ghost use Rattle.list_terms.specs.Text.{text_value};
 ghost use Rattle.adlread.specs.Spells.{Spells};
 ghost use Rattle.consolidate.specs.Commands.{ReadsSources, RefusesBadText, all_notices};
 ghost use Rattle.consolidate.specs.Fault.{refusal_of};
-ghost use Rattle.consolidate.specs.Own.{IsOfProject};
+ghost use Rattle.consolidate.specs.Own.{IsFirst, IsOfProject};
 
 use crate::Fault;
 use adlread::AdlFault;
@@ -36,7 +36,8 @@ pub fn open<S: Shelf>(alloc: Global, list: &[u8], shelf: &mut S) -> Result<Opene
     ensures bad_text { RefusesBadText list.now result }
     ensures own { IfErr result (IsOfProject list.now) }
     ensures early { IfErr result (λ fault. (refusal_of fault).late ≡ false) }
-    ensures in_turn { IfErr result (λ fault. turn_of (refusal_of fault) ≤ 3) }
+    ensures in_turn { IsTrue (S.honest shelf.old) → IfErr result (IsFirst list.now (S.stored shelf.old)) }
+    ensures turn { IfErr result (λ fault. turn_of (refusal_of fault) ≤ 3) }
     ensures only_reads { ReadsSources S.Shelf shelf.old shelf.new result }
 {
     let checked = match open_project(alloc, list, shelf) {

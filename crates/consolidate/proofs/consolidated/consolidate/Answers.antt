@@ -8,6 +8,7 @@ use Rattle.consolidate.proofs.Due.{none_due, one_accepted, one_work, opening_due
 use Rattle.consolidation.specs.declared.written.Written as consolidation
 use Rattle.consolidate.specs.Rounds.{ConsolidatesInRounds, ConsolidatesList}
 use Rattle.consolidate.specs.declared.consolidated.Written.{Written}
+use Rattle.consolidate.proofs.First.{consolidated_first}
 use Rattle.consolidate.proofs.Rounds.{consolidates_list, ends_map, none_ended}
 use Rattle.consolidate.proofs.Stores.{answered_as, opened_before, refused_as, stopped_early}
 use Rattle.consolidate.proofs.consolidated.consolidate.Goals as goal
@@ -23,11 +24,12 @@ returns-in_err-checked g c =
       written = search rules;
       durable = search rules;
       refusals = λ honest project binding work accepted is_work.
-          opening_due_of_work (refusal_of fault) c.args.list.now sources project binding work told.in_turn accepted
+          opening_due_of_work (refusal_of fault) c.args.list.now sources project binding work told.turn accepted
           (told.refusals honest);
       bad_list = λ honest refusal due. let is_due = told.refusals honest in (rw due at is_due, λ ok. absurd (cc));
       bad_text = told.bad_text;
       own = search rules;
+      in_turn = told.in_turn;
       named = search rules;
       list_last = search rules;
       rounds = λ honest right. none_ended Written c.args.list.now fault
@@ -63,6 +65,7 @@ returns-in_err-written g c =
           let none = sym (none_due list sources _ _ (opened.accepted honest)) ∙ due in absurd (cc);
       bad_text = λ refusal bad. let same = sym opened.spelt ∙ bad in absurd (cc);
       own = told.own list;
+      in_turn = λ honest. consolidated_first list sources fault told.own;
       named = search rules;
       list_last = search rules;
       rounds = λ honest right. ends_map consolidation.Written Written fault
@@ -122,6 +125,7 @@ returns g c =
           (tt, λ _. let none = sym (none_due list sources project binding (opened.accepted honest)) ∙ due in cc);
       bad_text = λ refusal bad. (tt, λ _. let same = sym opened.spelt ∙ bad in cc);
       own = tt;
+      in_turn = λ honest. tt;
       named = search rules;
       list_last = search rules;
       rounds = λ honest right. consolidates_list list handle project binding sources

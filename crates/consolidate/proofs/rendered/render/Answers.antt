@@ -7,6 +7,7 @@ use Rattle.consolidate.specs.Fault.{refusal_of}
 use Rattle.consolidate.specs.Rounds.{RendersInRounds, RendersList}
 use Rattle.consolidate.specs.declared.rendered.Rendered.{Rendered}
 use Rattle.consolidate.proofs.Due.{opening_due, range_due}
+use Rattle.consolidate.proofs.First.{rendered_first}
 use Rattle.consolidate.proofs.Rounds.{ends_map, none_ended, renders_list}
 use Rattle.consolidate.proofs.Stores.{answered_as, opened_before, refused_as, stopped_early}
 use Rattle.consolidate.proofs.rendered.render.Goals as goal
@@ -21,9 +22,10 @@ returns-in_err-checked g c =
       durable = search rules;
       report = tt;
       refusals = λ honest. opening_due (refusal_of fault) c.args.list.now (values_of c.args.options.now)
-          (g.S.Shelf.stored c.args.shelf.now) told.in_turn (told.refusals honest);
+          (g.S.Shelf.stored c.args.shelf.now) told.turn (told.refusals honest);
       bad_text = told.bad_text;
       own = search rules;
+      in_turn = told.in_turn;
       named = search rules;
       rounds = λ honest right. none_ended Rendered c.args.list.now fault
           (RendersList c.args.list.now (values_of c.args.options.now) (g.S.Shelf.stored c.args.shelf.now)
@@ -51,6 +53,7 @@ returns-in_err-rendered g c =
           told.refusals;
       bad_text = λ refusal bad. let same = sym opened.spelt ∙ bad in absurd (cc);
       own = told.own c.args.list.now;
+      in_turn = λ honest. rendered_first c.args.list.now (g.S.Shelf.stored c.args.shelf.now) fault told.own;
       named = search rules;
       rounds = λ honest right. ends_map rendering.Rendered Rendered fault
           (RendersInRounds checked.project checked.bound values (g.S.Shelf.stored c.open.new.shelf)
@@ -87,6 +90,7 @@ returns g c =
       refusals = search rules;
       bad_text = search rules;
       own = tt;
+      in_turn = λ honest. tt;
       named = search rules;
       rounds = λ honest right. renders_list c.args.list.now values checked.project checked.bound
           (g.S.Shelf.stored c.args.shelf.now) (g.S.Shelf.stored c.open.new.shelf)
