@@ -1,5 +1,5 @@
 -- Lemmas on single steps.
-use Rattle.std.proofs.Common.{◌≡◌, ◌≢◌, ◌∙◌, ℕ, ◌<◌, ◌≤◌, Bool, true, false, cond, Option, Some, None, Result, Ok, Err, List, [], ◌∷◌, ◌++◌, take, IsTrue, is_some, length, get_or, set, refl, sym, ap, subst, inl, inr, arith}
+use Rattle.std.proofs.Common.{◌≡◌, ◌∙◌, ℕ, ◌<◌, Bool, true, false, cond, Option, Some, None, Result, Ok, Err, List, [], ◌∷◌, ◌++◌, take, IsTrue, is_some, length, refl, sym, ap, subst, inl, inr}
 use Rattle.std.proofs.lemmas.Bool.{cases_lt}
 use Rattle.std.proofs.lemmas.List.{get_or_past}
 use Rattle.std.proofs.Math.Seq.{take-append_seam}
@@ -49,7 +49,8 @@ hand-none (Some t) made bytes e = absurd (apart e)
     apart : true ≡ false → ⊥
     apart h = cc
 
-pub hand-is : (ticket : Option Ticket) (t : Ticket) (made known : Bool) (bytes : List ℕ) → ticket ≡ Some t → made ≡ known
+pub hand-is : (ticket : Option Ticket) (t : Ticket) (made known : Bool) (bytes : List ℕ) → ticket ≡ Some t → made ≡
+    known
     → hand_of ticket made bytes ≡ hand_of (Some t) known bytes
 hand-is ticket t made known bytes e f = ap (λ o. hand_of o made bytes) e ∙ ap (λ b. hand_of (Some t) b bytes) f
 
@@ -60,7 +61,8 @@ pub front_made : (n : ℕ) (a b made : List ℕ) → n ≡ length a → a ≡ ma
 front_made n a b made e m = take_front n a b e ∙ m
 
 -- what a step leaves, weakened
-pub steps-map : {X : Type 0} (result : Result X RunFault) (P Q : Option End → Type 0) → ((ended : Option End) → P ended → Q ended)
+pub steps-map : {X : Type 0} (result : Result X RunFault) (P Q : Option End → Type 0) → ((ended : Option End) → P
+    ended → Q ended)
     → Steps result P → Steps result Q
 steps-map (Ok x) P Q f h = f None h
 steps-map (Err (GivenUp job)) P Q f h = f (Some (words.GivenUp job)) h
@@ -80,24 +82,29 @@ steps-of X Y fault told P e h = subst (λ (f : RunFault). Steps {X = Y} (Err f) 
 pub raised : (before now : ℕ) (quiet device : Type 0) → HasCause before now quiet device → device → Rises before now
 raised before now quiet device cause d = record { later = cause.later; rose = cause.rose d }
 
-pub placed-write : (X : Type 0) (work : JobsBy) (marks : Bool) (job : ℕ) (seen bytes : List ℕ) (old new : Files) (f : PlaceFault)
+pub placed-write : (X : Type 0) (work : JobsBy) (marks : Bool) (job : ℕ) (seen bytes : List ℕ) (old new : Files)
+    (f : PlaceFault)
     → f ≡ place.Write → seen ≡ bytes → IsPlaced {X = X} work marks job seen old new (Err f)
     → Puts (IsTorn (work.at job) (length bytes)) work.name job old new
 placed-write X work marks job seen bytes old new f is same h =
     subst (λ (b : List ℕ). Puts (IsTorn (work.at job) (length b)) work.name job old new) same
     (subst (λ (g : PlaceFault). IsPlaced {X = X} work marks job seen old new (Err g)) is h)
 
-pub placed-mark : (X : Type 0) (work : JobsBy) (marks : Bool) (job : ℕ) (seen bytes : List ℕ) (old new : Files) (f : PlaceFault)
+pub placed-mark : (X : Type 0) (work : JobsBy) (marks : Bool) (job : ℕ) (seen bytes : List ℕ) (old new : Files)
+    (f : PlaceFault)
     → f ≡ place.Mark → seen ≡ bytes → IsPlaced {X = X} work marks job seen old new (Err f)
     → IsTrue marks × Puts (IsWritten (work.at job) bytes) work.name job old new
 placed-mark X work marks job seen bytes old new f is same h =
     subst (λ (b : List ℕ). IsTrue marks × Puts (IsWritten (work.at job) b) work.name job old new) same
     (subst (λ (g : PlaceFault). IsPlaced {X = X} work marks job seen old new (Err g)) is h)
 
-pub fault-hand : (ticket : Option Ticket) (t : Ticket) (made : Bool) (bytes : List ℕ) (hand : words.Hand) (old new : words.State)
-    → ticket ≡ Some t → hand_of ticket made bytes ≡ hand → new ≡ words.after_fault old t → words.FaultStep old hand new Nothing
+pub fault-hand : (ticket : Option Ticket) (t : Ticket) (made : Bool) (bytes : List ℕ) (hand : words.Hand)
+    (old new : words.State)
+    → ticket ≡ Some t → hand_of ticket made bytes ≡ hand → new ≡ words.after_fault old t → words.FaultStep old hand
+    new Nothing
 fault-hand ticket t made bytes hand old new is view e =
-    subst (λ (h : words.Hand). words.FaultStep old h new Nothing) (sym (ap (λ o. hand_of o made bytes) is) ∙ view) (go made)
+    subst (λ (h : words.Hand). words.FaultStep old h new Nothing) (sym (ap (λ o. hand_of o made bytes) is) ∙ view)
+    (go made)
   where
     go : (b : Bool) → words.FaultStep old (hand_of (Some t) b bytes) new Nothing
     go true = (e, refl)

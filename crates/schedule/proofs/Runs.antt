@@ -1,13 +1,12 @@
 -- Runs, one event longer.
-use Rattle.std.proofs.Common.{◌≡◌, ◌≢◌, ◌∙◌, ℕ, Bool, true, false, cond, MatchBool, is_none, Option, Some, None, List, [], ◌∷◌, ◌++◌, ◌==◌, ◌+◌, ◌<◌, ◌≤◌, length, take, get_or, refl, sym, ap, subst, inl, inr, arith}
+use Rattle.std.proofs.Common.{◌≡◌, ◌≢◌, ◌∙◌, ℕ, Bool, true, false, cond, MatchBool, is_none, None, List, [], ◌∷◌, ◌++◌, ◌==◌, ◌+◌, ◌<◌, ◌≤◌, length, take, get_or, refl, sym, ap, subst, inl, inr}
 use Rattle.std.proofs.lemmas.Bool.Decides.{eqb_tells}
 use Rattle.std.proofs.lemmas.List.{take_more}
 use Rattle.work_terms.specs.Disk.{Files}
 use Rattle.job_terms.specs.declared.BoardEvent.{BoardEvent}
 use Rattle.job_terms.specs.Workers.{Jobs, JobsBy, jobs_over, Hand, Nothing, Holds, Made, State, World, BoardStep, BoardRun, HandStep, with_hand}
 use Rattle.std.specs.Prelude.{IfSome}
-use Rattle.job_terms.specs.declared.Ticket.{Ticket}
-use Rattle.schedule.specs.Run.{Desk, FitsHand, FitsRoom, HasRoom, IsWorld, Leads, job_of}
+use Rattle.schedule.specs.Run.{Desk, FitsHand, FitsRoom, HasRoom, Leads, job_of}
 
 apart : true ≡ false → ⊥
 apart h = cc
@@ -16,7 +15,8 @@ pub run-more : (marks : Bool) (jobs : Jobs) (events : List BoardEvent) (event : 
     → BoardRun marks jobs old events mid → mid.state.ended ≡ None → BoardStep marks jobs mid event new
     → BoardRun marks jobs old (events ++ event ∷ []) new
 run-more marks jobs [] event old mid new run none step =
-    let open_still : true ≡ is_none old.state.ended = sym (ap (λ (w : World). is_none w.state.ended) (sym run) ∙ ap is_none none) in
+    let open_still : true ≡ is_none old.state.ended = sym (ap (λ (w : World). is_none w.state.ended) (sym run) ∙ ap
+    is_none none) in
     subst (λ b. MatchBool b ((m : World) × BoardStep marks jobs old event m × (new ≡ m)) (new ≡ old)) open_still
     (new, subst (λ (w : World). BoardStep marks jobs w event new) run step, refl)
 run-more marks jobs (first ∷ events) event old mid new run none step =
@@ -25,7 +25,8 @@ run-more marks jobs (first ∷ events) event old mid new run none step =
     go : (b : Bool) → is_none old.state.ended ≡ b
         → MatchBool b ((m : World) × BoardStep marks jobs old first m × BoardRun marks jobs m events mid) (mid ≡ old)
         → ((m : World) → BoardRun marks jobs m events mid → BoardRun marks jobs m (events ++ event ∷ []) new)
-        → MatchBool b ((m : World) × BoardStep marks jobs old first m × BoardRun marks jobs m (events ++ event ∷ []) new) (new ≡ old)
+        → MatchBool b ((m : World) × BoardStep marks jobs old first m × BoardRun marks jobs m (events ++ event ∷ [])
+        new) (new ≡ old)
     go true e r ih = (r.0, r.1, ih r.0 r.2)
     go false e r ih = absurd (apart (sym (ap (λ (w : World). is_none w.state.ended) (sym r) ∙ ap is_none none) ∙ e))
 
@@ -43,7 +44,11 @@ hand-leads step number old had new hand now has is taken after = record {
           (subst (λ (h : Hand). step old h new now) (is ∙ sym (at.hands_are number)) taken),
       refl,
     ),
-    record { state_is = refl; hands_are = λ v. ap (λ (h : Hand). cond (v == number) now h) (at.hands_are v) ∙ sym (after v) },
+    record {
+      state_is = refl;
+      hands_are = λ v. ap (λ (h : Hand). cond (v == number) now h) (at.hands_are v) ∙ sym
+          (after v);
+    },
   );
 }
 
@@ -55,8 +60,12 @@ pub leads-more : (marks : Bool) (jobs : Jobs) (events : List BoardEvent) (event 
 leads-more marks jobs events event old mid new had held has none run step = record {
   leads = λ world at.
       let before = run.leads world at in
-      let after = step.leads before.0 before.2 in
-      (after.0, run-more marks jobs events event world before.0 after.0 before.1 (ap (λ (s : State). s.ended) before.2.state_is ∙ none) after.1, after.2);
+      let after = step.leads before.0 before.2 in (
+        after.0,
+        run-more marks jobs events event world before.0 after.0 before.1 (ap (λ (s : State). s.ended)
+            before.2.state_is ∙ none) after.1,
+        after.2,
+      );
 }
 
 -- the hands after one worker was taken out and put back
@@ -67,7 +76,8 @@ hand-after old taken new number now others put v = put v ∙ elim (eqb_tells v n
   | inr e ↦ ap (λ (h : Hand). cond (v == number) now h) (others v e.1)
 ]
 
-pub fits-after : (work : JobsBy) (old new : ℕ → Hand) (number : ℕ) (now : Hand) → ((v : ℕ) → new v ≡ with_hand old number now v)
+pub fits-after : (work : JobsBy) (old new : ℕ → Hand) (number : ℕ) (now : Hand) → ((v : ℕ) → new v ≡ with_hand old
+    number now v)
     → FitsHand work now → ((v : ℕ) → FitsHand work (old v)) → (v : ℕ) → FitsHand work (new v)
 fits-after work old new number now after fits all v = subst (FitsHand work) (sym (after v)) (go (v == number))
   where
@@ -90,21 +100,27 @@ pub leads-next : (marks : Bool) (jobs : Jobs) (events : List BoardEvent) (i : �
     → Leads (λ world next. BoardRun marks jobs world (take (i + 1) events) next) old had new has
 leads-next marks jobs events i d old mid new had held has lt none run step =
     subst (λ (es : List BoardEvent). Leads (λ world next. BoardRun marks jobs world es next) old had new has)
-    (sym (take_more events i d lt)) (leads-more marks jobs (take i events) (get_or events i d) old mid new had held has none run step)
+    (sym (take_more events i d lt)) (leads-more marks jobs (take i events) (get_or events i d) old mid new had held
+    has none run step)
 
-pub leads-as : (marks marks' : Bool) (work work' : JobsBy) (stored stored' : Files) (event : BoardEvent) (old new : State) (had has : ℕ → Hand)
+pub leads-as : (marks marks' : Bool) (work work' : JobsBy) (stored stored' : Files) (event : BoardEvent)
+    (old new : State) (had has : ℕ → Hand)
     → marks ≡ marks' → work ≡ work' → stored ≡ stored'
     → Leads (λ world next. BoardStep marks (jobs_over work stored) world event next) old had new has
     → Leads (λ world next. BoardStep marks' (jobs_over work' stored') world event next) old had new has
 leads-as marks marks' work work' stored stored' event old new had has m w s h =
     subst (λ (b : Bool). Leads (λ world next. BoardStep b (jobs_over work' stored') world event next) old had new has) m
-    (subst (λ (v : JobsBy). Leads (λ world next. BoardStep marks (jobs_over v stored') world event next) old had new has) w
-    (subst (λ (f : Files). Leads (λ world next. BoardStep marks (jobs_over work f) world event next) old had new has) s h))
+    (subst (λ (v : JobsBy). Leads (λ world next. BoardStep marks (jobs_over v stored') world event next) old had new
+    has) w
+    (subst (λ (f : Files). Leads (λ world next. BoardStep marks (jobs_over work f) world event next) old had new has)
+    s h))
 
 -- ---- what fits a worker
 
-pub fits-room : (work : JobsBy) (desk : Desk) (room : ℕ) → FitsHand work desk.hand → HasRoom work room → desk.room ≡ room → FitsRoom work desk
-fits-room work desk room fits has same ticket holds = subst (λ (n : ℕ). work.size ticket.job ≤ n) (sym same) (has ticket.job (subst (FitsHand work) holds fits))
+pub fits-room : (work : JobsBy) (desk : Desk) (room : ℕ) → FitsHand work desk.hand → HasRoom work room → desk.room ≡
+    room → FitsRoom work desk
+fits-room work desk room fits has same ticket holds = subst (λ (n : ℕ). work.size ticket.job ≤ n) (sym same)
+    (has ticket.job (subst (FitsHand work) holds fits))
 
 pub fits-job : (work : JobsBy) (hand : Hand) → FitsHand work hand → IfSome (job_of hand) (λ k. k < work.count)
 fits-job work Nothing fits = tt

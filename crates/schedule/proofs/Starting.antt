@@ -1,5 +1,5 @@
 -- Where no job is done yet.
-use Rattle.std.proofs.Common.{◌≡◌, ◌∙◌, ◌^◌, ◌+◌, ◌++◌, [], ◌∷◌, ℕ, ◌<◌, ◌≤◌, Bool, true, false, Option, None, Some, Result, Ok, Err, OnOk, List, length, take, get_or, refl, sym, ap, subst, arith}
+use Rattle.std.proofs.Common.{◌≡◌, ◌∙◌, ◌^◌, ◌+◌, ◌++◌, [], ◌∷◌, ℕ, ◌<◌, ◌≤◌, Bool, true, false, None, Some, Result, Ok, Err, OnOk, List, take, get_or, refl, sym, ap, subst, arith}
 use Rattle.std.specs.List.{range_with_len}
 use Rattle.std.proofs.lemmas.List.{get_or-replicate, length-replicate, map-id}
 use Rattle.std.proofs.lemmas.List.FromFn.{get_or-range_with_len, length-range_with_len, map-range_with_len_more}
@@ -15,14 +15,21 @@ use Rattle.schedule.specs.Marking.{done_of}
 use Rattle.workboard.specs.Indexed.{IsOrder}
 use Rattle.work_terms.specs.Disk.{Files}
 use Rattle.job_terms.specs.Workers.{BoardRun, End, GivenUp, MarkFailed, Hand, Jobs, Nothing, rounds}
-use Rattle.schedule.specs.Filled.{AreFilled, AreParts, IsFilled}
+use Rattle.schedule.specs.Filled.{AreFilled, AreParts}
 
 -- each job of a fresh board is open
 pub open-fresh : (count k : ℕ) → k < count → job_at (board_of count) k ≡ fresh_job
 open-fresh count k lt = get_or-replicate count k fresh_job no_job lt
 
 pub rest-fresh : (count : ℕ) → AtRest (board_of count)
-rest-fresh count = record { each = λ k lt. subst IsAtRest (sym (open-fresh count k (omega (arith, lt, length-replicate count fresh_job)))) (Waits refl refl (omega arith)) }
+rest-fresh count = record {
+  each = λ k lt. subst IsAtRest (sym (open-fresh count k (omega (
+    arith,
+    lt,
+    length-replicate
+        count fresh_job,
+  )))) (Waits refl refl (omega arith));
+}
 
 pub none-done : (count k : ℕ) → k < count → done_of (board_of count) k ≡ false
 none-done count k lt = ap (λ (job : Job). is_done job.standing) (open-fresh count k lt)
@@ -47,7 +54,8 @@ order-fresh count few = record {
 
 -- outputs that are filled by no job are filled as far as these are done
 pub filled-fresh : (jobs : Jobs) (whole : List ℕ → List ℕ) (done : ℕ → Bool) (files : Files)
-    → ((k : ℕ) → k < jobs.count → done k ≡ false) → AreFilled jobs whole (λ _. false) files → AreFilled jobs whole done files
+    → ((k : ℕ) → k < jobs.count → done k ≡ false) → AreFilled jobs whole (λ _. false) files → AreFilled jobs whole
+    done files
 filled-fresh jobs whole done files fresh filled = record {
   each = λ j lt. let f = filled.each j lt in record {
     bytes = f.bytes;
@@ -58,26 +66,32 @@ filled-fresh jobs whole done files fresh filled = record {
 }
 
 -- what one worker alone did from a fresh board on
-pub rounds-from : (X : Type 0) (r : Result X JobFault) (marks : Bool) (jobs : Jobs) (whole : List ℕ → List ℕ) (old new : Board) (laid written : Files)
-    (shelf_old bench_old shelf_new bench_new : ℕ) → old ≡ board_of jobs.count → AreParts jobs whole → AreFilled jobs whole (λ _. false) laid
-    → ((n : ℕ) × (m : ℕ) × (hand : Hand) × (m ≤ 3) × (OnOk r (m ≡ 0)) × Leads (λ world next. BoardRun marks jobs world (rounds n ++ take m (rounds 1)) next)
-    (state_of old laid 0 shelf_old bench_old None) (λ _. Nothing) (state_of new written 0 shelf_new bench_new (ended_of r)) (only hand))
+pub rounds-from : (X : Type 0) (r : Result X JobFault) (marks : Bool) (jobs : Jobs) (whole : List ℕ → List ℕ)
+    (old new : Board) (laid written : Files)
+    (shelf_old bench_old shelf_new bench_new : ℕ) → old ≡ board_of jobs.count → AreParts jobs whole → AreFilled jobs
+    whole (λ _. false) laid
+    → ((n : ℕ) × (m : ℕ) × (hand : Hand) × (m ≤ 3) × (OnOk r (m ≡ 0)) × Leads (λ world next. BoardRun marks jobs world
+    (rounds n ++ take m (rounds 1)) next)
+    (state_of old laid 0 shelf_old bench_old None) (λ _. Nothing) (state_of new written 0 shelf_new bench_new
+    (ended_of r)) (only hand))
     → OnOk r ((k : ℕ) → k < jobs.count → done_of new k ≡ true)
     → RunsInRounds marks jobs whole shelf_old bench_old shelf_new bench_new written (ended_of r)
-rounds-from X r marks jobs whole old new laid written shelf_old bench_old shelf_new bench_new fresh parts filled (n, m, hand, few, full, run) all = record {
-  parts = parts;
-  laid = laid;
-  filled = filled;
-  board = new;
-  hands = only hand;
-  full = n;
-  more = m;
-  few = few;
-  in_full = λ e. on-none r (m ≡ 0) full e;
-  run = subst (λ (b : Board). Leads (λ world next. BoardRun marks jobs world (rounds n ++ take m (rounds 1)) next)
-      (state_of b laid 0 shelf_old bench_old None) (λ _. Nothing) (state_of new written 0 shelf_new bench_new (ended_of r)) (only hand)) fresh run;
-  all = λ e. on-none r ((k : ℕ) → k < jobs.count → done_of new k ≡ true) all e;
-}
+rounds-from X r marks jobs whole old new laid written shelf_old bench_old shelf_new bench_new fresh parts filled
+    (n, m, hand, few, full, run) all = record {
+      parts = parts;
+      laid = laid;
+      filled = filled;
+      board = new;
+      hands = only hand;
+      full = n;
+      more = m;
+      few = few;
+      in_full = λ e. on-none r (m ≡ 0) full e;
+      run = subst (λ (b : Board). Leads (λ world next. BoardRun marks jobs world (rounds n ++ take m (rounds 1)) next)
+          (state_of b laid 0 shelf_old bench_old None) (λ _. Nothing) (state_of new written 0 shelf_new bench_new
+          (ended_of r)) (only hand)) fresh run;
+      all = λ e. on-none r ((k : ℕ) → k < jobs.count → done_of new k ≡ true) all e;
+    }
   where
     apart-end : (end : End) → Some end ≡ None → ⊥
     apart-end end e = cc

@@ -1,10 +1,10 @@
 -- A stretch's bytes and marks on the disk: torn, and then written.
-use Rattle.std.proofs.Common.{◌≡◌, ◌≢◌, ◌∙◌, ◌⊎◌, ℕ, ◌+◌, ◌-◌, ◌<◌, ◌≤◌, Bool, true, false, cond, ◌==◌, Option, Some, None, List, [], ◌∷◌, ◌++◌, length, length-take, take, drop, get_or, refl, sym, ap, subst, inl, inr, arith}
-use Rattle.std.proofs.lemmas.Bool.{cases_eq, cases_lt}
+use Rattle.std.proofs.Common.{◌≡◌, ◌≢◌, ◌∙◌, ℕ, ◌+◌, ◌-◌, ◌<◌, ◌≤◌, Bool, true, false, cond, ◌==◌, Option, Some, None, List, length, length-take, take, get_or, sym, ap, subst, inl, inr, arith}
+use Rattle.std.proofs.lemmas.Bool.{cases_lt}
 use Rattle.std.proofs.lemmas.Bool.Decides.{eqb_tells}
 use Rattle.std.proofs.lemmas.List.{ext_get_or, get_or-take, get_or-drop}
-use Rattle.work_terms.specs.Disk.{Files, Changes, HasTornRange, IsDurable, IsTorn, IsWritten}
-use Rattle.schedule.specs.Marking.{Holds, HoldsIn, IsFixed, IsMarkFile, IsRunning, Leaves, Marking, is_marked, with_done}
+use Rattle.work_terms.specs.Disk.{Files, Changes, HasTornRange, IsTorn, IsWritten}
+use Rattle.schedule.specs.Marking.{HoldsIn, IsFixed, IsMarkFile, IsRunning, Leaves, Marking, is_marked, with_done}
 use Rattle.schedule.specs.Placed.{IsStretchOf, IsTornFrom}
 use Rattle.schedule.proofs.Filling.{written-in}
 
@@ -17,14 +17,16 @@ none-some a e = cc
 apart : true ≡ false → ⊥
 apart h = cc
 
-torn-at : (at n : ℕ) (f h : List ℕ) → HasTornRange at n f h → (i : ℕ) → (at ≤ i → i < at + n → ⊥) → get_or h i 0 ≡ get_or f i 0
+torn-at : (at n : ℕ) (f h : List ℕ) → HasTornRange at n f h → (i : ℕ) → (at ≤ i → i < at + n → ⊥) → get_or h i 0 ≡
+    get_or f i 0
 torn-at at n f h t i out = elim (cases_lt i at) [
   | inl before ↦ sym (get_or-take at h i 0 before) ∙ ap (λ x. get_or x i 0) t.before ∙ get_or-take at f i 0 before
   | inr from ↦ elim (cases_lt i (at + n)) [
     | inl to ↦ absurd (out from to)
     | inr behind ↦ let e : at + n + (i - (at + n)) ≡ i = omega arith in
         ap (λ k. get_or h k 0) (sym e) ∙ sym (get_or-drop (at + n) h (i - (at + n)) 0)
-        ∙ ap (λ x. get_or x (i - (at + n)) 0) t.after ∙ get_or-drop (at + n) f (i - (at + n)) 0 ∙ ap (λ k. get_or f k 0) e
+        ∙ ap (λ x. get_or x (i - (at + n)) 0) t.after ∙ get_or-drop (at + n) f (i - (at + n)) 0 ∙ ap (λ k. get_or f k
+        0) e
   ]
 ]
 
@@ -35,7 +37,8 @@ pub record IsTornFile (at n : ℕ) (f : List ℕ) (new : Option (List ℕ)) : Ty
   pub size : length bytes ≡ length f
   pub same : (i : ℕ) → (at ≤ i → i < at + n → ⊥) → get_or bytes i 0 ≡ get_or f i 0
 
-torn-file : (at n : ℕ) (f : List ℕ) (old new : Option (List ℕ)) → old ≡ Some f → IsTorn at n old new → IsTornFile at n f new
+torn-file : (at n : ℕ) (f : List ℕ) (old new : Option (List ℕ)) → old ≡ Some f → IsTorn at n old new → IsTornFile at n
+    f new
 torn-file at n f None new e t = absurd (none-some f e)
 torn-file at n f (Some x) new e t = record {
   bytes = t.0;
@@ -53,35 +56,47 @@ holds-torn : (m : Marking) (marked : ℕ → Bool) (at n : ℕ) (old new : Optio
 holds-torn m marked at n old new clear h t = let r = torn-file at n h.bytes old new h.there t in record {
   bytes = r.bytes;
   there = r.there;
-  holds = record { size = r.size ∙ h.holds.size; same = λ i fixed. r.same i (λ from to. clear i from to fixed) ∙ h.holds.same i fixed };
+  holds = record {
+    size = r.size ∙ h.holds.size;
+    same = λ i fixed. r.same i (λ from to. clear i from to fixed) ∙
+        h.holds.same i fixed;
+  };
 }
 
 -- and then written with right bytes: it holds for all marks that agree elsewhere
 holds-written : (m : Marking) (marked more : ℕ → Bool) (at : ℕ) (bytes : List ℕ) (old new was is : Option (List ℕ))
     → ((i : ℕ) → i < length bytes → get_or bytes i 0 ≡ get_or m.whole (at + i) 0)
     → ((i : ℕ) → (at ≤ i → i < at + length bytes → ⊥) → IsFixed m more i → IsFixed m marked i)
-    → HoldsIn m marked old → IsTorn at (length bytes) old new → IsWritten at bytes was is → new ≡ is → HoldsIn m more new
-holds-written m marked more at bytes old new was is right fewer h t w e = let r = torn-file at (length bytes) h.bytes old new h.there t in record {
-  bytes = r.bytes;
-  there = r.there;
-  holds = record { size = r.size ∙ h.holds.size; same = λ i fixed. each r i fixed };
-}
+    → HoldsIn m marked old → IsTorn at (length bytes) old new → IsWritten at bytes was is → new ≡ is → HoldsIn m more
+    new
+holds-written m marked more at bytes old new was is right fewer h t w e = let r = torn-file at (length bytes) h.bytes
+    old new h.there t in record {
+      bytes = r.bytes;
+      there = r.there;
+      holds = record { size = r.size ∙ h.holds.size; same = λ i fixed. each r i fixed };
+    }
   where
-    each : (r : IsTornFile at (length bytes) h.bytes new) (i : ℕ) → IsFixed m more i → get_or r.bytes i 0 ≡ get_or m.whole i 0
+    each : (r : IsTornFile at (length bytes) h.bytes new) (i : ℕ) → IsFixed m more i → get_or r.bytes i 0 ≡ get_or
+        m.whole i 0
     each r i fixed = elim (cases_lt i at) [
-      | inl lt ↦ r.same i (λ from to. omega (arith, lt, from)) ∙ h.holds.same i (fewer i (λ from to. omega (arith, lt, from)) fixed)
+      | inl lt ↦ r.same i (λ from to. omega (arith, lt, from)) ∙ h.holds.same i
+          (fewer i (λ from to. omega (arith, lt, from)) fixed)
       | inr from ↦ elim (cases_lt i (at + length bytes)) [
-        | inl to ↦ ap (λ x. get_or x i 0) (some-inj r.bytes _ (sym r.there ∙ e ∙ w.written)) ∙ written-in w.file bytes at i w.inside from to
+        | inl to ↦ ap (λ x. get_or x i 0) (some-inj r.bytes _ (sym r.there ∙ e ∙ w.written)) ∙ written-in w.file bytes
+            at i w.inside from to
             ∙ right (i - at) (omega arith) ∙ ap (λ k. get_or m.whole k 0) (omega arith)
-        | inr past ↦ r.same i (λ _ to. omega (arith, past, to)) ∙ h.holds.same i (fewer i (λ _ to. omega (arith, past, to)) fixed)
+        | inr past ↦ r.same i (λ _ to. omega (arith, past, to)) ∙ h.holds.same i
+            (fewer i (λ _ to. omega (arith, past, to)) fixed)
       ]
     ]
 
 -- ---- the marks
 
-marks-front : (a b : List ℕ) → length a ≡ length b → ((i : ℕ) → i < 44 → get_or a i 0 ≡ get_or b i 0) → take 44 a ≡ take 44 b
+marks-front : (a b : List ℕ) → length a ≡ length b → ((i : ℕ) → i < 44 → get_or a i 0 ≡ get_or b i 0) → take 44 a ≡
+    take 44 b
 marks-front a b size same = ext_get_or 0 (take 44 a) (take 44 b) (omega (arith, size, length-take {A = ℕ}))
-    (λ i lt. let few : i < 44 = omega (arith, lt, length-take {A = ℕ}) in get_or-take 44 a i 0 few ∙ same i few ∙ sym (get_or-take 44 b i 0 few))
+    (λ i lt. let few : i < 44 = omega (arith, lt, length-take {A = ℕ}) in get_or-take 44 a i 0 few ∙ same i few ∙ sym
+    (get_or-take 44 b i 0 few))
 
 -- what a torn write of marks leaves: the head, and every other mark
 pub record IsMarkedBeside (m : Marking) (at n : ℕ) (marks : List ℕ) (new : Option (List ℕ)) : Type 0 where
@@ -90,7 +105,8 @@ pub record IsMarkedBeside (m : Marking) (at n : ℕ) (marks : List ℕ) (new : O
   pub ours : IsMarkFile m now
   pub beside : (b : ℕ) → (at ≤ 44 + b → 44 + b < at + n → ⊥) → is_marked now b ≡ is_marked marks b
 
-marks-torn : (m : Marking) (at n : ℕ) (marks : List ℕ) (old new : Option (List ℕ)) → 44 ≤ at → old ≡ Some marks → IsMarkFile m marks
+marks-torn : (m : Marking) (at n : ℕ) (marks : List ℕ) (old new : Option (List ℕ)) → 44 ≤ at → old ≡ Some marks →
+    IsMarkFile m marks
     → IsTorn at n old new → IsMarkedBeside m at n marks new
 marks-torn m at n marks old new front e ours t = let r = torn-file at n marks old new e t in record {
   now = r.bytes;
@@ -104,13 +120,15 @@ marks-torn m at n marks old new front e ours t = let r = torn-file at n marks ol
 
 -- ---- one stretch
 
-module _ (m : Marking) (done : ℕ → Bool) (job at mark_at : ℕ) (name bytes marks_name ones : List ℕ) (s : IsStretchOf m job name at bytes marks_name mark_at ones)
+module _ (m : Marking) (done : ℕ → Bool) (job at mark_at : ℕ) (name bytes marks_name ones : List ℕ) (s : IsStretchOf m
+    job name at bytes marks_name mark_at ones)
     (open_job : done job ≡ false) (o : Files → Type 0) (run : IsRunning m done o) where
   off : (b : ℕ) → m.from job ≤ b → b < m.behind job → is_marked run.marks b ≡ false
   off b from to = run.tell job b s.there from to ∙ open_job
 
   -- while its bytes are written
-  pub sound-torn : (c : Files) → IsTornFrom o name at (length bytes) c → (c m.marks ≡ Some run.marks) × HoldsIn m (is_marked run.marks) (c m.name)
+  pub sound-torn : (c : Files) → IsTornFrom o name at (length bytes) c → (c m.marks ≡ Some run.marks) × HoldsIn m
+      (is_marked run.marks) (c m.name)
   sound-torn c (d, before, step) = (
     step.others m.marks (λ e. s.apart (sym (e ∙ s.name_is))) ∙ run.kept d before,
     holds-torn m (is_marked run.marks) at (length bytes) (d m.name) (c m.name)
@@ -127,7 +145,8 @@ module _ (m : Marking) (done : ℕ → Bool) (job at mark_at : ℕ) (name bytes 
     wave = r.1;
   }
 
-  pub sound-runs : (now : Files → Type 0) → ((c : Files) → now c → IsTornFrom o name at (length bytes) c) → IsRunning m done now
+  pub sound-runs : (now : Files → Type 0) → ((c : Files) → now c → IsTornFrom o name at (length bytes) c) → IsRunning
+      m done now
   sound-runs now torn = record {
     marks = run.marks;
     ours = run.ours;
@@ -137,22 +156,27 @@ module _ (m : Marking) (done : ℕ → Bool) (job at mark_at : ℕ) (name bytes 
   }
 
   -- once they are written: right for all marks that agree off the job
-  pub sound-written : (stored was : Files) → Changes (IsWritten at bytes) name was stored → (c : Files) → IsTornFrom o name at (length bytes) c → c name ≡ stored name
-      → (more : ℕ → Bool) → ((b : ℕ) → (m.from job ≤ b → b < m.behind job → ⊥) → more b ≡ is_marked run.marks b) → HoldsIn m more (c m.name)
+  pub sound-written : (stored was : Files) → Changes (IsWritten at bytes) name was stored → (c : Files) → IsTornFrom o
+      name at (length bytes) c → c name ≡ stored name
+      → (more : ℕ → Bool) → ((b : ℕ) → (m.from job ≤ b → b < m.behind job → ⊥) → more b ≡ is_marked run.marks b) →
+      HoldsIn m more (c m.name)
   sound-written stored was wrote c (d, before, step) durable more agree =
       holds-written m (is_marked run.marks) more at bytes (d m.name) (c m.name) (was name) (stored name) s.right
       (λ i out fixed b lt from to. elim (cases_lt b (m.from job)) [
         | inl less ↦ sym (agree b (λ f _. omega (arith, less, f))) ∙ fixed b lt from to
         | inr above ↦ elim (cases_lt b (m.behind job)) [
-          | inl below ↦ absurd (let own = s.own b above below in out (omega (arith, own.0, from)) (omega (arith, own.1, to)))
+          | inl below ↦ absurd (let own = s.own b above below in out (omega (arith, own.0, from))
+              (omega (arith, own.1, to)))
           | inr past ↦ sym (agree b (λ _ t. omega (arith, past, t))) ∙ fixed b lt from to
         ]
       ])
-      (run.wave d before) (subst (λ n. IsTorn at (length bytes) (d n) (c n)) s.name_is step.here) wrote.here (ap c (sym s.name_is) ∙ durable)
+      (run.wave d before) (subst (λ n. IsTorn at (length bytes) (d n) (c n)) s.name_is step.here) wrote.here
+      (ap c (sym s.name_is) ∙ durable)
 
   -- then its marks are written
   module _ (was mid : Files) (wrote : Changes (IsWritten at bytes) name was mid) (o1 : Files → Type 0)
-      (torn : (c : Files) → o1 c → IsTornFrom o name at (length bytes) c) (durable : (c : Files) → o1 c → c name ≡ mid name) where
+      (torn : (c : Files) → o1 c → IsTornFrom o name at (length bytes) c) (durable : (c : Files) → o1 c → c name ≡ mid
+      name) where
     outside : (b : ℕ) → (m.from job ≤ b → b < m.behind job → ⊥) → mark_at ≤ 44 + b → 44 + b < mark_at + length ones → ⊥
     outside b out from to = out (omega (arith, from, s.mark_first)) (omega (arith, to, s.mark_last))
 
@@ -162,13 +186,18 @@ module _ (m : Marking) (done : ℕ → Bool) (job at mark_at : ℕ) (name bytes 
       | inr after ↦ omega (arith, after, from, t)
     ]
 
-    beside-of : (c : Files) → IsTornFrom o1 marks_name mark_at (length ones) c → IsMarkedBeside m mark_at (length ones) run.marks (c m.marks)
-    beside-of c (d, before, step) = marks-torn m mark_at (length ones) run.marks (d m.marks) (c m.marks) (omega (arith, s.mark_first))
-        (sound-torn d (torn d before)).0 run.ours (subst (λ n. IsTorn mark_at (length ones) (d n) (c n)) s.marks_is step.here)
+    beside-of : (c : Files) → IsTornFrom o1 marks_name mark_at (length ones) c → IsMarkedBeside m mark_at
+        (length ones) run.marks (c m.marks)
+    beside-of c (d, before, step) = marks-torn m mark_at (length ones) run.marks (d m.marks) (c m.marks)
+        (omega (arith, s.mark_first))
+        (sound-torn d (torn d before)).0 run.ours (subst (λ n. IsTorn mark_at (length ones) (d n) (c n)) s.marks_is
+        step.here)
 
     marks-wave : (c : Files) → IsTornFrom o1 marks_name mark_at (length ones) c → (more : ℕ → Bool)
-        → ((b : ℕ) → (m.from job ≤ b → b < m.behind job → ⊥) → more b ≡ is_marked run.marks b) → HoldsIn m more (c m.name)
-    marks-wave c (d, before, step) more agree = subst (HoldsIn m more) (sym (step.others m.name (λ e. s.apart (e ∙ s.marks_is))))
+        → ((b : ℕ) → (m.from job ≤ b → b < m.behind job → ⊥) → more b ≡ is_marked run.marks b) → HoldsIn m more
+        (c m.name)
+    marks-wave c (d, before, step) more agree = subst (HoldsIn m more)
+        (sym (step.others m.name (λ e. s.apart (e ∙ s.marks_is))))
         (sound-written mid was wrote d (torn d before) (durable d before) more agree)
 
     pub marks-leaves : (c : Files) → IsTornFrom o1 marks_name mark_at (length ones) c → Leaves m done c
@@ -176,22 +205,27 @@ module _ (m : Marking) (done : ℕ → Bool) (job at mark_at : ℕ) (name bytes 
       marks = r.now;
       there = r.there;
       ours = r.ours;
-      still = λ j b lt from to on. r.beside b (outside b (elsewhere j b lt (λ e. apart (sym on ∙ ap done e ∙ open_job)) from to)) ∙ run.tell j b lt from to ∙ on;
+      still = λ j b lt from to on. r.beside b (outside b (elsewhere j b lt (λ e. apart (sym on ∙ ap done e ∙
+          open_job)) from to)) ∙ run.tell j b lt from to ∙ on;
       wave = marks-wave c t (is_marked r.now) (λ b out. r.beside b (outside b out));
     }
 
     pub marks-run : (end : Files) (o2 : Files → Type 0) → Changes (IsWritten mark_at ones) marks_name mid end → o2 end
-        → ((c : Files) → o2 c → IsTornFrom o1 marks_name mark_at (length ones) c) → ((c : Files) → o2 c → c marks_name ≡ end marks_name)
+        → ((c : Files) → o2 c → IsTornFrom o1 marks_name mark_at (length ones) c) → ((c : Files) → o2 c → c marks_name
+        ≡ end marks_name)
         → IsRunning m (with_done done job) o2
     marks-run end o2 marked read torn2 durable2 = go (beside-of end (torn2 end read)) marked.here
       where
-        go : IsMarkedBeside m mark_at (length ones) run.marks (end m.marks) → IsWritten mark_at ones (mid marks_name) (end marks_name) → IsRunning m (with_done done job) o2
+        go : IsMarkedBeside m mark_at (length ones) run.marks (end m.marks) → IsWritten mark_at ones (mid marks_name)
+            (end marks_name) → IsRunning m (with_done done job) o2
         go r w = record {
           marks = r.now;
           ours = r.ours;
           tell = λ j b lt from to. elim (eqb_tells j job) [
-            | inl e ↦ set-one b (subst (λ x. m.from x ≤ b) e.1 from) (subst (λ x. b < m.behind x) e.1 to) ∙ sym (ap (λ t. cond t true (done j)) e.0)
-            | inr e ↦ r.beside b (outside b (elsewhere j b lt e.1 from to)) ∙ run.tell j b lt from to ∙ sym (ap (λ t. cond t true (done j)) e.0)
+            | inl e ↦ set-one b (subst (λ x. m.from x ≤ b) e.1 from) (subst (λ x. b < m.behind x) e.1 to) ∙ sym
+                (ap (λ t. cond t true (done j)) e.0)
+            | inr e ↦ r.beside b (outside b (elsewhere j b lt e.1 from to)) ∙ run.tell j b lt from to ∙ sym
+                (ap (λ t. cond t true (done j)) e.0)
           ];
           kept = λ c h. subst (λ n. c n ≡ end n) s.marks_is (durable2 c h) ∙ r.there;
           wave = λ c h. marks-wave c (torn2 c h) (is_marked r.now) (λ b out. r.beside b (outside b out));
@@ -200,5 +234,6 @@ module _ (m : Marking) (done : ℕ → Bool) (job at mark_at : ℕ) (name bytes 
             set-one : (b : ℕ) → m.from job ≤ b → b < m.behind job → is_marked r.now b ≡ true
             set-one b from to = ap {B = Bool} (λ k. k == 1)
                 (ap (λ x. get_or x (44 + b) 0) (some-inj r.now _ (sym r.there ∙ ap end (sym s.marks_is) ∙ w.written))
-                ∙ written-in w.file ones mark_at (44 + b) w.inside (omega (arith, s.mark_first, from)) (omega (arith, s.mark_last, to))
+                ∙ written-in w.file ones mark_at (44 + b) w.inside (omega (arith, s.mark_first, from))
+                (omega (arith, s.mark_last, to))
                 ∙ s.set (44 + b - mark_at) (omega (arith, s.mark_first, s.mark_last, from, to)))

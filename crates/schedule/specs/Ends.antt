@@ -1,5 +1,5 @@
 -- How a run of jobs ends, by what a call answers.
-use Rattle.std.specs.Prelude.{ℕ, Option, None, Some, Result, Ok, Err}
+use Rattle.std.specs.Prelude.{Option, None, Some, Result, Ok, Err}
 use Rattle.job_terms.specs.Workers.{End, GivenUp, MarkFailed}
 use Rattle.schedule.specs.declared.fault.JobFault.{JobFault}
 use Rattle.schedule.specs.declared.fault.JobFault.TheVariants as job_fault

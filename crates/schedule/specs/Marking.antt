@@ -1,5 +1,5 @@
 -- Marks: which jobs are done, in a file of their own, and what a crash may leave of the output that they speak of.
-use Rattle.std.specs.Prelude.{◌≡◌, ◌≢◌, ℕ, ◌+◌, ◌<◌, ◌≤◌, Bool, true, cond, ◌==◌, Option, None, Some, List, ◌∷◌, length, take, drop, slice_index_or, Result, Ok, Err, ⊤}
+use Rattle.std.specs.Prelude.{◌≡◌, ◌≢◌, ℕ, ◌+◌, ◌<◌, ◌≤◌, Bool, true, cond, ◌==◌, Option, None, Some, List, ◌∷◌, length, take, slice_index_or, Result, Ok, Err, ⊤}
 use Rattle.work_terms.specs.Disk.{Files}
 use Rattle.job_terms.specs.Board.{Board, job_at, is_done}
 use Rattle.job_terms.specs.Workers.{End, Jobs, JobsBy, Hand, Nothing, Made}
@@ -7,7 +7,8 @@ use Rattle.job_terms.specs.Workers as words
 use Rattle.schedule.specs.declared.fault.PlaceFault.{PlaceFault}
 use Rattle.schedule.specs.declared.fault.PlaceFault.TheVariants.{Write, Mark}
 
--- an output that is marked block by block: its name, all its bytes, and the span of each block; how many jobs there are,
+-- an output that is marked block by block: its name, all its bytes, and the span of each block; how many jobs there
+-- are,
 -- and the blocks of each, from one on up to, and without, another; the marks' name and the bytes 1 to 43
 pub record Marking : Type 0 where
   pub name : List ℕ
@@ -41,7 +42,8 @@ pub record IsMarkFile (m : Marking) (marks : List ℕ) : Type 0 where
   pub front : take 44 marks ≡ 1 ∷ m.head
   pub size : length marks ≡ 44 + m.count
 
--- between two events: nothing is pending in the marks, which tell just the blocks of jobs that are done; what is pending
+-- between two events: nothing is pending in the marks, which tell just the blocks of jobs that are done; what is
+-- pending
 -- in the output lies in the others
 pub record IsRunning (m : Marking) (done : ℕ → Bool) (outcomes : Files → Type 0) : Type 0 where
   pub marks : List ℕ
@@ -55,7 +57,8 @@ pub record Leaves (m : Marking) (done : ℕ → Bool) (c : Files) : Type 0 where
   pub marks : List ℕ
   pub there : c m.marks ≡ Some marks
   pub ours : IsMarkFile m marks
-  pub still : (job b : ℕ) → job < m.jobs → m.from job ≤ b → b < m.behind job → done job ≡ true → is_marked marks b ≡ true
+  pub still : (job b : ℕ) → job < m.jobs → m.from job ≤ b → b < m.behind job → done job ≡ true → is_marked marks b ≡
+      true
   pub wave : HoldsIn m (is_marked marks) (c m.name)
 
 -- a work without marks promises nothing of a crash

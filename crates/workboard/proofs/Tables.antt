@@ -1,7 +1,7 @@
 -- The tables after one job was put.
-use Rattle.std.proofs.Common.{◌≡◌, ◌≢◌, ℕ, zero, suc, ◌+◌, ◌-◌, ◌*◌, ◌<◌, ◌≤◌, ◌^◌, Bool, true, false, cond, Option, Some, None, List, [], ◌∷◌, length, get_or, set, refl, sym, ap, ◌∙◌, subst, inl, inr, ◌⊎◌, arith, get_or-set_other, get_or-set_same, length-set, replicate}
+use Rattle.std.proofs.Common.{◌≡◌, ℕ, zero, suc, ◌+◌, ◌-◌, ◌<◌, ◌≤◌, Bool, true, false, cond, Some, None, List, [], ◌∷◌, length, get_or, set, refl, sym, ap, ◌∙◌, subst, inl, inr, arith, get_or-set_other, get_or-set_same, length-set, replicate}
 use Rattle.std.proofs.lemmas.Bool.{cases_eq}
-use Rattle.std.specs.List.{count_by, sum_by}
+use Rattle.std.specs.List.{count_by}
 use Rattle.std.proofs.lemmas.List.Sums.{sum_by-set, sum_by-cons, count_by-le-length}
 use Rattle.std.proofs.lemmas.List.Folds.{sum_by-replicate}
 use Rattle.std.proofs.lemmas.List.{get_or-replicate, length-replicate}
@@ -21,9 +21,14 @@ count-set p jobs k job lt = sum_by-set (λ x. cond (p x) 1 0) jobs k job no_job 
 pub counts-one : (p : Job → Bool) (jobs : List Job) (k : ℕ) (job : Job) → k < length jobs → p job ≡ false
     → cond (p (get_or jobs k no_job)) 1 0 ≤ count_by p jobs
 counts-one p jobs k job lt none =
-    let zero_of : cond (p job) 1 0 ≡ 0 = ap {B = ℕ} (λ b. cond b 1 0) none in omega (arith, count-set p jobs k job lt, zero_of)
+    let zero_of : cond (p job) 1 0 ≡ 0 = ap {B = ℕ} (λ b. cond b 1 0) none in omega (
+      arith,
+      count-set p jobs k job lt,
+      zero_of,
+    )
 
-pub indexed-put : (jobs : List Job) (order places : List ℕ) (firsts : List Bool) (counts now : Counts) (k : ℕ) (job : Job)
+pub indexed-put : (jobs : List Job) (order places : List ℕ) (firsts : List Bool) (counts now : Counts) (k : ℕ)
+    (job : Job)
     → IsIndexed jobs order places firsts counts → k < length jobs → IsCounted job → AreCounts now (set jobs k job)
     → IsIndexed (set jobs k job) order places (set firsts (get_or places k 0) (is_givable job)) now
 indexed-put jobs order places firsts counts now k job t lt counted are =
@@ -45,8 +50,14 @@ indexed-put jobs order places firsts counts now k job t lt counted are =
         ≡ is_givable (get_or (set jobs k job) (get_or order p 0) no_job)
     flagged p below = elim (cases_eq p (get_or places k 0)) [
       | inl e ↦ ap (λ i. get_or (set firsts (get_or places k 0) (is_givable job)) i false) e
-          ∙ get_or-set_same firsts (get_or places k 0) (is_givable job) false (omega (arith, t.flags, t.place_below k lt))
-          ∙ sym (ap is_givable (ap (λ i. get_or (set jobs k job) i no_job) (ap (λ i. get_or order i 0) e ∙ t.placed k lt)
+          ∙ get_or-set_same firsts (get_or places k 0) (is_givable job) false (omega (
+            arith,
+            t.flags,
+            t.place_below k
+                lt,
+          ))
+          ∙ sym (ap is_givable (ap (λ i. get_or (set jobs k job) i no_job) (ap (λ i. get_or order i 0) e ∙ t.placed k
+          lt)
           ∙ get_or-set_same jobs k job no_job lt))
       | inr ne ↦ get_or-set_other firsts (get_or places k 0) p (is_givable job) false ne ∙ t.flagged p below
           ∙ sym (ap is_givable (get_or-set_other jobs k (get_or order p 0) job no_job
@@ -55,7 +66,8 @@ indexed-put jobs order places firsts counts now k job t lt counted are =
 
     each : (i : ℕ) → i < length jobs → IsCounted (get_or (set jobs k job) i no_job)
     each i below = elim (cases_eq i k) [
-      | inl e ↦ subst IsCounted (sym (ap (λ j. get_or (set jobs k job) j no_job) e ∙ get_or-set_same jobs k job no_job lt)) counted
+      | inl e ↦ subst IsCounted (sym (ap (λ j. get_or (set jobs k job) j no_job) e ∙ get_or-set_same jobs k job no_job
+          lt)) counted
       | inr ne ↦ subst IsCounted (sym (get_or-set_other jobs k i job no_job ne)) (t.counted i below)
     ]
 
@@ -78,11 +90,19 @@ first-none test (x ∷ xs) before = ap (λ b. cond b (Some x) (first_in test xs)
 pub count-moves : (p : Job → Bool) (jobs : List Job) (k : ℕ) (job : Job) → k < length jobs
     → (count_by p (set jobs k job) ≡ count_by p jobs + cond (p job) 1 0 - cond (p (get_or jobs k no_job)) 1 0)
     × (count_by p (set jobs k job) ≤ length jobs)
-count-moves p jobs k job lt =
-    (omega (arith, count-set p jobs k job lt), omega (arith, count_by-le-length p (set jobs k job), length-set jobs k job))
+count-moves p jobs k job lt = (
+  omega (arith, count-set p jobs k job lt),
+  omega (
+    arith,
+    count_by-le-length p (set jobs k job),
+    length-set jobs k
+        job,
+  ),
+)
 
 -- all three together
-pub counts-whole : (jobs : List Job) → count_by (λ job. is_open job.standing) jobs + count_by (λ job. is_out job.standing) jobs
+pub counts-whole : (jobs : List Job) → count_by (λ job. is_open job.standing) jobs + count_by (λ job. is_out
+    job.standing) jobs
     + count_by (λ job. is_done job.standing) jobs ≡ length jobs
 counts-whole [] = refl
 counts-whole (job ∷ jobs) = omega (
@@ -110,11 +130,13 @@ indexed-fresh n order places t whole back = let same = length-replicate n fresh_
   placed = λ k lt. let at = t.each k (omega (arith, same, lt)) in
       ap (λ i. get_or order (get_or places i 0) 0) (sym at.2) ∙ ap (λ i. get_or order i 0) (back at.0 at.1) ∙ at.2;
   place_below = λ k lt. let at = t.each k (omega (arith, same, lt)) in
-      let e : get_or places k 0 ≡ at.0 = ap (λ i. get_or places i 0) (sym at.2) ∙ back at.0 at.1 in omega (arith, e, at.1, same);
+      let e : get_or places k 0 ≡ at.0 = ap (λ i. get_or places i 0) (sym at.2) ∙ back at.0 at.1 in omega
+      (arith, e, at.1, same);
   job_below = λ p lt. omega (arith, same, t.below p (omega (arith, same, lt)));
   back = λ p lt. back p (omega (arith, same, lt));
   flagged = λ p lt. get_or-replicate n p true false (omega (arith, same, lt))
-      ∙ sym (ap is_givable (get_or-replicate n (get_or order p 0) fresh_job no_job (t.below p (omega (arith, same, lt)))));
+      ∙ sym (ap is_givable (get_or-replicate n (get_or order p 0) fresh_job no_job
+      (t.below p (omega (arith, same, lt)))));
   counts_of = record {
     idle = sym (sum_by-replicate (λ job. cond (is_open job.standing) 1 0) n fresh_job ∙ omega arith);
     out = sym (sum_by-replicate (λ job. cond (is_out job.standing) 1 0) n fresh_job ∙ omega arith);

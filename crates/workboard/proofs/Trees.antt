@@ -1,6 +1,6 @@
 -- Where a tree's node is not set, no leaf below it is.
 use Rattle.std.proofs.lemmas.Bool.{cases_eq, cases_lt}
-use Rattle.std.proofs.Common.{replicate, ◌^◌, ◌≡◌, ◌≢◌, ℕ, zero, suc, ◌+◌, ◌-◌, ◌*◌, ◌/◌, ◌<◌, ◌≤◌, Bool, true, false, ◌||◌, List, length, get_or, set, take, drop, refl, sym, ap, ◌∙◌, subst, inl, inr, ◌⊎◌, arith, get_or-set_other, get_or-set_same, length-set, length-drop}
+use Rattle.std.proofs.Common.{replicate, ◌^◌, ◌≡◌, ◌≢◌, ℕ, zero, suc, ◌+◌, ◌-◌, ◌*◌, ◌<◌, ◌≤◌, Bool, true, false, ◌||◌, List, length, get_or, set, take, drop, refl, sym, ap, ◌∙◌, subst, inl, inr, arith, get_or-set_other, get_or-set_same, length-set, length-drop}
 use Rattle.std.proofs.lemmas.List.{get_or-take, get_or-drop, length-take, ext_get_or, get_or_default, get_or_past, get_or-replicate, length-replicate}
 use Rattle.workboard.specs.Tree.{leftmost, flag_at, Tells, IsTree, IsLeading}
 
@@ -74,7 +74,8 @@ seen-at marks size count k whole room lt =
     ∙ get_or_default marks (size + k) false true (omega arith)
 
 -- all set
-pub all-set : (count size : ℕ) → count ≤ size → take count (drop size (replicate (2 * size) true)) ≡ replicate count true
+pub all-set : (count size : ℕ) → count ≤ size → take count (drop size (replicate (2 * size) true)) ≡ replicate count
+    true
 all-set count size le = ext_get_or false (take count (drop size (replicate (2 * size) true))) (replicate count true)
     (lengths ∙ sym (length-replicate count true))
     (λ i lt. get_or-take count (drop size (replicate (2 * size) true)) i false (below i lt)
@@ -119,16 +120,23 @@ leaf-set old new size count at flag was is room lt same =
     (omega (arith, length-take {A = Bool}, length-drop {A = Bool}, length-set {A = Bool}))
     (λ i lt. each i (omega (arith, lt, length-take {A = Bool}, length-drop {A = Bool})))
   where
-    each : (i : ℕ) → i < count → get_or (take count (drop size new)) i false ≡ get_or (set (take count (drop size old)) at flag) i false
+    each : (i : ℕ) → i < count → get_or (take count (drop size new)) i false ≡ get_or
+        (set (take count (drop size old)) at flag) i false
     each i lt = seen-at new size count i is (omega arith) lt ∙ same (size + i) (omega arith) ∙ elim (cases_eq i at) [
-      | inl e ↦ let shown : length (take count (drop size old)) ≡ count = omega (arith, length-take {A = Bool}, length-drop {A = Bool}) in
+      | inl e ↦ let shown : length (take count (drop size old)) ≡ count = omega (
+        arith,
+        length-take {A = Bool},
+        length-drop {A = Bool},
+      ) in
           let here : size + i ≡ size + at = omega arith in
           ap (λ j. flag_at (set old (size + at) flag) j) here
           ∙ get_or-set_same old (size + at) flag true (omega arith)
-          ∙ sym (ap (λ j. get_or (set (take count (drop size old)) at flag) j false) e ∙ get_or-set_same (take count (drop size old)) at flag false (omega arith))
+          ∙ sym (ap (λ j. get_or (set (take count (drop size old)) at flag) j false) e ∙ get_or-set_same
+          (take count (drop size old)) at flag false (omega arith))
       | inr ne ↦ let apart : size + i ≢ size + at = λ h. ne (omega arith) in
           get_or-set_other old (size + at) (size + i) flag true apart
-          ∙ sym (get_or-set_other (take count (drop size old)) at i flag false ne ∙ seen-at old size count i was (omega arith) lt)
+          ∙ sym (get_or-set_other (take count (drop size old)) at i flag false ne ∙ seen-at old size count i was
+          (omega arith) lt)
     ]
 
 pub leading-root : (marks : List Bool) (height size count : ℕ) → IsTree marks height size count
@@ -168,7 +176,8 @@ pub leading-right : (marks : List Bool) (size height l node : ℕ) → ((k : ℕ
     → IsLeading marks size (height - (l + 1)) (node * 2 + 1)
 leading-right marks size height l node tells lt t off = record {
   some = omega arith;
-  on = ap (λ k. flag_at marks (k + 1)) (sym twice) ∙ or-true_right (flag_at marks (2 * node)) (flag_at marks (2 * node + 1)) (sym (tells node t.some (leading-inside marks size height l node lt t)) ∙ t.on)
+  on = ap (λ k. flag_at marks (k + 1)) (sym twice) ∙ or-true_right (flag_at marks (2 * node)) (flag_at marks
+      (2 * node + 1)) (sym (tells node t.some (leading-inside marks size height l node lt t)) ∙ t.on)
       (ap (flag_at marks) twice ∙ off);
   ends = omega (arith, ends, whole);
   begins = omega (arith, begins, t.begins, leftmost-rises (height - (l + 1)) (node * 2) (node * 2 + 1) (omega arith));
@@ -191,5 +200,11 @@ leading-right marks size height l node tells lt t off = record {
     quiet j from to = elim (cases_lt j (leftmost (height - (l + 1)) (node * 2))) [
       | inl lt ↦ t.silent j from (omega (arith, begins, lt))
       | inr le ↦ silent marks size tells (height - (l + 1)) (node * 2) (omega (arith, t.some))
-          (omega (arith, ends, whole, leftmost-rises (height - (l + 1)) (node * 2 + 1) (node * 2 + 1 + 1) (omega arith))) off j le to
+          (omega (
+            arith,
+            ends,
+            whole,
+            leftmost-rises (height - (l + 1)) (node * 2 + 1) (node * 2 + 1 + 1)
+                (omega arith),
+          )) off j le to
     ]

@@ -17,14 +17,21 @@ invariant-loop-event g l = record {
   room : l.stale ≤ l.event-index;
   fits : (v : ℕ) → FitsHand (g.J.JobMaker.work l.maker) (hands_in l.hands v);
   run : IsTrue (g.S.Shelf.honest l.fn.shelf) → IsTrue (g.B.Bench.honest l.fn.bench)
-      → Leads (λ world next. BoardRun (g.J.JobMaker.marks l.fn.maker) (jobs_over (g.J.JobMaker.work l.fn.maker) (g.S.Shelf.stored l.fn.shelf)) world (take l.event-index l.events) next)
-      (state_of l.fn.board (g.B.Bench.stored l.fn.bench) 0 (g.S.Shelf.failures l.fn.shelf) (g.B.Bench.failures l.fn.bench) None) (λ _. Nothing)
-      (state_of l.board (g.B.Bench.stored l.bench) l.stale (g.S.Shelf.failures l.shelf) (g.B.Bench.failures l.bench) None) (hands_in l.hands);
+      → Leads (λ world next. BoardRun (g.J.JobMaker.marks l.fn.maker) (jobs_over (g.J.JobMaker.work l.fn.maker)
+      (g.S.Shelf.stored l.fn.shelf)) world (take l.event-index l.events) next)
+      (state_of l.fn.board (g.B.Bench.stored l.fn.bench) 0 (g.S.Shelf.failures l.fn.shelf) (g.B.Bench.failures
+      l.fn.bench) None) (λ _. Nothing)
+      (state_of l.board (g.B.Bench.stored l.bench) l.stale (g.S.Shelf.failures l.shelf) (g.B.Bench.failures l.bench)
+      None) (hands_in l.hands);
   same_marking : g.J.JobMaker.marking l.maker ≡ g.J.JobMaker.marking l.fn.maker;
   running : IsTrue (g.S.Shelf.honest l.fn.shelf) → IsTrue (g.B.Bench.honest l.fn.bench)
-      → IsRunningBy (g.J.JobMaker.marking l.fn.maker (g.S.Shelf.stored l.fn.shelf)) (done_of l.fn.board) (g.B.Bench.may_leave l.fn.bench)
-      → IsRunningBy (g.J.JobMaker.marking l.fn.maker (g.S.Shelf.stored l.fn.shelf)) (done_of l.board) (g.B.Bench.may_leave l.bench);
+      → IsRunningBy (g.J.JobMaker.marking l.fn.maker (g.S.Shelf.stored l.fn.shelf)) (done_of l.fn.board)
+      (g.B.Bench.may_leave l.fn.bench)
+      → IsRunningBy (g.J.JobMaker.marking l.fn.maker (g.S.Shelf.stored l.fn.shelf)) (done_of l.board)
+      (g.B.Bench.may_leave l.bench);
   moments : IsTrue (g.S.Shelf.honest l.fn.shelf) → IsTrue (g.B.Bench.honest l.fn.bench)
-      → IsRunningBy (g.J.JobMaker.marking l.fn.maker (g.S.Shelf.stored l.fn.shelf)) (done_of l.fn.board) (g.B.Bench.may_leave l.fn.bench)
-      → LeavesOnly g.B.Bench.moment g.B.Bench.left_since l.fn.bench l.bench (LeavesBy (g.J.JobMaker.marking l.fn.maker (g.S.Shelf.stored l.fn.shelf)) (done_of l.fn.board));
+      → IsRunningBy (g.J.JobMaker.marking l.fn.maker (g.S.Shelf.stored l.fn.shelf)) (done_of l.fn.board)
+      (g.B.Bench.may_leave l.fn.bench)
+      → LeavesOnly g.B.Bench.moment g.B.Bench.left_since l.fn.bench l.bench (LeavesBy (g.J.JobMaker.marking l.fn.maker
+      (g.S.Shelf.stored l.fn.shelf)) (done_of l.fn.board));
 }

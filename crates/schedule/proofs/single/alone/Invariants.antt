@@ -1,4 +1,4 @@
-use Rattle.std.proofs.Common.{◌≡◌, ◌≤◌, ℕ, IsTrue, List, None, length, take}
+use Rattle.std.proofs.Common.{◌≡◌, ◌≤◌, ℕ, IsTrue, List, None, length}
 use Rattle.work_terms.specs.Disk.{LeavesOnly}
 use Rattle.job_terms.specs.Workers.{BoardRun, Nothing, jobs_over, rounds}
 use Rattle.schedule.specs.Alone.{AtRest, all_rounds_left, only}
@@ -19,20 +19,28 @@ invariant-loop-frames g l = record {
   same_honest : g.S.Shelf.honest l.shelf ≡ g.S.Shelf.honest l.fn.shelf;
   same_bench : g.B.Bench.honest l.bench ≡ g.B.Bench.honest l.fn.bench;
   room : HasRoom (g.J.JobMaker.work l.maker) l.worker.room;
-  others : IsTrue (g.B.Bench.honest l.fn.bench) → (n : List ℕ) → IsNoOutput (g.J.JobMaker.work l.fn.maker) (g.J.JobMaker.marking l.fn.maker) n
+  others : IsTrue (g.B.Bench.honest l.fn.bench) → (n : List ℕ) → IsNoOutput (g.J.JobMaker.work l.fn.maker)
+      (g.J.JobMaker.marking l.fn.maker) n
       → g.B.Bench.stored l.bench n ≡ g.B.Bench.stored l.fn.bench n;
   later_shelf : g.S.Shelf.failures l.fn.shelf ≤ g.S.Shelf.failures l.shelf;
   later_bench : g.B.Bench.failures l.fn.bench ≤ g.B.Bench.failures l.bench;
   run : IsTrue (g.S.Shelf.honest l.fn.shelf) → IsTrue (g.B.Bench.honest l.fn.bench) → (n : ℕ)
-      × Leads (λ world next. BoardRun (g.J.JobMaker.marks l.fn.maker) (jobs_over (g.J.JobMaker.work l.fn.maker) (g.S.Shelf.stored l.fn.shelf)) world (rounds n) next)
-      (state_of l.fn.board (g.B.Bench.stored l.fn.bench) 0 (g.S.Shelf.failures l.fn.shelf) (g.B.Bench.failures l.fn.bench) None) (λ _. Nothing)
-      (state_of l.board (g.B.Bench.stored l.bench) l.stale (g.S.Shelf.failures l.shelf) (g.B.Bench.failures l.bench) None) (only l.worker.hand);
+      × Leads (λ world next. BoardRun (g.J.JobMaker.marks l.fn.maker) (jobs_over (g.J.JobMaker.work l.fn.maker)
+      (g.S.Shelf.stored l.fn.shelf)) world (rounds n) next)
+      (state_of l.fn.board (g.B.Bench.stored l.fn.bench) 0 (g.S.Shelf.failures l.fn.shelf) (g.B.Bench.failures
+      l.fn.bench) None) (λ _. Nothing)
+      (state_of l.board (g.B.Bench.stored l.bench) l.stale (g.S.Shelf.failures l.shelf) (g.B.Bench.failures l.bench)
+      None) (only l.worker.hand);
   running : IsTrue (g.S.Shelf.honest l.fn.shelf) → IsTrue (g.B.Bench.honest l.fn.bench)
-      → IsRunningBy (g.J.JobMaker.marking l.fn.maker (g.S.Shelf.stored l.fn.shelf)) (done_of l.fn.board) (g.B.Bench.may_leave l.fn.bench)
-      → IsRunningBy (g.J.JobMaker.marking l.fn.maker (g.S.Shelf.stored l.fn.shelf)) (done_of l.board) (g.B.Bench.may_leave l.bench);
+      → IsRunningBy (g.J.JobMaker.marking l.fn.maker (g.S.Shelf.stored l.fn.shelf)) (done_of l.fn.board)
+      (g.B.Bench.may_leave l.fn.bench)
+      → IsRunningBy (g.J.JobMaker.marking l.fn.maker (g.S.Shelf.stored l.fn.shelf)) (done_of l.board)
+      (g.B.Bench.may_leave l.bench);
   moments : IsTrue (g.S.Shelf.honest l.fn.shelf) → IsTrue (g.B.Bench.honest l.fn.bench)
-      → IsRunningBy (g.J.JobMaker.marking l.fn.maker (g.S.Shelf.stored l.fn.shelf)) (done_of l.fn.board) (g.B.Bench.may_leave l.fn.bench)
-      → LeavesOnly g.B.Bench.moment g.B.Bench.left_since l.fn.bench l.bench (LeavesBy (g.J.JobMaker.marking l.fn.maker (g.S.Shelf.stored l.fn.shelf)) (done_of l.fn.board));
+      → IsRunningBy (g.J.JobMaker.marking l.fn.maker (g.S.Shelf.stored l.fn.shelf)) (done_of l.fn.board)
+      (g.B.Bench.may_leave l.fn.bench)
+      → LeavesOnly g.B.Bench.moment g.B.Bench.left_since l.fn.bench l.bench (LeavesBy (g.J.JobMaker.marking l.fn.maker
+      (g.S.Shelf.stored l.fn.shelf)) (done_of l.fn.board));
 }
 
 abbrev pub decreases-loop-frames : goal.decreases-loop-frames

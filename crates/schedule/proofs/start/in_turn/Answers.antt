@@ -5,7 +5,8 @@ use Rattle.schedule.proofs.Starting.{order-fresh, range-more}
 use Rattle.schedule.proofs.start.in_turn.Goals as goal
 
 pub loop-job-preserved : goal.loop-job-preserved
-loop-job-preserved c = c.in-Ok.ensures.items ∙ ap (λ (l : List ℕ). l ++ c.loop-job.job ∷ []) c.loop-job.invariant ∙ sym (range-more c.loop-job.job)
+loop-job-preserved c = c.in-Ok.ensures.items ∙ ap (λ (l : List ℕ). l ++ c.loop-job.job ∷ []) c.loop-job.invariant ∙
+    sym (range-more c.loop-job.job)
 
 pub returns-clause-order : goal.returns-clause-order
 returns-clause-order c =

@@ -1,4 +1,4 @@
-use Rattle.std.proofs.Common.{◌≡◌, ◌∙◌, take, sym, ap, arith, Some, None}
+use Rattle.std.proofs.Common.{◌∙◌, take, sym, ap, arith, None}
 use Rattle.job_terms.specs.Board.{Board, can_give}
 use Rattle.job_terms.specs.declared.Ticket.{Ticket}
 use Rattle.job_terms.specs.Workers.{Gives, Holds, State, Hand}
@@ -16,7 +16,9 @@ returns-in-Ok-clause-fits c work e fits = omega (
 
 pub returns-in-Ok-clause-step : goal.returns-in-Ok-clause-step
 returns-in-Ok-clause-step c files stale shelf bench = Gives c.in-Ok.ticket.job
-    (ap {B = Hand} (λ (d : Desk). d.hand) (sym c.worker.view_is) ∙ hand-none c.worker.inside.ticket c.worker.inside.made (take c.worker.inside.size c.worker.inside.bytes.items) (sym c.is_some.ensures ∙ c.if-is_some.false))
+    (ap {B = Hand} (λ (d : Desk). d.hand) (sym c.worker.view_is) ∙ hand-none c.worker.inside.ticket
+    c.worker.inside.made (take c.worker.inside.size c.worker.inside.bytes.items) (sym c.is_some.ensures ∙
+    c.if-is_some.false))
     (first-passes (can_give c.args.board.now) c.args.board.now.order c.in-Ok.ticket.job c.in-Ok.ensures.given.0)
     (ap {B = State} (λ (b : Board). state_of b files stale shelf bench None) c.in-Ok.ensures.given.2)
     (ap {B = Hand} (λ (t : Ticket). Holds t) c.in-Ok.ensures.given.1)
