@@ -26,8 +26,10 @@ pub fn give_to(
 ) -> Result<(), RunFault>
     ensures step { (marks : Bool) (jobs : Jobs) (files : Files) (stale shelf bench : ℕ) → Steps result (λ ended.
         Leads (λ world next. BoardStep marks jobs world (event.Give number) next)
-        (state_of board.old files stale shelf bench None) (hands_in hands.old) (state_of board.new files stale shelf bench ended) (hands_in hands.new)) }
-    ensures fits { (work : JobsBy) → length board.old.jobs ≡ work.count → ((v : ℕ) → FitsHand work (hands_in hands.old v))
+        (state_of board.old files stale shelf bench None) (hands_in hands.old) (state_of board.new files stale shelf
+        bench ended) (hands_in hands.new)) }
+    ensures fits { (work : JobsBy) → length board.old.jobs ≡ work.count → ((v : ℕ) → FitsHand work (hands_in hands.old
+        v))
         → OnOk result ((v : ℕ) → FitsHand work (hands_in hands.new v)) }
     ensures same { length board.new.jobs ≡ length board.old.jobs }
 {
@@ -70,8 +72,10 @@ pub fn work_by<J: JobMaker, S: Shelf>(
     shelf: &mut S,
 ) -> Result<(), RunFault>
     requires { (v : ℕ) → FitsHand (J.work maker.old) (hands_in hands.old v) }
-    ensures step { IsTrue (S.honest shelf.old) → (marks : Bool) (files : Files) (stale bench : ℕ) → Steps result (λ ended.
-        Leads (λ world next. BoardStep marks (jobs_over (J.work maker.old) (S.stored shelf.old)) world (event.Work number) next)
+    ensures step { IsTrue (S.honest shelf.old) → (marks : Bool) (files : Files) (stale bench : ℕ) → Steps result
+        (λ ended.
+        Leads (λ world next. BoardStep marks (jobs_over (J.work maker.old) (S.stored shelf.old)) world
+        (event.Work number) next)
         (state_of board.old files stale (S.failures shelf.old) bench None) (hands_in hands.old)
         (state_of board.new files stale (S.failures shelf.new) bench ended) (hands_in hands.new)) }
     ensures fits { OnOk result ((v : ℕ) → FitsHand (J.work maker.old) (hands_in hands.new v)) }
@@ -105,15 +109,19 @@ pub fn deliver_by<J: JobMaker, B: Bench>(
     requires fits { (v : ℕ) → FitsHand (J.work maker.old) (hands_in hands.old v) }
     requires room { stale.old + 1 < 2 ^ 64 }
     ensures step { IsTrue (B.honest bench.old) → (sources : Files) (shelf : ℕ) → Steps result (λ ended.
-        Leads (λ world next. BoardStep (J.marks maker.old) (jobs_over (J.work maker.old) sources) world (event.Deliver number) next)
+        Leads (λ world next. BoardStep (J.marks maker.old) (jobs_over (J.work maker.old) sources) world (event.Deliver
+        number) next)
         (state_of board.old (B.stored bench.old) stale.old shelf (B.failures bench.old) None) (hands_in hands.old)
         (state_of board.new (B.stored bench.new) stale.new shelf (B.failures bench.new) ended) (hands_in hands.new)) }
-    ensures running { IsTrue (B.honest bench.old) → (sources : Files) → ((v : ℕ) → IsRight (jobs_over (J.work maker.old) sources) (hands_in hands.old v))
+    ensures running { IsTrue (B.honest bench.old) → (sources : Files) → ((v : ℕ) → IsRight
+        (jobs_over (J.work maker.old) sources) (hands_in hands.old v))
         → IsRunningBy (J.marking maker.old sources) (done_of board.old) (B.may_leave bench.old)
         → Steps result (RunsOn (J.marking maker.old sources) (done_of board.new) (B.may_leave bench.new)) }
-    ensures any_moment { IsTrue (B.honest bench.old) → (sources : Files) → ((v : ℕ) → IsRight (jobs_over (J.work maker.old) sources) (hands_in hands.old v))
+    ensures any_moment { IsTrue (B.honest bench.old) → (sources : Files) → ((v : ℕ) → IsRight
+        (jobs_over (J.work maker.old) sources) (hands_in hands.old v))
         → IsRunningBy (J.marking maker.old sources) (done_of board.old) (B.may_leave bench.old)
-        → LeavesOnly B.moment B.left_since bench.old bench.new (LeavesBy (J.marking maker.old sources) (done_of board.old)) }
+        → LeavesOnly B.moment B.left_since bench.old bench.new (LeavesBy (J.marking maker.old sources)
+        (done_of board.old)) }
     ensures same_marking { J.marking maker.new ≡ J.marking maker.old }
     ensures fits { OnOk result ((v : ℕ) → FitsHand (J.work maker.old) (hands_in hands.new v)) }
     ensures same_work { J.work maker.new ≡ J.work maker.old }
@@ -158,7 +166,8 @@ pub fn fault_by(
 /// A worker forgets what it holds.
 pub fn lose_by(alloc: Global, hands: &mut Hands, number: u32)
     ensures step { (marks : Bool) (jobs : Jobs) (old : State)
-        → Leads (λ world next. BoardStep marks jobs world (event.Lose number) next) old (hands_in hands.old) old (hands_in hands.new) }
+        → Leads (λ world next. BoardStep marks jobs world (event.Lose number) next) old (hands_in hands.old) old
+        (hands_in hands.new) }
     ensures fits { (work : JobsBy) → ((v : ℕ) → FitsHand work (hands_in hands.old v))
         → (v : ℕ) → FitsHand work (hands_in hands.new v) }
 {
@@ -169,7 +178,8 @@ pub fn lose_by(alloc: Global, hands: &mut Hands, number: u32)
 pub fn reclaim(board: &mut Board, job: u32)
     ensures step { (marks : Bool) (jobs : Jobs) (files : Files) (stale shelf bench : ℕ) (hands : ℕ → Hand)
         → Leads (λ world next. BoardStep marks jobs world (event.Reclaim job) next)
-        (state_of board.old files stale shelf bench None) hands (state_of board.new files stale shelf bench None) hands }
+        (state_of board.old files stale shelf bench None) hands (state_of board.new files stale shelf bench None)
+        hands }
     ensures same { length board.new.jobs ≡ length board.old.jobs }
 {
     board.reclaim(job);

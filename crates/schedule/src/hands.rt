@@ -40,7 +40,8 @@ impl Hands {
     /// Puts the worker in, where it holds something.
     pub fn put(&mut self, number: u32, worker: Worker) -> Result<(), RunFault>
         requires { hands_in self.old number ≡ Nothing }
-        ensures hands { OnOk result ((v : ℕ) → hands_in self.new v ≡ with_hand (hands_in self.old) number worker.hand v) }
+        ensures hands { OnOk result ((v : ℕ) → hands_in self.new v ≡ with_hand (hands_in self.old) number worker.hand
+            v) }
         ensures only_memory { IfErr result (λ f. f ≡ Memory) }
     {
         if worker.ticket.is_none() {

@@ -18,7 +18,8 @@ fn write_synced<B: Bench>(
         → OnOk result (Changes (IsWritten at bytes.now) name.now (B.stored bench.old) (B.stored bench.new)) }
     ensures durable { IsTrue (B.honest bench.old)
         → OnOk result (IsDurable name.now (B.stored bench.new) (B.may_leave bench.new)) }
-    ensures torn { (c : Files) → B.may_leave bench.new c → IsTornFrom (B.may_leave bench.old) name.now at (length bytes.now) c }
+    ensures torn { (c : Files) → B.may_leave bench.new c → IsTornFrom (B.may_leave bench.old) name.now at
+        (length bytes.now) c }
     ensures moments { LeavesOnly B.moment B.left_since bench.old bench.new
         (IsTornFrom (B.may_leave bench.old) name.now at (length bytes.now)) }
     ensures honest { B.honest bench.new ≡ B.honest bench.old }

@@ -31,15 +31,21 @@ fn step<J: JobMaker, S: Shelf, B: Bench>(
     requires whole { length board.old.jobs ≡ (J.work maker.old).count }
     requires room { stale.old + 1 < 2 ^ 64 }
     ensures step { IsTrue (S.honest shelf.old) → IsTrue (B.honest bench.old) → Steps result (λ ended.
-        Leads (λ world next. BoardStep (J.marks maker.old) (jobs_over (J.work maker.old) (S.stored shelf.old)) world event next)
-        (state_of board.old (B.stored bench.old) stale.old (S.failures shelf.old) (B.failures bench.old) None) (hands_in hands.old)
-        (state_of board.new (B.stored bench.new) stale.new (S.failures shelf.new) (B.failures bench.new) ended) (hands_in hands.new)) }
+        Leads (λ world next. BoardStep (J.marks maker.old) (jobs_over (J.work maker.old) (S.stored shelf.old)) world
+        event next)
+        (state_of board.old (B.stored bench.old) stale.old (S.failures shelf.old) (B.failures bench.old) None)
+        (hands_in hands.old)
+        (state_of board.new (B.stored bench.new) stale.new (S.failures shelf.new) (B.failures bench.new) ended)
+        (hands_in hands.new)) }
     ensures running { IsTrue (S.honest shelf.old) → IsTrue (B.honest bench.old)
-        → ((v : ℕ) → IsRight (jobs_over (J.work maker.old) (S.stored shelf.old)) (hands_in hands.old v)) → IsRunningBy (J.marking maker.old (S.stored shelf.old)) (done_of board.old) (B.may_leave bench.old)
+        → ((v : ℕ) → IsRight (jobs_over (J.work maker.old) (S.stored shelf.old)) (hands_in hands.old v)) → IsRunningBy
+        (J.marking maker.old (S.stored shelf.old)) (done_of board.old) (B.may_leave bench.old)
         → Steps result (RunsOn (J.marking maker.old (S.stored shelf.old)) (done_of board.new) (B.may_leave bench.new)) }
     ensures any_moment { IsTrue (S.honest shelf.old) → IsTrue (B.honest bench.old)
-        → ((v : ℕ) → IsRight (jobs_over (J.work maker.old) (S.stored shelf.old)) (hands_in hands.old v)) → IsRunningBy (J.marking maker.old (S.stored shelf.old)) (done_of board.old) (B.may_leave bench.old)
-        → LeavesOnly B.moment B.left_since bench.old bench.new (LeavesBy (J.marking maker.old (S.stored shelf.old)) (done_of board.old)) }
+        → ((v : ℕ) → IsRight (jobs_over (J.work maker.old) (S.stored shelf.old)) (hands_in hands.old v)) → IsRunningBy
+        (J.marking maker.old (S.stored shelf.old)) (done_of board.old) (B.may_leave bench.old)
+        → LeavesOnly B.moment B.left_since bench.old bench.new (LeavesBy (J.marking maker.old (S.stored shelf.old))
+        (done_of board.old)) }
     ensures same_marking { J.marking maker.new ≡ J.marking maker.old }
     ensures fits { OnOk result ((v : ℕ) → FitsHand (J.work maker.old) (hands_in hands.new v)) }
     ensures same_work { J.work maker.new ≡ J.work maker.old }
@@ -79,22 +85,29 @@ pub fn run<J: JobMaker, S: Shelf, B: Bench>(
 ) -> Result<u64, RunFault>
     requires whole { length board.old.jobs ≡ (J.work maker.old).count }
     ensures run { IsTrue (S.honest shelf.old) → IsTrue (B.honest bench.old) → IfOk result (λ stale. (hands : ℕ → Hand)
-        × Leads (λ world next. BoardRun (J.marks maker.old) (jobs_over (J.work maker.old) (S.stored shelf.old)) world events.now next)
+        × Leads (λ world next. BoardRun (J.marks maker.old) (jobs_over (J.work maker.old) (S.stored shelf.old)) world
+        events.now next)
         (state_of board.old (B.stored bench.old) 0 (S.failures shelf.old) (B.failures bench.old) None) (λ _. Nothing)
         (state_of board.new (B.stored bench.new) stale (S.failures shelf.new) (B.failures bench.new) None) hands) }
     ensures filled { IsTrue (S.honest shelf.old) → IsTrue (B.honest bench.old) → (whole : List ℕ → List ℕ)
         → AreParts (jobs_over (J.work maker.old) (S.stored shelf.old)) whole
         → AreFilled (jobs_over (J.work maker.old) (S.stored shelf.old)) whole (done_of board.old) (B.stored bench.old)
-        → OnOk result (AreFilled (jobs_over (J.work maker.old) (S.stored shelf.old)) whole (done_of board.new) (B.stored bench.new)) }
-    ensures ended { IsTrue (S.honest shelf.old) → IsTrue (B.honest bench.old) → (n : ℕ) × (stale : ℕ) × (hands : ℕ → Hand)
+        → OnOk result (AreFilled (jobs_over (J.work maker.old) (S.stored shelf.old)) whole (done_of board.new)
+        (B.stored bench.new)) }
+    ensures ended { IsTrue (S.honest shelf.old) → IsTrue (B.honest bench.old) → (n : ℕ) × (stale : ℕ) ×
+        (hands : ℕ → Hand)
         × (n ≤ length events.now) × Steps result (λ ended.
-        Leads (λ world next. BoardRun (J.marks maker.old) (jobs_over (J.work maker.old) (S.stored shelf.old)) world (take n events.now) next)
+        Leads (λ world next. BoardRun (J.marks maker.old) (jobs_over (J.work maker.old) (S.stored shelf.old)) world
+        (take n events.now) next)
         (state_of board.old (B.stored bench.old) 0 (S.failures shelf.old) (B.failures bench.old) None) (λ _. Nothing)
         (state_of board.new (B.stored bench.new) stale (S.failures shelf.new) (B.failures bench.new) ended) hands) }
-    ensures running { IsTrue (S.honest shelf.old) → IsTrue (B.honest bench.old) → IsRunningBy (J.marking maker.old (S.stored shelf.old)) (done_of board.old) (B.may_leave bench.old)
+    ensures running { IsTrue (S.honest shelf.old) → IsTrue (B.honest bench.old) → IsRunningBy (J.marking maker.old
+        (S.stored shelf.old)) (done_of board.old) (B.may_leave bench.old)
         → Steps result (RunsOn (J.marking maker.old (S.stored shelf.old)) (done_of board.new) (B.may_leave bench.new)) }
-    ensures any_moment { IsTrue (S.honest shelf.old) → IsTrue (B.honest bench.old) → IsRunningBy (J.marking maker.old (S.stored shelf.old)) (done_of board.old) (B.may_leave bench.old)
-        → LeavesOnly B.moment B.left_since bench.old bench.new (LeavesBy (J.marking maker.old (S.stored shelf.old)) (done_of board.old)) }
+    ensures any_moment { IsTrue (S.honest shelf.old) → IsTrue (B.honest bench.old) → IsRunningBy (J.marking maker.old
+        (S.stored shelf.old)) (done_of board.old) (B.may_leave bench.old)
+        → LeavesOnly B.moment B.left_since bench.old bench.new (LeavesBy (J.marking maker.old (S.stored shelf.old))
+        (done_of board.old)) }
 {
     let mut hands = Hands::new(alloc);
     let mut stale: u64 = 0;

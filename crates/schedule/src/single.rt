@@ -32,16 +32,22 @@ fn round<J: JobMaker, S: Shelf, B: Bench>(
     requires empty { worker.old.hand ≡ Nothing }
     requires room { HasRoom (J.work maker.old) worker.old.room }
     requires few { stale.old + 1 < 2 ^ 64 }
-    ensures round { IsTrue (S.honest shelf.old) → IsTrue (B.honest bench.old) → (m : ℕ) × (m ≤ 3) × (OnOk result (m ≡ 3))
-        × Leads (λ world next. BoardRun (J.marks maker.old) (jobs_over (J.work maker.old) (S.stored shelf.old)) world (take m (rounds 1)) next)
-        (state_of board.old (B.stored bench.old) stale.old (S.failures shelf.old) (B.failures bench.old) None) (only worker.old.hand)
-        (state_of board.new (B.stored bench.new) stale.new (S.failures shelf.new) (B.failures bench.new) (ended_of result)) (only worker.new.hand) }
+    ensures round { IsTrue (S.honest shelf.old) → IsTrue (B.honest bench.old) → (m : ℕ) × (m ≤ 3) ×
+        (OnOk result (m ≡ 3))
+        × Leads (λ world next. BoardRun (J.marks maker.old) (jobs_over (J.work maker.old) (S.stored shelf.old)) world
+        (take m (rounds 1)) next)
+        (state_of board.old (B.stored bench.old) stale.old (S.failures shelf.old) (B.failures bench.old) None)
+        (only worker.old.hand)
+        (state_of board.new (B.stored bench.new) stale.new (S.failures shelf.new) (B.failures bench.new)
+        (ended_of result)) (only worker.new.hand) }
     ensures running { IsTrue (S.honest shelf.old) → IsTrue (B.honest bench.old)
         → IsRunningBy (J.marking maker.old (S.stored shelf.old)) (done_of board.old) (B.may_leave bench.old)
-        → RunsOn (J.marking maker.old (S.stored shelf.old)) (done_of board.new) (B.may_leave bench.new) (ended_of result) }
+        → RunsOn (J.marking maker.old (S.stored shelf.old)) (done_of board.new) (B.may_leave bench.new)
+        (ended_of result) }
     ensures any_moment { IsTrue (S.honest shelf.old) → IsTrue (B.honest bench.old)
         → IsRunningBy (J.marking maker.old (S.stored shelf.old)) (done_of board.old) (B.may_leave bench.old)
-        → LeavesOnly B.moment B.left_since bench.old bench.new (LeavesBy (J.marking maker.old (S.stored shelf.old)) (done_of board.old)) }
+        → LeavesOnly B.moment B.left_since bench.old bench.new (LeavesBy (J.marking maker.old (S.stored shelf.old))
+        (done_of board.old)) }
     ensures rest { OnOk result (AtRest board.new) }
     ensures fewer { OnOk result (all_rounds_left board.new < all_rounds_left board.old) }
     ensures empty { OnOk result (worker.new.hand ≡ Nothing) }
@@ -140,11 +146,14 @@ pub fn alone<J: JobMaker, S: Shelf, B: Bench, W: Watch>(
     requires rest { AtRest board.old }
     requires empty { worker.old.hand ≡ Nothing }
     requires room { HasRoom (J.work maker.old) worker.old.room }
-    ensures rounds { IsTrue (S.honest shelf.old) → IsTrue (B.honest bench.old) → (n : ℕ) × (m : ℕ) × (hand : Hand) × (m ≤ 3)
-        × (OnOk result (m ≡ 0)) × Leads (λ world next. BoardRun (J.marks maker.old) (jobs_over (J.work maker.old) (S.stored shelf.old)) world
+    ensures rounds { IsTrue (S.honest shelf.old) → IsTrue (B.honest bench.old) → (n : ℕ) × (m : ℕ) × (hand : Hand) ×
+        (m ≤ 3)
+        × (OnOk result (m ≡ 0)) × Leads (λ world next. BoardRun (J.marks maker.old) (jobs_over (J.work maker.old)
+        (S.stored shelf.old)) world
         (rounds n ++ take m (rounds 1)) next)
         (state_of board.old (B.stored bench.old) 0 (S.failures shelf.old) (B.failures bench.old) None) (λ _. Nothing)
-        (state_of board.new (B.stored bench.new) 0 (S.failures shelf.new) (B.failures bench.new) (ended_of result)) (only hand) }
+        (state_of board.new (B.stored bench.new) 0 (S.failures shelf.new) (B.failures bench.new) (ended_of result))
+        (only hand) }
     ensures done { OnOk result ((k : ℕ) → k < (J.work maker.old).count → done_of board.new k ≡ true) }
     ensures stay { IsTrue (S.honest shelf.old) → IsTrue (B.honest bench.old) → (k : ℕ) → done_of board.old k ≡ true
         → done_of board.new k ≡ true }
@@ -159,10 +168,12 @@ pub fn alone<J: JobMaker, S: Shelf, B: Bench, W: Watch>(
         → B.stored bench.new ((J.work maker.old).name k) ≡ Some (whole ((J.work maker.old).name k))) }
     ensures running { IsTrue (S.honest shelf.old) → IsTrue (B.honest bench.old)
         → IsRunningBy (J.marking maker.old (S.stored shelf.old)) (done_of board.old) (B.may_leave bench.old)
-        → RunsOn (J.marking maker.old (S.stored shelf.old)) (done_of board.new) (B.may_leave bench.new) (ended_of result) }
+        → RunsOn (J.marking maker.old (S.stored shelf.old)) (done_of board.new) (B.may_leave bench.new)
+        (ended_of result) }
     ensures any_moment { IsTrue (S.honest shelf.old) → IsTrue (B.honest bench.old)
         → IsRunningBy (J.marking maker.old (S.stored shelf.old)) (done_of board.old) (B.may_leave bench.old)
-        → LeavesOnly B.moment B.left_since bench.old bench.new (LeavesBy (J.marking maker.old (S.stored shelf.old)) (done_of board.old)) }
+        → LeavesOnly B.moment B.left_since bench.old bench.new (LeavesBy (J.marking maker.old (S.stored shelf.old))
+        (done_of board.old)) }
     ensures same_shelf { S.stored shelf.new ≡ S.stored shelf.old }
     ensures same_honest { S.honest shelf.new ≡ S.honest shelf.old }
     ensures same_bench { B.honest bench.new ≡ B.honest bench.old }

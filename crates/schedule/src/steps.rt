@@ -18,7 +18,8 @@ use workboard::{Board, BoardFault};
 
 /// Hands a job to a worker that holds none.
 pub fn give(board: &mut Board, worker: &mut Worker, number: u32)
-    ensures fits { (work : JobsBy) → length board.old.jobs ≡ work.count → FitsHand work worker.old.hand → FitsHand work worker.new.hand }
+    ensures fits { (work : JobsBy) → length board.old.jobs ≡ work.count → FitsHand work worker.old.hand → FitsHand
+        work worker.new.hand }
     ensures same { length board.new.jobs ≡ length board.old.jobs }
     ensures same_room { worker.new.room ≡ worker.old.room }
     ensures step { (files : Files) (stale shelf bench : ℕ)
@@ -143,19 +144,27 @@ pub fn deliver<J: JobMaker, B: Bench>(
     ensures step { IsTrue (B.honest bench.old) → (sources : Files) (shelf : ℕ) →
         DeliverStep (J.marks maker.old) (jobs_over (J.work maker.old) sources)
         (state_of board.old (B.stored bench.old) stale.old shelf (B.failures bench.old) None) worker.old.hand
-        (state_of board.new (B.stored bench.new) stale.new shelf (B.failures bench.new) (ended_of result)) worker.new.hand }
-    ensures running { IsTrue (B.honest bench.old) → (sources : Files) → IsRight (jobs_over (J.work maker.old) sources) worker.old.hand
+        (state_of board.new (B.stored bench.new) stale.new shelf (B.failures bench.new) (ended_of result))
+        worker.new.hand }
+    ensures running { IsTrue (B.honest bench.old) → (sources : Files) → IsRight (jobs_over (J.work maker.old) sources)
+        worker.old.hand
         → IsRunningBy (J.marking maker.old sources) (done_of board.old) (B.may_leave bench.old)
         → RunsOn (J.marking maker.old sources) (done_of board.new) (B.may_leave bench.new) (ended_of result) }
-    ensures any_moment { IsTrue (B.honest bench.old) → (sources : Files) → IsRight (jobs_over (J.work maker.old) sources) worker.old.hand
+    ensures any_moment { IsTrue (B.honest bench.old) → (sources : Files) → IsRight (jobs_over (J.work maker.old)
+        sources) worker.old.hand
         → IsRunningBy (J.marking maker.old sources) (done_of board.old) (B.may_leave bench.old)
-        → LeavesOnly B.moment B.left_since bench.old bench.new (LeavesBy (J.marking maker.old sources) (done_of board.old)) }
-    ensures turn { (ticket : Ticket) (bytes : List ℕ) → worker.old.hand ≡ Made ticket bytes → is_current board.old ticket ≡ true
+        → LeavesOnly B.moment B.left_since bench.old bench.new (LeavesBy (J.marking maker.old sources)
+        (done_of board.old)) }
+    ensures turn { (ticket : Ticket) (bytes : List ℕ) → worker.old.hand ≡ Made ticket bytes → is_current board.old
+        ticket ≡ true
         → OnOk result (Turned board.old ticket board.new) }
-    ensures quiet { (ticket : Ticket) (bytes : List ℕ) → worker.old.hand ≡ Made ticket bytes → is_current board.old ticket ≡ true
+    ensures quiet { (ticket : Ticket) (bytes : List ℕ) → worker.old.hand ≡ Made ticket bytes → is_current board.old
+        ticket ≡ true
         → stale.new ≡ stale.old }
-    ensures nothing { (ticket : Ticket) (bytes : List ℕ) → worker.old.hand ≡ Made ticket bytes → worker.new.hand ≡ Nothing }
-    ensures idle { worker.old.hand ≡ Nothing → (board.new ≡ board.old) × (worker.new.hand ≡ Nothing) × (stale.new ≡ stale.old) }
+    ensures nothing { (ticket : Ticket) (bytes : List ℕ) → worker.old.hand ≡ Made ticket bytes → worker.new.hand ≡
+        Nothing }
+    ensures idle { worker.old.hand ≡ Nothing → (board.new ≡ board.old) × (worker.new.hand ≡ Nothing) ×
+        (stale.new ≡ stale.old) }
     ensures fits { FitsHand (J.work maker.old) worker.new.hand }
     ensures same_work { J.work maker.new ≡ J.work maker.old }
     ensures same_marks { J.marks maker.new ≡ J.marks maker.old }
