@@ -1,3 +1,5 @@
+mod Ended
+mod Fresh
 mod Filling
 pub mod Firsts
 mod Keeps

@@ -1,5 +1,6 @@
 pub mod Alone
 pub mod Ends
+pub mod Events
 pub mod Filled
 pub mod Held
 pub mod Marking

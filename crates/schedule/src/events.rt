@@ -1,5 +1,5 @@
 // One event.
-ghost use Rattle.std.specs.Prelude.{◌≡◌, ◌<◌, ◌≤◌, ◌+◌, ◌^◌, ℕ, Bool, IsTrue, None, length, OnOk, IfErr, List};
+ghost use Rattle.std.specs.Prelude.{◌≡◌, ◌<◌, ◌≤◌, ◌+◌, ◌^◌, ℕ, Bool, IsTrue, None, length, OnOk, IfErr, IsErrOf, List};
 ghost use Rattle.work_terms.specs.Disk.{Files, LeavesOnly};
 ghost use Rattle.schedule.specs.Marking.{IsNoOutput, IsRight, IsRunningBy, LeavesBy, RunsOn, done_of};
 ghost use Rattle.job_terms.specs.Workers.{BoardStep, Hand, Jobs, JobsBy, State, jobs_over};
@@ -84,6 +84,8 @@ pub fn work_by<J: JobMaker, S: Shelf>(
     ensures same_marks { J.marks maker.new ≡ J.marks maker.old }
     ensures same_shelf { S.stored shelf.new ≡ S.stored shelf.old }
     ensures same_honest { S.honest shelf.new ≡ S.honest shelf.old }
+    ensures later { S.failures shelf.old ≤ S.failures shelf.new }
+    ensures memory { IsErrOf result run_fault.Memory → S.failures shelf.new ≡ S.failures shelf.old }
     ensures same { length board.new.jobs ≡ length board.old.jobs }
 {
     let mut worker = hands.take(alloc, number);
@@ -129,6 +131,8 @@ pub fn deliver_by<J: JobMaker, B: Bench>(
     ensures same_honest { B.honest bench.new ≡ B.honest bench.old }
     ensures others { IsTrue (B.honest bench.old) → (n : List ℕ) → IsNoOutput (J.work maker.old) (J.marking maker.old) n
         → B.stored bench.new n ≡ B.stored bench.old n }
+    ensures later { B.failures bench.old ≤ B.failures bench.new }
+    ensures memory { IsErrOf result run_fault.Memory → (bench.new ≡ bench.old) × (stale.new ≡ stale.old) }
     ensures same { length board.new.jobs ≡ length board.old.jobs }
     ensures counted { stale.new ≤ stale.old + 1 }
 {

@@ -1,5 +1,5 @@
 // What all workers hold.
-ghost use Rattle.std.specs.Prelude.{◌≡◌, ◌≢◌, ℕ, OnOk, IfErr};
+ghost use Rattle.std.specs.Prelude.{◌≡◌, ◌≢◌, ℕ, OnOk, IfErr, IsErr};
 ghost use Rattle.job_terms.specs.Workers.{Nothing, with_hand};
 ghost use Rattle.schedule.specs.Held.{hands_in};
 ghost use Rattle.schedule.specs.declared.fault.RunFault.TheVariants.{Memory};
@@ -43,6 +43,7 @@ impl Hands {
         ensures hands { OnOk result ((v : ℕ) → hands_in self.new v ≡ with_hand (hands_in self.old) number worker.hand
             v) }
         ensures only_memory { IfErr result (λ f. f ≡ Memory) }
+        ensures needed { IsErr result → worker.hand ≢ Nothing }
     {
         if worker.ticket.is_none() {
             return Ok(());

@@ -4,6 +4,7 @@
 mod events;
 mod fault;
 mod hands;
+mod laid;
 mod maker;
 mod placing;
 mod resting;
@@ -14,10 +15,11 @@ mod steps;
 mod worker;
 
 pub use fault::{JobFault, PlaceFault, RunFault};
+pub use laid::run_laid;
 pub use maker::JobMaker;
 pub use placing::place_marked;
 pub use resting::resting_board;
 pub use running::run;
 pub use single::{alone, most_bytes};
-pub use start::{Start, fresh_start, from_start};
+pub use start::{Start, fresh_board, fresh_start, from_start};
 pub use worker::Worker;

@@ -1,11 +1,13 @@
 // A list of events.
-ghost use Rattle.std.specs.Prelude.{◌≡◌, ◌<◌, ◌≤◌, ◌+◌, ◌^◌, ℕ, Bool, List, IsTrue, None, length, take, OnOk, IfOk};
+ghost use Rattle.std.specs.Prelude.{◌≡◌, ◌<◌, ◌≤◌, ◌+◌, ◌^◌, ℕ, Bool, List, IsTrue, None, length, take, OnOk, IfOk, IsErrOf};
 ghost use Rattle.work_terms.specs.Disk.{Files, LeavesOnly};
 ghost use Rattle.job_terms.specs.Workers.{BoardRun, BoardStep, Hand, Nothing, jobs_over};
 ghost use Rattle.schedule.specs.Filled.{AreFilled, AreParts};
-ghost use Rattle.schedule.specs.Marking.{IsRight, IsRunningBy, LeavesBy, RunsOn, done_of};
+ghost use Rattle.schedule.specs.Marking.{IsNoOutput, IsRight, IsRunningBy, LeavesBy, RunsOn, done_of};
 ghost use Rattle.schedule.specs.Held.{hands_in};
 ghost use Rattle.schedule.specs.Ends.{Steps};
+ghost use Rattle.schedule.specs.Events.{RanSome, end_of};
+ghost use Rattle.schedule.specs.declared.fault.RunFault.TheVariants as run_fault;
 ghost use Rattle.schedule.specs.Run.{FitsHand, Leads, state_of};
 
 use crate::events::{deliver_by, fault_by, give_to, lose_by, reclaim, work_by};
@@ -55,6 +57,12 @@ fn step<J: JobMaker, S: Shelf, B: Bench>(
     ensures same_bench { B.honest bench.new ≡ B.honest bench.old }
     ensures same { length board.new.jobs ≡ length board.old.jobs }
     ensures counted { stale.new ≤ stale.old + 1 }
+    ensures others { IsTrue (B.honest bench.old) → (n : List ℕ) → IsNoOutput (J.work maker.old) (J.marking maker.old) n
+        → B.stored bench.new n ≡ B.stored bench.old n }
+    ensures later_shelf { S.failures shelf.old ≤ S.failures shelf.new }
+    ensures later_bench { B.failures bench.old ≤ B.failures bench.new }
+    ensures memory { IsErrOf result run_fault.Memory → (bench.new ≡ bench.old) × (stale.new ≡ stale.old)
+        × (S.failures shelf.new ≡ S.failures shelf.old) }
 {
     match event {
         BoardEvent::Give(number) => return give_to(alloc, board, hands, number),
@@ -94,13 +102,12 @@ pub fn run<J: JobMaker, S: Shelf, B: Bench>(
         → AreFilled (jobs_over (J.work maker.old) (S.stored shelf.old)) whole (done_of board.old) (B.stored bench.old)
         → OnOk result (AreFilled (jobs_over (J.work maker.old) (S.stored shelf.old)) whole (done_of board.new)
         (B.stored bench.new)) }
-    ensures ended { IsTrue (S.honest shelf.old) → IsTrue (B.honest bench.old) → (n : ℕ) × (stale : ℕ) ×
-        (hands : ℕ → Hand)
-        × (n ≤ length events.now) × Steps result (λ ended.
-        Leads (λ world next. BoardRun (J.marks maker.old) (jobs_over (J.work maker.old) (S.stored shelf.old)) world
-        (take n events.now) next)
-        (state_of board.old (B.stored bench.old) 0 (S.failures shelf.old) (B.failures bench.old) None) (λ _. Nothing)
-        (state_of board.new (B.stored bench.new) stale (S.failures shelf.new) (B.failures bench.new) ended) hands) }
+    ensures ended { IsTrue (S.honest shelf.old) → IsTrue (B.honest bench.old) → RanSome (J.marks maker.old)
+        (jobs_over (J.work maker.old) (S.stored shelf.old)) events.now
+        (state_of board.old (B.stored bench.old) 0 (S.failures shelf.old) (B.failures bench.old) None)
+        (λ count last stale. ((IsErrOf result run_fault.Memory → ⊥) → last ≡ board.new)
+        × IfOk result (λ told. (count ≡ length events.now) × (stale ≡ told)))
+        (B.stored bench.new) (S.failures shelf.new) (B.failures bench.new) (end_of result) }
     ensures running { IsTrue (S.honest shelf.old) → IsTrue (B.honest bench.old) → IsRunningBy (J.marking maker.old
         (S.stored shelf.old)) (done_of board.old) (B.may_leave bench.old)
         → Steps result (RunsOn (J.marking maker.old (S.stored shelf.old)) (done_of board.new) (B.may_leave bench.new)) }
@@ -108,6 +115,15 @@ pub fn run<J: JobMaker, S: Shelf, B: Bench>(
         (S.stored shelf.old)) (done_of board.old) (B.may_leave bench.old)
         → LeavesOnly B.moment B.left_since bench.old bench.new (LeavesBy (J.marking maker.old (S.stored shelf.old))
         (done_of board.old)) }
+    ensures same { length board.new.jobs ≡ length board.old.jobs }
+    ensures same_work { J.work maker.new ≡ J.work maker.old }
+    ensures same_shelf { S.stored shelf.new ≡ S.stored shelf.old }
+    ensures same_honest { S.honest shelf.new ≡ S.honest shelf.old }
+    ensures same_bench { B.honest bench.new ≡ B.honest bench.old }
+    ensures others { IsTrue (B.honest bench.old) → (n : List ℕ) → IsNoOutput (J.work maker.old) (J.marking maker.old) n
+        → B.stored bench.new n ≡ B.stored bench.old n }
+    ensures later_shelf { S.failures shelf.old ≤ S.failures shelf.new }
+    ensures later_bench { B.failures bench.old ≤ B.failures bench.new }
 {
     let mut hands = Hands::new(alloc);
     let mut stale: u64 = 0;

@@ -38,15 +38,22 @@ fn in_turn(alloc: Global, count: u32) -> Result<Vec<u32>, BoardFault>
     Ok(order)
 }
 
+/// A board on which all jobs of a work are open, in the order of their numbers.
+pub fn fresh_board<J: JobMaker>(alloc: Global, maker: &J) -> Result<Board, BoardFault>
+    ensures { IfOk result (λ board. board ≡ board_of (J.work maker.now).count) }
+{
+    let count = maker.count();
+    let order = in_turn(alloc, count)?;
+    Board::new(alloc, count, order)
+}
+
 /// All jobs of a work are open, in the order of their numbers. It takes all memory that the loop over them needs.
 pub fn fresh_start<J: JobMaker>(alloc: Global, maker: &J) -> Result<Start, BoardFault>
     ensures board { IfOk result (λ start. start.board ≡ board_of (J.work maker.now).count) }
     ensures empty { IfOk result (λ start. start.worker.hand ≡ Nothing) }
     ensures room { IfOk result (λ start. HasRoom (J.work maker.now) start.worker.room) }
 {
-    let count = maker.count();
-    let order = in_turn(alloc, count)?;
-    let board = Board::new(alloc, count, order)?;
+    let board = fresh_board(alloc, maker)?;
     match Worker::with_room(alloc, most_bytes(maker)) {
         Ok(worker) => Ok(Start { board, worker }),
         Err(_) => Err(BoardFault::Memory),

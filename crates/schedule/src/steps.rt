@@ -99,6 +99,7 @@ pub fn work<J: JobMaker, S: Shelf>(
     ensures same_honest { S.honest shelf.new ≡ S.honest shelf.old }
     ensures no_mark { IsErrOf result fault.Mark → ⊥ }
     ensures later { S.failures shelf.old ≤ S.failures shelf.new }
+    ensures quiet { worker.new.hand ≢ Nothing → S.failures shelf.new ≡ S.failures shelf.old }
     ensures same_room { worker.new.room ≡ worker.old.room }
     ensures same { length board.new.jobs ≡ length board.old.jobs }
 {
@@ -174,6 +175,7 @@ pub fn deliver<J: JobMaker, B: Bench>(
         → B.stored bench.new n ≡ B.stored bench.old n }
     ensures only_marks { IsErrOf result fault.Mark → IsTrue (J.marks maker.old) }
     ensures later { B.failures bench.old ≤ B.failures bench.new }
+    ensures waits { worker.new.hand ≢ Nothing → (bench.new ≡ bench.old) × (stale.new ≡ stale.old) }
     ensures same_room { worker.new.room ≡ worker.old.room }
     ensures same { length board.new.jobs ≡ length board.old.jobs }
     ensures counted { stale.new ≤ stale.old + 1 }

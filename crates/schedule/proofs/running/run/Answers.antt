@@ -1,11 +1,14 @@
-use Rattle.std.proofs.Common.{◌∙◌, ◌+◌, ℕ, IsTrue, List, Option, None, Err, take, get_or, refl, sym, ap, subst, arith}
+use Rattle.std.proofs.Common.{◌∙◌, ◌+◌, ℕ, IsTrue, List, Option, None, Err, take, refl, sym, ap, subst, arith}
 use Rattle.std.proofs.lemmas.List.{take_all}
 use Rattle.job_terms.specs.declared.BoardEvent.{BoardEvent}
-use Rattle.job_terms.specs.Workers.{BoardRun, BoardStep, Nothing, State, jobs_over}
+use Rattle.job_terms.specs.Workers.{BoardRun, Nothing, State, jobs_over}
 use Rattle.schedule.specs.Held.{hands_in}
 use Rattle.schedule.specs.Ends.{Steps}
+use Rattle.schedule.specs.Events.{RanSome}
+use Rattle.schedule.specs.declared.fault.RunFault.TheVariants.{Memory}
+use Rattle.std.proofs.Common.{◌≡◌, IsErrOf, rules}
+use Rattle.schedule.proofs.Ended.{ended-by}
 use Rattle.schedule.specs.Run.{FitsHand, Leads, state_of}
-use Rattle.schedule.proofs.Firsts.{steps-map}
 use Rattle.schedule.proofs.Sound.{run-sound}
 use Rattle.schedule.proofs.Runs.{leads-as, leads-next}
 use Rattle.schedule.specs.Filled.{IsGood}
@@ -31,8 +34,15 @@ returns-clause-run g c honest whole = let i = c.loop-event.invariant in (
 )
 
 pub returns-clause-ended : goal.returns-clause-ended
-returns-clause-ended g c honest whole = let i = c.loop-event.invariant in
-    (c.loop-event.event-index, c.loop-event.stale, hands_in c.loop-event.hands, omega arith, i.run honest whole)
+returns-clause-ended g c honest whole = let i = c.loop-event.invariant in record {
+  count = c.loop-event.event-index;
+  few = omega arith;
+  board = c.loop-event.board;
+  stale = c.loop-event.stale;
+  last = (λ _. refl, (omega arith, refl));
+  hands = hands_in c.loop-event.hands;
+  run = i.run honest whole;
+}
 
 pub loop-event-preserved : goal.loop-event-preserved
 loop-event-preserved g c = let i = c.loop-event.invariant in let e = c.in-Ok.ensures in record {
@@ -109,6 +119,9 @@ loop-event-preserved g c = let i = c.loop-event.invariant in let e = c.in-Ok.ens
   same_shelf = e.same_shelf ∙ i.same_shelf;
   same_honest = e.same_honest ∙ i.same_honest;
   same_bench = e.same_bench ∙ i.same_bench;
+  others = λ honest n none. search rules;
+  later_shelf = omega (arith, e.later_shelf, i.later_shelf);
+  later_bench = omega (arith, e.later_bench, i.later_bench);
   room = omega (arith, e.counted, i.room);
   fits = subst (λ w. (v : ℕ) → FitsHand w (hands_in c.step.new.hands v)) (sym e.same_work) e.fits;
   run = λ honest whole. leads-next (g.J.JobMaker.marks c.args.maker.now) (jobs_over (g.J.JobMaker.work
@@ -133,46 +146,48 @@ loop-event-preserved g c = let i = c.loop-event.invariant in let e = c.in-Ok.ens
 }
 
 pub returns-in-Err-clause-ended : goal.returns-in-Err-clause-ended
-returns-in-Err-clause-ended g c honest whole = let i = c.loop-event.invariant in (
-  c.loop-event.event-index + 1,
-  c.step.new.stale,
-  hands_in c.step.new.hands,
-  omega arith,
-  steps-map {X = Unit {0}} (Err c.in-Err.fault)
-      (λ ended. Leads (λ world next. BoardStep (g.J.JobMaker.marks c.loop-event.maker) (jobs_over (g.J.JobMaker.work
-      c.loop-event.maker) (g.S.Shelf.stored c.loop-event.shelf)) world
-      (get_or c.args.events.now c.loop-event.event-index _) next) (state_of c.loop-event.board (g.B.Bench.stored
-      c.loop-event.bench) c.loop-event.stale (g.S.Shelf.failures c.loop-event.shelf) (g.B.Bench.failures
-      c.loop-event.bench) None) (hands_in c.loop-event.hands) (state_of c.step.new.board (g.B.Bench.stored
-      c.step.new.bench) c.step.new.stale (g.S.Shelf.failures c.step.new.shelf) (g.B.Bench.failures
-      c.step.new.bench) ended) (hands_in c.step.new.hands))
-      (λ ended. Leads (λ world next. BoardRun (g.J.JobMaker.marks c.args.maker.now) (jobs_over (g.J.JobMaker.work
-      c.args.maker.now) (g.S.Shelf.stored c.args.shelf.now)) world (take (c.loop-event.event-index + 1)
-      c.args.events.now) next) (state_of c.args.board.now (g.B.Bench.stored c.args.bench.now) 0
-      (g.S.Shelf.failures c.args.shelf.now) (g.B.Bench.failures c.args.bench.now) None) (λ _. Nothing)
-      (state_of c.step.new.board (g.B.Bench.stored c.step.new.bench) c.step.new.stale
-      (g.S.Shelf.failures c.step.new.shelf) (g.B.Bench.failures c.step.new.bench) ended)
-      (hands_in c.step.new.hands))
-      (λ ended h. leads-next (g.J.JobMaker.marks c.args.maker.now) (jobs_over (g.J.JobMaker.work c.args.maker.now)
-      (g.S.Shelf.stored c.args.shelf.now)) c.args.events.now c.loop-event.event-index _ (state_of c.args.board.now
-      (g.B.Bench.stored c.args.bench.now) 0 (g.S.Shelf.failures c.args.shelf.now) (g.B.Bench.failures
-      c.args.bench.now) None) (state_of c.loop-event.board (g.B.Bench.stored c.loop-event.bench)
-      c.loop-event.stale (g.S.Shelf.failures c.loop-event.shelf) (g.B.Bench.failures
-      c.loop-event.bench) None) (state_of c.step.new.board (g.B.Bench.stored c.step.new.bench)
-      c.step.new.stale (g.S.Shelf.failures c.step.new.shelf) (g.B.Bench.failures
-      c.step.new.bench) ended)
-      (λ _. Nothing) (hands_in c.loop-event.hands) (hands_in c.step.new.hands) c.loop-event-test.true refl
-      (i.run honest whole)
-      (leads-as (g.J.JobMaker.marks c.loop-event.maker) (g.J.JobMaker.marks c.args.maker.now) (g.J.JobMaker.work
-      c.loop-event.maker) (g.J.JobMaker.work c.args.maker.now)
-      (g.S.Shelf.stored c.loop-event.shelf) (g.S.Shelf.stored c.args.shelf.now) _ (state_of c.loop-event.board
-      (g.B.Bench.stored c.loop-event.bench) c.loop-event.stale (g.S.Shelf.failures c.loop-event.shelf)
-      (g.B.Bench.failures c.loop-event.bench) None) (state_of c.step.new.board (g.B.Bench.stored
-      c.step.new.bench) c.step.new.stale (g.S.Shelf.failures c.step.new.shelf) (g.B.Bench.failures
-      c.step.new.bench) ended) (hands_in c.loop-event.hands) (hands_in c.step.new.hands)
-      i.same_marks i.same_work i.same_shelf h))
-      (c.in-Err.ensures.step (subst IsTrue (sym i.same_honest) honest) (subst IsTrue (sym i.same_bench) whole)),
-)
+returns-in-Err-clause-ended g c honest whole =
+    let i = c.loop-event.invariant in
+    let marks = g.J.JobMaker.marks c.args.maker.now in
+    let jobs = jobs_over (g.J.JobMaker.work c.args.maker.now) (g.S.Shelf.stored c.args.shelf.now) in
+    let events = c.args.events.now in
+    let start = state_of c.args.board.now (g.B.Bench.stored c.args.bench.now) 0 (g.S.Shelf.failures c.args.shelf.now)
+    (g.B.Bench.failures c.args.bench.now) None in
+    let before = state_of c.loop-event.board (g.B.Bench.stored c.loop-event.bench) c.loop-event.stale
+    (g.S.Shelf.failures c.loop-event.shelf) (g.B.Bench.failures c.loop-event.bench) None in
+    ended-by c.in-Err.fault _
+    (RanSome marks jobs events start
+    (λ count last stale. ((IsErrOf {T = ℕ} (Err c.in-Err.fault) Memory → ⊥) → last ≡ c.step.new.board) × Unit {0})
+    (g.B.Bench.stored c.step.new.bench) (g.S.Shelf.failures c.step.new.shelf) (g.B.Bench.failures c.step.new.bench))
+    (c.in-Err.ensures.step (subst IsTrue (sym i.same_honest) honest) (subst IsTrue (sym i.same_bench) whole))
+    (λ ended h. record {
+      count = c.loop-event.event-index + 1;
+      few = omega arith;
+      board = c.step.new.board;
+      stale = c.step.new.stale;
+      last = (λ _. refl, tt);
+      hands = hands_in c.step.new.hands;
+      run = leads-next marks jobs events c.loop-event.event-index _ start before
+          (state_of c.step.new.board (g.B.Bench.stored c.step.new.bench) c.step.new.stale
+          (g.S.Shelf.failures c.step.new.shelf) (g.B.Bench.failures c.step.new.bench) ended)
+          (λ _. Nothing) (hands_in c.loop-event.hands) (hands_in c.step.new.hands) c.loop-event-test.true refl
+          (i.run honest whole)
+          (leads-as (g.J.JobMaker.marks c.loop-event.maker) marks (g.J.JobMaker.work c.loop-event.maker)
+          (g.J.JobMaker.work c.args.maker.now) (g.S.Shelf.stored c.loop-event.shelf)
+          (g.S.Shelf.stored c.args.shelf.now) _ before
+          (state_of c.step.new.board (g.B.Bench.stored c.step.new.bench) c.step.new.stale
+          (g.S.Shelf.failures c.step.new.shelf) (g.B.Bench.failures c.step.new.bench) ended)
+          (hands_in c.loop-event.hands) (hands_in c.step.new.hands) i.same_marks i.same_work i.same_shelf h);
+    })
+    (λ is. let same = c.in-Err.ensures.memory (ap Err is) in record {
+      count = c.loop-event.event-index;
+      few = omega arith;
+      board = c.loop-event.board;
+      stale = c.loop-event.stale;
+      last = (λ not. absurd (not (ap Err is)), tt);
+      hands = hands_in c.loop-event.hands;
+      run = rw (same.0, same.2) (i.run honest whole);
+    })
 
 pub returns-clause-filled : goal.returns-clause-filled
 returns-clause-filled g c honest right whole parts filled =
@@ -273,6 +288,9 @@ loop-event-init g c = record {
   same_shelf = refl;
   same_honest = refl;
   same_bench = refl;
+  others = λ honest n none. refl;
+  later_shelf = omega arith;
+  later_bench = omega arith;
   room = omega arith;
   fits = λ v. subst (FitsHand (g.J.JobMaker.work c.args.maker.now)) (sym (c.new-hands.ensures v)) tt;
   run = λ honest whole. leads-none (g.J.JobMaker.marks c.args.maker.now) (jobs_over (g.J.JobMaker.work

@@ -1,9 +1,9 @@
-use Rattle.std.proofs.Common.{◌≡◌, ◌≤◌, ℕ, IsTrue, None, length, take}
+use Rattle.std.proofs.Common.{◌≡◌, ◌≤◌, ℕ, IsTrue, List, None, length, take}
 use Rattle.job_terms.specs.Workers.{BoardRun, Nothing, jobs_over}
 use Rattle.schedule.specs.Held.{hands_in}
 use Rattle.schedule.specs.Run.{FitsHand, Leads, state_of}
 use Rattle.work_terms.specs.Disk.{LeavesOnly}
-use Rattle.schedule.specs.Marking.{IsRunningBy, LeavesBy, done_of}
+use Rattle.schedule.specs.Marking.{IsNoOutput, IsRunningBy, LeavesBy, done_of}
 use Rattle.schedule.proofs.running.run.Given as goal
 
 abbrev pub invariant-loop-event : goal.invariant-loop-event
@@ -34,4 +34,9 @@ invariant-loop-event g l = record {
       (g.B.Bench.may_leave l.fn.bench)
       → LeavesOnly g.B.Bench.moment g.B.Bench.left_since l.fn.bench l.bench (LeavesBy (g.J.JobMaker.marking l.fn.maker
       (g.S.Shelf.stored l.fn.shelf)) (done_of l.fn.board));
+  others : IsTrue (g.B.Bench.honest l.fn.bench) → (n : List ℕ)
+      → IsNoOutput (g.J.JobMaker.work l.fn.maker) (g.J.JobMaker.marking l.fn.maker) n
+      → g.B.Bench.stored l.bench n ≡ g.B.Bench.stored l.fn.bench n;
+  later_shelf : g.S.Shelf.failures l.fn.shelf ≤ g.S.Shelf.failures l.shelf;
+  later_bench : g.B.Bench.failures l.fn.bench ≤ g.B.Bench.failures l.bench;
 }

@@ -1,0 +1,67 @@
+-- Events from a fresh board on.
+use Rattle.std.proofs.Common.{◌≡◌, ◌<◌, ℕ, Bool, true, false, Option, None, Some, List, ap, length, replicate, subst, sym, take}
+use Rattle.std.proofs.lemmas.List.{get_or-replicate, length-replicate}
+use Rattle.work_terms.specs.Disk.{Files}
+use Rattle.job_terms.specs.declared.BoardEvent.{BoardEvent}
+use Rattle.job_terms.specs.declared.Job.{Job}
+use Rattle.job_terms.specs.Board.{Board, fresh_job, is_done, is_finished, no_job}
+use Rattle.job_terms.specs.Workers.{End, Jobs}
+use Rattle.schedule.specs.Events.{RanSome, RunsEvents, fresh_board}
+use Rattle.schedule.specs.Filled.{AreFilled, AreParts}
+use Rattle.schedule.specs.Marking.{done_of}
+use Rattle.schedule.specs.Run.{state_of}
+use Rattle.schedule.proofs.Filling.{filled-whole}
+use Rattle.schedule.proofs.Rests.{finished-done}
+use Rattle.schedule.proofs.Rounds.{leads-good}
+use Rattle.schedule.proofs.Starting.{filled-fresh}
+
+-- no job of a fresh board is done
+pub fresh-open : (count : ℕ) (order : List ℕ) (k : ℕ) → k < count → done_of (fresh_board count order) k ≡ false
+fresh-open count order k lt = ap (λ (job : Job). is_done job.standing) (get_or-replicate count k fresh_job no_job lt)
+
+-- outputs in which no job is done, by a board that is fresh
+pub filled-as-fresh : (jobs : Jobs) (whole : List ℕ → List ℕ) (board : Board) (laid : Files)
+    → board.jobs ≡ replicate jobs.count fresh_job → AreFilled jobs whole (λ _. false) laid
+    → AreFilled jobs whole (done_of board) laid
+filled-as-fresh jobs whole board laid fresh filled =
+    subst (λ (js : List Job). AreFilled jobs whole (done_of (record { jobs = js; order = board.order })) laid)
+    (sym fresh)
+    (filled-fresh jobs whole (done_of (fresh_board jobs.count board.order)) laid
+    (fresh-open jobs.count board.order) filled)
+
+-- what events did from laid out files on
+pub events-laid : (marks : Bool) (jobs : Jobs) (whole : List ℕ → List ℕ) (board : Board) (events : List BoardEvent)
+    (Last : ℕ → Board → ℕ → Type 0) (laid written : Files) (shelf_old bench_old shelf_new bench_new : ℕ)
+    (ended : Option End)
+    → board.jobs ≡ replicate jobs.count fresh_job → AreParts jobs whole → AreFilled jobs whole (λ _. false) laid
+    → RanSome marks jobs events (state_of board laid 0 shelf_old bench_old None) Last written shelf_new bench_new ended
+    → RunsEvents marks jobs whole board.order events Last shelf_old bench_old shelf_new bench_new written ended
+events-laid marks jobs whole board events Last laid written shelf_old bench_old shelf_new bench_new ended fresh parts
+    filled some =
+    let start : RanSome marks jobs events (state_of (fresh_board jobs.count board.order) laid 0 shelf_old bench_old None)
+    Last written shelf_new bench_new ended =
+    subst (λ (js : List Job). RanSome marks jobs events
+    (state_of (record { jobs = js; order = board.order }) laid 0 shelf_old bench_old None) Last written shelf_new
+    bench_new ended) fresh some in
+    record {
+      parts = parts;
+      laid = laid;
+      laid_out = filled;
+      ran = start;
+      filled = (leads-good marks jobs whole (take start.count events)
+          (state_of (fresh_board jobs.count board.order) laid 0 shelf_old bench_old None)
+          (state_of start.board written start.stale shelf_new bench_new ended) start.hands parts start.run
+          (record {
+            board = length-replicate jobs.count fresh_job;
+            filled = filled-fresh jobs whole (done_of (fresh_board jobs.count board.order)) laid
+                (fresh-open jobs.count board.order) filled;
+          })).filled;
+    }
+
+-- where all jobs are done each output is whole
+pub whole-finished : (jobs : Jobs) (whole : List ℕ → List ℕ) (board : Board) (written : Files)
+    → length board.jobs ≡ jobs.count → AreFilled jobs whole (done_of board) written → is_finished board ≡ true
+    → (k : ℕ) → k < jobs.count → written (jobs.name k) ≡ Some (whole (jobs.name k))
+whole-finished jobs whole board written count filled finished k lt =
+    filled-whole jobs (jobs.name k) (whole (jobs.name k)) (done_of board) (written (jobs.name k))
+    (λ j below. finished-done board finished j (subst (λ n. j < n) (sym count) below)) (filled.each k lt)

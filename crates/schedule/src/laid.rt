@@ -1,0 +1,70 @@
+// Events on the jobs of a work whose files are laid out.
+ghost use Rattle.std.specs.Prelude.{◌≡◌, ◌≤◌, ◌<◌, ◌+◌, ℕ, IsTrue, Some, false, List, IfOk, length, replicate};
+ghost use Rattle.job_terms.specs.Board.{fresh_job};
+ghost use Rattle.job_terms.specs.Workers.{jobs_over};
+ghost use Rattle.schedule.specs.Events as spec;
+ghost use Rattle.schedule.specs.Events.{HasCome, RunsEvents, end_of};
+ghost use Rattle.schedule.specs.Filled.{AreFilled, AreParts};
+ghost use Rattle.schedule.specs.Marking.{IsNoOutput};
+
+use crate::running::run;
+use crate::{JobMaker, RunFault};
+use job_terms::{BoardEvent, Progress};
+use shelf::{Bench, Shelf};
+use std::alloc::Global;
+use workboard::Board;
+
+/// How far the jobs of a board are, with so many deliveries under stale tickets.
+fn progress_of(board: &Board, stale: u64) -> Progress
+    ensures told { result ≡ spec.progress_of board.now stale }
+    ensures all { result.idle + result.out + result.done ≡ length board.now.jobs }
+{
+    let counts = board.counts();
+    Progress {
+        idle: counts.idle,
+        out: counts.out,
+        done: counts.done,
+        stale,
+        finished: board.finished(),
+    }
+}
+
+/// Does these events of any workers, one after the other, on the jobs of a work whose files are laid out. No job is done
+/// and no worker holds anything at first. Tells how far the jobs are then. A job that fails for the third time ends it,
+/// and so does a mark that isn't written; `Memory` where a worker's place or the room for a job's bytes found none.
+pub fn run_laid<J: JobMaker, S: Shelf, B: Bench>(
+    alloc: Global,
+    maker: &mut J,
+    board: &mut Board,
+    events: &[BoardEvent],
+    shelf: &mut S,
+    bench: &mut B,
+) -> Result<Progress, RunFault>
+    requires { board.old.jobs ≡ replicate (J.work maker.old).count fresh_job }
+    ensures events { IsTrue (S.honest shelf.old) → IsTrue (B.honest bench.old) → (whole : List ℕ → List ℕ)
+        → AreParts (jobs_over (J.work maker.old) (S.stored shelf.old)) whole
+        → AreFilled (jobs_over (J.work maker.old) (S.stored shelf.old)) whole (λ _. false) (B.stored bench.old)
+        → RunsEvents (J.marks maker.old) (jobs_over (J.work maker.old) (S.stored shelf.old)) whole board.old.order
+        events.now (λ count last stale. IfOk result (λ told. HasCome events.now told count last stale))
+        (S.failures shelf.old) (B.failures bench.old) (S.failures shelf.new) (B.failures bench.new)
+        (B.stored bench.new) (end_of result) }
+    ensures finished { IsTrue (S.honest shelf.old) → IsTrue (B.honest bench.old) → (whole : List ℕ → List ℕ)
+        → AreParts (jobs_over (J.work maker.old) (S.stored shelf.old)) whole
+        → AreFilled (jobs_over (J.work maker.old) (S.stored shelf.old)) whole (λ _. false) (B.stored bench.old)
+        → IfOk result (λ told. IsTrue told.finished → (k : ℕ) → k < (J.work maker.old).count
+        → B.stored bench.new ((J.work maker.old).name k) ≡ Some (whole ((J.work maker.old).name k))) }
+    ensures all_jobs { IfOk result (λ told. told.idle + told.out + told.done ≡ (J.work maker.old).count) }
+    ensures same_work { J.work maker.new ≡ J.work maker.old }
+    ensures same_shelf { S.stored shelf.new ≡ S.stored shelf.old }
+    ensures same_honest { S.honest shelf.new ≡ S.honest shelf.old }
+    ensures same_bench { B.honest bench.new ≡ B.honest bench.old }
+    ensures others { IsTrue (B.honest bench.old) → (n : List ℕ) → IsNoOutput (J.work maker.old) (J.marking maker.old) n
+        → B.stored bench.new n ≡ B.stored bench.old n }
+    ensures later_shelf { S.failures shelf.old ≤ S.failures shelf.new }
+    ensures later_bench { B.failures bench.old ≤ B.failures bench.new }
+{
+    match run(alloc, maker, board, events, shelf, bench) {
+        Ok(stale) => return Ok(progress_of(board, stale)),
+        Err(fault) => return Err(fault),
+    }
+}
