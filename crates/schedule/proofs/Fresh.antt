@@ -6,7 +6,8 @@ use Rattle.job_terms.specs.declared.BoardEvent.{BoardEvent}
 use Rattle.job_terms.specs.declared.Job.{Job}
 use Rattle.job_terms.specs.Board.{Board, fresh_job, is_done, is_finished, no_job}
 use Rattle.job_terms.specs.Workers.{End, Jobs}
-use Rattle.schedule.specs.Events.{RanSome, RunsEvents, fresh_board}
+use Rattle.job_terms.specs.declared.Progress.{Progress}
+use Rattle.schedule.specs.Events.{IsTold, RanSome, RunsEvents, fresh_board}
 use Rattle.schedule.specs.Filled.{AreFilled, AreParts}
 use Rattle.schedule.specs.Marking.{done_of}
 use Rattle.schedule.specs.Run.{state_of}
@@ -31,17 +32,19 @@ filled-as-fresh jobs whole board laid fresh filled =
 
 -- what events did from laid out files on
 pub events-laid : (marks : Bool) (jobs : Jobs) (whole : List ℕ → List ℕ) (board : Board) (events : List BoardEvent)
-    (Last : ℕ → Board → ℕ → Type 0) (laid written : Files) (shelf_old bench_old shelf_new bench_new : ℕ)
-    (ended : Option End)
+    (laid written : Files) (shelf_old bench_old shelf_new bench_new : ℕ) (told : Option Progress) (ended : Option End)
     → board.jobs ≡ replicate jobs.count fresh_job → AreParts jobs whole → AreFilled jobs whole (λ _. false) laid
-    → RanSome marks jobs events (state_of board laid 0 shelf_old bench_old None) Last written shelf_new bench_new ended
-    → RunsEvents marks jobs whole board.order events Last shelf_old bench_old shelf_new bench_new written ended
-events-laid marks jobs whole board events Last laid written shelf_old bench_old shelf_new bench_new ended fresh parts
+    → RanSome marks jobs events (state_of board laid 0 shelf_old bench_old None) (IsTold events told) written
+    shelf_new bench_new ended
+    → RunsEvents marks jobs whole board.order events shelf_old bench_old shelf_new bench_new written told ended
+events-laid marks jobs whole board events laid written shelf_old bench_old shelf_new bench_new told ended fresh parts
     filled some =
-    let start : RanSome marks jobs events (state_of (fresh_board jobs.count board.order) laid 0 shelf_old bench_old None)
-    Last written shelf_new bench_new ended =
+    let start : RanSome marks jobs events (state_of (fresh_board jobs.count board.order) laid 0 shelf_old bench_old
+    None)
+    (IsTold events told) written shelf_new bench_new ended =
     subst (λ (js : List Job). RanSome marks jobs events
-    (state_of (record { jobs = js; order = board.order }) laid 0 shelf_old bench_old None) Last written shelf_new
+    (state_of (record { jobs = js; order = board.order }) laid 0 shelf_old bench_old None) (IsTold events told)
+    written shelf_new
     bench_new ended) fresh some in
     record {
       parts = parts;

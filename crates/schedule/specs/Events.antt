@@ -1,5 +1,5 @@
 -- The jobs of a work as events of any workers do them.
-use Rattle.std.specs.Prelude.{◌≡◌, ◌≤◌, ℕ, Bool, false, Option, None, Some, List, Result, Ok, Err, length, replicate, take}
+use Rattle.std.specs.Prelude.{◌≡◌, ◌≤◌, ℕ, ⊤, Bool, false, Option, None, Some, List, Result, Ok, Err, length, replicate, take}
 use Rattle.work_terms.specs.Disk.{Files}
 use Rattle.job_terms.specs.declared.BoardEvent.{BoardEvent}
 use Rattle.job_terms.specs.declared.Progress.{Progress}
@@ -17,6 +17,13 @@ end_of (Ok _) = None
 end_of (Err (run_fault.GivenUp job)) = Some (GivenUp job)
 end_of (Err run_fault.Mark) = Some MarkFailed
 end_of (Err run_fault.Memory) = None
+
+-- the same, with what is told where nothing ended it
+abbrev pub EndsIn : {X : Type 0} → Result X RunFault → (Option X → Option End → Type 0) → Type 0
+EndsIn (Ok x) P = P (Some x) None
+EndsIn (Err (run_fault.GivenUp job)) P = P None (Some (GivenUp job))
+EndsIn (Err run_fault.Mark) P = P None (Some MarkFailed)
+EndsIn (Err run_fault.Memory) P = P None None
 
 -- From this state on, with nothing in any hand, the first of these events led to these files and counts of failures. Of
 -- how many events those were, of the board and of the count of stale deliveries this holds.
@@ -50,14 +57,19 @@ pub record HasCome (events : List BoardEvent) (told : Progress) (count : ℕ) (b
   pub all : count ≡ length events
   pub progress : told ≡ progress_of board stale
 
+-- where something is told, it is that
+abbrev pub IsTold : List BoardEvent → Option Progress → ℕ → Board → ℕ → Type 0
+IsTold events None count board stale = ⊤
+IsTold events (Some told) count board stale = HasCome events told count board stale
+
 -- From files that are laid out, in which no job is done, the first of these events led to these files and counts of
 -- failures. Each byte of an output that no unfinished job has is right.
 pub record RunsEvents (marks : Bool) (jobs : Jobs) (whole : List ℕ → List ℕ) (order : List ℕ)
-    (events : List BoardEvent) (Last : ℕ → Board → ℕ → Type 0) (shelf_old bench_old shelf_new bench_new : ℕ) (written : Files)
-    (ended : Option End) : Type 0 where
+    (events : List BoardEvent) (shelf_old bench_old shelf_new bench_new : ℕ) (written : Files)
+    (told : Option Progress) (ended : Option End) : Type 0 where
   pub parts : AreParts jobs whole
   pub laid : Files
   pub laid_out : AreFilled jobs whole (λ _. false) laid
-  pub ran : RanSome marks jobs events (state_of (fresh_board jobs.count order) laid 0 shelf_old bench_old None) Last
-      written shelf_new bench_new ended
+  pub ran : RanSome marks jobs events (state_of (fresh_board jobs.count order) laid 0 shelf_old bench_old None)
+      (IsTold events told) written shelf_new bench_new ended
   pub filled : AreFilled jobs whole (done_of ran.board) written

@@ -3,7 +3,7 @@ ghost use Rattle.std.specs.Prelude.{◌≡◌, ◌≤◌, ◌<◌, ◌+◌, ℕ,
 ghost use Rattle.job_terms.specs.Board.{fresh_job};
 ghost use Rattle.job_terms.specs.Workers.{jobs_over};
 ghost use Rattle.schedule.specs.Events as spec;
-ghost use Rattle.schedule.specs.Events.{HasCome, RunsEvents, end_of};
+ghost use Rattle.schedule.specs.Events.{EndsIn, RunsEvents};
 ghost use Rattle.schedule.specs.Filled.{AreFilled, AreParts};
 ghost use Rattle.schedule.specs.Marking.{IsNoOutput};
 
@@ -44,10 +44,9 @@ pub fn run_laid<J: JobMaker, S: Shelf, B: Bench>(
     ensures events { IsTrue (S.honest shelf.old) → IsTrue (B.honest bench.old) → (whole : List ℕ → List ℕ)
         → AreParts (jobs_over (J.work maker.old) (S.stored shelf.old)) whole
         → AreFilled (jobs_over (J.work maker.old) (S.stored shelf.old)) whole (λ _. false) (B.stored bench.old)
-        → RunsEvents (J.marks maker.old) (jobs_over (J.work maker.old) (S.stored shelf.old)) whole board.old.order
-        events.now (λ count last stale. IfOk result (λ told. HasCome events.now told count last stale))
-        (S.failures shelf.old) (B.failures bench.old) (S.failures shelf.new) (B.failures bench.new)
-        (B.stored bench.new) (end_of result) }
+        → EndsIn result (RunsEvents (J.marks maker.old) (jobs_over (J.work maker.old) (S.stored shelf.old)) whole
+        board.old.order events.now (S.failures shelf.old) (B.failures bench.old) (S.failures shelf.new)
+        (B.failures bench.new) (B.stored bench.new)) }
     ensures finished { IsTrue (S.honest shelf.old) → IsTrue (B.honest bench.old) → (whole : List ℕ → List ℕ)
         → AreParts (jobs_over (J.work maker.old) (S.stored shelf.old)) whole
         → AreFilled (jobs_over (J.work maker.old) (S.stored shelf.old)) whole (λ _. false) (B.stored bench.old)
