@@ -9,7 +9,7 @@ use Rattle.opening.specs.Own as opening
 use Rattle.opening.specs.Own.{IsOfOpening}
 use Rattle.opening.specs.declared.fault.Fault.{Fault}
 use Rattle.opening.specs.declared.fault.Fault.TheVariants as opened
-use Rattle.consolidate.specs.Own.{IsFirst, IsOfConsolidation, IsOfRendering}
+use Rattle.consolidate.specs.Own.{IsFirst, IsOfConsolidation, IsOfRenderSchedule, IsOfRendering}
 use Rattle.consolidate.specs.declared.fault.Fault as consolidate
 use Rattle.consolidate.specs.declared.fault.Fault.TheVariants as fault
 
@@ -35,3 +35,8 @@ pub consolidated_first : (text : bytes.List bytes.ℕ) (files : Files) (told : c
     → ((any : bytes.List bytes.ℕ) → IsOfConsolidation any told) → IsFirst text files told
 consolidated_first text files (fault.Project of) own = opened_first text files of own
 consolidated_first text files _ own = tt
+
+pub scheduled_first : (text : bytes.List bytes.ℕ) (files : Files) (told : consolidate.Fault)
+    → ((any : bytes.List bytes.ℕ) → IsOfRenderSchedule any told) → IsFirst text files told
+scheduled_first text files (fault.Project of) own = opened_first text files of own
+scheduled_first text files _ own = tt

@@ -1,4 +1,5 @@
 pub mod Due
+mod Events
 mod First
 pub mod Planned
 pub mod Rounds

@@ -61,6 +61,7 @@ holds_of sounds file (fault.Relink of) P names failed = absurd names
 holds_of sounds file fault.RenderMemory P names failed = absurd names
 holds_of sounds file fault.EmptyRange P names failed = absurd names
 holds_of sounds file fault.BoardMemory P names failed = absurd names
+holds_of sounds file fault.WorkerMemory P names failed = absurd names
 holds_of sounds file (fault.GivenUp job) P names failed = absurd names
 holds_of sounds file (fault.Output of) P names failed = absurd names
 

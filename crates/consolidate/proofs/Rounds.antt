@@ -74,6 +74,7 @@ ends_map X Y (told.Relink of) P Q f h = tt
 ends_map X Y told.RenderMemory P Q f h = tt
 ends_map X Y told.EmptyRange P Q f h = tt
 ends_map X Y told.BoardMemory P Q f h = tt
+ends_map X Y told.WorkerMemory P Q f h = tt
 ends_map X Y (told.GivenUp job) P Q f h = f (Some (GivenUp job)) h
 ends_map X Y (told.Output file) P Q f h = tt
 
@@ -116,6 +117,7 @@ none_ended X text (told.Relink of) P own = tt
 none_ended X text told.RenderMemory P own = tt
 none_ended X text told.EmptyRange P own = tt
 none_ended X text told.BoardMemory P own = tt
+none_ended X text told.WorkerMemory P own = tt
 none_ended X text (told.GivenUp job) P own = absurd own
 none_ended X text (told.Output file) P own = tt
 

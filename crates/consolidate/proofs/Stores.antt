@@ -143,6 +143,26 @@ module _ {S B : Type 0} (shelf : source.Ghosts S) (bench : output.Ghosts B) wher
     failed_output = λ device. absurd (let e : 66 ≡ 62 = device in omega (arith, e));
   }
 
+  -- a call that found no memory for a worker
+  pub no_room : {X : Type 0} (old new : S) (before after : B) → shelf.stored new ≡ shelf.stored old
+      → shelf.honest new ≡ shelf.honest old → bench.honest after ≡ bench.honest before
+      → shelf.failures old ≤ shelf.failures new → bench.failures before ≤ bench.failures after
+      → KeepsStores shelf bench {X = X} old new before after (Err fault.WorkerMemory)
+  no_room old new before after same honest_shelf honest_bench later_shelf later_bench = record {
+    early = λ early. absurd (late_not_early early);
+    sources = same;
+    honest_shelf = honest_shelf;
+    honest_bench = honest_bench;
+    later_at_source = later_shelf;
+    later_at_output = later_bench;
+    cause_at_source = λ device. absurd (late_not_early (sym device));
+    cause_of_62 = λ device. absurd (let e : 60 ≡ 62 = device in omega (arith, e));
+    quiet_source = λ early. absurd (late_not_early early);
+    quiet_output = λ early. absurd (late_not_early early);
+    failed_source = λ device. absurd (late_not_early (sym device));
+    failed_output = λ device. absurd (let e : 60 ≡ 62 = device in omega (arith, e));
+  }
+
   -- a call that an output's device stopped
   pub stopped_at : {X : Type 0} (old new : S) (before after : B) (file : OutputFile)
       → shelf.stored new ≡ shelf.stored old

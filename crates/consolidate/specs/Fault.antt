@@ -15,7 +15,7 @@ use Rattle.consolidation.specs.declared.fault.WriteFault.TheVariants as writing
 use Rattle.consolidate.specs.declared.fault.OutputFile.{OutputFile}
 use Rattle.consolidate.specs.declared.fault.OutputFile.TheVariants as output
 use Rattle.consolidate.specs.declared.fault.Fault.{Fault}
-use Rattle.consolidate.specs.declared.fault.Fault.TheVariants.{Project, Intervals, PassMemory, Silence, Runs, Relink, RenderMemory, EmptyRange, BoardMemory, GivenUp, Output}
+use Rattle.consolidate.specs.declared.fault.Fault.TheVariants.{Project, Intervals, PassMemory, Silence, Runs, Relink, RenderMemory, EmptyRange, BoardMemory, WorkerMemory, GivenUp, Output}
 
 -- before the first write
 abbrev early : ℕ → Refusal
@@ -41,6 +41,7 @@ refusal_of (Relink fault) = early (relink.number_of fault)
 refusal_of RenderMemory = early 57
 refusal_of EmptyRange = early 58
 refusal_of BoardMemory = early 60
+refusal_of WorkerMemory = late 60 Nowhere
 refusal_of (GivenUp job) = late 66 (Job job)
 refusal_of (Output file) = late 62 (File (name_of_output file))
 

@@ -34,6 +34,11 @@ IsOfRendering text (fault.GivenUp job) = ⊤
 IsOfRendering text (fault.Output file) = IsRenderedFile file
 IsOfRendering text _ = ⊥
 
+-- or one of the schedule of a rendering, whose workers take memory as they come
+abbrev pub IsOfRenderSchedule : bytes.List ℕ → Fault → Type 0
+IsOfRenderSchedule text fault.WorkerMemory = ⊤
+IsOfRenderSchedule text of = IsOfRendering text of
+
 abbrev pub IsConsolidatedFile : OutputFile → Type 0
 IsConsolidatedFile (Medium number) = ⊤
 IsConsolidatedFile List = ⊤

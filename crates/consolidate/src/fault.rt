@@ -41,8 +41,8 @@ impl fmt::Display for OutputFile {
     }
 }
 
-/// Why a call is refused, in the order in which its stages come. After `GivenUp` and `Output` what is written is
-/// unfinished; the others come before anything is written.
+/// Why a call is refused, in the order in which its stages come. After `WorkerMemory`, `GivenUp` and `Output` what is
+/// written is unfinished; the others come before anything is written.
 #[derive(Debug, Drop, Error)]
 pub enum Fault {
     /// The list, a file that it names, or an entry: 1 to 18, 21 to 31, 41 to 46.
@@ -72,6 +72,9 @@ pub enum Fault {
     /// 60: no memory was left for the board of the jobs, or for the bytes of one.
     #[error("out of memory")]
     BoardMemory,
+    /// 60: no memory was left for what a worker holds, or for the bytes of its job. What is written is unfinished.
+    #[error("out of memory")]
+    WorkerMemory,
     /// 66: the device failed three times in this job.
     #[error("job {job} failed for the third time")]
     GivenUp { job: u32 },
@@ -94,7 +97,7 @@ impl Fault {
             Fault::Relink(fault) => fault.number(),
             Fault::RenderMemory => 57,
             Fault::EmptyRange => 58,
-            Fault::BoardMemory => 60,
+            Fault::BoardMemory | Fault::WorkerMemory => 60,
             Fault::GivenUp { .. } => 66,
             Fault::Output(_) => 62,
         }

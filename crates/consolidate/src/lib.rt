@@ -6,12 +6,15 @@ mod consolidated;
 mod fault;
 mod opened;
 mod rendered;
+mod scheduled;
 
 pub use checking::check_project;
 pub use consolidated::{Written, consolidate};
 pub use consolidation::Sizes;
 pub use fault::{Fault, OutputFile};
+pub use job_terms::{BoardEvent, Progress};
 pub use list_terms::Notice;
 pub use opening::Accepted;
 pub use rendered::{Rendered, render};
 pub use rendering::{Depth, Options};
+pub use scheduled::run_schedule;

@@ -32,6 +32,7 @@ pub fn give_to(
         v))
         → OnOk result ((v : ℕ) → FitsHand work (hands_in hands.new v)) }
     ensures same { length board.new.jobs ≡ length board.old.jobs }
+    ensures no_mark { IsErrOf result run_fault.Mark → ⊥ }
 {
     let mut worker = hands.take(alloc, number);
     give(board, &mut worker, number);
@@ -87,6 +88,7 @@ pub fn work_by<J: JobMaker, S: Shelf>(
     ensures later { S.failures shelf.old ≤ S.failures shelf.new }
     ensures memory { IsErrOf result run_fault.Memory → S.failures shelf.new ≡ S.failures shelf.old }
     ensures same { length board.new.jobs ≡ length board.old.jobs }
+    ensures no_mark { IsErrOf result run_fault.Mark → ⊥ }
 {
     let mut worker = hands.take(alloc, number);
     prepare(maker, &mut worker)?;
@@ -135,6 +137,7 @@ pub fn deliver_by<J: JobMaker, B: Bench>(
     ensures memory { IsErrOf result run_fault.Memory → (bench.new ≡ bench.old) × (stale.new ≡ stale.old) }
     ensures same { length board.new.jobs ≡ length board.old.jobs }
     ensures counted { stale.new ≤ stale.old + 1 }
+    ensures only_marks { IsErrOf result run_fault.Mark → IsTrue (J.marks maker.old) }
 {
     let mut worker = hands.take(alloc, number);
     let outcome = deliver(maker, board, stale, &mut worker, bench);
@@ -159,6 +162,7 @@ pub fn fault_by(
     ensures fits { (work : JobsBy) → ((v : ℕ) → FitsHand work (hands_in hands.old v))
         → (v : ℕ) → FitsHand work (hands_in hands.new v) }
     ensures same { length board.new.jobs ≡ length board.old.jobs }
+    ensures no_mark { IsErrOf result run_fault.Mark → ⊥ }
 {
     let mut worker = hands.take(alloc, number);
     match fault(board, &mut worker) {

@@ -1,11 +1,12 @@
 // Events on the jobs of a work whose files are laid out.
-ghost use Rattle.std.specs.Prelude.{◌≡◌, ◌≤◌, ◌<◌, ◌+◌, ℕ, IsTrue, Some, false, List, IfOk, length, replicate};
+ghost use Rattle.std.specs.Prelude.{◌≡◌, ◌≤◌, ◌<◌, ◌+◌, ℕ, IsTrue, Some, false, List, IfOk, IsErrOf, length, replicate};
 ghost use Rattle.job_terms.specs.Board.{fresh_job};
 ghost use Rattle.job_terms.specs.Workers.{jobs_over};
 ghost use Rattle.schedule.specs.Events as spec;
 ghost use Rattle.schedule.specs.Events.{EndsIn, RunsEvents};
 ghost use Rattle.schedule.specs.Filled.{AreFilled, AreParts};
 ghost use Rattle.schedule.specs.Marking.{IsNoOutput};
+ghost use Rattle.schedule.specs.declared.fault.RunFault.TheVariants as run_fault;
 
 use crate::running::run;
 use crate::{JobMaker, RunFault};
@@ -61,6 +62,7 @@ pub fn run_laid<J: JobMaker, S: Shelf, B: Bench>(
         → B.stored bench.new n ≡ B.stored bench.old n }
     ensures later_shelf { S.failures shelf.old ≤ S.failures shelf.new }
     ensures later_bench { B.failures bench.old ≤ B.failures bench.new }
+    ensures only_marks { IsErrOf result run_fault.Mark → IsTrue (J.marks maker.old) }
 {
     match run(alloc, maker, board, events, shelf, bench) {
         Ok(stale) => return Ok(progress_of(board, stale)),

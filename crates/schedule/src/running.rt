@@ -63,6 +63,7 @@ fn step<J: JobMaker, S: Shelf, B: Bench>(
     ensures later_bench { B.failures bench.old ≤ B.failures bench.new }
     ensures memory { IsErrOf result run_fault.Memory → (bench.new ≡ bench.old) × (stale.new ≡ stale.old)
         × (S.failures shelf.new ≡ S.failures shelf.old) }
+    ensures only_marks { IsErrOf result run_fault.Mark → IsTrue (J.marks maker.old) }
 {
     match event {
         BoardEvent::Give(number) => return give_to(alloc, board, hands, number),
@@ -124,6 +125,7 @@ pub fn run<J: JobMaker, S: Shelf, B: Bench>(
         → B.stored bench.new n ≡ B.stored bench.old n }
     ensures later_shelf { S.failures shelf.old ≤ S.failures shelf.new }
     ensures later_bench { B.failures bench.old ≤ B.failures bench.new }
+    ensures only_marks { IsErrOf result run_fault.Mark → IsTrue (J.marks maker.old) }
 {
     let mut hands = Hands::new(alloc);
     let mut stale: u64 = 0;

@@ -211,6 +211,7 @@ pub fn fault(board: &mut Board, worker: &mut Worker) -> Result<(), JobFault>
         (state_of board.new files stale shelf bench (ended_of result)) worker.new.hand }
     ensures nothing { worker.new.hand ≡ Nothing }
     ensures same { length board.new.jobs ≡ length board.old.jobs }
+    ensures no_mark { IsErrOf result fault.Mark → ⊥ }
 {
     let Some(ticket) = worker.ticket else {
         return Ok(());

@@ -1,0 +1,75 @@
+-- What the events of any number of workers leave of a command.
+use Rattle.std.specs.Prelude.{◌≡◌, ◌≢◌, ℕ, ⊤, false, IsTrue, IfErr, IfOk, Option, None, Some, List, Result, Ok, Err, codes}
+use Rattle.shelf.specs.declared.source.Shelf as source
+use Rattle.shelf.specs.declared.bench.Bench as output
+use Rattle.sound_terms.specs.Render.{rendering_of}
+use Rattle.work_terms.specs.Disk.{Files, IsDurable}
+use Rattle.work_terms.specs.Refusals.{Answers}
+use Rattle.job_terms.specs.declared.BoardEvent.{BoardEvent}
+use Rattle.job_terms.specs.declared.Progress.{Progress}
+use Rattle.job_terms.specs.Workers.{End, GivenUp, Jobs}
+use Rattle.list_terms.specs.Accepted.{OptionValues, range_of}
+use Rattle.list_terms.specs.Binding.{Binding}
+use Rattle.list_terms.specs.Heard.{IsAccepted, project_mix}
+use Rattle.list_terms.specs.Project.{ListProject}
+use Rattle.schedule.specs.Events.{RunsEvents}
+use Rattle.rendering.specs.Rendering as rendering
+use Rattle.consolidate.specs.Commands.{KeepsStores, RefusesBadText, render_refusal}
+use Rattle.consolidate.specs.Fault.{refusal_of}
+use Rattle.consolidate.specs.Own.{IsFirst, IsOfRenderSchedule}
+use Rattle.consolidate.specs.declared.fault.Fault.{Fault}
+use Rattle.consolidate.specs.declared.fault.Fault.TheVariants as fault
+
+-- how the events ended, and what is told of them; nothing is said of a call that ended before or behind them
+abbrev pub EndsEvents : Result Progress Fault → (Option Progress → Option End → Type 0) → Type 0
+EndsEvents (Ok told) P = P (Some told) None
+EndsEvents (Err (fault.GivenUp job)) P = P None (Some (GivenUp job))
+EndsEvents (Err fault.WorkerMemory) P = P None None
+EndsEvents (Err _) P = ⊤
+
+-- the jobs make the rendering of a project, all in one file
+pub record SchedulesProject (project : ListProject) (binding : Binding) (values : OptionValues)
+    (events : List BoardEvent) (sources : Files) (shelf_old bench_old shelf_new bench_new : ℕ) (written : Files)
+    (told : Option Progress) (ended : Option End) : Type 0 where
+  pub jobs : Jobs
+  pub named : (k : ℕ) → jobs.name k ≡ codes "render.wav"
+  pub order : List ℕ
+  pub run : RunsEvents false jobs (λ _. rendering_of (range_of project values) (project_mix sources project binding))
+      order events shelf_old bench_old shelf_new bench_new written told ended
+
+-- of the project of an accepted list
+pub record SchedulesList (text : List ℕ) (values : OptionValues) (events : List BoardEvent) (sources : Files)
+    (shelf_old bench_old shelf_new bench_new : ℕ) (written : Files) (told : Option Progress) (ended : Option End)
+    : Type 0 where
+  pub project : ListProject
+  pub binding : Binding
+  pub accepted : IsAccepted text sources project binding
+  pub run : SchedulesProject project binding values events sources shelf_old bench_old shelf_new bench_new written told
+      ended
+
+-- The list is accepted, and its rendering is there: that of the exact sums, rounded and clipped, and it reads back so.
+pub record HasRendering (text : List ℕ) (values : OptionValues) (sources written : Files) : Type 0 where
+  pub project : ListProject
+  pub binding : Binding
+  pub accepted : IsAccepted text sources project binding
+  pub file : rendering.IsRendered project binding values sources (written (codes "render.wav"))
+
+module _ {S B : Type 0} (shelf : source.Ghosts S) (bench : output.Ghosts B) where
+  -- the list was rendered by these events over these stores, with this outcome
+  pub record IsRenderSchedule (list : List ℕ) (values : OptionValues) (events : List BoardEvent) (shelf_old shelf_new : S)
+      (bench_old bench_new : B) (result : Result Progress Fault) : Type 0 where
+    pub ran : IsTrue (shelf.honest shelf_old) → IsTrue (bench.honest bench_old)
+        → EndsEvents result (SchedulesList list values events (shelf.stored shelf_old) (shelf.failures shelf_old)
+        (bench.failures bench_old) (shelf.failures shelf_new) (bench.failures bench_new) (bench.stored bench_new))
+    pub finished : IsTrue (shelf.honest shelf_old) → IsTrue (bench.honest bench_old) → IfOk result (λ told.
+        IsTrue told.finished → HasRendering list values (shelf.stored shelf_old) (bench.stored bench_new))
+    pub durable : IsTrue (bench.honest bench_old) → IfOk result (λ told. IsTrue told.finished
+        → IsDurable (codes "render.wav") (bench.stored bench_new) (bench.may_leave bench_new))
+    pub refusals : IsTrue (shelf.honest shelf_old)
+        → Answers refusal_of result (render_refusal list values (shelf.stored shelf_old))
+    pub bad_text : RefusesBadText list result
+    pub own : IfErr result (IsOfRenderSchedule list)
+    pub in_turn : IsTrue (shelf.honest shelf_old) → IfErr result (IsFirst list (shelf.stored shelf_old))
+    pub named : IsTrue (bench.honest bench_old) → (n : List ℕ) → n ≢ codes "render.wav"
+        → bench.stored bench_new n ≡ bench.stored bench_old n
+    pub stores : KeepsStores shelf bench shelf_old shelf_new bench_old bench_new result
