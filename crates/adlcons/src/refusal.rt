@@ -47,7 +47,8 @@ pub fn put_fault<C: Console>(alloc: Global, fault: &Fault, console: &mut C) -> b
         | Fault::Relink(_)
         | Fault::RenderMemory
         | Fault::EmptyRange
-        | Fault::BoardMemory => {
+        | Fault::BoardMemory
+        | Fault::WorkerMemory => {
             let number = fault.number();
             let place = Place::Nowhere;
             put_refusal(console, Refusal { number, place });

@@ -6,6 +6,8 @@ mod bound_projects;
 #[cfg(test)]
 mod renderings;
 #[cfg(test)]
+mod schedules;
+#[cfg(test)]
 mod whole_lists;
 #[cfg(test)]
 mod whole_projects;

@@ -28,7 +28,7 @@ fn sample(place: u64) -> [u8; 2] {
 }
 
 /// A file of 16 bits with so many frames.
-fn sound(alloc: Global, channels: u8, frames: u64) -> Result<Vec<u8>, Fail> {
+pub(crate) fn sound(alloc: Global, channels: u8, frames: u64) -> Result<Vec<u8>, Fail> {
     let mut file = head(alloc, channels, Depth::Sixteen, frames)?;
     for place in 0..frames.saturating_mul(u64::from(channels)) {
         file.extend_from_slice(&sample(place))?;
@@ -37,7 +37,7 @@ fn sound(alloc: Global, channels: u8, frames: u64) -> Result<Vec<u8>, Fail> {
 }
 
 /// A list with one entry, which plays these channels of `A.wav` where they stand, from midnight up to this time.
-fn whole(alloc: Global, channels: &str, end: &str) -> Result<String, AllocError> {
+pub(crate) fn whole(alloc: Global, channels: &str, end: &str) -> Result<String, AllocError> {
     let source = "(Index) 1 (F) \"URL:file://localhost/A.wav\" _ 00.00.00.00/0000 _\n";
     let midnight = "00.00.00.00/0000";
     let entry = format!(in alloc;
