@@ -51,6 +51,8 @@ fn negated(size: u64, is_exact: bool) -> i64
 
 /// The share of a sample at full scale under a fade: `num` / `den` of it, rounded down. The fraction is at most one,
 /// and `den` at most the samples of a day. The share is no larger than full scale.
+#[cold]
+#[inline(never)]
 pub fn contribution(v: i64, num: u64, den: u64) -> i64
     requires low { neg_ℤ (pos (2 ^ 47)) ≤ℤ v }
     requires high { v ≤ℤ pos (2 ^ 47) }
