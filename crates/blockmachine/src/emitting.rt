@@ -6,17 +6,6 @@ ghost use Rattle.sound_terms.specs.Mix.{quantized};
 use sound_terms::Depth;
 use soundlaw::finish;
 
-/// The largest sum that is told apart from larger ones, which every depth clips.
-const LARGEST: i64 = 1 << 62;
-
-/// A sum as a sample of this depth.
-#[inline(always)]
-fn sample_of(sum: i64, depth: Depth) -> i32
-    ensures { result ≡ quantized (bits_of depth) sum }
-{
-    finish(sum.clamp(-LARGEST, LARGEST), depth)
-}
-
 /// Hands out the first sums as samples.
 #[inline(always)]
 fn emit_at(sums: &[i64], depth: Depth, out: &mut [i32])
@@ -25,7 +14,7 @@ fn emit_at(sums: &[i64], depth: Depth, out: &mut [i32])
         → slice_index_or out.new k (pos 0) ≡ quantized (bits_of depth) (slice_index_or sums.now k (pos 0)) }
 {
     for (k, sample) in out.iter_mut().enumerate() {
-        *sample = sample_of(sums[k], depth);
+        *sample = finish(sums[k], depth);
     }
 }
 
