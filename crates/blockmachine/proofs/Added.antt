@@ -1,36 +1,25 @@
--- Channels and parts of a stretch that are added one after the other are the whole stretch.
-use Rattle.std.proofs.Common.{◌≡◌, ◌⊎◌, inl, inr, ℕ, suc, ◌+◌, ◌-◌, ◌*◌, ◌<◌, ◌≤◌, ◌==◌, Bool, true, false, List, length, take, drop, set, get_or, refl, sym, ap, ◌∙◌, subst, arith}
+-- Frames of a stretch that are added one after the other are the whole stretch.
+use Rattle.std.proofs.Common.{◌≡◌, ◌⊎◌, inl, inr, ℕ, suc, ◌+◌, ◌-◌, ◌*◌, ◌<◌, ◌≤◌, Bool, true, false, List, length, take, drop, set, get_or, refl, sym, ap, ◌∙◌, subst, arith}
 use Rattle.std.specs.Prelude.{ℤ, pos, negsuc, neg_ℤ, ◌+ℤ◌, ◌&&◌, nat_le, nat_lt, if◌then◌else◌}
 use Rattle.std.specs.Int.{int_div_euclid}
 use Rattle.std.proofs.Math.IntN.{negsuc-*ℤ-pos, pos-*ℤ-pos}
-use Rattle.std.proofs.Math.Bool.{and-false}
+use Rattle.std.proofs.Math.Nat.{add-mul, mul-le-mul_right}
 use Rattle.std.proofs.lemmas.Bool.{cases_lt}
 use Rattle.std.proofs.lemmas.List.{get_or-set_other, get_or-set_same}
 use Rattle.std.proofs.lemmas.Bool.Decides.{nat_tests}
 use borrow.Rule.Slice.PartMut.{put_mid}
-use Rattle.facts.specs.Parts.{length-put_mid}
 use Rattle.facts.specs.Tests.{otherwise}
 use Rattle.sound_terms.specs.declared.block.Stretch.{Stretch}
 use Rattle.sound_terms.specs.declared.piece.Shape.{Shape}
+use Rattle.sound_terms.specs.declared.piece.Shape.TheVariants.{Flat, Rise, Fall}
 use Rattle.sound_terms.specs.Mix.{Reading, full_scale, share_of}
-use Rattle.sound_terms.specs.Groups.{fraction_of}
-use Rattle.sound_terms.specs.Blocks.{held, share_at, sums_with}
+use Rattle.sound_terms.specs.Groups.{IsRamp, fraction_of}
+use Rattle.sound_terms.specs.Blocks.{FitsBlock, held, share_at, sums_with}
 use Rattle.blockmachine.specs.Playing.{Plays}
-use Rattle.blockmachine.specs.Sums.{AreSums, HasAdded, HasAddedTo, IsInside, channel_room}
+use Rattle.blockmachine.specs.Sums.{AreSums, HasAdded, HasAddedTo}
 use Rattle.blockmachine.proofs.Places.{get_or-part, kept_elsewhere, written_here}
 
--- a stretch of no channel adds nothing
-pub no_channel : (reading : Reading) (stretch : Stretch) (shape : Shape) (before : ℕ → ℕ → ℤ) (i c : ℕ)
-    → sums_with reading (record stretch { width = 0 }) shape before i c ≡ before i c
-no_channel reading stretch shape before i c = by_test (cases_lt c stretch.dest) where
-  by_test : (c < stretch.dest) ⊎ (stretch.dest ≤ c)
-      → sums_with reading (record stretch { width = 0 }) shape before i c ≡ before i c
-  by_test (inl low) = let out : nat_le stretch.dest c ≡ false = grind (arith, nat_tests) in rw out refl
-  by_test (inr high) =
-      let here : nat_le stretch.dest c ≡ true = grind (arith, nat_tests) in
-      let out : nat_lt c (stretch.dest + 0) ≡ false = grind (arith, nat_tests) in rw (here, out) refl
-
--- nor does one of no sample
+-- a stretch of no sample adds nothing
 pub no_sample : (reading : Reading) (stretch : Stretch) (shape : Shape) (before : ℕ → ℕ → ℤ) (i c : ℕ)
     → sums_with reading (record stretch { length = 0 }) shape before i c ≡ before i c
 no_sample reading stretch shape before i c =
@@ -38,36 +27,28 @@ no_sample reading stretch shape before i c =
     otherwise (nat_le stretch.dest c) (nat_lt c (stretch.dest + stretch.width)) _ _ _ out
 
 -- one sum more has its share
-pub added_more : (n : ℕ) (shape : Shape) (depth channels channel : ℕ) (frames old new : List ℤ) (v : ℤ) → n < length new
-    → HasAddedTo n shape depth channels channel frames old new
-    → v ≡ held (get_or new n (pos 0)
-    +ℤ share_of (full_scale depth (get_or frames (n * channels + channel) (pos 0))) (fraction_of shape n))
-    → HasAddedTo (n + 1) shape depth channels channel frames old (set new n v)
-added_more n shape depth channels channel frames old new v inside has value = (here, behind) where
-  share : ℕ → ℤ
-  share i = share_of (full_scale depth (get_or frames (i * channels + channel) (pos 0))) (fraction_of shape i)
+pub added_more : (n : ℕ) (fraction : ℕ × ℕ) (depth : ℕ) (samples old new : List ℤ) (v : ℤ) → n < length new
+    → HasAddedTo n fraction depth samples old new
+    → v ≡ held (get_or new n (pos 0) +ℤ share_of (full_scale depth (get_or samples n (pos 0))) fraction)
+    → HasAddedTo (n + 1) fraction depth samples old (set new n v)
+added_more n fraction depth samples old new v inside has value = (here, behind) where
+  behind : (k : ℕ) → n + 1 ≤ k → get_or (set new n v) k (pos 0) ≡ get_or old k (pos 0)
+  behind k after = get_or-set_other new n k v (pos 0) (λ same. absurd (omega arith)) ∙ has.1 k (omega arith)
 
-  behind : (i : ℕ) → n + 1 ≤ i → get_or (set new n v) i (pos 0) ≡ get_or old i (pos 0)
-  behind i after = get_or-set_other new n i v (pos 0) (λ same. absurd (omega arith)) ∙ has.1 i (omega arith)
-
-  by_place : (i : ℕ) → i < n + 1 → (i < n) ⊎ (n ≤ i) → get_or (set new n v) i (pos 0)
-      ≡ held (get_or old i (pos 0) +ℤ share_of (full_scale depth (get_or frames (i * channels + channel) (pos 0)))
-      (fraction_of shape i))
-  by_place i below (inl before) = get_or-set_other new n i v (pos 0) (λ same. absurd (omega arith)) ∙ has.0 i before
-  by_place i below (inr after) =
-      let same : n ≡ i = omega arith in
+  by_place : (k : ℕ) → k < n + 1 → (k < n) ⊎ (n ≤ k) → get_or (set new n v) k (pos 0)
+      ≡ held (get_or old k (pos 0) +ℤ share_of (full_scale depth (get_or samples k (pos 0))) fraction)
+  by_place k below (inl before) = get_or-set_other new n k v (pos 0) (λ same. absurd (omega arith)) ∙ has.0 k before
+  by_place k below (inr after) =
+      let same : n ≡ k = omega arith in
       let P : ℕ → Type 0 = λ m. get_or (set new n v) m (pos 0)
-      ≡ held (get_or old m (pos 0) +ℤ share_of (full_scale depth (get_or frames (m * channels + channel) (pos 0)))
-      (fraction_of shape m)) in
+      ≡ held (get_or old m (pos 0) +ℤ share_of (full_scale depth (get_or samples m (pos 0))) fraction) in
       subst P same
       (get_or-set_same new n v (pos 0) inside ∙ value
-      ∙ ap (λ z. held (z +ℤ share_of (full_scale depth (get_or frames (n * channels + channel) (pos 0)))
-      (fraction_of shape n))) (has.1 n (omega arith)))
+      ∙ ap (λ z. held (z +ℤ share_of (full_scale depth (get_or samples n (pos 0))) fraction)) (has.1 n (omega arith)))
 
-  here : (i : ℕ) → i < n + 1 → get_or (set new n v) i (pos 0)
-      ≡ held (get_or old i (pos 0) +ℤ share_of (full_scale depth (get_or frames (i * channels + channel) (pos 0)))
-      (fraction_of shape i))
-  here i below = by_place i below (cases_lt i n)
+  here : (k : ℕ) → k < n + 1 → get_or (set new n v) k (pos 0)
+      ≡ held (get_or old k (pos 0) +ℤ share_of (full_scale depth (get_or samples k (pos 0))) fraction)
+  here k below = by_place k below (cases_lt k n)
 
 -- all of a sample
 pub flat_share : (v : ℤ) → share_of v (1, 1) ≡ v
@@ -76,110 +57,219 @@ flat_share (negsuc n) = ap (λ z. int_div_euclid z (pos 1)) (negsuc-*ℤ-pos n 1
   all : neg_ℤ (pos (suc n * 1)) ≡ negsuc n
   all = let one : suc n * 1 ≡ suc n = omega arith in rw one refl
 
--- a channel more, at another place
-same_on : (p q r e h : Bool) → (e && h) ≡ false → (e ≡ false → r ≡ q) → (p && (r && h)) ≡ (p && (q && h))
-same_on false q r e h out same = refl
-same_on true q r false h out same = rw (same refl) refl
-same_on true q r true false out same = and-false r ∙ sym (and-false q)
-same_on true q r true true out same = cc
+-- the test of so many frames more
+on_more : (a b p q r : Bool) (x y : ℤ) → a ≡ true → b ≡ true → p ≡ true → q ≡ false → r ≡ true
+    → (if a && (b && (p && r)) then held (y +ℤ x) else y) ≡ held ((if a && (b && (p && q)) then held (y +ℤ x) else y) +ℤ x)
+on_more a b p q r x y first second begun before now = rw (first, second, begun, before, now) refl
 
--- the test of one channel more
-on_next : (p q r h : Bool) (x y : ℤ) → p ≡ true → q ≡ false → r ≡ true → h ≡ true
-    → (if p && (r && h) then held (y +ℤ x) else y) ≡ held ((if p && (q && h) then held (y +ℤ x) else y) +ℤ x)
-on_next p q r h x y is out next inside = rw (is, out, next, inside) refl
+-- and of others
+off_more : (a b p q r : Bool) (x y : ℤ) → (a ≡ true → b ≡ true → p ≡ true → r ≡ q)
+    → (if a && (b && (p && r)) then held (y +ℤ x) else y) ≡ (if a && (b && (p && q)) then held (y +ℤ x) else y)
+off_more false b p q r x y same = refl
+off_more true false p q r x y same = refl
+off_more true true false q r x y same = refl
+off_more true true true q r x y same = rw (same refl refl refl) refl
 
-module _ (reading : Reading) (stretch : Stretch) (shape : Shape) (before : ℕ → ℕ → ℤ) where
-  abbrev first_channels : ℕ → ℕ → ℕ → ℤ
-  first_channels j = sums_with reading (record stretch { width = j }) shape before
+-- so many frames more, in one run of the sums: one frame, or frames of all channels
+abbrev pub IsRun : (frames width source channels long : ℕ) → Type 0
+IsRun frames width source channels long =
+    ((frames ≡ 1) × (long ≡ width)) ⊎ ((width ≡ channels) × (source ≡ channels) × (long ≡ frames * channels))
 
-  -- the sum is on the channel behind the first j
-  abbrev is_next : (j i c : ℕ) → Bool
-  is_next j i c = c == stretch.dest + j && (nat_le stretch.at i && nat_lt i (stretch.at + stretch.length))
+pub run_fits : (stretch : Stretch) (source channels done count long : ℕ) → FitsBlock 4096 channels stretch
+    → IsRun count stretch.width source channels long → done + count ≤ stretch.length
+    → (stretch.at + done) * channels + (stretch.dest - 1) + long ≤ 4096 * channels
+run_fits stretch source channels done count long inside (inl one) short =
+    let row : (stretch.at + done + 1) * channels ≤ 4096 * channels =
+    mul-le-mul_right channels (omega (arith, short, one.0, inside.inside)) in
+    omega (arith, row, one.1, inside.dest_inside, inside.dest_from_one)
+run_fits stretch source channels done count long inside (inr all) short =
+    let row : (stretch.at + done + count) * channels ≤ 4096 * channels =
+    mul-le-mul_right channels (omega (arith, short, inside.inside)) in
+    let parts = add-mul (stretch.at + done) count channels in
+    omega (arith, row, parts, all.0, all.2, inside.dest_inside, inside.dest_from_one)
 
-  here_more : (j i c : ℕ) → is_next j i c ≡ true
-      → first_channels (j + 1) i c ≡ held (first_channels j i c +ℤ share_at reading stretch shape i c)
-  here_more j i c next =
-      let is : nat_le stretch.dest c ≡ true = grind (arith, nat_tests) in
-      let out : nat_lt c (stretch.dest + j) ≡ false = grind (arith, nat_tests) in
-      let there : nat_lt c (stretch.dest + (j + 1)) ≡ true = grind (arith, nat_tests) in
-      let inside : (nat_le stretch.at i && nat_lt i (stretch.at + stretch.length)) ≡ true = grind (arith, nat_tests) in
-      on_next (nat_le stretch.dest c) (nat_lt c (stretch.dest + j)) (nat_lt c (stretch.dest + (j + 1))) _
-      (share_at reading stretch shape i c) (before i c) is out there inside
+-- a shorter part of a ramp
+pub ramp_shorter : (shape : Shape) (n m : ℕ) → m ≤ n → IsRamp shape n → IsRamp shape m
+ramp_shorter Flat n m le ramp = tt
+ramp_shorter (Rise offset den) n m le ramp = (omega (arith, le, ramp.0), ramp.1)
+ramp_shorter (Fall offset den) n m le ramp = (omega (arith, le, ramp.0), ramp.1)
 
-  there_more : (j i c : ℕ) → is_next j i c ≡ false → first_channels (j + 1) i c ≡ first_channels j i c
-  there_more j i c next =
-      let on = same_on (nat_le stretch.dest c) (nat_lt c (stretch.dest + j)) (nat_lt c (stretch.dest + (j + 1)))
-      (c == stretch.dest + j)
-      (nat_le stretch.at i && nat_lt i (stretch.at + stretch.length)) next (λ other. grind (arith, nat_tests)) in
-      ap (λ b. if b then held (before i c +ℤ share_at reading stretch shape i c) else before i c) on
+module _ (reading : Reading) (stretch : Stretch) (shape : Shape) (before : ℕ → ℕ → ℤ) (source channels depth : ℕ)
+    (frames : List ℤ) (inside : FitsBlock 4096 channels stretch) (first : stretch.first + stretch.width ≤ source + 1)
+    (plays : Plays reading stretch source depth frames)
+  where
+    abbrev sums_to : ℕ → ℕ → ℕ → ℤ
+    sums_to n = sums_with reading (record stretch { length = n }) shape before
 
-  -- the sums of one channel more were written
-  pub channel_more : (j k depth channels : ℕ) (frames old new : List ℤ) → j < stretch.width → k ≡ stretch.length
-      → IsInside stretch (length old) → Plays reading stretch channels depth frames → length new ≡ k
-      → AreSums old (first_channels j)
-      → HasAdded shape depth channels (stretch.first - 1 + j) frames
-      (take k (drop ((stretch.dest - 1 + j) * channel_room + stretch.at) old)) new
-      → AreSums (put_mid ((stretch.dest - 1 + j) * channel_room + stretch.at) k old new) (first_channels (j + 1))
-  channel_more j k depth channels frames old new below long inside plays whole are has i c room first there =
-      by_place (is_next j i c) refl where
-        fits : (stretch.dest - 1 + j) * channel_room + stretch.at + k ≤ length old
-        fits = omega (arith, inside.samples, inside.channels, inside.dest_from_one)
+    abbrev begin : ℕ → ℕ
+    begin done = (stretch.at + done) * channels + (stretch.dest - 1)
 
-        left : (c - 1) * channel_room + i < length old
-        left = omega (
-          arith,
-          there,
-          length-put_mid ((stretch.dest - 1 + j) * channel_room + stretch.at) k old new fits whole,
-        )
+    -- sample i of a channel lies in these frames of the stretch
+    record IsHere (done count i c : ℕ) : Type 0 where
+      low : stretch.dest ≤ c
+      high : c < stretch.dest + stretch.width
+      begun : stretch.at + done ≤ i
+      ends : i < stretch.at + (done + count)
 
-        place : c ≡ stretch.dest + j → stretch.at ≤ i
-            → (stretch.dest - 1 + j) * channel_room + stretch.at + (i - stretch.at) ≡ (c - 1) * channel_room + i
-        place on begun = omega (arith, inside.dest_from_one)
+    here_more : (done count i c : ℕ) → IsHere done count i c
+        → sums_to (done + count) i c ≡ held (sums_to done i c +ℤ share_at reading stretch shape i c)
+    here_more done count i c here =
+        let a : nat_le stretch.dest c ≡ true = grind (arith, nat_tests, here.low) in
+        let b : nat_lt c (stretch.dest + stretch.width) ≡ true = grind (arith, nat_tests, here.high) in
+        let p : nat_le stretch.at i ≡ true = grind (arith, nat_tests, here.begun) in
+        let q : nat_lt i (stretch.at + done) ≡ false = grind (arith, nat_tests, here.begun) in
+        let r : nat_lt i (stretch.at + (done + count)) ≡ true = grind (arith, nat_tests, here.ends) in
+        on_more (nat_le stretch.dest c) (nat_lt c (stretch.dest + stretch.width)) (nat_le stretch.at i)
+        (nat_lt i (stretch.at + done)) (nat_lt i (stretch.at + (done + count)))
+        (share_at reading stretch shape i c) (before i c) a b p q r
 
-        by_place : (b : Bool) → is_next j i c ≡ b
-            → get_or (put_mid ((stretch.dest - 1 + j) * channel_room + stretch.at) k old new)
-            ((c - 1) * channel_room + i) (pos 0)
-            ≡ first_channels (j + 1) i c
-        by_place true next =
-            let on : c ≡ stretch.dest + j = grind (arith, nat_tests) in
-            let begun : stretch.at ≤ i = grind (arith, nat_tests) in
-            let ends : i < stretch.at + stretch.length = grind (arith, nat_tests) in
-            let from = (stretch.dest - 1 + j) * channel_room + stretch.at in
-            let there = place on begun in
-            let behind : (c - 1) * channel_room + i - from ≡ i - stretch.at = omega (arith, there) in
-            let channel : stretch.first + (c - stretch.dest) ≡ stretch.first + j = omega arith in
-            written_here from k old new (pos 0) fits whole ((c - 1) * channel_room + i) (omega (arith, there))
-            (omega (arith, there))
-            ∙ ap (λ m. get_or new m (pos 0)) behind
-            ∙ has (i - stretch.at) (omega arith)
-            ∙ ap (λ z. held (z +ℤ share_of (full_scale depth
-            (get_or frames ((i - stretch.at) * channels + (stretch.first - 1 + j)) (pos 0)))
-            (fraction_of shape (i - stretch.at))))
-            (get_or-part from k (i - stretch.at) old (pos 0) (omega arith) ∙ ap (λ m. get_or old m (pos 0)) there
-            ∙ are i c room first left)
-            ∙ ap (λ z. held (first_channels j i c +ℤ share_of z (fraction_of shape (i - stretch.at))))
-            (plays (i - stretch.at) j (omega arith) below)
-            ∙ ap (λ m. held (first_channels j i c
-            +ℤ share_of (reading stretch.file m (stretch.frame + (i - stretch.at)))
-            (fraction_of shape (i - stretch.at)))) (sym channel)
-            ∙ sym (here_more j i c next)
-        by_place false next =
-            let from = (stretch.dest - 1 + j) * channel_room + stretch.at in
-            kept_elsewhere from k old new (pos 0) fits whole ((c - 1) * channel_room + i)
-            (elsewhere next (cases_lt ((c - 1) * channel_room + i) from)
-            (cases_lt ((c - 1) * channel_room + i) (from + k)))
-            ∙ are i c room first left ∙ sym (there_more j i c next) where
-              elsewhere : is_next j i c ≡ false
-                  → ((c - 1) * channel_room + i < (stretch.dest - 1 + j) * channel_room + stretch.at)
-                  ⊎ ((stretch.dest - 1 + j) * channel_room + stretch.at ≤ (c - 1) * channel_room + i)
-                  → ((c - 1) * channel_room + i < (stretch.dest - 1 + j) * channel_room + stretch.at + k)
-                  ⊎ ((stretch.dest - 1 + j) * channel_room + stretch.at + k ≤ (c - 1) * channel_room + i)
-                  → ((c - 1) * channel_room + i < (stretch.dest - 1 + j) * channel_room + stretch.at)
-                  ⊎ ((stretch.dest - 1 + j) * channel_room + stretch.at + k ≤ (c - 1) * channel_room + i)
-              elsewhere next (inl before) ends = inl before
-              elsewhere next (inr begun) (inr behind) = inr behind
-              elsewhere next (inr begun) (inl within) =
-                  let on : c ≡ stretch.dest + j = omega (arith, inside.samples, inside.dest_from_one) in
-                  let low : stretch.at ≤ i = omega (arith, inside.dest_from_one) in
-                  let high : i < stretch.at + stretch.length = omega (arith, inside.dest_from_one) in
-                  let yes : is_next j i c ≡ true = grind (arith, nat_tests) in cc
+    there_more : (done count i c : ℕ) → (IsHere done count i c → ⊥) → sums_to (done + count) i c ≡ sums_to done i c
+    there_more done count i c other =
+        off_more (nat_le stretch.dest c) (nat_lt c (stretch.dest + stretch.width)) (nat_le stretch.at i)
+        (nat_lt i (stretch.at + done)) (nat_lt i (stretch.at + (done + count)))
+        (share_at reading stretch shape i c) (before i c) same where
+          by_place : stretch.dest ≤ c → c < stretch.dest + stretch.width → (i < stretch.at + done) ⊎ (stretch.at + done ≤ i)
+              → (i < stretch.at + (done + count)) ⊎ (stretch.at + (done + count) ≤ i)
+              → nat_lt i (stretch.at + (done + count)) ≡ nat_lt i (stretch.at + done)
+          by_place low high (inl front) ends =
+              let r : nat_lt i (stretch.at + (done + count)) ≡ true = grind (arith, nat_tests) in
+              let q : nat_lt i (stretch.at + done) ≡ true = grind (arith, nat_tests) in r ∙ sym q
+          by_place low high (inr begun) (inl ends) =
+              absurd (other (record { low = low; high = high; begun = begun; ends = ends }))
+          by_place low high (inr begun) (inr behind) =
+              let r : nat_lt i (stretch.at + (done + count)) ≡ false = grind (arith, nat_tests) in
+              let q : nat_lt i (stretch.at + done) ≡ false = grind (arith, nat_tests) in r ∙ sym q
+
+          same : nat_le stretch.dest c ≡ true → nat_lt c (stretch.dest + stretch.width) ≡ true → nat_le stretch.at i ≡ true
+              → nat_lt i (stretch.at + (done + count)) ≡ nat_lt i (stretch.at + done)
+          same a b p =
+              let low : stretch.dest ≤ c = grind (arith, nat_tests) in
+              let high : c < stretch.dest + stretch.width = grind (arith, nat_tests) in
+              by_place low high (cases_lt i (stretch.at + done)) (cases_lt i (stretch.at + (done + count)))
+
+    -- where it stands in the run
+    place_in : (done count long i c : ℕ) → IsRun count stretch.width source channels long → IsHere done count i c
+        → (i * channels + (c - 1) ≡ begin done + ((i - (stretch.at + done)) * channels + (c - stretch.dest)))
+        × ((i - (stretch.at + done)) * channels + (c - stretch.dest) < long)
+    place_in done count long i c (inl one) here =
+        let same : i ≡ stretch.at + done = omega (arith, here.begun, here.ends, one.0) in
+        let first : i - (stretch.at + done) ≡ 0 = omega (arith, same) in
+        let none : (i - (stretch.at + done)) * channels ≡ 0 = rw first (omega arith) in
+        let row : i * channels ≡ (stretch.at + done) * channels = ap (λ n. n * channels) same in
+        (omega (arith, none, row, here.low, inside.dest_from_one), omega (arith, none, one.1, here.low, here.high))
+    place_in done count long i c (inr all) here =
+        let dest : stretch.dest ≡ 1 = omega (arith, all.0, inside.dest_inside, inside.dest_from_one) in
+        let later : i ≡ (stretch.at + done) + (i - (stretch.at + done)) = omega (arith, here.begun) in
+        let row : i * channels ≡ (stretch.at + done) * channels + (i - (stretch.at + done)) * channels =
+        ap (λ n. n * channels) later ∙ add-mul (stretch.at + done) (i - (stretch.at + done)) channels in
+        let most : (i - (stretch.at + done) + 1) * channels ≤ count * channels =
+        mul-le-mul_right channels (omega (arith, here.begun, here.ends)) in
+        (omega (arith, row, dest, here.low), omega (arith, most, all.0, all.2, dest, here.low, here.high))
+
+    -- others stand before it or behind it
+    elsewhere : (done count long i c : ℕ) → IsRun count stretch.width source channels long → 1 ≤ c → c ≤ channels
+        → (IsHere done count i c → ⊥)
+        → (i * channels + (c - 1) < begin done) ⊎ (begin done + long ≤ i * channels + (c - 1))
+    elsewhere done count long i c run low high other =
+        by_place run (cases_lt i (stretch.at + done)) (cases_lt i (stretch.at + (done + count)))
+        (cases_lt c stretch.dest) (cases_lt c (stretch.dest + stretch.width)) where
+          by_place : IsRun count stretch.width source channels long
+              → (i < stretch.at + done) ⊎ (stretch.at + done ≤ i)
+              → (i < stretch.at + (done + count)) ⊎ (stretch.at + (done + count) ≤ i)
+              → (c < stretch.dest) ⊎ (stretch.dest ≤ c)
+              → (c < stretch.dest + stretch.width) ⊎ (stretch.dest + stretch.width ≤ c)
+              → (i * channels + (c - 1) < begin done) ⊎ (begin done + long ≤ i * channels + (c - 1))
+          by_place _ (inl front) ends left right =
+              let row : (i + 1) * channels ≤ (stretch.at + done) * channels = mul-le-mul_right channels (omega arith) in
+              inl (omega (arith, row, low, high))
+          by_place (inl one) (inr begun) (inr behind) left right =
+              let row : (stretch.at + done + 1) * channels ≤ i * channels =
+              mul-le-mul_right channels (omega (arith, one.0, behind)) in
+              inr (omega (arith, row, one.1, inside.dest_inside, inside.dest_from_one))
+          by_place (inr all) (inr begun) (inr behind) left right =
+              let row : (stretch.at + done + count) * channels ≤ i * channels =
+              mul-le-mul_right channels (omega (arith, behind)) in
+              let parts = add-mul (stretch.at + done) count channels in
+              inr (omega (arith, row, parts, all.0, all.2, inside.dest_inside, inside.dest_from_one))
+          by_place (inl one) (inr begun) (inl ends) (inl before) right =
+              let row : i * channels ≡ (stretch.at + done) * channels =
+              ap (λ n. n * channels) (omega (arith, begun, ends, one.0)) in inl (omega (arith, row, low, before))
+          by_place (inr all) (inr begun) (inl ends) (inl before) right =
+              absurd (omega (arith, all.0, inside.dest_inside, inside.dest_from_one, low, before))
+          by_place _ (inr begun) (inl ends) (inr from) (inl to) =
+              absurd (other (record { low = from; high = to; begun = begun; ends = ends }))
+          by_place (inl one) (inr begun) (inl ends) (inr from) (inr after) =
+              let row : i * channels ≡ (stretch.at + done) * channels =
+              ap (λ n. n * channels) (omega (arith, begun, ends, one.0)) in
+              inr (omega (arith, row, one.1, after, inside.dest_from_one))
+          by_place (inr all) (inr begun) (inl ends) (inr from) (inr after) =
+              absurd (omega (arith, all.0, inside.dest_inside, inside.dest_from_one, high, after))
+
+    -- the place of its sample
+    source_place : (done count long i c : ℕ) → IsRun count stretch.width source channels long → IsHere done count i c
+        → done * source + (stretch.first - 1) + ((i - (stretch.at + done)) * channels + (c - stretch.dest))
+        ≡ (i - stretch.at) * source + (stretch.first - 1 + (c - stretch.dest))
+    source_place done count long i c (inl one) here =
+        let same : i - (stretch.at + done) ≡ 0 = omega (arith, here.begun, here.ends, one.0) in
+        let row : i - stretch.at ≡ done = omega (arith, here.begun, here.ends, one.0) in
+        rw (same, row) (omega arith)
+    source_place done count long i c (inr all) here =
+        let row : i - stretch.at ≡ done + (i - (stretch.at + done)) = omega (arith, here.begun) in
+        let parts = add-mul done (i - (stretch.at + done)) channels in
+        rw (row, all.1) (omega (arith, parts))
+
+    -- the sums of so many frames more were written
+    pub run_more : (done count long : ℕ) (fraction : ℕ × ℕ) (samples old new : List ℤ)
+        → IsRun count stretch.width source channels long → done + count ≤ stretch.length
+        → length old ≡ 4096 * channels → length new ≡ long
+        → ((k : ℕ) → k < long
+        → get_or samples k (pos 0) ≡ get_or frames (done * source + (stretch.first - 1) + k) (pos 0))
+        → ((i : ℕ) → done ≤ i → i < done + count → fraction_of shape i ≡ fraction)
+        → AreSums (record { channels = channels; values = old }) (sums_to done)
+        → HasAdded fraction depth samples (take long (drop (begin done) old)) new
+        → AreSums (record { channels = channels; values = put_mid (begin done) long old new }) (sums_to (done + count))
+    run_more done count long fraction samples old new run short room whole taken constant are has i c near low high =
+        by_place (is_here (cases_lt i (stretch.at + done)) (cases_lt i (stretch.at + (done + count)))
+        (cases_lt c stretch.dest) (cases_lt c (stretch.dest + stretch.width))) where
+          fit : begin done + long ≤ length old
+          fit = omega (arith, run_fits stretch source channels done count long inside run short, room)
+
+          is_here : (i < stretch.at + done) ⊎ (stretch.at + done ≤ i)
+              → (i < stretch.at + (done + count)) ⊎ (stretch.at + (done + count) ≤ i)
+              → (c < stretch.dest) ⊎ (stretch.dest ≤ c)
+              → (c < stretch.dest + stretch.width) ⊎ (stretch.dest + stretch.width ≤ c)
+              → IsHere done count i c ⊎ (IsHere done count i c → ⊥)
+          is_here (inl front) ends left right = inr (λ here. omega (arith, here.begun, front))
+          is_here (inr begun) (inr behind) left right = inr (λ here. omega (arith, here.ends, behind))
+          is_here (inr begun) (inl ends) (inl before) right = inr (λ here. omega (arith, here.low, before))
+          is_here (inr begun) (inl ends) (inr from) (inr after) = inr (λ here. omega (arith, here.high, after))
+          is_here (inr begun) (inl ends) (inr from) (inl to) =
+              inl (record { low = from; high = to; begun = begun; ends = ends })
+
+          by_place : IsHere done count i c ⊎ (IsHere done count i c → ⊥)
+              → get_or (put_mid (begin done) long old new) (i * channels + (c - 1)) (pos 0) ≡ sums_to (done + count) i c
+          by_place (inl here) =
+              let k = (i - (stretch.at + done)) * channels + (c - stretch.dest) in
+              let place = place_in done count long i c run here in
+              let behind : i * channels + (c - 1) - begin done ≡ k = omega (arith, place.0) in
+              let row : i - stretch.at < stretch.length = omega (arith, here.begun, here.ends, short) in
+              let on : c - stretch.dest < stretch.width = omega (arith, here.low, here.high) in
+              let sample : full_scale depth (get_or samples k (pos 0))
+              ≡ reading stretch.file (stretch.first + (c - stretch.dest)) (stretch.frame + (i - stretch.at)) =
+              ap (full_scale depth) (taken k place.1
+              ∙ ap (λ n. get_or frames n (pos 0)) (source_place done count long i c run here))
+              ∙ plays (i - stretch.at) (c - stretch.dest) row on in
+              let sum : get_or (take long (drop (begin done) old)) k (pos 0) ≡ sums_to done i c =
+              get_or-part (begin done) long k old (pos 0) place.1
+              ∙ ap (λ n. get_or old n (pos 0)) (sym place.0) ∙ are i c near low high in
+              let part : fraction_of shape (i - stretch.at) ≡ fraction =
+              constant (i - stretch.at) (omega (arith, here.begun)) (omega (arith, here.begun, here.ends)) in
+              written_here (begin done) long old new (pos 0) fit whole (i * channels + (c - 1)) (omega (arith, place.0))
+              (omega (arith, place.0, place.1))
+              ∙ ap (λ n. get_or new n (pos 0)) behind
+              ∙ has k (omega (arith, place.1, whole))
+              ∙ rw (sum, sample, sym part) (sym (here_more done count i c here))
+          by_place (inr other) =
+              kept_elsewhere (begin done) long old new (pos 0) fit whole (i * channels + (c - 1))
+              (elsewhere done count long i c run low high other)
+              ∙ are i c near low high ∙ sym (there_more done count i c other)

@@ -5,16 +5,13 @@ use Rattle.std.specs.Int.{int_div_euclid}
 use Rattle.std.proofs.lemmas.Bool.{cases_lt}
 use Rattle.std.proofs.lemmas.Int.{ints}
 use Rattle.std.proofs.lemmas.List.{get_or_default}
-use Rattle.std.proofs.Math.Nat.{div-le_of_le-mul, div-lt_iff_lt-mul, mul-le-mul_left, mul-le-mul_right, zero-div}
+use Rattle.std.proofs.Math.Nat.{div-le_of_le-mul, div-lt_iff_lt-mul, mul-le-mul_left, zero-div}
 use Rattle.std.proofs.Math.IntN.{negsuc-*ℤ-pos, pos-*ℤ-pos}
 use borrow.Rule.Slice.PartMut.{put_mid}
 use Rattle.facts.specs.Parts.{length-put_mid}
 use Rattle.sound_terms.specs.declared.Depth.{Depth}
-use Rattle.sound_terms.specs.declared.piece.Shape.{Shape}
-use Rattle.sound_terms.specs.declared.piece.Shape.TheVariants.{Flat, Rise, Fall}
 use Rattle.sound_terms.specs.Depth.{bits_of}
 use Rattle.sound_terms.specs.Mix.{full_scale, share_of}
-use Rattle.sound_terms.specs.Groups.{IsRamp, fraction_of}
 use Rattle.sound_terms.specs.Blocks.{held}
 use Rattle.pcm.specs.Samples.{FitsDepth}
 use Rattle.blockmachine.specs.Sums.{HasAdded, IsWithin}
@@ -52,15 +49,6 @@ share_within (negsuc n) num den within le some =
     subst (λ (z : ℤ). IsWithin 1 z) (sym is)
     (negative_share (suc n * num) den (suc n) some (mul-le-mul_left (suc n) le) (omega (arith, ints, within)))
 
--- a shape takes at most all of a sample
-ramp_fraction : (v : ℤ) (shape : Shape) (n i : ℕ) → IsRamp shape n → i < n → IsWithin 1 v
-    → IsWithin 1 (share_of v (fraction_of shape i))
-ramp_fraction v Flat n i ramp below within = share_within v 1 1 within (omega arith) (omega arith)
-ramp_fraction v (Rise offset den) n i ramp below within =
-    share_within v (offset + i) den within (omega (arith, ramp.0)) (omega (arith, ramp.0))
-ramp_fraction v (Fall offset den) n i ramp below within =
-    share_within v (den - (offset + i)) den within (omega arith) (omega (arith, ramp.0))
-
 -- what is held is no larger
 held_grow : (m : ℕ) (z : ℤ) → IsWithin m z → IsWithin m (held z)
 held_grow m (pos n) within = (omega (arith, ints, within), omega (arith, ints, within))
@@ -69,21 +57,16 @@ held_grow m (negsuc n) within = (omega (arith, ints, within), omega (arith, ints
 pub within_more : (m n : ℕ) (z : ℤ) → m ≤ n → IsWithin m z → IsWithin n z
 within_more m n z more within = (omega (arith, ints, more, within), omega (arith, ints, more, within))
 
--- sums to which a channel was added are larger by one sample at most
-pub channel_grown : (m : ℕ) (shape : Shape) (depth : Depth) (channels channel : ℕ) (frames old new : List ℤ)
-    → channel < channels → length frames ≡ length new * channels → length old ≡ length new
-    → All (FitsDepth (bits_of depth)) frames → IsRamp shape (length new)
-    → HasAdded shape (bits_of depth) channels channel frames old new → All (IsWithin m) old
-    → All (IsWithin (m + 1)) new
-channel_grown m shape depth channels channel frames old new here whole same fit ramp has small = λ i d below.
-    let row : (i + 1) * channels ≤ length new * channels = mul-le-mul_right channels (omega arith) in
-    let k = i * channels + channel in
-    let inside : k < length frames = omega (arith, row, whole, here) in
-    let sample = full_scale (bits_of depth) (get_or frames k (pos 0)) in
-    let share = ramp_fraction sample shape (length new) i ramp below
-    (full_sample depth (get_or frames k (pos 0)) (fit k (pos 0) inside)) in
-    let before = small i (pos 0) (omega (arith, same)) in
-    subst (IsWithin (m + 1)) (sym (get_or_default new i d (pos 0) below ∙ has i below))
+-- sums to which samples were added are larger by one sample at most
+pub run_grown : (m : ℕ) (num den : ℕ) (depth : Depth) (samples old new : List ℤ) → length samples ≡ length new
+    → length old ≡ length new → num ≤ den → 0 < den → All (FitsDepth (bits_of depth)) samples
+    → HasAdded (num, den) (bits_of depth) samples old new → All (IsWithin m) old → All (IsWithin (m + 1)) new
+run_grown m num den depth samples old new whole same few some fit has small = λ k d below.
+    let sample = full_scale (bits_of depth) (get_or samples k (pos 0)) in
+    let share = share_within sample num den
+    (full_sample depth (get_or samples k (pos 0)) (fit k (pos 0) (omega (arith, whole, below)))) few some in
+    let before = small k (pos 0) (omega (arith, same, below)) in
+    subst (IsWithin (m + 1)) (sym (get_or_default new k d (pos 0) below ∙ has k below))
     (held_grow (m + 1) _ (within_add m 1 _ _ before share))
 
 -- so are all, where the others are as they were

@@ -1,7 +1,8 @@
 -- What sums are handed out as.
-use Rattle.std.proofs.Common.{◌≡◌, ℕ, zero, suc, ◌+◌, [], ◌∷◌, ◌++◌, refl, sym, arith}
-use Rattle.std.specs.Prelude.{ℤ}
-use Rattle.std.proofs.lemmas.List.{append-nil, append_assoc}
+use Rattle.std.proofs.Common.{◌≡◌, ◌≤◌, ◌<◌, ℕ, zero, suc, ◌+◌, ◌*◌, List, [], ◌∷◌, ◌++◌, length, take, get_or, refl, sym, ap, ◌∙◌, arith, zero-add}
+use Rattle.std.specs.Prelude.{ℤ, pos}
+use Rattle.std.proofs.lemmas.List.{append-nil, append_assoc, take_all, take_more}
+use Rattle.std.proofs.Math.Nat.{mul-le-mul_right}
 use Rattle.sound_terms.specs.Mix.{quantized}
 use Rattle.sound_terms.specs.Blocks.{block_samples, frame_samples}
 
@@ -24,3 +25,43 @@ module _ (depth : ℕ) (sums : ℕ → ℕ → ℤ) where
       let more : suc n + 1 ≡ suc (n + 1) = omega arith in
       let place : i + suc n ≡ suc i + n = omega arith in
       rw (more, place, block_more channels (suc i) n) (sym (append_assoc (frame_samples depth sums i 1 channels) _ _))
+
+-- samples that are one by one the sums at a depth are the block's
+module _ (depth : ℕ) (sums : ℕ → ℕ → ℤ) (channels frames : ℕ) (out : List ℤ) (long : length out ≡ frames * channels)
+    (sample_at : (i j : ℕ) → i < frames → j < channels
+    → quantized depth (sums i (1 + j)) ≡ get_or out (i * channels + j) (pos 0)) where
+  -- the first samples of a frame
+  frame_taken : (i j : ℕ) → i < frames → j ≤ channels
+      → take (i * channels + j) out ≡ take (i * channels) out ++ frame_samples depth sums i 1 j
+  frame_taken i zero below on =
+      let same : i * channels + 0 ≡ i * channels = omega arith in
+      rw same (sym (append-nil (take (i * channels) out)))
+  frame_taken i (suc j) below on =
+      let row : suc i * channels ≤ frames * channels = mul-le-mul_right channels below in
+      let more : i * channels + suc j ≡ i * channels + j + 1 = omega arith in
+      let count : suc j ≡ j + 1 = omega arith in
+      ap (λ (n : ℕ). take n out) more
+      ∙ take_more out (i * channels + j) (pos 0) (omega arith)
+      ∙ ap (λ (l : List ℤ). l ++ get_or out (i * channels + j) (pos 0) ∷ []) (frame_taken i j below (omega arith))
+      ∙ append_assoc (take (i * channels) out) _ _
+      ∙ ap (λ z. take (i * channels) out ++ (frame_samples depth sums i 1 j ++ z ∷ []))
+      (sym (sample_at i j below (omega arith)))
+      ∙ ap (λ (l : List ℤ). take (i * channels) out ++ l)
+      (sym (frame_more depth sums i 1 j) ∙ ap (frame_samples depth sums i 1) (sym count))
+
+  -- the first frames
+  frames_taken : (i : ℕ) → i ≤ frames → take (i * channels) out ≡ block_samples depth sums channels 0 i
+  frames_taken zero below = let none : 0 * channels ≡ 0 = omega arith in ap (λ (n : ℕ). take n out) none
+  frames_taken (suc i) below =
+      let more : suc i * channels ≡ i * channels + channels = omega arith in
+      let count : suc i ≡ i + 1 = omega arith in
+      ap (λ (n : ℕ). take n out) more
+      ∙ frame_taken i channels (omega arith) (omega arith)
+      ∙ ap (λ (l : List ℤ). l ++ frame_samples depth sums i 1 channels) (frames_taken i (omega arith))
+      ∙ ap (λ m. block_samples depth sums channels 0 i ++ frame_samples depth sums m 1 channels)
+      (sym (zero-add i))
+      ∙ sym (block_more depth sums channels 0 i)
+      ∙ ap (block_samples depth sums channels 0) (sym count)
+
+  pub by_samples : out ≡ block_samples depth sums channels 0 frames
+  by_samples = sym (take_all (frames * channels) out (omega (arith, long))) ∙ frames_taken frames (omega arith)

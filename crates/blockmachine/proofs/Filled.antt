@@ -1,11 +1,10 @@
 -- The frames of a file that fills a block as it is are what the block hands out.
-use Rattle.std.proofs.Common.{◌≡◌, ◌≤◌, ◌<◌, ℕ, zero, suc, ◌+◌, ◌-◌, ◌*◌, ◌^◌, true, All, List, [], ◌∷◌, ◌++◌, length, take, get_or, sym, ap, ◌∙◌, arith, zero-add}
+use Rattle.std.proofs.Common.{◌≡◌, ◌≤◌, ◌<◌, ℕ, suc, ◌+◌, ◌-◌, ◌*◌, ◌^◌, true, All, List, length, get_or, sym, ap, ◌∙◌, arith}
 use Rattle.std.specs.Prelude.{ℤ, pos, negsuc, neg_ℤ, ◌+ℤ◌, ◌*ℤ◌, ◌≤ℤ◌, ◌<ℤ◌, min, nat_le, nat_lt}
 use Rattle.std.specs.Int.{int_div_euclid, saturate_to_bits}
 use Rattle.std.proofs.lemmas.Bool.Decides.{nat_tests}
 use Rattle.std.proofs.lemmas.Int.{ints}
 use Rattle.std.proofs.lemmas.Nat.{div-mul-add}
-use Rattle.std.proofs.lemmas.List.{append-nil, append_assoc, take_all, take_more}
 use Rattle.std.proofs.Math.IntN.{negsuc-*ℤ-pos, pos-*ℤ-pos}
 use Rattle.std.proofs.Math.Nat.{mul-le-mul_right}
 use Rattle.sound_terms.specs.declared.Depth.{Depth}
@@ -13,12 +12,12 @@ use Rattle.sound_terms.specs.declared.Depth.TheVariants.{Sixteen, TwentyFour, Th
 use Rattle.sound_terms.specs.declared.piece.Shape.TheVariants.{Flat}
 use Rattle.sound_terms.specs.Depth.{bits_of}
 use Rattle.sound_terms.specs.Mix.{Reading, full_scale, quantized}
-use Rattle.sound_terms.specs.Blocks.{block_samples, frame_samples, held, sums_with}
+use Rattle.sound_terms.specs.Blocks.{block_samples, held, sums_with}
 use Rattle.pcm.specs.Samples.{FitsDepth}
 use Rattle.blockmachine.specs.Alone.{filling}
 use Rattle.blockmachine.specs.Playing.{Plays}
 use Rattle.blockmachine.proofs.Added.{flat_share}
-use Rattle.blockmachine.proofs.Emitted.{block_more, frame_more}
+use Rattle.blockmachine.proofs.Emitted.{by_samples}
 
 -- a sample at full scale, rounded to its own depth, is that sample: h bits and a sign, from this step
 module _ (h half step : ℕ) (small : half < step) where
@@ -97,38 +96,5 @@ module _ (reading : Reading) (file frame frames channels : ℕ) (depth : Depth) 
       +ℤ full_scale (bits_of depth) (get_or out (i * channels + m) (pos 0))))) same
       ∙ same_depth depth (get_or out (i * channels + j) (pos 0)) (fit (i * channels + j) (pos 0) within))
 
-  -- the first samples of a frame
-  frame_taken : (i j : ℕ) → i < frames → j ≤ channels
-      → take (i * channels + j) out ≡ take (i * channels) out ++ frame_samples (bits_of depth) sums i 1 j
-  frame_taken i zero below on =
-      let same : i * channels + 0 ≡ i * channels = omega arith in
-      rw same (sym (append-nil (take (i * channels) out)))
-  frame_taken i (suc j) below on =
-      let row : suc i * channels ≤ frames * channels = mul-le-mul_right channels below in
-      let more : i * channels + suc j ≡ i * channels + j + 1 = omega arith in
-      let count : suc j ≡ j + 1 = omega arith in
-      ap (λ (n : ℕ). take n out) more
-      ∙ take_more out (i * channels + j) (pos 0) (omega arith)
-      ∙ ap (λ (l : List ℤ). l ++ get_or out (i * channels + j) (pos 0) ∷ []) (frame_taken i j below (omega arith))
-      ∙ append_assoc (take (i * channels) out) _ _
-      ∙ ap (λ z. take (i * channels) out ++ (frame_samples (bits_of depth) sums i 1 j ++ z ∷ []))
-      (sym (sample_at i j below (omega arith)))
-      ∙ ap (λ (l : List ℤ). take (i * channels) out ++ l)
-      (sym (frame_more (bits_of depth) sums i 1 j) ∙ ap (frame_samples (bits_of depth) sums i 1) (sym count))
-
-  -- the first frames
-  frames_taken : (i : ℕ) → i ≤ frames → take (i * channels) out ≡ block_samples (bits_of depth) sums channels 0 i
-  frames_taken zero below = let none : 0 * channels ≡ 0 = omega arith in ap (λ (n : ℕ). take n out) none
-  frames_taken (suc i) below =
-      let more : suc i * channels ≡ i * channels + channels = omega arith in
-      let count : suc i ≡ i + 1 = omega arith in
-      ap (λ (n : ℕ). take n out) more
-      ∙ frame_taken i channels (omega arith) (omega arith)
-      ∙ ap (λ (l : List ℤ). l ++ frame_samples (bits_of depth) sums i 1 channels) (frames_taken i (omega arith))
-      ∙ ap (λ m. block_samples (bits_of depth) sums channels 0 i ++ frame_samples (bits_of depth) sums m 1 channels)
-      (sym (zero-add i))
-      ∙ sym (block_more (bits_of depth) sums channels 0 i)
-      ∙ ap (block_samples (bits_of depth) sums channels 0) (sym count)
-
   pub hands_itself_out : out ≡ block_samples (bits_of depth) sums channels 0 frames
-  hands_itself_out = sym (take_all (frames * channels) out (omega (arith, long))) ∙ frames_taken frames (omega arith)
+  hands_itself_out = by_samples (bits_of depth) sums channels frames out long sample_at

@@ -1,25 +1,25 @@
--- The sums of a block as a machine keeps them: channel after channel.
-use Rattle.std.specs.Prelude.{◌≡◌, ℕ, ◌+◌, ◌-◌, ◌*◌, ◌^◌, ◌<◌, ◌≤◌, ℤ, pos, neg_ℤ, ◌+ℤ◌, ◌≤ℤ◌, List, length, slice_index_or}
+-- The sums of a block as a machine keeps them: frame after frame.
+use Rattle.std.specs.Prelude.{◌≡◌, ℕ, ◌+◌, ◌-◌, ◌*◌, ◌^◌, ◌<◌, ◌≤◌, ℤ, pos, neg_ℤ, ◌+ℤ◌, ◌≤ℤ◌, List, All, length, slice_index_or}
 use Rattle.sound_terms.specs.declared.block.Stretch.{Stretch}
 use Rattle.sound_terms.specs.declared.piece.Shape.{Shape}
-use Rattle.sound_terms.specs.Mix.{full_scale, share_of}
-use Rattle.sound_terms.specs.Groups.{fraction_of}
-use Rattle.sound_terms.specs.Blocks.{block_length, held}
+use Rattle.sound_terms.specs.Mix.{Reading, full_scale, share_of}
+use Rattle.sound_terms.specs.Blocks.{block_length, held, sums_with}
+use Rattle.blockmachine.specs.Playing.{Plays}
 
 -- what a machine has room for
 pub record Extent : Type 0 where
   pub frames : ℕ
   pub channels : ℕ
 
--- from the first sum of a channel to that of the next one: a block, and a few more, since caches are made of powers of
--- two
-abbrev pub channel_room : ℕ
-channel_room = 4104
+-- a sum for each sample of a block and channel: of the first sample on every channel, then of the second
+pub record BlockSums : Type 0 where
+  pub channels : ℕ
+  pub values : List ℤ
 
 -- these are the sums by sample and channel
-abbrev pub AreSums : List ℤ → (ℕ → ℕ → ℤ) → Type 0
-AreSums list sums = (i channel : ℕ) → i < channel_room → 1 ≤ channel → (channel - 1) * channel_room + i < length list
-    → slice_index_or list ((channel - 1) * channel_room + i) (pos 0) ≡ sums i channel
+abbrev pub AreSums : BlockSums → (ℕ → ℕ → ℤ) → Type 0
+AreSums kept sums = (i channel : ℕ) → i < block_length → 1 ≤ channel → channel ≤ kept.channels
+    → slice_index_or kept.values (i * kept.channels + (channel - 1)) (pos 0) ≡ sums i channel
 
 -- as large as the sum of m samples at most
 abbrev pub IsWithin : ℕ → ℤ → Type 0
@@ -29,23 +29,25 @@ IsWithin m z = (neg_ℤ (pos (m * 2 ^ 47)) ≤ℤ z) × (z ≤ℤ pos (m * 2 ^ 4
 abbrev pub few_additions : ℕ
 few_additions = 32767
 
--- each sum had the share of one channel of these frames added; channels are counted from 0 here
-abbrev pub HasAdded : Shape → (depth channels channel : ℕ) → (frames old new : List ℤ) → Type 0
-HasAdded shape depth channels channel frames old new = (i : ℕ) → i < length new
-    → slice_index_or new i (pos 0) ≡ held (slice_index_or old i (pos 0)
-    +ℤ share_of (full_scale depth (slice_index_or frames (i * channels + channel) (pos 0))) (fraction_of shape i))
+-- each sum is larger by one sample at most
+abbrev pub HasGrown : (old new : List ℤ) → Type 0
+HasGrown old new = (m : ℕ) → All (IsWithin m) old → All (IsWithin (m + 1)) new
 
--- so had the first n sums, and the others are as they were
-abbrev pub HasAddedTo : ℕ → Shape → (depth channels channel : ℕ) → (frames old new : List ℤ) → Type 0
-HasAddedTo n shape depth channels channel frames old new =
-    ((i : ℕ) → i < n → slice_index_or new i (pos 0) ≡ held (slice_index_or old i (pos 0)
-    +ℤ share_of (full_scale depth (slice_index_or frames (i * channels + channel) (pos 0))) (fraction_of shape i)))
-    × ((i : ℕ) → n ≤ i → slice_index_or new i (pos 0) ≡ slice_index_or old i (pos 0))
+-- each of the first n sums had its sample added, so much of it, and the others are as they were
+abbrev pub HasAddedTo : ℕ → (fraction : ℕ × ℕ) → (depth : ℕ) → (samples old new : List ℤ) → Type 0
+HasAddedTo n fraction depth samples old new =
+    ((k : ℕ) → k < n → slice_index_or new k (pos 0) ≡ held (slice_index_or old k (pos 0)
+    +ℤ share_of (full_scale depth (slice_index_or samples k (pos 0))) fraction))
+    × ((k : ℕ) → n ≤ k → slice_index_or new k (pos 0) ≡ slice_index_or old k (pos 0))
 
--- a stretch has its place among so many sums
-pub record IsInside (stretch : Stretch) (n : ℕ) : Type 0 where
-  pub some : 1 ≤ stretch.length
-  pub samples : stretch.at + stretch.length ≤ block_length
-  pub source_from_one : 1 ≤ stretch.first
-  pub dest_from_one : 1 ≤ stretch.dest
-  pub channels : (stretch.dest + stretch.width - 1) * channel_room ≤ n
+-- so had all
+abbrev pub HasAdded : (fraction : ℕ × ℕ) → (depth : ℕ) → (samples old new : List ℤ) → Type 0
+HasAdded fraction depth samples old new = (k : ℕ) → k < length new
+    → slice_index_or new k (pos 0) ≡ held (slice_index_or old k (pos 0)
+    +ℤ share_of (full_scale depth (slice_index_or samples k (pos 0))) fraction)
+
+-- what frames play of a stretch under a shape was added: frames of so many channels, at this depth
+abbrev pub HasPlayed : Stretch → Shape → (source depth : ℕ) → (frames : List ℤ) → (old new : BlockSums) → Type 0
+HasPlayed stretch shape source depth frames old new =
+    (reading : Reading) → Plays reading stretch source depth frames → (before : ℕ → ℕ → ℤ) → AreSums old before
+    → AreSums new (sums_with reading stretch shape before)

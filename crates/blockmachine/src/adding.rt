@@ -3,37 +3,28 @@ ghost use Rattle.std.specs.Prelude.{IsTrue, ◌≡◌, ◌+◌, ◌*◌, ◌^◌
 ghost use Rattle.std.specs.List.{All};
 ghost use Rattle.sound_terms.specs.declared.piece.Shape.TheVariants as shape;
 ghost use Rattle.sound_terms.specs.Depth.{bits_of};
-ghost use Rattle.sound_terms.specs.Mix.{Reading, full_scale};
-ghost use Rattle.sound_terms.specs.Groups.{IsRamp};
-ghost use Rattle.sound_terms.specs.Blocks.{held, sums_with};
+ghost use Rattle.sound_terms.specs.Mix.{full_scale};
+ghost use Rattle.sound_terms.specs.Blocks.{FitsBlock, held};
 ghost use Rattle.pcm.specs.Samples.{FitsDepth};
-ghost use Rattle.blockmachine.specs.Sums.{AreSums, HasAdded, IsInside, IsWithin};
-ghost use Rattle.blockmachine.specs.Playing.{Plays};
+ghost use Rattle.blockmachine.specs.Sums.{HasAdded, HasGrown, HasPlayed, IsWithin};
 
-use crate::slope::Slope;
-use sound_terms::{Depth, Shape, Stretch};
-use soundlaw::{contribution_near, widen};
+use crate::frames::Played;
+use crate::slope::{Fade, Slope};
+use sound_terms::{Depth, Shape};
+use soundlaw::widen;
 
-/// From the first sum of a channel to that of the next one. A block has 4096 of them; that the channels begin in
-/// different lines of a cache takes a few more.
-pub const CHANNEL_ROOM: usize = 4104;
-
-/// A sum and a share more.
+/// A sum and a share more. What is small can't leave 64 bits.
 #[inline(always)]
-fn added(sum: i64, share: i64) -> i64
-    ensures { result ≡ held (sum +ℤ share) }
-{
-    sum.saturating_add(share)
-}
-
-/// The same where both are so small that nothing is to be held.
-#[inline(always)]
-fn summed(sum: i64, share: i64) -> i64
-    requires sum { IsWithin 32766 sum }
+fn added(sum: i64, share: i64, is_small: bool) -> i64
+    requires small { IsTrue is_small → IsWithin 32766 sum }
     requires share { IsWithin 1 share }
     ensures { result ≡ held (sum +ℤ share) }
 {
-    sum + share
+    if is_small {
+        sum + share
+    } else {
+        sum.saturating_add(share)
+    }
 }
 
 /// Sample k of these at full scale.
@@ -47,224 +38,155 @@ fn full_sample(samples: &[i32], k: usize, depth: Depth) -> i64
     widen(samples[k], depth)
 }
 
-/// Adds one channel, counted from 0, of frames of so many channels.
+/// Adds samples to as many sums.
 #[inline(always)]
-fn add_flat(frames: &[i32], channels: usize, channel: usize, depth: Depth, sums: &mut [i64])
-    requires whole { length frames.now ≡ length sums.old * channels }
-    requires channel { channel < channels }
-    requires fit { All (FitsDepth (bits_of depth)) frames.now }
-    ensures { HasAdded shape.Flat (bits_of depth) channels channel frames.now sums.old sums.new }
-{
-    for (i, sum) in sums.iter_mut().enumerate() {
-        let sample = full_sample(frames, i * channels + channel, depth);
-        *sum = added(*sum, sample);
-    }
-}
-
-/// The same to sums that are so small that nothing is to be held.
-#[inline(always)]
-fn add_flat_plain(frames: &[i32], channels: usize, channel: usize, depth: Depth, sums: &mut [i64])
-    requires whole { length frames.now ≡ length sums.old * channels }
-    requires channel { channel < channels }
-    requires fit { All (FitsDepth (bits_of depth)) frames.now }
-    requires small { All (IsWithin 32766) sums.old }
-    ensures { HasAdded shape.Flat (bits_of depth) channels channel frames.now sums.old sums.new }
-{
-    for (i, sum) in sums.iter_mut().enumerate() {
-        let sample = full_sample(frames, i * channels + channel, depth);
-        *sum = summed(*sum, sample);
-    }
-}
-
-/// The same, plainly where the sums are small. Most files are of one or two channels: there a place is found by a
-/// constant.
-fn add_flat_by_count(
-    frames: &[i32],
-    channels: usize,
-    channel: usize,
-    depth: Depth,
-    is_small: bool,
-    sums: &mut [i64],
-)
-    requires whole { length frames.now ≡ length sums.old * channels }
-    requires channel { channel < channels }
-    requires fit { All (FitsDepth (bits_of depth)) frames.now }
+fn add_flat(samples: &[i32], depth: Depth, is_small: bool, sums: &mut [i64])
+    requires each { length samples.now ≡ length sums.old }
+    requires fit { All (FitsDepth (bits_of depth)) samples.now }
     requires small { IsTrue is_small → All (IsWithin 32766) sums.old }
-    ensures { HasAdded shape.Flat (bits_of depth) channels channel frames.now sums.old sums.new }
+    ensures added { HasAdded (1, 1) (bits_of depth) samples.now sums.old sums.new }
+    ensures grown { HasGrown sums.old sums.new }
 {
-    if is_small {
-        match channels {
-            1 => add_flat_plain(frames, 1, channel, depth, sums),
-            2 => add_flat_plain(frames, 2, channel, depth, sums),
-            _ => add_flat_plain(frames, channels, channel, depth, sums),
-        }
+    for (i, sum) in sums.iter_mut().enumerate() {
+        let sample = full_sample(samples, i, depth);
+        *sum = added(*sum, sample, is_small);
+    }
+}
+
+/// Adds the shares of samples to as many sums.
+#[inline(always)]
+fn add_shares(fade: Fade, samples: &[i32], depth: Depth, is_small: bool, sums: &mut [i64])
+    requires each { length samples.now ≡ length sums.old }
+    requires fit { All (FitsDepth (bits_of depth)) samples.now }
+    requires small { IsTrue is_small → All (IsWithin 32766) sums.old }
+    ensures added { HasAdded (fade.num, fade.den) (bits_of depth) samples.now sums.old sums.new }
+    ensures grown { HasGrown sums.old sums.new }
+{
+    for (i, sum) in sums.iter_mut().enumerate() {
+        let sample = full_sample(samples, i, depth);
+        let share = fade.share(sample);
+        *sum = added(*sum, share, is_small);
+    }
+}
+
+/// Adds the shares of the samples of a frame.
+#[inline(always)]
+fn add_row(fade: Fade, samples: &[i32], depth: Depth, is_small: bool, sums: &mut [i64])
+    requires each { length samples.now ≡ length sums.old }
+    requires fit { All (FitsDepth (bits_of depth)) samples.now }
+    requires small { IsTrue is_small → All (IsWithin 32766) sums.old }
+    ensures added { HasAdded (fade.num, fade.den) (bits_of depth) samples.now sums.old sums.new }
+    ensures grown { HasGrown sums.old sums.new }
+{
+    if fade.num == 1 && fade.den == 1 {
+        add_flat(samples, depth, is_small, sums)
     } else {
-        add_flat(frames, channels, channel, depth, sums)
+        add_shares(fade, samples, depth, is_small, sums)
     }
 }
 
-/// The same under a rise, of which `offset` samples lie before.
+/// Adds a stretch frame by frame.
 #[inline(always)]
-fn add_rise(
-    frames: &[i32],
-    channels: usize,
-    channel: usize,
+fn add_rows(
+    played: &Played,
     depth: Depth,
-    offset: u64,
-    den: u64,
-    sums: &mut [i64],
-)
-    requires whole { length frames.now ≡ length sums.old * channels }
-    requires channel { channel < channels }
-    requires fit { All (FitsDepth (bits_of depth)) frames.now }
-    requires ramp { IsRamp (shape.Rise offset den) (length sums.old) }
-    ensures { HasAdded (shape.Rise offset den) (bits_of depth) channels channel frames.now sums.old sums.new }
-{
-    let slope = Slope::rising(offset, den);
-    for (i, sum) in sums.iter_mut().enumerate() {
-        let sample = full_sample(frames, i * channels + channel, depth);
-        let guess = slope.guess(sample, i as u64);
-        let share = contribution_near(sample, offset + i as u64, den, guess);
-        *sum = added(*sum, share);
-    }
-}
-
-/// The same under a fall.
-#[inline(always)]
-fn add_fall(
-    frames: &[i32],
+    width: usize,
     channels: usize,
-    channel: usize,
-    depth: Depth,
-    offset: u64,
-    den: u64,
-    sums: &mut [i64],
-)
-    requires whole { length frames.now ≡ length sums.old * channels }
-    requires channel { channel < channels }
-    requires fit { All (FitsDepth (bits_of depth)) frames.now }
-    requires ramp { IsRamp (shape.Fall offset den) (length sums.old) }
-    ensures { HasAdded (shape.Fall offset den) (bits_of depth) channels channel frames.now sums.old sums.new }
-{
-    let slope = Slope::falling(den - offset, den);
-    for (i, sum) in sums.iter_mut().enumerate() {
-        let sample = full_sample(frames, i * channels + channel, depth);
-        let guess = slope.guess(sample, i as u64);
-        let share = contribution_near(sample, den - (offset + i as u64), den, guess);
-        *sum = added(*sum, share);
-    }
-}
-
-/// The same under any shape.
-#[inline(always)]
-fn add_shaped(
-    shape: Shape,
-    frames: &[i32],
-    channels: usize,
-    channel: usize,
-    depth: Depth,
     is_small: bool,
     sums: &mut [i64],
 )
-    requires whole { length frames.now ≡ length sums.old * channels }
-    requires channel { channel < channels }
-    requires fit { All (FitsDepth (bits_of depth)) frames.now }
-    requires ramp { IsRamp shape (length sums.old) }
+    requires depth { depth ≡ played.now.frames.depth }
+    requires width { width ≡ played.now.stretch.width }
+    requires inside { FitsBlock 4096 channels played.now.stretch }
+    requires room { length sums.old ≡ 4096 * channels }
     requires small { IsTrue is_small → All (IsWithin 32766) sums.old }
-    ensures { HasAdded shape (bits_of depth) channels channel frames.now sums.old sums.new }
+    ensures grown { HasGrown sums.old sums.new }
+    ensures played { HasPlayed played.now.stretch played.now.shape played.now.frames.channels (bits_of depth)
+        played.now.frames.samples.now (record { channels = channels; values = sums.old })
+        (record { channels = channels; values = sums.new }) }
 {
-    match shape {
-        Shape::Flat => add_flat_by_count(frames, channels, channel, depth, is_small, sums),
-        Shape::Rise { offset, den } => add_rise(
-            frames, channels, channel, depth, offset, den, sums,
-        ),
-        Shape::Fall { offset, den } => add_fall(
-            frames, channels, channel, depth, offset, den, sums,
-        ),
+    let stretch = played.stretch;
+    let slope = Slope::of(played.shape);
+    for i in 0..stretch.length {
+        let from = i as usize * played.frames.channels + (stretch.first as usize - 1);
+        let to = (stretch.at as usize + i as usize) * channels + (stretch.dest as usize - 1);
+        let samples = &played.frames.samples[from..from + width];
+        add_row(
+            slope.at(i),
+            samples,
+            depth,
+            is_small,
+            &mut sums[to..to + width],
+        );
+    }
+}
+
+/// Whether a stretch plays all channels of its file on all channels there are, as they are.
+fn is_run(played: &Played, channels: usize) -> bool
+    ensures { IsTrue result → (played.now.shape ≡ shape.Flat) × (played.now.stretch.width ≡ channels)
+        × (played.now.frames.channels ≡ channels) }
+{
+    let width = played.stretch.width as usize;
+    played.shape == Shape::Flat && width == channels && played.frames.channels == channels
+}
+
+/// Adds a stretch: as one run where it is one. One or two channels have loops of their own.
+#[inline(always)]
+fn add_at(played: &Played, depth: Depth, channels: usize, is_small: bool, sums: &mut [i64])
+    requires depth { depth ≡ played.now.frames.depth }
+    requires inside { FitsBlock 4096 channels played.now.stretch }
+    requires room { length sums.old ≡ 4096 * channels }
+    requires small { IsTrue is_small → All (IsWithin 32766) sums.old }
+    ensures grown { HasGrown sums.old sums.new }
+    ensures played { HasPlayed played.now.stretch played.now.shape played.now.frames.channels (bits_of depth)
+        played.now.frames.samples.now (record { channels = channels; values = sums.old })
+        (record { channels = channels; values = sums.new }) }
+{
+    if is_run(played, channels) {
+        let from = played.stretch.at as usize * channels;
+        let count = played.stretch.length as usize * channels;
+        let run = &mut sums[from..from + count];
+        add_flat(played.frames.samples, depth, is_small, run)
+    } else {
+        match played.stretch.width {
+            1 => add_rows(played, depth, 1, channels, is_small, sums),
+            2 => add_rows(played, depth, 2, channels, is_small, sums),
+            width => add_rows(played, depth, width as usize, channels, is_small, sums),
+        }
     }
 }
 
 /// The same. Each depth has loops of its own.
-fn add_channel(
-    shape: Shape,
-    frames: &[i32],
-    channels: usize,
-    channel: usize,
-    depth: Depth,
-    is_small: bool,
-    sums: &mut [i64],
-)
-    requires whole { length frames.now ≡ length sums.old * channels }
-    requires channel { channel < channels }
-    requires fit { All (FitsDepth (bits_of depth)) frames.now }
-    requires ramp { IsRamp shape (length sums.old) }
+#[inline(always)]
+fn add_by_depth(played: &Played, channels: usize, is_small: bool, sums: &mut [i64])
+    requires inside { FitsBlock 4096 channels played.now.stretch }
+    requires room { length sums.old ≡ 4096 * channels }
     requires small { IsTrue is_small → All (IsWithin 32766) sums.old }
-    ensures { HasAdded shape (bits_of depth) channels channel frames.now sums.old sums.new }
+    ensures grown { HasGrown sums.old sums.new }
+    ensures played { HasPlayed played.now.stretch played.now.shape played.now.frames.channels
+        (bits_of played.now.frames.depth) played.now.frames.samples.now
+        (record { channels = channels; values = sums.old }) (record { channels = channels; values = sums.new }) }
 {
-    match depth {
-        Depth::Sixteen => add_shaped(
-            shape,
-            frames,
-            channels,
-            channel,
-            Depth::Sixteen,
-            is_small,
-            sums,
-        ),
-        Depth::TwentyFour => add_shaped(
-            shape,
-            frames,
-            channels,
-            channel,
-            Depth::TwentyFour,
-            is_small,
-            sums,
-        ),
-        Depth::ThirtyTwo => add_shaped(
-            shape,
-            frames,
-            channels,
-            channel,
-            Depth::ThirtyTwo,
-            is_small,
-            sums,
-        ),
+    match played.frames.depth {
+        Depth::Sixteen => add_at(played, Depth::Sixteen, channels, is_small, sums),
+        Depth::TwentyFour => add_at(played, Depth::TwentyFour, channels, is_small, sums),
+        Depth::ThirtyTwo => add_at(played, Depth::ThirtyTwo, channels, is_small, sums),
     }
 }
 
-/// Adds each channel of a stretch, whose frames these are, to its sums.
-pub fn add_frames(
-    stretch: &Stretch,
-    shape: Shape,
-    frames: &[i32],
-    channels: usize,
-    depth: Depth,
-    is_small: bool,
-    sums: &mut [i64],
-)
-    requires inside { IsInside stretch.now (length sums.old) }
-    requires whole { length frames.now ≡ stretch.now.length * channels }
-    requires source { stretch.now.first + stretch.now.width ≤ channels + 1 }
-    requires fit { All (FitsDepth (bits_of depth)) frames.now }
-    requires ramp { IsRamp shape stretch.now.length }
+/// Adds what a stretch plays to the sums of a block of so many channels.
+pub fn add_played(played: &Played, channels: usize, is_small: bool, sums: &mut [i64])
+    requires inside { FitsBlock 4096 channels played.now.stretch }
+    requires room { length sums.old ≡ 4096 * channels }
     requires small { IsTrue is_small → All (IsWithin 32766) sums.old }
-    ensures grown { (m : ℕ) → All (IsWithin m) sums.old → All (IsWithin (m + 1)) sums.new }
-    ensures added { (reading : Reading) → Plays reading stretch.now channels (bits_of depth) frames.now
-        → (before : ℕ → ℕ → ℤ) → AreSums sums.old before
-        → AreSums sums.new (sums_with reading stretch.now shape before) }
+    ensures grown { HasGrown sums.old sums.new }
+    ensures played { HasPlayed played.now.stretch played.now.shape played.now.frames.channels
+        (bits_of played.now.frames.depth) played.now.frames.samples.now
+        (record { channels = channels; values = sums.old }) (record { channels = channels; values = sums.new }) }
 {
-    let length = stretch.length as usize;
-    for j in 0..stretch.width as usize {
-        let from = (stretch.dest as usize - 1 + j) * CHANNEL_ROOM + stretch.at as usize;
-        let channel = stretch.first as usize - 1 + j;
-        add_channel(
-            shape,
-            frames,
-            channels,
-            channel,
-            depth,
-            is_small,
-            &mut sums[from..from + length],
-        );
+    if is_small {
+        add_by_depth(played, channels, true, sums)
+    } else {
+        add_by_depth(played, channels, false, sums)
     }
 }

@@ -3,8 +3,10 @@
 
 mod adding;
 mod alone;
+mod buffer;
 mod emitting;
 mod fault;
+mod frames;
 mod machine;
 mod playing;
 mod slope;

@@ -10,12 +10,12 @@ ghost use Rattle.sound_terms.specs.Blocks.{BlockState, IsBlockProgram, IsFormed,
 ghost use Rattle.list_terms.specs.Heard.{reading_by};
 ghost use Rattle.shelf.specs.Frame.{OnlyReads};
 ghost use Rattle.blockmachine.specs.Fault.{FailsAt, IsSource};
-ghost use Rattle.blockmachine.specs.Sums.{AreSums, channel_room};
+ghost use Rattle.blockmachine.specs.Sums.{AreSums};
 
 use crate::MachineFault;
 use crate::alone::fills_alone;
-use crate::emitting::emit;
-use crate::playing::{BYTES, SAMPLES, add_stretch, read_part};
+use crate::buffer::{Buffer, SAMPLES};
+use crate::playing::{add_stretch, read_part};
 use crate::sums::Sums;
 use shelf::Shelf;
 use sound_terms::{Depth, Instruction};
@@ -27,23 +27,16 @@ use wavread::Sound;
 /// frames and channels it has room for.
 #[derive(Drop)]
 pub struct Machine {
-    channels: u8,
     sums: Sums,
-    bytes: Vec<u8>,
-    samples: Vec<i32>,
+    buffer: Buffer,
 }
 
 impl Model for Machine {
-    ghost use Rattle.std.specs.Prelude.{◌≡◌, ◌*◌, ◌≤◌, length};
-    ghost use Rattle.blockmachine.specs.Sums.{Extent, channel_room};
+    ghost use Rattle.blockmachine.specs.Sums.{Extent};
 
     ghost Value = { Extent };
 
-    ghost view = { λ machine. record { frames = 4096; channels = machine.channels } };
-
-    ghost invariant = { λ machine. (length machine.sums ≡ machine.channels * channel_room) × (1 ≤ machine.channels)
-        × (machine.channels ≤ 64)
-        × (length machine.bytes.items ≡ 65536) × (length machine.samples.items ≡ 16384) };
+    ghost view = { λ machine. record { frames = 4096; channels = machine.sums.channels } };
 }
 
 /// Adds what an instruction plays.
@@ -51,29 +44,25 @@ fn add_line<S: Shelf>(
     line: &Instruction,
     sounds: &[Sound],
     shelf: &mut S,
-    bytes: &mut [u8],
-    samples: &mut [i32],
+    buffer: &mut Buffer,
     sums: &mut Sums,
 ) -> Result<(), MachineFault>
-    requires formed { (channels : ℕ) × (length sums.old ≡ channels * channel_room) × IsFormed 4096 channels line.now }
+    requires formed { IsFormed 4096 sums.old.channels line.now }
     requires added { AddsOne line.now }
     requires inside { LiesInFiles sounds.now line.now }
-    requires some_samples { 64 ≤ length samples.old }
-    requires few_samples { length samples.old < 2 ^ 32 }
-    requires room { length samples.old * 4 ≤ length bytes.old }
     ensures added { IsTrue (S.honest shelf.old)
         → OnOk result ((channels : ℕ) (before : BlockState) → AreSums sums.old before.sums
         → AreSums sums.new (executed (reading_by (S.stored shelf.old) sounds.now) channels line.now before).sums) }
     ensures full { IsTrue (S.honest shelf.old)
         → OnOk result (PlaysFull (reading_by (S.stored shelf.old) sounds.now) line.now) }
-    ensures same_length { length sums.new ≡ length sums.old }
+    ensures same_channels { sums.new.channels ≡ sums.old.channels }
     ensures source { IfErr result IsSource }
     ensures only_reads { OnlyReads S.Shelf shelf.old shelf.new result (λ fault. IsSource fault)
         (λ fault failed. FailsAt sounds.now fault failed) }
 {
     match line {
         Instruction::Add { stretch, shape } => {
-            add_stretch(stretch, *shape, sounds, shelf, bytes, samples, sums)
+            add_stretch(stretch, *shape, sounds, shelf, buffer, sums)
         }
         Instruction::Start { .. } | Instruction::Emit { .. } => Ok(()),
     }
@@ -84,29 +73,24 @@ fn add_all<S: Shelf>(
     lines: &[Instruction],
     sounds: &[Sound],
     shelf: &mut S,
-    bytes: &mut [u8],
-    samples: &mut [i32],
+    buffer: &mut Buffer,
     sums: &mut Sums,
 ) -> Result<(), MachineFault>
-    requires formed { (channels : ℕ) × (length sums.old ≡ channels * channel_room)
-        × All (IsFormed 4096 channels) lines.now }
+    requires formed { All (IsFormed 4096 sums.old.channels) lines.now }
     requires added { All AddsOne lines.now }
     requires inside { All (LiesInFiles sounds.now) lines.now }
-    requires some_samples { 64 ≤ length samples.old }
-    requires few_samples { length samples.old < 2 ^ 32 }
-    requires room { length samples.old * 4 ≤ length bytes.old }
     ensures added { IsTrue (S.honest shelf.old)
         → OnOk result ((channels : ℕ) (before : BlockState) → AreSums sums.old before.sums
         → AreSums sums.new (executed_all (reading_by (S.stored shelf.old) sounds.now) channels lines.now before).sums) }
     ensures full { IsTrue (S.honest shelf.old)
         → OnOk result (All (PlaysFull (reading_by (S.stored shelf.old) sounds.now)) lines.now) }
-    ensures same_length { length sums.new ≡ length sums.old }
+    ensures same_channels { sums.new.channels ≡ sums.old.channels }
     ensures source { IfErr result IsSource }
     ensures only_reads { OnlyReads S.Shelf shelf.old shelf.new result (λ fault. IsSource fault)
         (λ fault failed. FailsAt sounds.now fault failed) }
 {
     for line in lines {
-        add_line(line, sounds, shelf, bytes, samples, sums)?;
+        add_line(line, sounds, shelf, buffer, sums)?;
     }
     Ok(())
 }
@@ -122,53 +106,6 @@ fn depth_of(program: &[Instruction]) -> Option<Depth>
     }
 }
 
-/// Adds what these instructions play to sums of zero, and hands the sums out. The frames of a file that fills the block
-/// as it is are handed out as they are read.
-fn run_lines<S: Shelf>(
-    lines: &[Instruction],
-    depth: Depth,
-    channels: usize,
-    sounds: &[Sound],
-    shelf: &mut S,
-    bytes: &mut [u8],
-    samples: &mut [i32],
-    sums: &mut Sums,
-    out: &mut [i32],
-) -> Result<(), MachineFault>
-    requires some_channels { 1 ≤ channels }
-    requires few_channels { channels ≤ 64 }
-    requires each { length sums.old ≡ channels * channel_room }
-    requires formed { All (IsFormed 4096 channels) lines.now }
-    requires added { All AddsOne lines.now }
-    requires inside { All (LiesInFiles sounds.now) lines.now }
-    requires some_samples { 64 ≤ length samples.old }
-    requires few_samples { length samples.old < 2 ^ 32 }
-    requires room { length samples.old * 4 ≤ length bytes.old }
-    requires whole { (frames : ℕ) × (frames ≤ 4096) × (length out.old ≡ frames * channels) }
-    ensures ran { IsTrue (S.honest shelf.old)
-        → OnOk result ((frames : ℕ) (start : BlockState) → length out.old ≡ frames * channels
-        → out.new ≡ (executed_all (reading_by (S.stored shelf.old) sounds.now) channels
-        (instruction.Start frames ∷ (lines.now ++ instruction.Emit depth ∷ [])) start).out) }
-    ensures fit { OnOk result (All (FitsDepth (bits_of depth)) out.new) }
-    ensures full { IsTrue (S.honest shelf.old)
-        → OnOk result (All (PlaysFull (reading_by (S.stored shelf.old) sounds.now)) lines.now) }
-    ensures same_length { length sums.new ≡ length sums.old }
-    ensures source { IfErr result IsSource }
-    ensures only_reads { OnlyReads S.Shelf shelf.old shelf.new result (λ fault. IsSource fault)
-        (λ fault failed. FailsAt sounds.now fault failed) }
-{
-    let frames = out.len() / channels;
-    if out.len() <= samples.len() {
-        if let Some(stretch) = fills_alone(lines, frames, channels, depth, sounds) {
-            return read_part(&stretch, sounds, shelf, bytes, out);
-        }
-    }
-    sums.clear();
-    add_all(lines, sounds, shelf, bytes, samples, sums)?;
-    emit(sums.as_slice(), frames, channels, depth, out);
-    Ok(())
-}
-
 impl Machine {
     /// A machine for blocks of up to 4096 frames of so many channels, 1 to 64.
     pub fn new(alloc: Global, channels: u8) -> Result<Self, MachineFault>
@@ -177,16 +114,54 @@ impl Machine {
         ensures only_memory { IfErr result (λ fault. fault ≡ MachineFault.Memory) }
     {
         let sums = Sums::new(alloc, channels)?;
-        let mut bytes = Vec::new(alloc);
-        bytes.resize(BYTES, 0)?;
-        let mut samples = Vec::new(alloc);
-        samples.resize(SAMPLES, 0)?;
-        Ok(Machine {
-            channels,
-            sums,
-            bytes,
-            samples,
-        })
+        let buffer = Buffer::new(alloc)?;
+        Ok(Machine { sums, buffer })
+    }
+
+    /// Adds what these instructions play to sums of zero, and hands the sums out. The frames of a file that fills the
+    /// block as it is are handed out as they are read.
+    fn run_lines<S: Shelf>(
+        &mut self,
+        lines: &[Instruction],
+        depth: Depth,
+        sounds: &[Sound],
+        shelf: &mut S,
+        out: &mut [i32],
+    ) -> Result<(), MachineFault>
+        requires formed { All (IsFormed self.old.frames self.old.channels) lines.now }
+        requires added { All AddsOne lines.now }
+        requires inside { All (LiesInFiles sounds.now) lines.now }
+        requires whole { (frames : ℕ) × (frames ≤ self.old.frames) × (length out.old ≡ frames * self.old.channels) }
+        ensures ran { IsTrue (S.honest shelf.old)
+            → OnOk result ((frames : ℕ) (start : BlockState) → length out.old ≡ frames * self.old.channels
+            → out.new ≡ (executed_all (reading_by (S.stored shelf.old) sounds.now) self.old.channels
+            (instruction.Start frames ∷ (lines.now ++ instruction.Emit depth ∷ [])) start).out) }
+        ensures fit { OnOk result (All (FitsDepth (bits_of depth)) out.new) }
+        ensures full { IsTrue (S.honest shelf.old)
+            → OnOk result (All (PlaysFull (reading_by (S.stored shelf.old) sounds.now)) lines.now) }
+        ensures ready { self.new ≡ self.old }
+        ensures source { IfErr result IsSource }
+        ensures only_reads { OnlyReads S.Shelf shelf.old shelf.new result (λ fault. IsSource fault)
+            (λ fault failed. FailsAt sounds.now fault failed) }
+    {
+        let channels = self.sums.channels() as usize;
+        let frames = out.len() / channels;
+        if out.len() <= SAMPLES {
+            if let Some(stretch) = fills_alone(lines, frames, channels, depth, sounds) {
+                return read_part(
+                    &stretch,
+                    sounds,
+                    shelf,
+                    self.buffer.bytes.as_mut_slice(),
+                    out,
+                );
+            }
+        }
+        let sums = &mut self.sums;
+        sums.clear();
+        add_all(lines, sounds, shelf, &mut self.buffer, sums)?;
+        sums.emit(depth, out);
+        Ok(())
     }
 
     /// Runs the program of a block over sounds that were opened, and writes the samples that it hands out, frame by
@@ -218,13 +193,7 @@ impl Machine {
     {
         if let Some(depth) = depth_of(program) {
             let lines = &program[1..program.len() - 1];
-            let bytes = self.bytes.as_mut_slice();
-            let samples = self.samples.as_mut_slice();
-            let sums = &mut self.sums;
-            let channels = self.channels as usize;
-            run_lines(
-                lines, depth, channels, sounds, shelf, bytes, samples, sums, out,
-            )?;
+            self.run_lines(lines, depth, sounds, shelf, out)?;
         }
         Ok(())
     }

@@ -4,25 +4,21 @@ ghost use Rattle.std.specs.List.{All};
 ghost use Rattle.sound_terms.specs.Sounds.{SoundFacts};
 ghost use Rattle.sound_terms.specs.Media.{LiesInFile};
 ghost use Rattle.sound_terms.specs.Groups.{IsRamp};
-ghost use Rattle.sound_terms.specs.Blocks.{IsFull, sums_with};
+ghost use Rattle.sound_terms.specs.Blocks.{FitsBlock, IsFull, sums_with};
 ghost use Rattle.list_terms.specs.Heard.{reading_by};
 ghost use Rattle.shelf.specs.Frame.{OnlyReads};
 ghost use Rattle.blockmachine.specs.Fault.{FailsAt, IsSource};
 ghost use Rattle.pcm.specs.Samples.{FitsDepth};
 ghost use Rattle.blockmachine.specs.Playing.{Plays};
-ghost use Rattle.blockmachine.specs.Sums.{AreSums, IsInside};
+ghost use Rattle.blockmachine.specs.Sums.{AreSums};
 
 use crate::MachineFault;
+use crate::buffer::{Buffer, SAMPLES};
+use crate::frames::{Frames, Played};
 use crate::sums::Sums;
 use shelf::Shelf;
 use sound_terms::{Shape, Stretch};
 use wavread::Sound;
-
-/// How many samples are read at once, of all channels of a file.
-pub const SAMPLES: usize = 16_384;
-
-/// The bytes of so many samples, of 32 bits at most.
-pub const BYTES: usize = 4 * SAMPLES;
 
 /// Reads the frames of a stretch, with all channels of their file.
 pub fn read_part<S: Shelf>(
@@ -66,7 +62,7 @@ fn add_part<S: Shelf>(
     samples: &mut [i32],
     sums: &mut Sums,
 ) -> Result<(), MachineFault>
-    requires inside { IsInside part.now (length sums.old) }
+    requires inside { FitsBlock 4096 sums.old.channels part.now }
     requires lies { LiesInFile sounds.now part.now.file part.now.first part.now.width part.now.frame part.now.length }
     requires few { (facts : SoundFacts) → slice_get sounds.now part.now.file ≡ Some facts
         → part.now.length * facts.channels ≤ length samples.old }
@@ -76,16 +72,26 @@ fn add_part<S: Shelf>(
         → AreSums sums.new (sums_with (reading_by (S.stored shelf.old) sounds.now) part.now shape before)) }
     ensures full { IsTrue (S.honest shelf.old)
         → OnOk result (IsFull (reading_by (S.stored shelf.old) sounds.now) part.now) }
-    ensures same_length { length sums.new ≡ length sums.old }
+    ensures same_channels { sums.new.channels ≡ sums.old.channels }
     ensures source { IfErr result IsSource }
     ensures only_reads { OnlyReads S.Shelf shelf.old shelf.new result (λ fault. IsSource fault)
         (λ fault failed. FailsAt sounds.now fault failed) }
 {
     let sound = &sounds[part.file as usize];
     let channels = sound.channels() as usize;
-    let frames = &mut samples[..part.length as usize * channels];
-    read_part(part, sounds, shelf, bytes, frames)?;
-    sums.add(part, shape, frames, channels, sound.depth());
+    let depth = sound.depth();
+    let samples = &mut samples[..part.length as usize * channels];
+    read_part(part, sounds, shelf, bytes, samples)?;
+    let frames = Frames {
+        samples,
+        channels,
+        depth,
+    };
+    sums.add(&Played {
+        stretch: *part,
+        shape,
+        frames,
+    });
     Ok(())
 }
 
@@ -113,40 +119,31 @@ pub fn add_stretch<S: Shelf>(
     shape: Shape,
     sounds: &[Sound],
     shelf: &mut S,
-    bytes: &mut [u8],
-    samples: &mut [i32],
+    buffer: &mut Buffer,
     sums: &mut Sums,
 ) -> Result<(), MachineFault>
-    requires inside { IsInside stretch.now (length sums.old) }
+    requires inside { FitsBlock 4096 sums.old.channels stretch.now }
     requires lies { LiesInFile sounds.now stretch.now.file stretch.now.first stretch.now.width stretch.now.frame
         stretch.now.length }
-    requires some_samples { 64 ≤ length samples.old }
-    requires few_samples { length samples.old < 2 ^ 32 }
-    requires room { length samples.old * 4 ≤ length bytes.old }
     requires ramp { IsRamp shape stretch.now.length }
     ensures added { IsTrue (S.honest shelf.old) → OnOk result ((before : ℕ → ℕ → ℤ) → AreSums sums.old before
         → AreSums sums.new (sums_with (reading_by (S.stored shelf.old) sounds.now) stretch.now shape before)) }
     ensures full { IsTrue (S.honest shelf.old)
         → OnOk result (IsFull (reading_by (S.stored shelf.old) sounds.now) stretch.now) }
-    ensures same_length { length sums.new ≡ length sums.old }
+    ensures same_channels { sums.new.channels ≡ sums.old.channels }
     ensures source { IfErr result IsSource }
     ensures only_reads { OnlyReads S.Shelf shelf.old shelf.new result (λ fault. IsSource fault)
         (λ fault failed. FailsAt sounds.now fault failed) }
 {
-    let most = samples.len() as u32 / sounds[stretch.file as usize].channels() as u32;
+    let most = SAMPLES as u32 / sounds[stretch.file as usize].channels() as u32;
     let mut done = 0;
     while done < stretch.length {
         let count = most.min(stretch.length - done);
         let part = part_of(stretch, done, count);
-        add_part(
-            &part,
-            shape.behind(done as u64),
-            sounds,
-            shelf,
-            bytes,
-            samples,
-            sums,
-        )?;
+        let shape = shape.behind(done as u64);
+        let bytes = buffer.bytes.as_mut_slice();
+        let samples = buffer.samples.as_mut_slice();
+        add_part(&part, shape, sounds, shelf, bytes, samples, sums)?;
         done += count;
     }
     Ok(())

@@ -51,6 +51,8 @@ fn negated(size: u64, is_exact: bool) -> i64
 
 /// The share of a sample at full scale under a fade: `num` / `den` of it, rounded down. The fraction is at most one,
 /// and `den` at most the samples of a day. The share is no larger than full scale.
+#[cold]
+#[inline(never)]
 pub fn contribution(v: i64, num: u64, den: u64) -> i64
     requires low { neg_ℤ (pos (2 ^ 47)) ≤ℤ v }
     requires high { v ≤ℤ pos (2 ^ 47) }
@@ -95,11 +97,9 @@ fn product(value: i64, factor: u32) -> i128
     i128::from(value) * i128::from(factor)
 }
 
-/// A sum of samples at full scale, from -2^62 to 2^62, as a sample of this depth: rounded to the nearest, halves up,
-/// and clipped to the depth's range.
+/// A sum of samples at full scale as a sample of this depth: rounded to the nearest, halves up, and clipped to the
+/// depth's range.
 pub fn finish(sum: i64, depth: Depth) -> i32
-    requires low { neg_ℤ (pos (2 ^ 62)) ≤ℤ sum }
-    requires high { sum ≤ℤ pos (2 ^ 62) }
     ensures rounded { result ≡ quantized (bits_of depth) sum }
     ensures fit { FitsDepth (bits_of depth) result }
     ensures crossfade { IsCrossfadeExact depth }

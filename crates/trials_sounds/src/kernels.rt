@@ -2,21 +2,24 @@
 // offset of their source.
 ghost use Rattle.std.specs.Prelude.{◌≡◌, ◌*◌, ◌/◌, ◌<◌, ◌≤◌, length};
 ghost use Rattle.sound_terms.specs.Depth.{bits_of};
+ghost use Rattle.pcm.specs.Samples.{FitsDepth};
 
 use pcm::{all_zero, pack, unpack};
 use sound_terms::Depth;
 use std::process::Abort;
 
 /// The longest run of samples, which is many chunks and a rest.
-const LONGEST: usize = 67;
+pub const LONGEST: usize = 67;
 
 /// The offsets of a source: as many as a chunk has bytes.
-const OFFSETS: usize = 16;
+pub const OFFSETS: usize = 16;
 
 const ROOM: usize = 4 * LONGEST + OFFSETS;
 
 /// The ends of a depth and what lies round zero, in turn.
-fn sample_at(depth: Depth, place: usize) -> i32 {
+pub fn sample_at(depth: Depth, place: usize) -> i32
+    ensures { FitsDepth (bits_of depth) result }
+{
     let (least, most) = match depth {
         Depth::Sixteen => (-32_768, 32_767),
         Depth::TwentyFour => (-8_388_608, 8_388_607),

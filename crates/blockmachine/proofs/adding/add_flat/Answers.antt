@@ -1,12 +1,12 @@
-use Rattle.std.proofs.Common.{◌<◌, length, get_or, arith, rules, sym, ap, ◌∙◌}
+use Rattle.std.proofs.Common.{◌≡◌, ◌<◌, length, get_or, arith, rules, sym, ap, ◌∙◌}
 use Rattle.std.specs.Prelude.{pos, ◌+ℤ◌}
 use Rattle.std.proofs.lemmas.Int.{to_z-of_z}
 use mir.Syntax.{w64}
 use mir.Val.{SFits}
-use Rattle.sound_terms.specs.declared.piece.Shape.TheVariants.{Flat}
 use Rattle.sound_terms.specs.Depth.{bits_of}
 use Rattle.sound_terms.specs.Blocks.{held}
 use Rattle.blockmachine.proofs.Added.{added_more, flat_share}
+use Rattle.blockmachine.proofs.Bounds.{run_grown}
 use Rattle.blockmachine.proofs.adding.add_flat.Goals as goal
 
 pub loop-i-preserved : goal.loop-i-preserved
@@ -22,5 +22,27 @@ loop-i-preserved c =
     at c.added.ensures in
     let value = to_z-of_z w64 c.added.result fits ∙ sum
     ∙ ap (λ z. held (get_or sums n (pos 0) +ℤ z)) (c.full_sample-sample.ensures.value ∙ sym (flat_share _)) in
-    added_more n Flat (bits_of c.args.depth)
-    c.args.channels c.args.channel c.args.frames.now c.args.sums.now sums _ inside c.loop-i.invariant value
+    added_more n (1, 1) (bits_of c.args.depth) c.args.samples.now c.args.sums.now sums _ inside c.loop-i.invariant value
+
+pub added-requires-clause-small : goal.added-requires-clause-small
+added-requires-clause-small c = λ yes.
+    let n = c.loop-i.i in
+    let sums = c.loop-i.sums in
+    let inside : n < length c.args.sums.now = omega arith in
+    let sum_fits : SFits w64 (get_or sums n (pos 0)) = search rules in
+    let same : get_or sums n (pos 0) ≡ get_or c.args.sums.now n (pos 0) = c.loop-i.invariant.1 n (omega arith) in
+    rw (to_z-of_z w64 (get_or sums n (pos 0)) sum_fits, same) (c.requires.small yes n (pos 0) inside)
+
+pub added-requires-clause-share : goal.added-requires-clause-share
+added-requires-clause-share c =
+    let sample_fits : SFits w64 c.full_sample-sample.result = search rules in
+    rw (to_z-of_z w64 c.full_sample-sample.result sample_fits) c.full_sample-sample.ensures.within
+
+pub returns-clause-added : goal.returns-clause-added
+returns-clause-added c = λ k below. c.loop-i.invariant.0 k (omega arith)
+
+pub returns-clause-grown : goal.returns-clause-grown
+returns-clause-grown c = λ m small.
+    run_grown m 1 1 c.args.depth c.args.samples.now c.args.sums.now c.loop-i.sums
+    (c.requires.each ∙ sym c.loop-i.auto.sums) (sym c.loop-i.auto.sums) (omega arith) (omega arith)
+    c.requires.fit (returns-clause-added c) small

@@ -15,7 +15,7 @@ pub loop-line-preserved : goal.loop-line-preserved
 loop-line-preserved g c =
     let quiet = c.loop-line.invariant.quiet in
     record {
-      same_length = search rules;
+      same_channels = search rules;
       quiet = search rules;
       added = λ honest channels before are.
           let files : Files = g.S.Shelf.stored c.args.shelf.now in

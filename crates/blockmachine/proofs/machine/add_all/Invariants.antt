@@ -1,4 +1,4 @@
-use Rattle.std.proofs.Common.{◌≡◌, ℕ, All, IsTrue, length, take}
+use Rattle.std.proofs.Common.{◌≡◌, ℕ, All, IsTrue, take}
 use Rattle.sound_terms.specs.Blocks.{BlockState, executed_all, PlaysFull}
 use Rattle.list_terms.specs.Heard.{reading_by}
 use Rattle.shelf.specs.Frame.{IsQuiet}
@@ -7,7 +7,7 @@ use Rattle.blockmachine.proofs.machine.add_all.Given as goal
 
 abbrev pub invariant-loop-line : goal.invariant-loop-line
 invariant-loop-line g l = record {
-  same_length : length l.sums ≡ length l.fn.sums;
+  same_channels : l.sums.channels ≡ l.fn.sums.channels;
   quiet : IsQuiet g.S.Shelf l.fn.shelf l.shelf;
   added : IsTrue (g.S.Shelf.honest l.fn.shelf) → (channels : ℕ) (before : BlockState) → AreSums l.fn.sums before.sums
       → AreSums l.sums (executed_all (reading_by (g.S.Shelf.stored l.fn.shelf) l.sounds) channels

@@ -1,4 +1,4 @@
-use Rattle.std.proofs.Common.{◌≡◌, ℕ, ◌-◌, ◌≤◌, IsTrue, length}
+use Rattle.std.proofs.Common.{◌≡◌, ℕ, ◌-◌, ◌≤◌, IsTrue}
 use Rattle.std.specs.Prelude.{ℤ}
 use Rattle.sound_terms.specs.Blocks.{sums_with, IsFull}
 use Rattle.list_terms.specs.Heard.{reading_by}
@@ -9,7 +9,7 @@ use Rattle.blockmachine.proofs.playing.add_stretch.Given as goal
 abbrev pub invariant-loop-done : goal.invariant-loop-done
 invariant-loop-done g l = record {
   within : l.done ≤ l.stretch.length;
-  same_length : length l.sums ≡ length l.fn.sums;
+  same_channels : l.sums.channels ≡ l.fn.sums.channels;
   quiet : IsQuiet g.S.Shelf l.fn.shelf l.shelf;
   added : IsTrue (g.S.Shelf.honest l.fn.shelf) → (before : ℕ → ℕ → ℤ) → AreSums l.fn.sums before
       → AreSums l.sums (sums_with (reading_by (g.S.Shelf.stored l.fn.shelf) l.sounds)

@@ -1,4 +1,4 @@
-use Rattle.std.proofs.Common.{◌≡◌, ◌≤◌, ◌-◌, ◌*◌, ℕ, List, All, length, take, drop, sym, ap, ◌∙◌, subst}
+use Rattle.std.proofs.Common.{◌≡◌, ◌-◌, List, All, length, drop, sym, ◌∙◌, subst}
 use Rattle.std.proofs.lemmas.Option.{same_Some}
 use Rattle.std.proofs.lemmas.List.Elements.{All-drop, All-take, All-weaker}
 use Rattle.sound_terms.specs.declared.block.Instruction.{Instruction}
@@ -7,7 +7,6 @@ use Rattle.sound_terms.specs.declared.Depth.{Depth}
 use Rattle.sound_terms.specs.Depth.{bits_of}
 use Rattle.sound_terms.specs.Blocks.{AddsOne, IsFormed, LiesInFiles}
 use Rattle.pcm.specs.Samples.{FitsDepth}
-use Rattle.blockmachine.specs.Sums.{Extent}
 use Rattle.blockmachine.proofs.Ran.{between_ends, formed_longer}
 use Rattle.blockmachine.proofs.machine.Machine.run.Goals as goal
 
@@ -16,16 +15,12 @@ run_lines-requires-clause-formed g c =
     let fits = c.requires.fits in
     let block = fits.3 in
     let between = between_ends c.args.program.now block.lines (Start fits.0) (Emit fits.1) block.whole in
-    let channels : c.self.inside.channels ≡ c.args.self.now.channels = ap (λ (e : Extent). e.channels) c.self.view_is in
-    let frames : fits.0 ≤ 4096 =
-    subst (λ (n : ℕ). fits.0 ≤ n) (sym (ap (λ (e : Extent). e.frames) c.self.view_is)) fits.2 in
+    let most = c.args.self.now.frames in
     let n = c.args.self.now.channels in
     let longer =
-    All-weaker (IsFormed fits.0 n) (IsFormed 4096 n) (λ line formed. formed_longer fits.0 4096 n frames line formed)
+    All-weaker (IsFormed fits.0 n) (IsFormed most n) (λ line formed. formed_longer fits.0 most n fits.2 line formed)
     block.lines block.formed in
-    let lines = subst (λ (l : List Instruction). All (IsFormed 4096 n) l) (sym between) longer in
-    subst (λ (m : ℕ). All (IsFormed 4096 m) (take (length c.args.program.now - 1 - 1) (drop 1 c.args.program.now)))
-    (sym channels) lines
+    subst (λ (l : List Instruction). All (IsFormed most n) l) (sym between) longer
 
 pub run_lines-requires-clause-added : goal.run_lines-requires-clause-added
 run_lines-requires-clause-added g c =
@@ -41,12 +36,7 @@ run_lines-requires-clause-inside g c =
     All-take (LiesInFiles c.args.sounds.now) (length program - 1 - 1) (drop 1 program) all
 
 pub run_lines-requires-clause-whole : goal.run_lines-requires-clause-whole
-run_lines-requires-clause-whole g c =
-    let fits = c.requires.fits in
-    let frames : fits.0 ≤ 4096 =
-    subst (λ (n : ℕ). fits.0 ≤ n) (sym (ap (λ (e : Extent). e.frames) c.self.view_is)) fits.2 in
-    let channels : c.self.inside.channels ≡ c.args.self.now.channels = ap (λ (e : Extent). e.channels) c.self.view_is in
-    (fits.0, frames, fits.4 ∙ ap (λ n. fits.0 * n) (sym channels))
+run_lines-requires-clause-whole g c = (c.requires.fits.0, c.requires.fits.2, c.requires.fits.4)
 
 pub returns-in_ok-run_lines-clause-fit : goal.returns-in_ok-run_lines-clause-fit
 returns-in_ok-run_lines-clause-fit g c = λ frames depth block.

@@ -4,15 +4,16 @@ use Rattle.std.proofs.lemmas.Int.{to_z-of_z}
 use mir.Syntax.{w64}
 use mir.Val.{SFits}
 use Rattle.blockmachine.proofs.Bounds.{held_few, within_add}
-use Rattle.blockmachine.proofs.adding.summed.Goals as goal
+use Rattle.blockmachine.proofs.adding.added.Goals as goal
 
-pub returns : goal.returns
-returns c =
+pub returns-then-is_small : goal.returns-then-is_small
+returns-then-is_small c =
     let fits : SFits w64 (c.args.sum +ℤ c.args.share) = search rules in
+    let small = c.requires.small (search rules) in
     rw (
       to_z-of_z w64 c.args.sum c.ranges.sum,
       to_z-of_z w64 c.args.share c.ranges.share,
       to_z-of_z w64 (c.args.sum +ℤ c.args.share) fits,
     )
     (sym (held_few 32767 (c.args.sum +ℤ c.args.share) (omega arith)
-    (within_add 32766 1 c.args.sum c.args.share c.requires.sum c.requires.share)))
+    (within_add 32766 1 c.args.sum c.args.share small c.requires.share)))

@@ -7,6 +7,7 @@ use Rattle.sound_terms.specs.declared.block.Stretch.{Stretch}
 use Rattle.sound_terms.specs.declared.block.Instruction.{Instruction}
 use Rattle.sound_terms.specs.declared.block.Instruction.TheVariants.{Start, Add, Emit}
 use Rattle.sound_terms.specs.declared.piece.Shape.TheVariants.{Flat}
+use Rattle.sound_terms.specs.declared.Depth.{Depth}
 use Rattle.sound_terms.specs.Depth.{bits_of}
 use Rattle.sound_terms.specs.Mix.{Reading}
 use Rattle.sound_terms.specs.Blocks.{BlockState, LiesInFiles, block_samples, executed_all}
@@ -15,10 +16,10 @@ use Rattle.list_terms.specs.Heard.{reading_by}
 use Rattle.pcm.specs.Samples.{FitsDepth}
 use Rattle.blockmachine.specs.Alone.{filling}
 use Rattle.blockmachine.specs.Playing.{Plays}
-use Rattle.blockmachine.specs.Sums.{AreSums, channel_room}
+use Rattle.blockmachine.specs.Sums.{Extent}
 use Rattle.blockmachine.proofs.Fits.{fits_block}
 use Rattle.blockmachine.proofs.Filled.{hands_itself_out}
-use Rattle.blockmachine.proofs.machine.run_lines.Goals as goal
+use Rattle.blockmachine.proofs.machine.Machine.run_lines.Goals as goal
 
 on_both : {X E P Q R : Type 0} (result : Result X E) → OnOk result P → OnOk result Q → (P → Q → R) → OnOk result R
 on_both (Ok x) p q both = both p q
@@ -33,27 +34,36 @@ pub read_part-requires-clause-whole : goal.read_part-requires-clause-whole
 read_part-requires-clause-whole g c = λ facts there.
     let fills = c.in-Some.ensures in
     let same = same_Some fills.facts facts (sym fills.there ∙ there) in
-    let wide : facts.channels ≡ c.args.channels = rw same at fills.channels_alike in
-    let count : length c.args.out.now / c.args.channels ≡ c.requires.whole.0 =
-    ap (λ n. n / c.args.channels) c.requires.whole.2 ∙ mul-div_left c.requires.whole.0 c.requires.some_channels in
-    let long : c.in-Some.stretch.length ≡ length c.args.out.now / c.args.channels =
+    let channels = c.channels-channels.result in
+    let told : channels ≡ c.args.self.now.channels =
+    c.channels-channels.ensures.channels ∙ ap (λ (e : Extent). e.channels) c.self.view_is in
+    let wide : facts.channels ≡ channels = rw same at fills.channels_alike in
+    let whole : length c.args.out.now ≡ c.requires.whole.0 * channels =
+    c.requires.whole.2 ∙ ap (λ n. c.requires.whole.0 * n) (sym told) in
+    let count : length c.args.out.now / channels ≡ c.requires.whole.0 =
+    ap (λ n. n / channels) whole ∙ mul-div_left c.requires.whole.0 c.channels-channels.ensures.within.0 in
+    let long : c.in-Some.stretch.length ≡ length c.args.out.now / channels =
     ap (λ (s : Stretch). s.length) fills.whole in
-    rw (wide, long, count) c.requires.whole.2
+    rw (wide, long, count) whole
 
 pub returns-in-Some-clause-ran : goal.returns-in-Some-clause-ran
 returns-in-Some-clause-ran g c = λ honest.
     on_both c.read_part.result (c.read_part.ensures.plays honest) c.read_part.ensures.fit (λ plays fit frames start long.
     let fills = c.in-Some.ensures in
     let out = c.read_part.new.frames in
-    let n = c.args.channels in
+    let channels = c.channels-channels.result in
+    let n = c.args.self.now.channels in
+    let told : channels ≡ n = c.channels-channels.ensures.channels ∙ ap (λ (e : Extent). e.channels) c.self.view_is in
     let reading : Reading = reading_by (g.S.Shelf.stored c.args.shelf.now) c.args.sounds.now in
-    let count : length c.args.out.now / n ≡ frames =
-    ap (λ m. m / n) long ∙ mul-div_left frames c.requires.some_channels in
+    let count : length c.args.out.now / channels ≡ frames =
+    ap (λ m. m / channels) (long ∙ ap (λ m. frames * m) (sym told))
+    ∙ mul-div_left frames c.channels-channels.ensures.within.0 in
     let stretch : c.in-Some.stretch ≡ filling c.in-Some.stretch.file c.in-Some.stretch.frame frames n =
     fills.whole
-    ∙ ap (λ m. filling c.in-Some.stretch.file c.in-Some.stretch.frame m n) count in
+    ∙ ap (λ m. filling c.in-Some.stretch.file c.in-Some.stretch.frame m channels) count
+    ∙ ap (λ m. filling c.in-Some.stretch.file c.in-Some.stretch.frame frames m) told in
     let played : Plays reading c.in-Some.stretch n (bits_of c.args.depth) out =
-    rw (fills.channels_alike, fills.depth_alike) at (plays fills.facts fills.there) in
+    rw (fills.channels_alike, told, fills.depth_alike) at (plays fills.facts fills.there) in
     let fitting : All (FitsDepth (bits_of c.args.depth)) out = rw fills.depth_alike at (fit fills.facts fills.there) in
     let same : length out ≡ frames * n = c.read_part.auto.frames ∙ long in
     let whole =
@@ -63,24 +73,36 @@ returns-in-Some-clause-ran g c = λ honest.
     (executed_all reading n (Start frames ∷ (lines ++ Emit c.args.depth ∷ [])) start).out)
     (sym (fills.alone ∙ ap (λ (s : Stretch). Add s Flat ∷ []) stretch)))
 
+-- what was handed out, by the channels of the sums
+same_channels : (depth : Depth) (n m : ℕ) (all : ℕ → ℕ → ℤ) (frames : ℕ) → n ≡ m
+    → block_samples (bits_of depth) all n 0 frames ≡ block_samples (bits_of depth) all m 0 frames
+same_channels depth n m all frames same = ap (λ k. block_samples (bits_of depth) all k 0 frames) same
+
 pub returns-clause-ran : goal.returns-clause-ran
 returns-clause-ran g c = λ honest frames start long.
     let reading : Reading = reading_by (g.S.Shelf.stored c.args.shelf.now) c.args.sounds.now in
-    let channels = c.args.channels in
+    let channels = c.args.self.now.channels in
     let lines = c.args.lines.now in
     let begun : BlockState = record start { frames = frames; sums = λ i channel. pos 0 } in
     let added : BlockState = executed_all reading channels lines begun in
     let sums = c.in_ok-add_all.ensures.added honest channels begun c.clear.ensures.zero in
-    let count : length c.args.out.now / channels ≡ frames =
-    ap (λ n. n / channels) long ∙ mul-div_left frames c.requires.some_channels in
+    let told : c.add_all.new.sums.channels ≡ channels =
+    c.add_all.ensures.same_channels ∙ c.clear.ensures.same_channels ∙ ap (λ (e : Extent). e.channels) c.self.view_is in
     let kept = frames_kept reading channels lines begun c.requires.added in
-    c.emit.ensures added.sums (subst (λ (l : List ℤ). AreSums l added.sums) (sym c.as_slice.ensures) sums)
-    ∙ ap (block_samples (bits_of c.args.depth) added.sums channels 0) (count ∙ sym kept)
+    c.emit.ensures added.sums sums frames (long ∙ ap (λ n. frames * n) (sym told))
+    ∙ same_channels c.args.depth c.add_all.new.sums.channels channels added.sums frames told
+    ∙ ap (block_samples (bits_of c.args.depth) added.sums channels 0) (sym kept)
     ∙ sym (ap (λ (state : BlockState). state.out)
     (executed_all-append reading channels lines (Emit c.args.depth ∷ []) begun))
 
 pub returns-clause-fit : goal.returns-clause-fit
 returns-clause-fit g c =
-    let all : ℕ → ℕ → ℤ = λ i channel. slice_index_or c.as_slice.result.now ((channel - 1) * channel_room + i) (pos 0) in
-    rw (c.emit.ensures all (λ i channel room first there. refl))
-    (fits_block c.args.depth all c.args.channels 0 (length c.args.out.now / c.args.channels))
+    let sums = c.add_all.new.sums in
+    let channels = sums.channels in
+    let all : ℕ → ℕ → ℤ = λ i channel. slice_index_or sums.values (i * channels + (channel - 1)) (pos 0) in
+    let told : channels ≡ c.args.self.now.channels =
+    c.add_all.ensures.same_channels ∙ c.clear.ensures.same_channels ∙ ap (λ (e : Extent). e.channels) c.self.view_is in
+    let long : length c.args.out.now ≡ c.requires.whole.0 * channels =
+    c.requires.whole.2 ∙ ap (λ n. c.requires.whole.0 * n) (sym told) in
+    rw (c.emit.ensures all (λ i channel room first there. refl) c.requires.whole.0 long)
+    (fits_block c.args.depth all channels 0 c.requires.whole.0)

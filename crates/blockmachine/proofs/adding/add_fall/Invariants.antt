@@ -1,8 +1,0 @@
-use Rattle.sound_terms.specs.declared.piece.Shape.TheVariants.{Fall}
-use Rattle.sound_terms.specs.Depth.{bits_of}
-use Rattle.blockmachine.specs.Sums.{HasAddedTo}
-use Rattle.blockmachine.proofs.adding.add_fall.Given as goal
-
-abbrev pub invariant-loop-i : goal.invariant-loop-i
-invariant-loop-i l =
-    HasAddedTo l.i (Fall l.offset l.den) (bits_of l.depth) l.channels l.channel l.frames l.fn.sums l.sums

@@ -1,0 +1,110 @@
+use Rattle.std.proofs.Common.{◌≡◌, ◌<◌, ◌≤◌, ℕ, ◌+◌, ◌-◌, ◌*◌, inl, inr, drop, length, take, arith, refl, sym, ap, ◌∙◌, subst, length-take, length-drop}
+use Rattle.std.specs.Prelude.{ℤ, pos}
+use Rattle.sound_terms.specs.declared.piece.Shape.{Shape}
+use Rattle.sound_terms.specs.Depth.{bits_of}
+use Rattle.sound_terms.specs.Groups.{IsRamp, fraction_of}
+use Rattle.sound_terms.specs.Blocks.{sums_with}
+use Rattle.blockmachine.specs.Sums.{AreSums, IsWithin}
+use Rattle.blockmachine.proofs.Added.{IsRun, no_sample, run_fits, run_more, ramp_shorter}
+use Rattle.blockmachine.proofs.Bounds.{part_grown, within_more}
+use Rattle.blockmachine.proofs.Places.{get_or-part, kept_elsewhere}
+use Rattle.facts.specs.Parts.{length-put_mid}
+use Rattle.blockmachine.proofs.adding.add_rows.Goals as goal
+
+pub loop-i-preserved : goal.loop-i-preserved
+loop-i-preserved c =
+    let played = c.args.played.now in
+    let stretch = played.stretch in
+    let source = played.frames.channels in
+    let channels = c.args.channels in
+    let inside = c.requires.inside in
+    let i = c.loop-i.i in
+    let old = c.loop-i.sums in
+    let new = c.add_row.new.sums in
+    let a = (stretch.at + i) * channels + (stretch.dest - 1) in
+    let k = a + c.args.width - a in
+    let f = i * source + (stretch.first - 1) in
+    let m = f + c.args.width - f in
+    let samples = take m (drop f played.frames.samples.now) in
+    let long : k ≡ stretch.width = omega (arith, c.requires.width) in
+    let wide : m ≡ k = omega arith in
+    let same = c.loop-i.invariant.same_length in
+    let room : length old ≡ 4096 * channels = same ∙ c.requires.room in
+    let piece : IsRun 1 stretch.width source channels k = inl (refl, long) in
+    let short : i + 1 ≤ stretch.length = omega arith in
+    let fit : a + k ≤ length old =
+    omega (arith, run_fits stretch source channels i 1 k inside piece short, room) in
+    let whole : length new ≡ k = c.add_row.auto.sums ∙ omega (arith, length-take {A = ℤ}, length-drop {A = ℤ}, fit) in
+    let fade = c.at.result in
+    let fraction : fraction_of played.shape i ≡ (fade.num, fade.den) =
+    sym (c.at.ensures ∙ ap (λ (s : Shape). fraction_of s i) c.of-slope.ensures) in
+    record {
+      same_length = length-put_mid a k old new fit whole ∙ same;
+      played = λ reading plays before are.
+          run_more reading stretch played.shape before source channels (bits_of c.args.depth)
+          played.frames.samples.now inside played.source plays i 1 k (fade.num, fade.den) samples old new piece short
+          room whole (λ n below. get_or-part f m n played.frames.samples.now (pos 0) (omega (arith, wide, below)))
+          (λ j low high. let here : j ≡ i = omega arith in
+          ap (λ n. fraction_of played.shape n) here ∙ fraction)
+          (c.loop-i.invariant.played reading plays before are) c.add_row.ensures.added;
+      behind = λ n d later.
+          let row : (stretch.at + (i + 1)) * channels ≤ n = later in
+          let next : (stretch.at + i + 1) * channels ≤ n = omega arith in
+          kept_elsewhere a k old new d fit whole n
+          (inr (omega (arith, next, long, inside.dest_inside, inside.dest_from_one)))
+          ∙ c.loop-i.invariant.behind n d (omega (arith, next));
+      grown = λ n small.
+          part_grown (n + 1) a k old new fit whole
+          (c.add_row.ensures.grown n (λ j d below.
+          let near : j < k = omega (arith, length-take k (drop a old), below) in
+          subst (IsWithin n) (sym (get_or-part a k j old d near ∙ c.loop-i.invariant.behind (a + j) d (omega arith)))
+          (small (a + j) d (omega (arith, same, fit, near)))))
+          (c.loop-i.invariant.grown n small);
+    }
+
+pub loop-i-init : goal.loop-i-init
+loop-i-init c = record {
+  same_length = refl;
+  played = λ reading plays before are i channel near low high.
+      are i channel near low high
+      ∙ sym (no_sample reading c.args.played.now.stretch c.args.played.now.shape before i channel);
+  behind = λ n d later. refl;
+  grown = λ m small i d below. within_more m (m + 1) _ (omega arith) (small i d below);
+}
+
+pub at-requires : goal.at-requires
+at-requires c =
+    let played = c.args.played.now in
+    subst (λ (s : Shape). IsRamp s (c.loop-i.i + 1)) (sym c.of-slope.ensures)
+    (ramp_shorter played.shape played.stretch.length (c.loop-i.i + 1) (omega arith) played.ramp)
+
+pub add_row-requires-clause-small : goal.add_row-requires-clause-small
+add_row-requires-clause-small c = λ yes j d below.
+    let stretch = c.args.played.now.stretch in
+    let channels = c.args.channels in
+    let inside = c.requires.inside in
+    let i = c.loop-i.i in
+    let old = c.loop-i.sums in
+    let a = (stretch.at + i) * channels + (stretch.dest - 1) in
+    let k = a + c.args.width - a in
+    let same = c.loop-i.invariant.same_length in
+    let long : k ≡ stretch.width = omega (arith, c.requires.width) in
+    let piece : IsRun 1 stretch.width c.args.played.now.frames.channels channels k = inl (refl, long) in
+    let fit : a + k ≤ length old =
+    omega (
+      arith,
+      run_fits stretch c.args.played.now.frames.channels channels i 1 k inside piece (omega arith),
+      same,
+      c.requires.room,
+    ) in
+    let near : j < k = omega (arith, below, length-take k (drop a old)) in
+    subst (IsWithin 32766) (sym (get_or-part a k j old d near ∙ c.loop-i.invariant.behind (a + j) d (omega arith)))
+    (c.requires.small yes (a + j) d (omega (arith, same, fit, near)))
+
+pub returns-clause-played : goal.returns-clause-played
+returns-clause-played c = λ reading plays before are.
+    let played = c.args.played.now in
+    let end : c.loop-i.i ≡ played.stretch.length = omega arith in
+    subst (λ (n : ℕ). AreSums (record { channels = c.args.channels; values = c.loop-i.sums })
+    (sums_with reading (record played.stretch { length = n }) played.shape before)) end
+    (c.loop-i.invariant.played reading plays before are)

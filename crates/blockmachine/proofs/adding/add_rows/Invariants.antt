@@ -1,0 +1,20 @@
+use Rattle.std.proofs.Common.{◌≡◌, ℕ, ◌+◌, ◌*◌, ◌≤◌, get_or, length}
+use Rattle.std.specs.Prelude.{ℤ}
+use Rattle.sound_terms.specs.Depth.{bits_of}
+use Rattle.sound_terms.specs.Mix.{Reading}
+use Rattle.sound_terms.specs.Blocks.{sums_with}
+use Rattle.blockmachine.specs.Playing.{Plays}
+use Rattle.blockmachine.specs.Sums.{AreSums, HasGrown}
+use Rattle.blockmachine.proofs.adding.add_rows.Given as goal
+
+abbrev pub invariant-loop-i : goal.invariant-loop-i
+invariant-loop-i l = record {
+  same_length : length l.sums ≡ length l.fn.sums;
+  played : (reading : Reading)
+      → Plays reading l.played.stretch l.played.frames.channels (bits_of l.depth) l.played.frames.samples.now
+      → (before : ℕ → ℕ → ℤ) → AreSums (record { channels = l.channels; values = l.fn.sums }) before
+      → AreSums (record { channels = l.channels; values = l.sums })
+      (sums_with reading (record l.played.stretch { length = l.i }) l.played.shape before);
+  behind : (n : ℕ) (d : ℤ) → (l.played.stretch.at + l.i) * l.channels ≤ n → get_or l.sums n d ≡ get_or l.fn.sums n d;
+  grown : HasGrown l.fn.sums l.sums;
+}

@@ -1,0 +1,29 @@
+// Frames of files, as they were read.
+ghost use Rattle.std.specs.Prelude.{◌≡◌, ◌+◌, ◌*◌, ◌≤◌, length};
+ghost use Rattle.std.specs.List.{All};
+ghost use Rattle.sound_terms.specs.Depth.{bits_of};
+ghost use Rattle.sound_terms.specs.Groups.{IsRamp};
+ghost use Rattle.pcm.specs.Samples.{FitsDepth};
+ghost use Rattle.blockmachine.specs.Playing.{IsRamp-prop};
+
+use sound_terms::{Depth, Shape, Stretch};
+
+/// Frames of a file: the samples of each of its channels in turn.
+#[derive(Clone, Copy)]
+pub struct Frames<'a> {
+    pub samples: &'a [i32],
+    pub channels: usize,
+    pub depth: Depth,
+    ghost fit: { All (FitsDepth (bits_of depth)) samples.now },
+}
+
+/// A stretch and the frames that it plays, with the shape that they are added under.
+#[derive(Clone, Copy)]
+pub struct Played<'a> {
+    pub stretch: Stretch,
+    pub shape: Shape,
+    pub frames: Frames<'a>,
+    ghost whole: { length frames.samples.now ≡ stretch.length * frames.channels },
+    ghost source: { stretch.first + stretch.width ≤ frames.channels + 1 },
+    ghost ramp: { IsRamp shape stretch.length } by { IsRamp-prop shape stretch.length },
+}

@@ -1,0 +1,151 @@
+// Stretches added to sums, beside the plain definition: at every length and offset, on one channel and on both.
+ghost use Rattle.std.specs.Prelude.{◌≡◌, ◌+◌, ◌≤◌};
+ghost use Rattle.sound_terms.specs.Blocks.{FitsBlock};
+ghost use Rattle.sound_terms.specs.Media.{LiesInFile};
+
+use crate::kernels::{LONGEST, OFFSETS, sample_at};
+use blockmachine::Machine;
+use renderplan::{Depth, Instruction, Shape, Stretch};
+use soundlaw::{finish, widen};
+use std::alloc::Global;
+use std::process::Abort;
+use std::test::Fail;
+use stores::MemoryShelf;
+use wavread::{Sound, open};
+
+/// The frames of a block that has room for the longest stretch at each offset.
+const FRAMES: usize = LONGEST + OFFSETS;
+
+/// A stereo file of as many frames as the longest stretch has, each sample an end of its depth or near zero, in so
+/// many bytes.
+fn stereo(alloc: Global, depth: Depth, width: u8) -> Result<MemoryShelf, Fail>
+    requires { width ≤ 4 }
+{
+    let size = LONGEST as u32 * 2 * u32::from(width);
+    let mut file = b"RIFF".to_vec(alloc)?;
+    file.extend_from_slice(&(36 + size).to_le_bytes())?;
+    file.extend_from_slice(b"WAVEfmt \x10\0\0\0\x01\0\x02\0\x80\xbb\0\0")?;
+    file.extend_from_slice(&(96_000 * u32::from(width)).to_le_bytes())?;
+    file.extend_from_slice(&(2 * u16::from(width)).to_le_bytes())?;
+    file.extend_from_slice(&u16::from(depth.bits()).to_le_bytes())?;
+    file.extend_from_slice(b"data")?;
+    file.extend_from_slice(&size.to_le_bytes())?;
+    for place in 0..2 * LONGEST {
+        let bytes = sample_at(depth, place).to_le_bytes();
+        file.extend_from_slice(&bytes[..usize::from(width)])?;
+    }
+    Ok(MemoryShelf::new(alloc).with_file("A.wav", &file)?)
+}
+
+/// Sample and channel of a block to which a stretch was added twice.
+fn expected(depth: Depth, stretch: Stretch, frame: usize, channel: u8) -> i32
+    requires { FitsBlock 83 2 stretch }
+{
+    let at = stretch.at as usize;
+    if frame < at || frame - at >= stretch.length as usize {
+        return 0;
+    }
+    if channel < stretch.dest || channel - stretch.dest >= stretch.width {
+        return 0;
+    }
+    let from = usize::from(stretch.first - 1 + (channel - stretch.dest));
+    let sample = sample_at(depth, 2 * (frame - at) + from);
+    finish(2 * widen(sample, depth), Depth::ThirtyTwo)
+}
+
+/// The machine hands out a stretch that is added twice as the definition has it.
+fn adds(
+    rt: &impl Abort,
+    machine: &mut Machine,
+    sounds: &[Sound],
+    shelf: &mut MemoryShelf,
+    depth: Depth,
+    stretch: Stretch,
+) -> Result<(), Fail>
+    requires machine { machine.old ≡ record { frames = 4096; channels = 2 } }
+    requires fits { FitsBlock 83 2 stretch }
+    requires inside { LiesInFile sounds.now stretch.file stretch.first stretch.width stretch.frame stretch.length }
+    ensures { machine.new ≡ machine.old }
+{
+    let flat = Instruction::Add {
+        stretch,
+        shape: Shape::Flat,
+    };
+    let start = Instruction::Start { frames: 83 };
+    let emit = Instruction::Emit {
+        depth: Depth::ThirtyTwo,
+    };
+    let mut out = [0; 2 * FRAMES];
+    machine.run(&[start, flat, flat, emit], sounds, shelf, &mut out)?;
+    for (k, sample) in out.iter().enumerate() {
+        let channel = if k % 2 == 0 { 1 } else { 2 };
+        assert_eq!(rt; *sample, expected(depth, stretch, k / 2, channel));
+    }
+    Ok(())
+}
+
+/// So it does at every length and offset, on these channels.
+fn adds_at_each_place(
+    rt: &impl Abort,
+    machine: &mut Machine,
+    sounds: &[Sound],
+    shelf: &mut MemoryShelf,
+    depth: Depth,
+    channels: (u8, u8, u8),
+) -> Result<(), Fail>
+    requires machine { machine.old ≡ record { frames = 4096; channels = 2 } }
+    requires file { LiesInFile sounds.now 0 channels.0 channels.2 0 67 }
+    requires first { 1 ≤ channels.0 }
+    requires dest { 1 ≤ channels.1 }
+    requires width { 1 ≤ channels.2 }
+    requires last { channels.1 + channels.2 ≤ 3 }
+    requires source { channels.0 + channels.2 ≤ 3 }
+    ensures { machine.new ≡ machine.old }
+{
+    let (first, dest, width) = channels;
+    for at in 0..16 {
+        for length in 1..68 {
+            let stretch = Stretch {
+                at,
+                length,
+                frame: 0,
+                file: 0,
+                first,
+                dest,
+                width,
+            };
+            adds(rt, machine, sounds, shelf, depth, stretch)?;
+        }
+    }
+    Ok(())
+}
+
+/// On one channel and on both.
+fn adds_on_all(rt: &impl Abort, alloc: Global, depth: Depth, width: u8) -> Result<(), Fail>
+    requires { width ≤ 4 }
+{
+    let mut shelf = stereo(alloc, depth, width)?;
+    let sounds = [open(alloc, &mut shelf, "A.wav")?];
+    if sounds[0].channels() != 2 || sounds[0].frames() != 67 {
+        return Err("another file".into());
+    }
+    let mut machine = Machine::new(alloc, 2)?;
+    adds_at_each_place(rt, &mut machine, &sounds, &mut shelf, depth, (1, 1, 2))?;
+    adds_at_each_place(rt, &mut machine, &sounds, &mut shelf, depth, (1, 2, 1))?;
+    adds_at_each_place(rt, &mut machine, &sounds, &mut shelf, depth, (2, 1, 1))
+}
+
+#[test]
+fn adds_sixteen_bits(rt: HostRuntime) -> Result<(), Fail> {
+    adds_on_all(&rt, rt.alloc(), Depth::Sixteen, 2)
+}
+
+#[test]
+fn adds_twenty_four_bits(rt: HostRuntime) -> Result<(), Fail> {
+    adds_on_all(&rt, rt.alloc(), Depth::TwentyFour, 3)
+}
+
+#[test]
+fn adds_thirty_two_bits(rt: HostRuntime) -> Result<(), Fail> {
+    adds_on_all(&rt, rt.alloc(), Depth::ThirtyTwo, 4)
+}
