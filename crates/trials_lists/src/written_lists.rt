@@ -87,11 +87,14 @@ fn a_list_is_added_to_its_file(rt: HostRuntime) -> Result<(), Fail> {
     let project = read(rt.alloc(), WRITTEN.as_bytes())?;
     let mut bench = MemoryBench::new(rt.alloc());
     assert_eq!(rt;
-        write(rt.alloc(), &project, &mut bench, "a.adl"),
+        write(&project, &mut bench, "a.adl"),
         Err(WriteFault::Device)
     );
     bench.create("a.adl")?;
-    write(rt.alloc(), &project, &mut bench, "a.adl")?;
+    write(&project, &mut bench, "a.adl")?;
+    let mut written = vec![in rt.alloc(); 0; WRITTEN.len()]?;
+    bench.read_at("a.adl", 0, &mut written)?;
+    assert_eq!(rt; written.as_slice(), WRITTEN.as_bytes());
     assert_eq!(rt; bench.length("a.adl")?, WRITTEN.len() as u64);
     Ok(())
 }
