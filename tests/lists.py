@@ -100,6 +100,9 @@ FURTHER_LINES = {
     "no sample rate told": (3, b"(SEQ_SAMPLE_RATE)", "10 at line 4"),
     "another frame rate": (4, b"(SEQ_FRAME_RATE) 25.01", "12 at line 5"),
     "a second frame rate": (4, b"(SEQ_FRAME_RATE) 24", "12 at line 5"),
+    "23.976 frames": (3, b"(SEQ_FRAME_RATE) 23.976", "12 at line 4"),
+    "29.97 frames": (3, b"(SEQ_FRAME_RATE) 29.97", "12 at line 4"),
+    "60 frames": (3, b"(SEQ_FRAME_RATE) 60", "12 at line 4"),
     "an empty frame rate": (4, b'(SEQ_FRAME_RATE) ""', "12 at line 5"),
     "an index again": (7, SOURCE, "14 at line 8 index 1"),
     "an index's number again": (7, b"(Index) 1 broken", "14 at line 8 index 1"),
@@ -156,6 +159,11 @@ ACCEPTED = {
     "a frame rate with a point": changed(4, b"(SEQ_FRAME_RATE) 25."),
     "a frame rate with zeros": changed(4, b"(SEQ_FRAME_RATE) 25.000"),
     "24 frames": changed(4, b"(SEQ_FRAME_RATE) 24"),
+    "24 frames with a point": changed(4, b"(SEQ_FRAME_RATE) 24."),
+    "24 frames, told behind the entries": b"\n".join(
+        (LINES[0], *LINES[5:8], *LINES[8:11], *LINES[1:3], b"(SEQ_FRAME_RATE) 24", LINES[4], LINES[11])).replace(
+            MIDNIGHT + b" _", b"00.00.04.23/1990 _").replace(b" " + MIDNIGHT + b" 01", b" 00.00.04.23/1990 01"),
+    "30 frames": changed(4, b"(SEQ_FRAME_RATE) 30.00"),
     "30 frames, told twice": changed(4, b"(SEQ_FRAME_RATE) 30.\n(SEQ_FRAME_RATE) 30.00"),
     "the last time of a second at 30 frames": changed(4, b"(SEQ_FRAME_RATE) 30").replace(
         MIDNIGHT + b" _", b"00.00.04.29/1590 _").replace(b" " + MIDNIGHT + b" 01", b" 00.00.04.29/1590 01"),
@@ -291,6 +299,40 @@ def columns(scene: Scene) -> None:
             raise Mismatch(f"the explanation of {whole!r}\n    expected {wanted}\n    got      {got}")
 
 
+def frames_told(scene: Scene) -> None:
+    """Standard error tells the list's rate where the frame of a time passes it, and not where another field does."""
+    for rate in (24, 25, 30):
+        told = f"; the list has {rate} frames a second;".encode()
+        text = changed(4, b"(SEQ_FRAME_RATE) %d" % rate)
+        for time, is_told in (
+            (b"00.00.00.%02d/0000" % rate, True), (b"00:00:00:99:0000", True), (b"00.00.60.00/0000", False),
+            (b"00.00.00.00/%04d" % (48_000 // rate), False), (b"0000", False),
+        ):
+            scene.put(text.replace(MIDNIGHT + b" _", time + b" _"), MEDIA)
+            got = scene.run(*words_of("check"))
+            same(f"what is told of {time!r} at {rate}", told in got.error, is_told)
+
+
+def frames_of_a_second(rate: int):
+    """An entry at each frame of a second: each time is read and written at the rate, and the next frame is none."""
+    def body(scene: Scene) -> None:
+        begins = [172_800_000 + frame * 48_000 // rate for frame in range(rate)]
+        lines = [
+            model.entry_line(number, 1, MIDNIGHT, *(model.time_text(value, rate=rate) for value in (begin, begin + 4)))
+            for number, begin in enumerate(begins, 1)]
+        same("the frame of the last one", lines[-1].split(b" ")[8], b"01.00.00.%02d/0000" % (rate - 1))
+        text = changed(4, b"(SEQ_FRAME_RATE) %d" % rate).replace(ENTRY, b"\n".join(lines))
+        expect_done(scene, text, MEDIA)
+        written = model.answer("consolidate", text, MEDIA).files["consolidated.adl"]
+        for line in lines:
+            if line.split(b" ")[8] not in written:
+                raise Mismatch(f"the consolidated list lacks the time of {line!r}")
+        for wrong in (b"00.00.00.%02d/0000" % rate, b"00.00.00.00/%04d" % (48_000 // rate)):
+            bad = changed(4, b"(SEQ_FRAME_RATE) %d" % rate).replace(MIDNIGHT + b" _", wrong + b" _")
+            expect_refused(scene, bad, MEDIA, "refused 06 at line 7 index 1")
+    return body
+
+
 def any_separators(scene: Scene) -> None:
     for place, separator in enumerate(SEPARATORS):
         mark = bytes([separator])
@@ -353,6 +395,9 @@ def run(suite: Suite) -> None:
         suite.case(f"list: {name}", refused_at(system(line), answer))
     for name, text in ACCEPTED.items():
         suite.case(f"list accepted: {name}", accepted(text))
+    suite.case("a frame that the rate hasn't", frames_told)
+    for rate in (24, 25, 30):
+        suite.case(f"each frame of a second at {rate}", frames_of_a_second(rate))
     for name, url in URLS.items():
         suite.case(f"url accepted: {name}", accepted(FIRST_LIST.replace(b"URL:file://localhost/A.wav", url)))
     suite.case("a second reader", second_reader_differs)

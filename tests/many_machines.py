@@ -36,6 +36,11 @@ def expect_joined(scene: Scene, text: bytes, media: dict, settings: dict) -> Non
     same_bytes("the joined file", (scene.folder / "work" / "render.wav").read_bytes(), wanted)
 
 
+def times_at(dice: Dice, place: int, *values: int) -> list:
+    """Times so many samples behind a place of the day, at the rate of the project that was drawn last."""
+    return [model.time_text(min(model.DAY, place + value), rate=dice.rate).decode() for value in values]
+
+
 def joined(seed: int):
     """A random project, in one to seven parts, at each depth."""
     def body(scene: Scene) -> None:
@@ -44,7 +49,7 @@ def joined(seed: int):
         while model.answer("check", text, media).status:
             text, media, place = dice.project()
         scene.put(text, media)
-        begin, end = (model.time_text(min(model.DAY, place + value)).decode() for value in (5, dice.randint(60, 140)))
+        begin, end = times_at(dice, place, 5, dice.randint(60, 140))
         expect_joined(scene, text, media, {
             "FROM": begin, "TO": end, "PARTS": PARTS[seed % len(PARTS)],
             "CHANNELS": dice.choice((1, 2, 6, 64)), "DEPTH": (16, 24, 32)[seed % 3]})
@@ -58,7 +63,7 @@ def prepared(scene: Scene) -> tuple:
     while model.answer("render", text, media).status:
         text, media, place = dice.project()
     scene.put(text, media)
-    times = (model.time_text(min(model.DAY, place + value)).decode() for value in (0, 140))
+    times = times_at(dice, place, 0, 140)
     return text, media, dict(zip(("FROM", "TO"), times), PARTS=3, CHANNELS=2, DEPTH=24)
 
 
@@ -86,7 +91,8 @@ def refused(scene: Scene) -> None:
     text, media, settings = prepared(scene)
     for changed, told in (
         ({"CHANNELS": 65}, b"65"), ({"TO": settings["FROM"]}, b"there can't be 3 parts"),
-        ({"FROM": "now"}, b"'now' is no time"), ({"PARTS": 0}, b"0 parts"), ({"LIST": "None.adl"}, b"None.adl"),
+        ({"FROM": "now"}, b"'now' is no time"),
+        ({"TO": "23.59.59.30/0000"}, b"is no time at"), ({"PARTS": 0}, b"0 parts"), ({"LIST": "None.adl"}, b"None.adl"),
     ):
         done = make(scene, **{**settings, **changed})
         if done.returncode == 0 or told not in done.stderr + done.stdout:

@@ -134,10 +134,14 @@ def chosen(options: model.Options, wanted: Rendering, size: int):
     return body
 
 
-def first_list_rendered(scene: Scene) -> None:
-    scene.put(FIRST_LIST, FIRST_MEDIA)
-    answer = model.Answer(0, "rendered 4 frames 1 channels", {"render.wav": rendered_bytes()})
-    expect_answer(scene, "render", answer, EXACT)
+def first_list_rendered(rate: int):
+    """The same bytes at each rate of frames, since none of its times has a frame."""
+    def body(scene: Scene) -> None:
+        scene.put(changed(4, b"(SEQ_FRAME_RATE) %d" % rate), FIRST_MEDIA)
+        same("the length of its file", len(rendered_bytes()), 698)
+        answer = model.Answer(0, "rendered 4 frames 1 channels", {"render.wav": rendered_bytes()})
+        expect_answer(scene, "render", answer, EXACT)
+    return body
 
 
 def first_list_consolidated(scene: Scene) -> None:
@@ -188,17 +192,26 @@ def one_file_under_two_indexes(scene: Scene) -> None:
     expect_written(scene, text, mono(*[1] * 1000), "written 1 media 2 entries", files)
 
 
-def handles(scene: Scene) -> None:
-    """One sample of ten seconds, with what is kept on both its sides."""
-    media = mono(*[1] * 480_000)
-    for frame, handle, first, length in ((240_000, 10, 239_990, 21), (0, 10, 0, 11), (240_000, 0, 240_000, 1)):
-        text = one_source(entry(1, frame, 0, 1))
-        line = model.source_line(1, "M00001.wav", time(first), time(length))
-        new_text = model.list_text([line], [model.entry_line(1, 1, time(frame), time(HOUR), time(HOUR + 1))])
-        files = {"M00001.wav": file_of(packed([1] * length, 16), 1, 16, first), "consolidated.adl": new_text}
-        expect_written(scene, text, media, "written 1 media 1 entries", files, handle)
-    same("the file of 21 frames", len(file_of(packed([1] * 21, 16), 1, 16, 0)), 732)
-    same("its time", time(239_990), b"00.00.04.24/1910")
+def handles(rate: int, in_text: bytes):
+    """One sample of ten seconds, with what is kept on both its sides, in a list at this rate of frames."""
+    def at_rate(text: bytes) -> bytes:
+        return text.replace(b"(SEQ_FRAME_RATE) 25", b"(SEQ_FRAME_RATE) %d" % rate)
+
+    def time_at(value: int) -> bytes:
+        return model.time_text(value, rate=rate)
+
+    def body(scene: Scene) -> None:
+        media = mono(*[1] * 480_000)
+        for frame, handle, first, length in ((240_000, 10, 239_990, 21), (0, 10, 0, 11), (240_000, 0, 240_000, 1)):
+            times = time_at(frame), time_at(HOUR), time_at(HOUR + 1)
+            text = at_rate(one_source(model.entry_line(1, 1, *times)))
+            line = model.source_line(1, "M00001.wav", time_at(first), time_at(length))
+            new_text = at_rate(model.list_text([line], [model.entry_line(1, 1, *times)]))
+            files = {"M00001.wav": file_of(packed([1] * length, 16), 1, 16, first), "consolidated.adl": new_text}
+            expect_written(scene, text, media, "written 1 media 1 entries", files, handle)
+        same("the file of 21 frames", len(file_of(packed([1] * 21, 16), 1, 16, 0)), 732)
+        same("its time", time_at(239_990), in_text)
+    return body
 
 
 def stereo(samples: list) -> bytes:
@@ -409,14 +422,18 @@ def last_one_shorter(text: bytes) -> bytes:
 
 
 CASES = {
-    "one cut is rendered": first_list_rendered,
+    "one cut is rendered": first_list_rendered(25),
+    "one cut is rendered at 24 frames": first_list_rendered(24),
+    "one cut is rendered at 30 frames": first_list_rendered(30),
     "one cut is consolidated": first_list_consolidated,
     "a list without entries": no_entries,
     "an empty range": empty_ranges,
     "fades longer than their entry": fades_of_entry_seven,
     "the last frame of a file": last_frame,
     "one file under two indexes": one_file_under_two_indexes,
-    "handles": handles,
+    "handles": handles(25, b"00.00.04.24/1910"),
+    "handles at 24 frames": handles(24, b"00.00.04.23/1990"),
+    "handles at 30 frames": handles(30, b"00.00.04.29/1590"),
     "silence is dropped": silence_is_dropped,
     "a large file of all kinds": whole_large_file,
     "further lines of an entry": further_lines,

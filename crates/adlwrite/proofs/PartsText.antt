@@ -1,25 +1,25 @@
 -- The parts of a list, one after another, are its text.
-use Rattle.std.proofs.Common.{◌≡◌, ℕ, Bool, true, false, List, [], ◌∷◌, ◌++◌, Option, None, Some, refl, sym, append_assoc}
+use Rattle.std.proofs.Common.{◌≡◌, ℕ, Bool, true, false, List, [], ◌∷◌, ◌++◌, Option, None, Some, refl, sym, ap, ◌∙◌, append_assoc}
 use Rattle.std.specs.Prelude.{codes, flat_map, ◌==◌}
 use Rattle.std.proofs.lemmas.List.{append-nil}
 use Rattle.sound_terms.specs.declared.Event.{Event}
-use Rattle.list_terms.specs.Project.{ListProject, Source}
+use Rattle.list_terms.specs.Project.{Header, ListProject, Source}
 use Rattle.list_terms.specs.WrittenText.{event_line, event_lines, fade_lines, line, section, source_line, text_of_project}
-use Rattle.adlwrite.specs.Parts.{body_text, curve_text, ending_text, entry_front, entry_text, entry_times, event_text, events_text, fade_text, head_text, header_text, line_end, lines_text, list_begin, list_end, name_end, numeral_text, opening_text, ranged, source_text, sources_text, texted, timed}
+use Rattle.adlwrite.specs.Parts.{channels_behind, curve_text, ending_text, entry_numbers, entry_text, entry_times, event_section, event_text, events_text, fade_line, fade_text, file_text, head_text, header_text, index_section, index_text, lines_text, list_text, opening_text, section_text, source_text, source_times, sources_text}
 
 source_is_its_line :
     (project : ListProject) (source : Source) → source_text project source ≡ line (source_line project source)
-unfolding source_text numeral_text texted timed line_end
+unfolding source_text index_text file_text source_times
 source_is_its_line project source = simp append_assoc
 
 entry_is_its_line : (project : ListProject) (event : Event) → entry_text project event ≡ line (event_line project event)
-unfolding entry_text entry_front entry_times numeral_text ranged timed line_end
+unfolding entry_text entry_numbers channels_behind entry_times
 entry_is_its_line project event = simp append_assoc
 
 rise_is_its_line :
     (project : ListProject) (length : ℕ)
     → fade_text project (codes "(Infade) ") length ≡ flat_map line (fade_lines project (codes "(Infade)") length)
-unfolding fade_text timed curve_text
+unfolding fade_text fade_line curve_text
 rise_is_its_line project length = by_test (length == 0) refl where
   by_test :
       (none : Bool) → (length == 0) ≡ none
@@ -30,7 +30,7 @@ rise_is_its_line project length = by_test (length == 0) refl where
 fall_is_its_line :
     (project : ListProject) (length : ℕ)
     → fade_text project (codes "(Outfade) ") length ≡ flat_map line (fade_lines project (codes "(Outfade)") length)
-unfolding fade_text timed curve_text
+unfolding fade_text fade_line curve_text
 fall_is_its_line project length = by_test (length == 0) refl where
   by_test :
       (none : Bool) → (length == 0) ≡ none
@@ -75,27 +75,33 @@ events_are_their_lines project (e ∷ events) =
     ) refl
 
 opening_is_a_line : (name : List ℕ) → opening_text name ≡ line (codes "<" ++ (name ++ codes ">"))
-unfolding opening_text texted name_end
+unfolding opening_text
 opening_is_a_line name = simp append_assoc
 
 ending_is_a_line : (name : List ℕ) → ending_text name ≡ line (codes "</" ++ (name ++ codes ">"))
-unfolding ending_text texted name_end
+unfolding ending_text
 ending_is_a_line name = simp append_assoc
 
+is_a_section : (name : List ℕ) (lines : List (List ℕ)) → section_text name lines ≡ section name (Some lines)
+unfolding section_text lines_text
+is_a_section name lines = rw (opening_is_a_line name, ending_is_a_line name) refl
+
 header_is_a_section : (name : List ℕ) (lines : Option (List (List ℕ))) → header_text name lines ≡ section name lines
-unfolding header_text lines_text
+unfolding header_text
 header_is_a_section name None = refl
-header_is_a_section name (Some lines) = rw (opening_is_a_line name, ending_is_a_line name) refl
+header_is_a_section name (Some lines) = is_a_section name lines
 
 regrouped :
     (b p q r s t o m e o' m' e' f : List ℕ)
-    → (b ++ (p ++ (q ++ (r ++ (s ++ t))))) ++ (o ++ (m ++ (e ++ (o' ++ (m' ++ (e' ++ f))))))
+    → b ++ ((p ++ (q ++ (r ++ (s ++ t)))) ++ ((o ++ (m ++ e)) ++ ((o' ++ (m' ++ e')) ++ f)))
     ≡ b ++ (p ++ (q ++ (r ++ (s ++ (t ++ ((o ++ (m ++ e)) ++ ((o' ++ (m' ++ e')) ++ f)))))))
 regrouped b p q r s t o m e o' m' e' f = simp append_assoc
 
-pub text_is_its_parts : (project : ListProject) → head_text project ++ body_text project ≡ text_of_project project
-unfolding head_text body_text text_of_project list_begin list_end
-text_is_its_parts project =
+whole_list :
+    (project : ListProject)
+    → list_text project project.header project.sources project.events ≡ text_of_project project
+unfolding list_text head_text index_section event_section text_of_project
+whole_list project =
     rw (
       header_is_a_section (codes "VERSION") project.header.version,
       header_is_a_section (codes "PROJECT") project.header.project,
@@ -117,3 +123,15 @@ text_is_its_parts project =
     (line (codes "</SOURCE_INDEX>"))
     (line (codes "<EVENT_LIST>")) (flat_map line (flat_map (event_lines project) project.events))
     (line (codes "</EVENT_LIST>")) (line (codes "</ADL>")))
+
+pub no_fade : (project : ListProject) (keyword : List ℕ) (n length : ℕ) → n ≡ 0 → n ≡ length → [] ≡ fade_text project keyword length
+unfolding fade_text
+no_fade project keyword n length none same = rw (sym same ∙ none) refl
+
+pub list_is_its_text :
+    (project : ListProject) (header : Header) (sources : List Source) (events : List Event)
+    → header ≡ project.header → sources ≡ project.sources → events ≡ project.events
+    → list_text project header sources events ≡ text_of_project project
+list_is_its_text project header sources events h s e =
+    ap (λ x. list_text project x sources events) h ∙ ap (λ x. list_text project project.header x events) s
+    ∙ ap (list_text project project.header project.sources) e ∙ whole_list project

@@ -1,82 +1,85 @@
 -- The parts of a written list, as they follow one another.
-use Rattle.std.specs.Prelude.{ℕ, ◌==◌, List, [], ◌∷◌, ◌++◌, Option, None, Some, if◌then◌else◌, codes, flat_map}
+use Rattle.std.specs.Prelude.{ℕ, ◌==◌, List, [], ◌++◌, Option, None, Some, if◌then◌else◌, codes, flat_map}
+use Rattle.std.specs.Borrow.{Bor}
 use Rattle.sound_terms.specs.declared.Channels.{Channels}
 use Rattle.sound_terms.specs.declared.Event.{Event}
-use Rattle.list_terms.specs.Project.{ListProject, Source}
+use Rattle.list_terms.specs.Project.{Header, ListProject, Source}
 use Rattle.list_terms.specs.WrittenText.{channels_text, line, number_text, time_text}
 
--- this text and another
-unfoldable pub texted : List ℕ → List ℕ → List ℕ
-texted front text = front ++ text
+-- these texts, one after another
+unfoldable pub all_of : List (Bor (List ℕ)) → List ℕ
+all_of texts = flat_map (λ text. text.now) texts
 
--- this text and a number
-unfoldable pub numeral_text : List ℕ → ℕ → List ℕ
-numeral_text front number = front ++ number_text number
+-- a run of channels behind a blank
+unfoldable pub channels_behind : Channels → List ℕ
+channels_behind channels = codes " " ++ channels_text channels
 
--- this text and a run of channels
-unfoldable pub ranged : List ℕ → Channels → List ℕ
-ranged front channels = front ++ channels_text channels
+-- the number of a source
+unfoldable pub index_text : Source → List ℕ
+index_text source = codes "(Index) " ++ number_text source.number
 
--- this text and a time
-unfoldable pub timed : ListProject → List ℕ → Option ℕ → List ℕ
-timed project front time = front ++ time_text project time
+-- the file of a source
+unfoldable pub file_text : Source → List ℕ
+file_text source = codes " (F) \"" ++ (source.url ++ (codes "\" " ++ source.uid))
 
--- the end of a line
-unfoldable pub line_end : List ℕ
-line_end = 13 ∷ 10 ∷ []
+-- the times of a source, and the end of its line
+unfoldable pub source_times : ListProject → Source → List ℕ
+source_times project source =
+    codes " " ++ (time_text project source.start ++ (codes " " ++ (time_text project source.length ++ codes "\r\n")))
 
 unfoldable pub source_text : ListProject → Source → List ℕ
 source_text project source =
-    numeral_text (codes "(Index) ") source.number
-    ++ (texted (codes " (F) \"") source.url ++ (texted (codes "\" ") source.uid
-    ++ (timed project (codes " ") source.start ++ (timed project (codes " ") source.length ++ line_end))))
+    index_text source ++ (file_text source ++ source_times project source)
 
--- the numbers and the channels of an entry
-unfoldable pub entry_front : Event → List ℕ
-entry_front event =
-    numeral_text (codes "(Entry) ") event.number
-    ++ (numeral_text (codes " (Cut) I ") event.index ++ (ranged (codes " ") event.source
-    ++ ranged (codes " ") event.dest))
+-- the numbers of an entry
+unfoldable pub entry_numbers : Event → List ℕ
+entry_numbers event =
+    codes "(Entry) " ++ (number_text event.number ++ (codes " (Cut) I " ++ number_text event.index))
 
--- its times, and the end of its line
+-- the times of an entry, and the end of its line
 unfoldable pub entry_times : ListProject → Event → List ℕ
 entry_times project event =
-    timed project (codes " ") (Some event.source_in) ++ (timed project (codes " ") (Some event.dest_in)
-    ++ (timed project (codes " ") (Some event.dest_out) ++ line_end))
+    codes " " ++ (time_text project (Some event.source_in) ++ (codes " " ++ (time_text project (Some event.dest_in)
+    ++ (codes " " ++ (time_text project (Some event.dest_out) ++ codes "\r\n")))))
 
 unfoldable pub entry_text : ListProject → Event → List ℕ
-entry_text project event = entry_front event ++ entry_times project event
+entry_text project event =
+    entry_numbers event ++ (channels_behind event.source ++ (channels_behind event.dest ++ entry_times project event))
 
--- the curve of a fade, and the end of its line
-unfoldable pub curve_text : List ℕ
-curve_text = codes " LIN _ _ _\r\n"
+-- what stands behind the keyword of a fade, up to the end of its line
+unfoldable pub curve_text : ListProject → ℕ → List ℕ
+curve_text project length = time_text project (Some length) ++ codes " LIN _ _ _\r\n"
+
+-- the line of a fade
+unfoldable pub fade_line : ListProject → List ℕ → ℕ → List ℕ
+fade_line project keyword length = keyword ++ curve_text project length
 
 -- a fade longer than zero
 unfoldable pub fade_text : ListProject → List ℕ → ℕ → List ℕ
-fade_text project keyword length = if length == 0 then [] else timed project keyword (Some length) ++ curve_text
+fade_text project keyword length = if length == 0 then [] else fade_line project keyword length
 
 unfoldable pub event_text : ListProject → Event → List ℕ
 event_text project event =
     entry_text project event ++ (fade_text project (codes "(Infade) ") event.rise.length
     ++ fade_text project (codes "(Outfade) ") event.fall.length)
 
--- what follows the name of a section
-unfoldable pub name_end : List ℕ
-name_end = codes ">\r\n"
-
 unfoldable pub opening_text : List ℕ → List ℕ
-opening_text name = texted (codes "<") name ++ name_end
+opening_text name = codes "<" ++ (name ++ codes ">\r\n")
 
 unfoldable pub ending_text : List ℕ → List ℕ
-ending_text name = texted (codes "</") name ++ name_end
+ending_text name = codes "</" ++ (name ++ codes ">\r\n")
 
 unfoldable pub lines_text : List (List ℕ) → List ℕ
 lines_text lines = flat_map line lines
 
+-- a section of these lines
+unfoldable pub section_text : List ℕ → List (List ℕ) → List ℕ
+section_text name lines = opening_text name ++ (lines_text lines ++ ending_text name)
+
 -- a section of the header, where it is there
 unfoldable pub header_text : List ℕ → Option (List (List ℕ)) → List ℕ
 header_text name None = []
-header_text name (Some lines) = opening_text name ++ (lines_text lines ++ ending_text name)
+header_text name (Some lines) = section_text name lines
 
 unfoldable pub sources_text : ListProject → List Source → List ℕ
 sources_text project sources = flat_map (source_text project) sources
@@ -84,23 +87,23 @@ sources_text project sources = flat_map (source_text project) sources
 unfoldable pub events_text : ListProject → List Event → List ℕ
 events_text project events = flat_map (event_text project) events
 
-unfoldable pub list_begin : List ℕ
-list_begin = codes "<ADL>\r\n"
+-- the sections of the header
+unfoldable pub head_text : Header → List ℕ
+head_text header =
+    header_text (codes "VERSION") header.version ++ (header_text (codes "PROJECT") header.project
+    ++ (header_text (codes "SYSTEM") header.system ++ (header_text (codes "SEQUENCE") header.sequence
+    ++ header_text (codes "TRACKLIST") header.track_list)))
 
-unfoldable pub list_end : List ℕ
-list_end = codes "</ADL>\r\n"
+unfoldable pub index_section : ListProject → List Source → List ℕ
+index_section project sources =
+    opening_text (codes "SOURCE_INDEX") ++ (sources_text project sources ++ ending_text (codes "SOURCE_INDEX"))
 
--- the sections of the header, behind the list's first line
-unfoldable pub head_text : ListProject → List ℕ
-head_text project =
-    list_begin ++ (header_text (codes "VERSION") project.header.version
-    ++ (header_text (codes "PROJECT") project.header.project
-    ++ (header_text (codes "SYSTEM") project.header.system ++ (header_text (codes "SEQUENCE") project.header.sequence
-    ++ header_text (codes "TRACKLIST") project.header.track_list))))
+unfoldable pub event_section : ListProject → List Event → List ℕ
+event_section project events =
+    opening_text (codes "EVENT_LIST") ++ (events_text project events ++ ending_text (codes "EVENT_LIST"))
 
--- the source index and the event list, and the list's last line
-unfoldable pub body_text : ListProject → List ℕ
-body_text project =
-    opening_text (codes "SOURCE_INDEX") ++ (sources_text project project.sources ++ (ending_text (codes "SOURCE_INDEX")
-    ++ (opening_text (codes "EVENT_LIST") ++ (events_text project project.events
-    ++ (ending_text (codes "EVENT_LIST") ++ list_end)))))
+-- the whole list, with the rate and the separators of the project
+unfoldable pub list_text : ListProject → Header → List Source → List Event → List ℕ
+list_text project header sources events =
+    codes "<ADL>\r\n" ++ (head_text header ++ (index_section project sources
+    ++ (event_section project events ++ codes "</ADL>\r\n")))

@@ -1,10 +1,8 @@
 // Why a list isn't written.
 ghost use Rattle.std.specs.Prelude.{◌≡◌};
-ghost use Rattle.adlwrite.specs.Fault.{number_of};
-ghost use Rattle.adlwrite.specs.declared.fault.WriteFault.TheVariants.{Device, Memory};
+ghost use Rattle.adlwrite.specs.declared.fault.WriteFault.TheVariants.{Device};
 
 use shelf::DeviceFault;
-use std::alloc::AllocError;
 use thiserror::Error;
 
 /// Why a list isn't written.
@@ -13,19 +11,15 @@ pub enum WriteFault {
     /// 19: the device failed.
     #[error("the list can't be written")]
     Device,
-    /// 56: no memory was left, and nothing was written.
-    #[error("out of memory")]
-    Memory,
 }
 
 impl WriteFault {
-    /// The number of the refusal: 19 or 56.
+    /// The number of the refusal: 19.
     pub fn number(&self) -> u8
-        ensures { result ≡ number_of self.now }
+        ensures { result ≡ 19 }
     {
         match self {
             WriteFault::Device => 19,
-            WriteFault::Memory => 56,
         }
     }
 }
@@ -35,13 +29,5 @@ impl From<DeviceFault> for WriteFault {
 
     fn from(_: DeviceFault) -> WriteFault {
         WriteFault::Device
-    }
-}
-
-impl From<AllocError> for WriteFault {
-    ghost from_gives = { λ _ fault. fault ≡ Memory };
-
-    fn from(_: AllocError) -> WriteFault {
-        WriteFault::Memory
     }
 }

@@ -4,22 +4,24 @@
 //! there, with the lines that were kept, then the source index and the event list.
 #![tactic(auto)]
 
-ghost use Rattle.std.specs.Prelude.{◌≡◌, ◌≢◌, ℕ, List, Ok, Err, IfOk, IfErr, IsErrOf, IsTrue, OnOk, length};
+ghost use Rattle.std.specs.Prelude.{◌≡◌, ◌≢◌, ℕ, List, Ok, Err, IfOk, IsTrue, OnErr, OnOk, ⊤, length};
 ghost use Rattle.list_terms.specs.Text.{text_value};
 ghost use Rattle.list_terms.specs.WholeProject.{without_notices};
 ghost use Rattle.list_terms.specs.WrittenText.{text_of_project};
-ghost use Rattle.work_terms.specs.Disk.{Changes, Elapses, Follows, IsAppended, IsGrown, IsTornBehind, end_of};
+ghost use Rattle.work_terms.specs.Disk.{Changes, Follows, IsAppended, IsGrown, IsTornBehind, LeavesOnly, end_of};
 ghost use Rattle.shelf.specs.Frame.{OnlyWrites};
-ghost use Rattle.adlwrite.specs.Fault.{is_device};
+ghost use Rattle.adlwrite.specs.Appended.{MayBeTorn};
 
 mod fault;
 mod parts;
+mod text_file;
 
 use adlmodel::Project;
 pub use fault::WriteFault;
-use parts::{push_body, push_head};
+use parts::put_list;
 use shelf::Bench;
 use std::alloc::{AllocError, Global};
+use text_file::TextFile;
 
 /// What is written for a project is read as that project again.
 fn is_read_again(project: &Project)
@@ -34,36 +36,31 @@ pub fn text_of(alloc: Global, project: &Project) -> Result<Vec<u8>, AllocError>
     ensures reads_back { text_value (text_of_project project.now) ≡ Ok (without_notices project.now) }
 {
     is_read_again(project);
-    let mut out = Vec::new(alloc);
-    push_head(&mut out, project)?;
-    push_body(&mut out, project)?;
-    Ok(out)
+    let mut file = TextFile {
+        text: Vec::new(alloc),
+    };
+    match put_list(&mut file, "", project) {
+        Ok(()) => Ok(file.text),
+        Err(_) => Err(AllocError),
+    }
 }
 
-/// Adds the text of a project at the end of the file of this name, which has to be there. `Memory` comes before
-/// anything is written.
-pub fn write<B: Bench>(
-    alloc: Global,
-    project: &Project,
-    bench: &mut B,
-    name: &str,
-) -> Result<(), WriteFault>
+/// Adds the text of a project at the end of the file of this name, which has to be there. It takes no memory.
+pub fn write<B: Bench>(project: &Project, bench: &mut B, name: &str) -> Result<(), WriteFault>
     ensures written { IsTrue (B.honest bench.old) → OnOk result
         (Changes (IsAppended (text_of_project project.now)) name.now (B.stored bench.old) (B.stored bench.new)) }
-    ensures unfinished { IsTrue (B.honest bench.old) → IsErrOf result WriteFault.Device
-        → Changes (IsGrown (length (text_of_project project.now))) name.now (B.stored bench.old) (B.stored bench.new) }
-    ensures early { IsErrOf result WriteFault.Memory → bench.new ≡ bench.old }
-    ensures crash { (IsErrOf result WriteFault.Memory → ⊥) → Follows
+    ensures unfinished { IsTrue (B.honest bench.old) → OnErr result
+        (Changes (IsGrown (length (text_of_project project.now))) name.now (B.stored bench.old) (B.stored bench.new)) }
+    ensures crash { IsTrue (B.honest bench.old) → Follows
         (Changes (IsTornBehind (end_of (B.stored bench.old name.now)) (length (text_of_project project.now))) name.now)
         (B.may_leave bench.old) (B.may_leave bench.new) }
-    ensures time { (IsErrOf result WriteFault.Memory → ⊥) → Elapses (B.moment bench.old) (B.moment bench.new)
-        (B.left_since bench.old) (B.left_since bench.new) (B.may_leave bench.new) }
-    ensures only_writes { OnlyWrites B.Bench (λ n. n ≢ name.now) bench.old bench.new result is_device
+    ensures moments { LeavesOnly B.moment B.left_since bench.old bench.new
+        (MayBeTorn B.Bench name.now (text_of_project project.now) bench.old) }
+    ensures only_writes { OnlyWrites B.Bench (λ n. n ≢ name.now) bench.old bench.new result (λ _. ⊤)
         (λ _ failed. failed name.now) }
     ensures reads_back { text_value (text_of_project project.now) ≡ Ok (without_notices project.now) }
 {
     is_read_again(project);
-    let text = text_of(alloc, project)?;
-    bench.append(name, text.as_slice())?;
+    put_list(bench, name, project)?;
     Ok(())
 }

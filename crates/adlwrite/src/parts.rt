@@ -1,300 +1,411 @@
-// The parts of a list, each added at the end of the text so far.
-ghost use Rattle.std.specs.Prelude.{◌≡◌, ◌++◌, Some, OnOk, decimal};
+// The parts of a list, each added at the end of its file. No part takes memory.
+ghost use Rattle.std.specs.Prelude.{◌≡◌, ◌-◌, IsSome, IsTrue, OnOk, codes, length, replicate};
 ghost use Rattle.list_terms.specs.WrittenText as written;
-ghost use Rattle.adlwrite.specs.Parts as parts;
-ghost use Rattle.adlwrite.specs.Parts.{body_text, ending_text, entry_front, entry_text, entry_times, event_text, events_text, fade_text, head_text, header_text, lines_text, numeral_text, opening_text, ranged, source_text, sources_text, texted, timed};
+ghost use Rattle.list_terms.specs.WrittenText.{text_of_project, time_text};
+ghost use Rattle.adlmodel.specs.Header.{header_view};
+ghost use Rattle.adlwrite.specs.Appended.{Appends};
+ghost use Rattle.adlwrite.specs.Parts.{all_of, channels_behind, curve_text, ending_text, entry_numbers, entry_text, entry_times, event_section, event_text, events_text, fade_line, fade_text, file_text, head_text, header_text, index_section, index_text, lines_text, list_text, opening_text, section_text, source_text, source_times, sources_text};
 
-use adlmodel::{Bytes, Channels, Event, KeptLines, Project, Source};
+use adlmodel::{Bytes, Channels, Event, Header, KeptLines, Project, Source};
 use itoa::Buffer;
 use sampletime::{SampleTime, text_of};
-use std::alloc::AllocError;
+use shelf::{Bench, DeviceFault};
 
-/// This text, then another.
-#[tactic(auto, unfolding(crate::specs::Parts::texted))]
-fn push_text(out: &mut Vec<u8>, front: &[u8], text: &[u8]) -> Result<(), AllocError>
-    ensures { OnOk result (out.new.items ≡ out.old.items ++ texted front.now text.now) }
+/// This text.
+fn put_text<B: Bench>(bench: &mut B, name: &str, text: &[u8]) -> Result<(), DeviceFault>
+    ensures { Appends B.Bench name.now text.now bench.old bench.new result }
 {
-    out.extend_from_slice(front)?;
-    out.extend_from_slice(text)
+    bench.append(name, text)
 }
 
-/// This text, then the number in at least four digits.
-#[tactic(auto, unfolding(crate::specs::Parts::numeral_text))]
-fn push_number(out: &mut Vec<u8>, front: &[u8], number: u32) -> Result<(), AllocError>
-    ensures { OnOk result (out.new.items ≡ out.old.items ++ numeral_text front.now number) }
+/// These texts, one after another.
+fn put<B: Bench>(bench: &mut B, name: &str, texts: &[&[u8]]) -> Result<(), DeviceFault>
+    ensures { Appends B.Bench name.now (all_of texts.now) bench.old bench.new result }
 {
-    let mut buffer = Buffer::new();
-    let digits = buffer.format(number).as_bytes();
-    out.extend_from_slice(front)?;
-    out.resize(out.len() + 4usize.saturating_sub(digits.len()), b'0')?;
-    out.extend_from_slice(digits)
-}
-
-/// A number in as many digits as it has.
-fn push_digits(out: &mut Vec<u8>, number: u8) -> Result<(), AllocError>
-    ensures { OnOk result (out.new.items ≡ out.old.items ++ decimal number) }
-{
-    let mut buffer = Buffer::new();
-    out.extend_from_slice(buffer.format(number).as_bytes())
-}
-
-/// This text, then the channels: `n` for one, else `a~b`.
-#[tactic(auto, unfolding(crate::specs::Parts::ranged))]
-fn push_channels(out: &mut Vec<u8>, front: &[u8], channels: Channels) -> Result<(), AllocError>
-    ensures { OnOk result (out.new.items ≡ out.old.items ++ ranged front.now channels) }
-{
-    out.extend_from_slice(front)?;
-    push_digits(out, channels.first)?;
-    if channels.first != channels.last {
-        out.extend_from_slice(b"~")?;
-        push_digits(out, channels.last)?;
+    for text in texts {
+        put_text(bench, name, text)?;
     }
     Ok(())
 }
 
-/// This text, then the time with the separators of the project.
-#[tactic(auto, unfolding(crate::specs::Parts::timed))]
-fn push_time(
-    out: &mut Vec<u8>,
-    project: &Project,
-    front: &[u8],
-    time: SampleTime,
-) -> Result<(), AllocError>
-    ensures { OnOk result (out.new.items ≡ out.old.items ++ timed project.now front.now (Some time)) }
+/// The zeros that fill a number up to four digits.
+fn zeros_for(digits: &[u8]) -> &'static [u8]
+    ensures { result.now ≡ replicate (4 - length digits.now) 48 }
 {
-    let _ = project.header();
-    out.extend_from_slice(front)?;
-    out.extend_from_slice(&text_of(time, project.separators(), project.rate()))
-}
-
-/// This text, then the time, and `_` where it is missing.
-#[tactic(auto, unfolding(crate::specs::Parts::timed))]
-fn push_optional_time(
-    out: &mut Vec<u8>,
-    project: &Project,
-    front: &[u8],
-    time: Option<SampleTime>,
-) -> Result<(), AllocError>
-    ensures { OnOk result (out.new.items ≡ out.old.items ++ timed project.now front.now time) }
-{
-    match time {
-        Some(time) => push_time(out, project, front, time),
-        None => {
-            out.extend_from_slice(front)?;
-            out.extend_from_slice(b"_")
-        }
+    match digits.len() {
+        0 => b"0000",
+        1 => b"000",
+        2 => b"00",
+        3 => b"0",
+        _ => b"",
     }
 }
 
-/// The end of a line.
-#[tactic(auto, unfolding(crate::specs::Parts::line_end))]
-fn push_line_end(out: &mut Vec<u8>) -> Result<(), AllocError>
-    ensures { OnOk result (out.new.items ≡ out.old.items ++ parts.line_end) }
+/// The time with the separators of the project, and `_` where it is missing.
+fn time_in<'a>(room: &'a mut [u8; 16], project: &Project, time: Option<SampleTime>) -> &'a [u8]
+    ensures { result.now ≡ time_text project.now time }
 {
-    out.extend_from_slice(b"\r\n")
+    let _ = project.header();
+    match time {
+        Some(time) => {
+            *room = text_of(time, project.separators(), project.rate());
+            &*room
+        }
+        None => b"_",
+    }
+}
+
+/// The channels behind a blank: `n` for one, else `a~b`.
+#[tactic(auto, unfolding(crate::specs::Parts::channels_behind, crate::specs::Parts::all_of))]
+fn put_channels<B: Bench>(bench: &mut B, name: &str, channels: Channels) -> Result<(), DeviceFault>
+    ensures { Appends B.Bench name.now (channels_behind channels) bench.old bench.new result }
+{
+    let mut buffer = Buffer::new();
+    let first = buffer.format(channels.first).as_bytes();
+    if channels.first == channels.last {
+        return put(bench, name, &[b" ", first]);
+    }
+    let mut buffer = Buffer::new();
+    let last = buffer.format(channels.last).as_bytes();
+    put(bench, name, &[b" ", first, b"~", last])
+}
+
+/// The number of a source.
+#[tactic(auto, unfolding(crate::specs::Parts::index_text, crate::specs::Parts::all_of))]
+fn put_index<B: Bench>(bench: &mut B, name: &str, source: &Source) -> Result<(), DeviceFault>
+    ensures { Appends B.Bench name.now (index_text source.now) bench.old bench.new result }
+{
+    let mut buffer = Buffer::new();
+    let digits = buffer.format(source.number()).as_bytes();
+    put(bench, name, &[b"(Index) ", zeros_for(digits), digits])
+}
+
+/// The file of a source.
+#[tactic(auto, unfolding(crate::specs::Parts::file_text, crate::specs::Parts::all_of))]
+fn put_file<B: Bench>(bench: &mut B, name: &str, source: &Source) -> Result<(), DeviceFault>
+    ensures { Appends B.Bench name.now (file_text source.now) bench.old bench.new result }
+{
+    put(
+        bench,
+        name,
+        &[b" (F) \"", source.url(), b"\" ", source.uid()],
+    )
+}
+
+/// The times of a source, and the end of its line.
+#[tactic(auto, unfolding(crate::specs::Parts::source_times, crate::specs::Parts::all_of))]
+fn put_source_times<B: Bench>(
+    bench: &mut B,
+    name: &str,
+    project: &Project,
+    source: &Source,
+) -> Result<(), DeviceFault>
+    ensures { Appends B.Bench name.now (source_times project.now source.now) bench.old bench.new result }
+{
+    let (mut first, mut second) = ([0; 16], [0; 16]);
+    let start = time_in(&mut first, project, source.start());
+    let length = time_in(&mut second, project, source.length());
+    put(bench, name, &[b" ", start, b" ", length, b"\r\n"])
 }
 
 /// The line of a source.
-#[tactic(auto, unfolding(crate::specs::Parts::source_text))]
-fn push_source(out: &mut Vec<u8>, project: &Project, source: &Source) -> Result<(), AllocError>
-    ensures { OnOk result (out.new.items ≡ out.old.items ++ source_text project.now source.now) }
+fn put_source<B: Bench>(
+    bench: &mut B,
+    name: &str,
+    project: &Project,
+    source: &Source,
+) -> Result<(), DeviceFault>
+    ensures { Appends B.Bench name.now (source_text project.now source.now) bench.old bench.new result }
 {
-    push_number(out, b"(Index) ", source.number())?;
-    push_text(out, b" (F) \"", source.url())?;
-    push_text(out, b"\" ", source.uid())?;
-    push_optional_time(out, project, b" ", source.start())?;
-    push_optional_time(out, project, b" ", source.length())?;
-    push_line_end(out)
+    put_index(bench, name, source)?;
+    put_file(bench, name, source)?;
+    put_source_times(bench, name, project, source)
 }
 
-/// The numbers and the channels of an entry.
-#[tactic(auto, unfolding(crate::specs::Parts::entry_front))]
-fn push_entry_front(out: &mut Vec<u8>, event: &Event) -> Result<(), AllocError>
-    ensures { OnOk result (out.new.items ≡ out.old.items ++ entry_front event.now) }
+/// The numbers of an entry.
+#[tactic(auto, unfolding(crate::specs::Parts::entry_numbers, crate::specs::Parts::all_of))]
+fn put_numbers<B: Bench>(bench: &mut B, name: &str, event: &Event) -> Result<(), DeviceFault>
+    ensures { Appends B.Bench name.now (entry_numbers event.now) bench.old bench.new result }
 {
-    push_number(out, b"(Entry) ", event.number)?;
-    push_number(out, b" (Cut) I ", event.index)?;
-    push_channels(out, b" ", event.source)?;
-    push_channels(out, b" ", event.dest)
+    let (mut first, mut second) = (Buffer::new(), Buffer::new());
+    let number = first.format(event.number).as_bytes();
+    let index = second.format(event.index).as_bytes();
+    let texts: [&[u8]; 6] = [
+        b"(Entry) ",
+        zeros_for(number),
+        number,
+        b" (Cut) I ",
+        zeros_for(index),
+        index,
+    ];
+    put(bench, name, &texts)
 }
 
 /// The times of an entry, and the end of its line.
-#[tactic(auto, unfolding(crate::specs::Parts::entry_times))]
-fn push_entry_times(out: &mut Vec<u8>, project: &Project, event: &Event) -> Result<(), AllocError>
-    ensures { OnOk result (out.new.items ≡ out.old.items ++ entry_times project.now event.now) }
+#[tactic(auto, unfolding(crate::specs::Parts::entry_times, crate::specs::Parts::all_of))]
+fn put_entry_times<B: Bench>(
+    bench: &mut B,
+    name: &str,
+    project: &Project,
+    event: &Event,
+) -> Result<(), DeviceFault>
+    ensures { Appends B.Bench name.now (entry_times project.now event.now) bench.old bench.new result }
 {
-    push_time(out, project, b" ", event.source_in)?;
-    push_time(out, project, b" ", event.dest_in)?;
-    push_time(out, project, b" ", event.dest_out)?;
-    push_line_end(out)
+    let (mut first, mut second, mut third) = ([0; 16], [0; 16], [0; 16]);
+    let from = time_in(&mut first, project, Some(event.source_in));
+    let begin = time_in(&mut second, project, Some(event.dest_in));
+    let end = time_in(&mut third, project, Some(event.dest_out));
+    put(bench, name, &[b" ", from, b" ", begin, b" ", end, b"\r\n"])
 }
 
 /// The line of an entry, without its fades.
-#[tactic(auto, unfolding(crate::specs::Parts::entry_text))]
-fn push_entry(out: &mut Vec<u8>, project: &Project, event: &Event) -> Result<(), AllocError>
-    ensures { OnOk result (out.new.items ≡ out.old.items ++ entry_text project.now event.now) }
+fn put_entry<B: Bench>(
+    bench: &mut B,
+    name: &str,
+    project: &Project,
+    event: &Event,
+) -> Result<(), DeviceFault>
+    ensures { Appends B.Bench name.now (entry_text project.now event.now) bench.old bench.new result }
 {
-    push_entry_front(out, event)?;
-    push_entry_times(out, project, event)
+    put_numbers(bench, name, event)?;
+    put_channels(bench, name, event.source)?;
+    put_channels(bench, name, event.dest)?;
+    put_entry_times(bench, name, project, event)
 }
 
-/// The curve of a fade, and the end of its line.
-#[tactic(auto, unfolding(crate::specs::Parts::curve_text))]
-fn push_curve(out: &mut Vec<u8>) -> Result<(), AllocError>
-    ensures { OnOk result (out.new.items ≡ out.old.items ++ parts.curve_text) }
+/// What stands behind the keyword of a fade, up to the end of its line.
+#[tactic(auto, unfolding(crate::specs::Parts::curve_text, crate::specs::Parts::all_of))]
+fn put_curve<B: Bench>(
+    bench: &mut B,
+    name: &str,
+    project: &Project,
+    length: SampleTime,
+) -> Result<(), DeviceFault>
+    ensures { Appends B.Bench name.now (curve_text project.now length) bench.old bench.new result }
 {
-    out.extend_from_slice(b" LIN _ _ _\r\n")
+    let mut room = [0; 16];
+    let length = time_in(&mut room, project, Some(length));
+    put(bench, name, &[length, b" LIN _ _ _\r\n"])
+}
+
+/// The line of a fade.
+fn put_fade_line<B: Bench>(
+    bench: &mut B,
+    name: &str,
+    project: &Project,
+    keyword: &[u8],
+    length: SampleTime,
+) -> Result<(), DeviceFault>
+    ensures { Appends B.Bench name.now (fade_line project.now keyword.now length) bench.old bench.new result }
+{
+    put_text(bench, name, keyword)?;
+    put_curve(bench, name, project, length)
 }
 
 /// The line of a fade, where it is longer than zero.
 #[tactic(auto, unfolding(crate::specs::Parts::fade_text))]
-fn push_fade(
-    out: &mut Vec<u8>,
+fn put_fade<B: Bench>(
+    bench: &mut B,
+    name: &str,
     project: &Project,
     keyword: &[u8],
     length: SampleTime,
-) -> Result<(), AllocError>
-    ensures { OnOk result (out.new.items ≡ out.old.items ++ fade_text project.now keyword.now length) }
+) -> Result<(), DeviceFault>
+    ensures { Appends B.Bench name.now (fade_text project.now keyword.now length) bench.old bench.new result }
 {
     if length.get() == 0 {
         return Ok(());
     }
-    push_time(out, project, keyword, length)?;
-    push_curve(out)
+    put_fade_line(bench, name, project, keyword, length)
 }
 
 /// The lines of an entry.
-#[tactic(auto, unfolding(crate::specs::Parts::event_text))]
-fn push_event(out: &mut Vec<u8>, project: &Project, event: &Event) -> Result<(), AllocError>
-    ensures { OnOk result (out.new.items ≡ out.old.items ++ event_text project.now event.now) }
+fn put_event<B: Bench>(
+    bench: &mut B,
+    name: &str,
+    project: &Project,
+    event: &Event,
+) -> Result<(), DeviceFault>
+    ensures { Appends B.Bench name.now (event_text project.now event.now) bench.old bench.new result }
 {
-    push_entry(out, project, event)?;
-    push_fade(out, project, b"(Infade) ", event.rise.length)?;
-    push_fade(out, project, b"(Outfade) ", event.fall.length)
-}
-
-/// What follows the name of a section.
-#[tactic(auto, unfolding(crate::specs::Parts::name_end))]
-fn push_name_end(out: &mut Vec<u8>) -> Result<(), AllocError>
-    ensures { OnOk result (out.new.items ≡ out.old.items ++ parts.name_end) }
-{
-    out.extend_from_slice(b">\r\n")
+    put_entry(bench, name, project, event)?;
+    put_fade(bench, name, project, b"(Infade) ", event.rise.length)?;
+    put_fade(bench, name, project, b"(Outfade) ", event.fall.length)
 }
 
 /// The line that opens a section.
-#[tactic(auto, unfolding(crate::specs::Parts::opening_text))]
-fn push_opening(out: &mut Vec<u8>, name: &[u8]) -> Result<(), AllocError>
-    ensures { OnOk result (out.new.items ≡ out.old.items ++ opening_text name.now) }
+#[tactic(auto, unfolding(crate::specs::Parts::opening_text, crate::specs::Parts::all_of))]
+fn put_opening<B: Bench>(bench: &mut B, name: &str, section: &[u8]) -> Result<(), DeviceFault>
+    ensures { Appends B.Bench name.now (opening_text section.now) bench.old bench.new result }
 {
-    push_text(out, b"<", name)?;
-    push_name_end(out)
+    put(bench, name, &[b"<", section, b">\r\n"])
 }
 
 /// The line that ends a section.
-#[tactic(auto, unfolding(crate::specs::Parts::ending_text))]
-fn push_ending(out: &mut Vec<u8>, name: &[u8]) -> Result<(), AllocError>
-    ensures { OnOk result (out.new.items ≡ out.old.items ++ ending_text name.now) }
+#[tactic(auto, unfolding(crate::specs::Parts::ending_text, crate::specs::Parts::all_of))]
+fn put_ending<B: Bench>(bench: &mut B, name: &str, section: &[u8]) -> Result<(), DeviceFault>
+    ensures { Appends B.Bench name.now (ending_text section.now) bench.old bench.new result }
 {
-    push_text(out, b"</", name)?;
-    push_name_end(out)
+    put(bench, name, &[b"</", section, b">\r\n"])
 }
 
 /// A line as it stands.
-fn push_line(out: &mut Vec<u8>, line: &[u8]) -> Result<(), AllocError>
-    ensures { OnOk result (out.new.items ≡ out.old.items ++ written.line line.now) }
+#[tactic(auto, unfolding(crate::specs::Parts::all_of))]
+fn put_line<B: Bench>(bench: &mut B, name: &str, line: &Bytes) -> Result<(), DeviceFault>
+    ensures { Appends B.Bench name.now (written.line line.now) bench.old bench.new result }
 {
-    out.extend_from_slice(line)?;
-    out.extend_from_slice(b"\r\n")
+    put(bench, name, &[line.as_slice(), b"\r\n"])
 }
 
 /// Lines as they stand.
-#[tactic(auto, unfolding(crate::specs::Parts::lines_text))]
-fn push_lines(out: &mut Vec<u8>, lines: &[Bytes]) -> Result<(), AllocError>
-    ensures { OnOk result (out.new.items ≡ out.old.items ++ lines_text lines.now) }
+fn put_lines<B: Bench>(bench: &mut B, name: &str, lines: &[Bytes]) -> Result<(), DeviceFault>
+    ensures { Appends B.Bench name.now (lines_text lines.now) bench.old bench.new result }
 {
     for line in lines {
-        push_line(out, line.as_slice())?;
+        put_line(bench, name, line)?;
     }
     Ok(())
+}
+
+/// A section of these lines.
+fn put_section<B: Bench>(
+    bench: &mut B,
+    name: &str,
+    section: &[u8],
+    lines: &[Bytes],
+) -> Result<(), DeviceFault>
+    ensures { Appends B.Bench name.now (section_text section.now lines.now) bench.old bench.new result }
+{
+    put_opening(bench, name, section)?;
+    put_lines(bench, name, lines)?;
+    put_ending(bench, name, section)
 }
 
 /// A section of the header, where it is there.
 #[tactic(auto, unfolding(crate::specs::Parts::header_text))]
-fn push_header(out: &mut Vec<u8>, name: &[u8], lines: &Option<KeptLines>) -> Result<(), AllocError>
-    ensures { OnOk result (out.new.items ≡ out.old.items ++ header_text name.now lines.now) }
+fn put_header<B: Bench>(
+    bench: &mut B,
+    name: &str,
+    section: &[u8],
+    lines: &Option<KeptLines>,
+) -> Result<(), DeviceFault>
+    ensures { Appends B.Bench name.now (header_text section.now lines.now) bench.old bench.new result }
 {
     match lines {
-        Some(lines) => {
-            push_opening(out, name)?;
-            push_lines(out, lines.as_slice())?;
-            push_ending(out, name)
-        }
+        Some(lines) => put_section(bench, name, section, lines.as_slice()),
         None => Ok(()),
     }
 }
 
+/// The sections of the header.
+fn put_head<B: Bench>(bench: &mut B, name: &str, header: &Header) -> Result<(), DeviceFault>
+    ensures { Appends B.Bench name.now (head_text (header_view header.now)) bench.old bench.new result }
+{
+    put_header(bench, name, b"VERSION", &header.version)?;
+    put_header(bench, name, b"PROJECT", &header.project)?;
+    put_header(bench, name, b"SYSTEM", &header.system)?;
+    put_header(bench, name, b"SEQUENCE", &header.sequence)?;
+    put_header(bench, name, b"TRACKLIST", &header.track_list)
+}
+
 /// The lines of these sources.
-#[tactic(auto, unfolding(crate::specs::Parts::sources_text))]
-fn push_sources(out: &mut Vec<u8>, project: &Project, sources: &[Source]) -> Result<(), AllocError>
-    ensures { OnOk result (out.new.items ≡ out.old.items ++ sources_text project.now sources.now) }
+fn put_sources<B: Bench>(
+    bench: &mut B,
+    name: &str,
+    project: &Project,
+    sources: &[Source],
+) -> Result<(), DeviceFault>
+    ensures { Appends B.Bench name.now (sources_text project.now sources.now) bench.old bench.new result }
 {
     for source in sources {
-        push_source(out, project, source)?;
+        put_source(bench, name, project, source)?;
     }
     Ok(())
+}
+
+/// The source index.
+fn put_index_section<B: Bench>(
+    bench: &mut B,
+    name: &str,
+    project: &Project,
+    sources: &[Source],
+) -> Result<(), DeviceFault>
+    ensures { Appends B.Bench name.now (index_section project.now sources.now) bench.old bench.new result }
+{
+    put_opening(bench, name, b"SOURCE_INDEX")?;
+    put_sources(bench, name, project, sources)?;
+    put_ending(bench, name, b"SOURCE_INDEX")
 }
 
 /// The lines of these events.
-#[tactic(auto, unfolding(crate::specs::Parts::events_text))]
-fn push_events(out: &mut Vec<u8>, project: &Project, events: &[Event]) -> Result<(), AllocError>
-    ensures { OnOk result (out.new.items ≡ out.old.items ++ events_text project.now events.now) }
+fn put_events<B: Bench>(
+    bench: &mut B,
+    name: &str,
+    project: &Project,
+    events: &[Event],
+) -> Result<(), DeviceFault>
+    ensures { Appends B.Bench name.now (events_text project.now events.now) bench.old bench.new result }
 {
     for event in events {
-        push_event(out, project, event)?;
+        put_event(bench, name, project, event)?;
     }
     Ok(())
 }
 
-/// The first line of the list.
-#[tactic(auto, unfolding(crate::specs::Parts::list_begin))]
-fn push_list_begin(out: &mut Vec<u8>) -> Result<(), AllocError>
-    ensures { OnOk result (out.new.items ≡ out.old.items ++ parts.list_begin) }
+/// The event list.
+fn put_event_section<B: Bench>(
+    bench: &mut B,
+    name: &str,
+    project: &Project,
+    events: &[Event],
+) -> Result<(), DeviceFault>
+    ensures { Appends B.Bench name.now (event_section project.now events.now) bench.old bench.new result }
 {
-    out.extend_from_slice(b"<ADL>\r\n")
+    put_opening(bench, name, b"EVENT_LIST")?;
+    put_events(bench, name, project, events)?;
+    put_ending(bench, name, b"EVENT_LIST")
 }
 
-/// The last line of the list.
-#[tactic(auto, unfolding(crate::specs::Parts::list_end))]
-fn push_list_end(out: &mut Vec<u8>) -> Result<(), AllocError>
-    ensures { OnOk result (out.new.items ≡ out.old.items ++ parts.list_end) }
+/// The first line of a list, at the end of the file, which has to be there.
+fn put_start<B: Bench>(bench: &mut B, name: &str) -> Result<(), DeviceFault>
+    ensures appends { Appends B.Bench name.now (codes "<ADL>\r\n") bench.old bench.new result }
+    ensures there { IsTrue (B.honest bench.old) → OnOk result (IsSome (B.stored bench.old name.now)) }
 {
-    out.extend_from_slice(b"</ADL>\r\n")
+    bench.append(name, b"<ADL>\r\n")
 }
 
-/// The first line, and the sections of the header.
-#[tactic(auto, unfolding(crate::specs::Parts::head_text))]
-pub fn push_head(out: &mut Vec<u8>, project: &Project) -> Result<(), AllocError>
-    ensures { OnOk result (out.new.items ≡ out.old.items ++ head_text project.now) }
+/// A list of these parts, with the rate and the separators of the project.
+fn put_parts<B: Bench>(
+    bench: &mut B,
+    name: &str,
+    project: &Project,
+    header: &Header,
+    sources: &[Source],
+    events: &[Event],
+) -> Result<(), DeviceFault>
+    ensures appends { Appends B.Bench name.now
+        (list_text project.now (header_view header.now) sources.now events.now) bench.old bench.new result }
+    ensures there { IsTrue (B.honest bench.old) → OnOk result (IsSome (B.stored bench.old name.now)) }
+{
+    put_start(bench, name)?;
+    put_head(bench, name, header)?;
+    put_index_section(bench, name, project, sources)?;
+    put_event_section(bench, name, project, events)?;
+    put_text(bench, name, b"</ADL>\r\n")
+}
+
+/// The whole list, at the end of the file, which has to be there.
+pub fn put_list<B: Bench>(bench: &mut B, name: &str, project: &Project) -> Result<(), DeviceFault>
+    ensures appends { Appends B.Bench name.now (text_of_project project.now) bench.old bench.new result }
+    ensures there { IsTrue (B.honest bench.old) → OnOk result (IsSome (B.stored bench.old name.now)) }
 {
     let header = project.header();
-    push_list_begin(out)?;
-    push_header(out, b"VERSION", &header.version)?;
-    push_header(out, b"PROJECT", &header.project)?;
-    push_header(out, b"SYSTEM", &header.system)?;
-    push_header(out, b"SEQUENCE", &header.sequence)?;
-    push_header(out, b"TRACKLIST", &header.track_list)
-}
-
-/// The source index, the event list, and the last line.
-#[tactic(auto, unfolding(crate::specs::Parts::body_text))]
-pub fn push_body(out: &mut Vec<u8>, project: &Project) -> Result<(), AllocError>
-    ensures { OnOk result (out.new.items ≡ out.old.items ++ body_text project.now) }
-{
-    push_opening(out, b"SOURCE_INDEX")?;
-    push_sources(out, project, project.sources())?;
-    push_ending(out, b"SOURCE_INDEX")?;
-    push_opening(out, b"EVENT_LIST")?;
-    push_events(out, project, project.events())?;
-    push_ending(out, b"EVENT_LIST")?;
-    push_list_end(out)
+    put_parts(
+        bench,
+        name,
+        project,
+        header,
+        project.sources(),
+        project.events(),
+    )
 }

@@ -4,8 +4,9 @@ use crate::meanings::{Spot, meaning_at};
 use crate::names::PrintedName;
 use adlread::{AdlFault, rate_of};
 use consolidate::{Fault, OutputFile};
-use list_terms::Location;
+use list_terms::{Location, TextFault};
 use percent_encoding::percent_encode_byte;
+use sampletime::Rate;
 use std::fmt;
 use std::fmt::Display;
 use std::io::{Error, ErrorKind};
@@ -121,11 +122,12 @@ impl<'a> Findings<'a> {
     }
 }
 
-/// A line of the list, and what stands in it at the fault.
+/// A line of the list, what stands in it at the fault, and the list's rate, where a time's frame passes it.
 #[derive(Clone, Copy)]
 struct LineAtFault<'a> {
     line: &'a [u8],
     stood: Stood<'a>,
+    passed: Option<Rate>,
 }
 
 /// The line at which the fault stands.
@@ -139,10 +141,29 @@ fn line_at_fault<'a>(fault: &Fault, list: &'a [u8]) -> Option<LineAtFault<'a>> {
         }
     };
     let line = line_of(list, number)?;
+    let rate = rate_of(list);
+    let stood = stood_in(line, *fault, rate);
+    let passed = if *fault == TextFault::BadTime && passes(stood.text, rate) {
+        Some(rate)
+    } else {
+        None
+    };
     Some(LineAtFault {
         line,
-        stood: stood_in(line, *fault, rate_of(list)),
+        stood,
+        passed,
     })
+}
+
+/// Whether this has the shape of a time, and its frame passes the rate.
+fn passes(time: &[u8], rate: Rate) -> bool {
+    match time {
+        [_, _, _, _, _, _, _, _, _, tens, ones, _, _, _, _, _]
+            if tens.is_ascii_digit() && ones.is_ascii_digit() => {
+            (*tens - b'0') * 10 + (*ones - b'0') >= rate.frames_per_second()
+        }
+        _ => false,
+    }
 }
 
 /// What the fault leaves unfinished. A file that was there already isn't the program's.
@@ -215,6 +236,10 @@ impl fmt::Display for LineAtFault<'_> {
         } else {
             let text = Shown(self.stood.text, STOOD_BYTES);
             write!(f, "; at column {column} stands: {text}")?;
+        }
+        if let Some(rate) = self.passed {
+            let frames = rate.frames_per_second();
+            write!(f, "; the list has {frames} frames a second")?;
         }
         let line = Shown(self.line, SHOWN_BYTES);
         write!(f, "; the line is: {line}")

@@ -75,7 +75,7 @@ pub static MEANINGS: [Meaning; 55] = [
         number: 6,
         spot: Spot::Line,
         meaning: "this isn't a time",
-        cause: "a time is hh.mm.ss.ff/rrrr: hours to 23, frames below the rate, a remainder within one frame",
+        cause: "a time is hh.mm.ss.ff/rrrr: hours to 23, frames to 23, 24 or 29, and a rest, by the rate 24, 25 or 30",
         remedy: "correct the time; the day's end is 24.00.00.00/0000",
         is_answered: true,
     },

@@ -1,8 +1,9 @@
 // Lists that are written.
 use adlread::read;
 use adlwrite::{WriteFault, text_of, write};
+use sampletime::SampleTime;
 use shelf::Bench;
-use std::alloc::Global;
+use std::alloc::{AllocError, Global};
 use std::test::Fail;
 use stores::MemoryBench;
 
@@ -87,11 +88,14 @@ fn a_list_is_added_to_its_file(rt: HostRuntime) -> Result<(), Fail> {
     let project = read(rt.alloc(), WRITTEN.as_bytes())?;
     let mut bench = MemoryBench::new(rt.alloc());
     assert_eq!(rt;
-        write(rt.alloc(), &project, &mut bench, "a.adl"),
+        write(&project, &mut bench, "a.adl"),
         Err(WriteFault::Device)
     );
     bench.create("a.adl")?;
-    write(rt.alloc(), &project, &mut bench, "a.adl")?;
+    write(&project, &mut bench, "a.adl")?;
+    let mut written = vec![in rt.alloc(); 0; WRITTEN.len()]?;
+    bench.read_at("a.adl", 0, &mut written)?;
+    assert_eq!(rt; written.as_slice(), WRITTEN.as_bytes());
     assert_eq!(rt; bench.length("a.adl")?, WRITTEN.len() as u64);
     Ok(())
 }
@@ -107,21 +111,37 @@ fn a_copy_is_the_same_project(rt: HostRuntime) -> Result<(), Fail> {
     Ok(())
 }
 
-#[test]
-fn a_list_is_written_at_its_rate(rt: HostRuntime) -> Result<(), Fail> {
-    let text = "<ADL>\r
+/// A list at a rate of frames, with the source's time ten samples before a second ends.
+fn list_at(alloc: Global, rate: u8, time: &str) -> Result<String, AllocError> {
+    format!(in alloc;
+        "<ADL>\r
 <SEQUENCE>\r
 (SEQ_SAMPLE_RATE) S48000\r
-(SEQ_FRAME_RATE) 30\r
+(SEQ_FRAME_RATE) {rate}\r
 </SEQUENCE>\r
 <SOURCE_INDEX>\r
-(Index) 0001 (F) \"URL:file://localhost/A.wav\" _ 00.00.04.29/1590 _\r
+(Index) 0001 (F) \"URL:file://localhost/A.wav\" _ {time} _\r
 </SOURCE_INDEX>\r
 <EVENT_LIST>\r
 </EVENT_LIST>\r
 </ADL>\r
-";
-    let written = again(rt.alloc(), text)?;
-    assert_eq!(rt; written.as_slice(), text.as_bytes());
+"
+    )
+}
+
+#[test]
+fn a_list_is_written_at_its_rate(rt: HostRuntime) -> Result<(), Fail> {
+    for (rate, time) in [
+        (24, "00.00.04.23/1990"),
+        (25, "00.00.04.24/1910"),
+        (30, "00.00.04.29/1590"),
+    ] {
+        let text = list_at(rt.alloc(), rate, time)?;
+        let project = read(rt.alloc(), text.as_bytes())?;
+        let source = project.sources().first().ok_or("no source")?;
+        assert_eq!(rt; source.start(), SampleTime::new(239_990));
+        let written = text_of(rt.alloc(), &project.try_copy()?)?;
+        assert_eq!(rt; written.as_slice(), text.as_bytes());
+    }
     Ok(())
 }

@@ -1,0 +1,21 @@
+use Rattle.adlwrite.specs.Parts.{index_section}
+use Rattle.adlwrite.proofs.Appending.{and_then, stopped}
+use Rattle.adlwrite.proofs.parts.put_index_section.Goals as goal
+
+pub returns-in_err-put_opening : goal.returns-in_err-put_opening
+unfolding index_section
+returns-in_err-put_opening g c =
+    stopped g.B.Bench c.args.name.now _ _ c.from_residual.result c.from_residual.ensures.1 c.in_err-put_opening.ensures
+
+pub returns-in_err-put_sources : goal.returns-in_err-put_sources
+unfolding index_section
+returns-in_err-put_sources g c =
+    and_then g.B.Bench c.args.name.now c.in_ok-put_opening.ensures
+    (stopped g.B.Bench c.args.name.now _ _ c.from_residual-in_err-put_sources.result c.from_residual-in_err-put_sources.ensures.1 c.in_err-put_sources.ensures)
+
+pub returns : goal.returns
+unfolding index_section
+returns g c =
+    and_then g.B.Bench c.args.name.now c.in_ok-put_opening.ensures
+    (and_then g.B.Bench c.args.name.now c.in_ok-put_sources.ensures
+    c.put_ending.ensures)

@@ -1,0 +1,60 @@
+// One file in memory, whose name is empty, as an output that texts are added to.
+ghost use Rattle.std.specs.Prelude.{◌≡◌, ◌==◌, ◌^◌, ⊤, None, Some, if◌then◌else◌, length, true};
+
+use shelf::{Bench, DeviceFault, ShelfFault};
+
+/// One file in memory, whose name is empty. It is only added to: every other call fails, and so does growth where no
+/// memory is left. Its failures aren't counted.
+#[derive(Drop)]
+pub struct TextFile {
+    pub text: Vec<u8>,
+}
+
+impl Bench for TextFile {
+    ghost stored = { λ file name. if length name == 0 then Some file.text.items else None };
+
+    ghost honest = { λ _. true };
+
+    ghost failures = { λ _. 2 ^ 64 };
+
+    ghost failed_at = { λ _ _. ⊤ };
+
+    ghost may_leave = { λ _ _. ⊥ };
+
+    ghost moment = { λ _. 0 };
+
+    ghost left_since = { λ _ _ _. ⊥ };
+
+    fn create(&mut self, _: &str) -> Result<(), DeviceFault> {
+        Err(DeviceFault)
+    }
+
+    fn append(&mut self, name: &str, bytes: &[u8]) -> Result<(), DeviceFault> {
+        if name.len() != 0 || self.text.extend_from_slice(bytes).is_err() {
+            return Err(DeviceFault);
+        }
+        Ok(())
+    }
+
+    fn write_at(&mut self, _: &str, _: u64, _: &[u8]) -> Result<(), DeviceFault> {
+        Err(DeviceFault)
+    }
+
+    fn length(&mut self, _: &str) -> Result<u64, ShelfFault> {
+        Err(ShelfFault::Device)
+    }
+
+    fn read_at(&mut self, _: &str, _: u64, _: &mut [u8]) -> Result<(), ShelfFault> {
+        Err(ShelfFault::Device)
+    }
+
+    fn sync(&mut self, _: &str) -> Result<(), DeviceFault> {
+        Err(DeviceFault)
+    }
+
+    ghost counts_now = { λ bench t c early left. left };
+
+    ghost only_now = { λ bench c since. since };
+
+    ghost absent = { λ bench name c honest none left. absurd left };
+}
