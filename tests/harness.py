@@ -49,7 +49,7 @@ class Scene:
     def run(self, *words, given: bytes = b"", **how) -> Outcome:
         """Runs the program over these words, with these bytes on standard input."""
         done = subprocess.run(
-            [self.program, *words], cwd=self.folder, input=given, timeout=TIMEOUT,
+            [self.program, *words], cwd=self.folder, input=given, timeout=how.pop("timeout", TIMEOUT),
             stdout=how.pop("stdout", subprocess.PIPE), stderr=subprocess.PIPE, **how,
         )
         return Outcome(done.returncode, done.stdout or b"", done.stderr)

@@ -421,7 +421,7 @@ pub static MEANINGS: [Meaning; 55] = [
         number: 61,
         spot: Spot::Nowhere,
         meaning: "a file would be too long",
-        cause: "its size doesn't fit the size field of RIFF, 4 GB",
+        cause: "its size doesn't fit 64 bits, which no list leads to",
         remedy: "render a shorter range, or split the list",
         is_answered: false,
     },
@@ -533,7 +533,7 @@ impl fmt::Display for Meaning {
         if self.is_answered {
             Ok(())
         } else {
-            f.write_str("    This version doesn't answer it yet.\n")
+            f.write_str("    This version doesn't answer it.\n")
         }
     }
 }
