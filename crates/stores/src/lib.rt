@@ -9,5 +9,5 @@ mod zeros;
 
 pub use folder::{FolderBench, FolderShelf, Overwrite};
 pub use memory::{MemoryBench, MemoryShelf};
-pub use reason::Reasons;
+pub use reason::{Reason, Reasons};
 pub use zeros::ZeroShelf;

@@ -3,7 +3,6 @@ ghost use Rattle.std.specs.Prelude.{◌≡◌, ◌+◌, ◌≤◌, ◌++◌, max
 ghost use Rattle.work_terms.specs.Disk.{IsRange};
 ghost use Rattle.stores.specs.Zeros.{file_named, padded, zero_failures, zero_files};
 
-use crate::Reasons;
 use crate::failures::counted;
 use shelf::{DeviceFault, Shelf, ShelfFault};
 
@@ -93,5 +92,3 @@ impl Shelf for ZeroShelf {
         Ok(counted(&mut self.failures, outcome)?)
     }
 }
-
-impl Reasons for ZeroShelf {}
