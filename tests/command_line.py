@@ -131,7 +131,7 @@ For more information, try '--help'.
 
 def texts(scene: Scene) -> None:
     """What help, the version and mistakes say."""
-    for words, text in ((("--help",), HELP), (("check", "-h"), CHECK_HELP), (("help",), HELP), (("--version",), "adlcons 0.1.0\n")):
+    for words, text in ((("--help",), HELP), (("check", "-h"), CHECK_HELP), (("help",), HELP), (("--version",), "adlcons 0.2.0\n")):
         same(f"the text of {words}", scene.run(*words).output.decode(), text)
     for words, text in ((("render", LIST, MEDIA), NO_OUT), (("rendr", LIST, MEDIA, OUT), NO_COMMAND)):
         same(f"the mistake of {words}", scene.run(*words).error.decode(), text)
@@ -165,6 +165,9 @@ def option_forms(scene: Scene) -> None:
         scene.empty_out()
 
 
+TIME_FORM = b"a time is hh.mm.ss.ff/rrrr: hours to 24, frames below the list's rate, and samples of a frame\n"
+
+
 def bad_times(scene: Scene) -> None:
     """A time that can't be read is told before all faults in the list, and behind places that can't be used."""
     good, bad = "01.00.00.00/0000", ("1", "", "24.00.00.00/0001", "00.00.00.25/0000", "00.00.00.00/1920")
@@ -176,7 +179,7 @@ def bad_times(scene: Scene) -> None:
                 ("--to", ("--from", good, f"--to={time}")), ("--from", (f"--to={time}", f"--from={time}")),
             ):
                 got = scene.run("render", LIST, MEDIA, OUT, *words)
-                same(f"the answer of {words}", got, Outcome(2, b"", f"bad time: {option}\n".encode()))
+                same(f"the answer of {words}", got, Outcome(2, b"", f"bad time: {option}\n".encode() + TIME_FORM))
     same_files(scene.files(), {})
     full = scene.run("render", LIST, MEDIA, MEDIA, "--from=1")
     same("the output first", full.output, f"refused 20 at file {MEDIA}\n".encode())

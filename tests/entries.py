@@ -1,29 +1,15 @@
 """Entries that are refused by number, and the empty range."""
 
-import resource
-import shutil
-from functools import partial
-
 import model
-from harness import (
-    OUT, Scene, Skipped, Suite, expect_done, expect_line, expect_refused, same, same_bytes, same_outcome,
-    words_of,
-)
+from harness import Scene, Suite, expect_done, expect_line, expect_refused, same
 from tables import FIRST_LIST, data_chunk, format_chunk, riff_file, wave
 
 MIDNIGHT = b"00.00.00.00/0000"
-MEMORY_LIMIT = 4 * 2 ** 30
 DAY_END = b"24.00.00.00/0000"
 MEDIA = {
     "A.wav": wave(), "B.wav": wave(range(10)),
     "C.wav": riff_file(format_chunk(channels=3), data_chunk([1, 20, 300, -1, -20, -300, 2, 40, 600])),
 }
-LONGEST_AT_16_BITS = 2_147_483_306
-
-# How a mono file of one frame more begins: RF64 with its `ds64` (EBU Tech 3306), then `bext`.
-RF64_HEAD = bytes.fromhex(
-    "52463634 ffffffff 57415645 64733634 1c000000 0000000001000000 56fdffff00000000 abfeff7f00000000 00000000"
-    "62657874 5a020000")
 
 
 def sample(value: int) -> bytes:
@@ -135,25 +121,6 @@ def empty_range(scene: Scene) -> None:
         expect_line(scene, "consolidate", text, MEDIA, "written 0 media 0 entries")
 
 
-def past_4_gb(scene: Scene) -> None:
-    """One frame more than the size field of RIFF can tell is written as RF64, byte for byte as its table has it."""
-    frames = LONGEST_AT_16_BITS + 1
-    if shutil.disk_usage(scene.folder).free < 3 * frames:
-        raise Skipped("the disk has no room for a file past 4 GB")
-    scene.put(over(MIDNIGHT, entry(1, 0, 0, 4), entry(2, 0, frames - 4, frames)), MEDIA)
-    limit = partial(resource.setrlimit, resource.RLIMIT_AS, (MEMORY_LIMIT, MEMORY_LIMIT))
-    got = scene.run(*words_of("render", model.Options(depth=16)), preexec_fn=limit)
-    same_outcome(got, 0, f"rendered {frames} frames 1 channels")
-    with open(scene.folder / OUT / "render.wav", "rb") as file:
-        head = file.read(690)
-        same("the sound's first bytes", file.read(10), bytes.fromhex("e803 18fc ff7f 0080 0000"))
-        file.seek(-10, 2)
-        same("its last bytes", file.read(), bytes.fromhex("0000 e803 18fc ff7f 0080"))
-        same("the length", file.tell(), 690 + 2 * frames)
-    same_bytes("the head", head[:56], RF64_HEAD)
-    same_bytes("the head of the samples", head[682:], bytes.fromhex("64617461 ffffffff"))
-
-
 def further_faults(scene: Scene) -> None:
     """A check tells the entries at fault behind the first one, 20 of them and how many more, or the files."""
     entries = [entry(number, 0, 5, 4) if number % 2 else entry(number, 0, 0, 5) for number in range(1, 31)]
@@ -185,6 +152,5 @@ def run(suite: Suite) -> None:
     for name, text in ACCEPTED.items():
         suite.case(f"entry accepted: {name}", accepted(text))
     suite.case("an empty range", empty_range)
-    suite.case("a file past 4 GB", past_4_gb)
     suite.case("the order of refusals", list_before_files)
     suite.case("further faults", further_faults)

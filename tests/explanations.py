@@ -24,7 +24,7 @@ def meanings(text: str) -> list:
         head = HEAD.fullmatch(line)
         if head:
             found.append([int(head[1]), PLACES[head[2]], head[3], True])
-        elif line == "    This version doesn't answer it yet.":
+        elif line == "    This version doesn't answer it.":
             found[-1][3] = False
         elif not re.fullmatch(r"    (Cause|Remedy): \S.*\.", line):
             raise Mismatch(f"explain prints the line {line!r}")

@@ -49,7 +49,7 @@ class Scene:
     def run(self, *words, given: bytes = b"", **how) -> Outcome:
         """Runs the program over these words, with these bytes on standard input."""
         done = subprocess.run(
-            [self.program, *words], cwd=self.folder, input=given, timeout=TIMEOUT,
+            [self.program, *words], cwd=self.folder, input=given, timeout=how.pop("timeout", TIMEOUT),
             stdout=how.pop("stdout", subprocess.PIPE), stderr=subprocess.PIPE, **how,
         )
         return Outcome(done.returncode, done.stdout or b"", done.stderr)
@@ -98,6 +98,7 @@ SAVED = r"of (\d+) bytes of samples in the sources (\d+) are kept; (\d+) bytes w
 
 
 NOTICE = r"notice %d: [^\n]+ \(adlcons explain notice %d\)\n"
+PASSED_OVER = r"(?:not honoured at line \d+: [^\n]+\n){0,20}(?:and \d+ more lines with what isn't honoured\n)?"
 
 
 def meanings_of(notices: tuple) -> str:
@@ -108,14 +109,14 @@ def meanings_of(notices: tuple) -> str:
 
 def same_outcome(got: Outcome, status: int, line: str, notices: tuple = (), further: tuple = ()) -> None:
     """Notices and one line on standard output. On standard error one line that explains the refusal, with one for each
-    further fault; or one that tells what a consolidation saved, and one for each kind of notice."""
+    further fault; or one that tells what a consolidation saved, one for each kind of notice, and what isn't honoured."""
     same("standard output", got.output.decode(), "".join(f"{each}\n" for each in (*notices, line)))
     if status == 1:
         told = "".join(FURTHER % re.escape(each) for each in further)
         same_shape(f"the explanation of {line}", got.error, EXPLANATION % int(line.split()[1]) + told)
     else:
         saved = SAVED if line.startswith("written") else ""
-        same_shape("standard error", got.error, saved + meanings_of(notices))
+        same_shape("standard error", got.error, saved + meanings_of(notices) + PASSED_OVER)
     same("the status", got.status, status)
 
 

@@ -155,7 +155,8 @@ def missing_media(scene: Scene) -> None:
         same_outcome(Outcome(got.status, got.output, explained), 1, "refused 21 at index 1 file A.wav")
         same_shape("what is told of the folder", told, r"[^\n]*none[^\n]*No such file or directory[^\n]*\n")
     late = scene.run("render", LIST, "none", OUT, "--from=1")
-    same("a bad time first", late, Outcome(2, b"", b"bad time: --from\n"))
+    same("a bad time first", late.error.splitlines()[0], b"bad time: --from")
+    same("nothing of the folder behind it", b"none" in late.error, False)
     same_files(scene.files(), {})
 
 

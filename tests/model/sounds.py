@@ -11,7 +11,6 @@ UNTOLD = 0xFFFFFFFF
 COUNTED = (b"fmt ", b"bext", b"data")
 PCM_SUB_FORMAT = bytes.fromhex("0100000000001000800000aa00389b71")
 RATE = 48_000
-MOST_SIZE = 4_294_967_294
 
 
 class BadFile(Exception):

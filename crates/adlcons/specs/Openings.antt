@@ -1,9 +1,7 @@
 -- Why a command doesn't come to its stores, and what it is to come to them.
-use Rattle.std.specs.Prelude.{◌≡◌, ℕ, true, false, List, Option, None, Some, Result}
-use Rattle.std.specs.declared.io.Error.{Error}
+use Rattle.std.specs.Prelude.{◌≡◌, ℕ, true, false, List, Result}
 use Rattle.work_terms.specs.Refusals.{Refusal, Where, Nowhere, File}
 use Rattle.shelf.specs.declared.source.Shelf as source
-use Rattle.shelf.specs.declared.bench.Bench as output
 use Rattle.stores.specs.Folder.{OutputFolder, SourceFolder, folder_named}
 use Rattle.stores.specs.declared.Overwrite.TheVariants as overwrite
 use Rattle.consolidate.specs.declared.Fault.{Fault}

@@ -122,7 +122,7 @@ fn answer_check<S: Shelf + Reasons, O: Console, E: Console>(
                 accepted.entries as u64,
                 accepted.indexes as u64,
             );
-            tell_meanings(notices, err);
+            tell_meanings(notices, list, err);
             DONE
         }
         Err(fault) => {
@@ -163,7 +163,7 @@ fn answer_render<S: Shelf + Reasons, B: Bench + Reasons, O: Console, E: Console,
             let notices = rendered.notices.as_slice();
             let channels = u64::from(rendered.channels);
             tell_done(out, notices, words, rendered.frames, channels);
-            tell_meanings(notices, err);
+            tell_meanings(notices, list, err);
             DONE
         }
         Err(fault) => {
@@ -208,7 +208,7 @@ fn answer_consolidate<S: Shelf + Reasons, B: Bench + Reasons, O: Console, E: Con
                 u64::from(written.entries),
             );
             err.print_line(Saved(written.sizes));
-            tell_meanings(notices, err);
+            tell_meanings(notices, list, err);
             DONE
         }
         Err(fault) => {

@@ -117,11 +117,13 @@ where
     }
 }
 
-/// The status of a command over this list that writes to this folder and doesn't come to its stores. Why is printed.
+/// The status of a command over this list that writes to this folder and doesn't come to its stores. Why is printed,
+/// and what lies in the folder.
 fn keep_out<O: Console, E: Console>(
     fault: OpenFault,
     list: &str,
     folder: &str,
+    inside: Option<&str>,
     out: &mut O,
     err: &mut E,
 ) -> u8
@@ -130,7 +132,7 @@ fn keep_out<O: Console, E: Console>(
     let refusal = fault.refusal(list, folder);
     put_refusal(out, refusal);
     out.end_line();
-    err.print_line(Explanation::by(refusal.number, fault.reason()));
+    err.print_line(Explanation::by(refusal.number, fault.reason(), inside));
     1
 }
 
@@ -152,7 +154,7 @@ where
 {
     match try_check(rt, list, media, out, err, meter) {
         Ok(status) => status,
-        Err(fault) => keep_out(fault, list, "", out, err),
+        Err(fault) => keep_out(fault, list, "", None, out, err),
     }
 }
 
@@ -220,7 +222,11 @@ where
 {
     match try_places(rt, request, places, out, err, meter) {
         Ok(status) => status,
-        Err(fault) => keep_out(fault, places.list, places.out, out, err),
+        Err(fault) => {
+            let inside = name_inside(rt, fault, places.out);
+            let inside = inside.as_ref().map(|name| name.as_str());
+            keep_out(fault, places.list, places.out, inside, out, err)
+        }
     }
 }
 
@@ -265,7 +271,11 @@ where
         err,
         meter,
     );
-    if status != MISTAKE {
+    if status == MISTAKE {
+        err.print_line(
+            "a time is hh.mm.ss.ff/rrrr: hours to 24, frames below the list's rate, and samples of a frame",
+        );
+    } else {
         tell_unlisted(places.media, unlisted, err);
     }
     Ok(status)
@@ -276,7 +286,8 @@ fn unlisted_reason<R: Files + AllocGlobal + Clone + Drop>(
     rt: &R,
     media: &str,
 ) -> Option<io::Error> {
-    match fs::read_dir(rt, media) {
+    let folder = if media.is_empty() { "." } else { media };
+    match fs::read_dir(rt, folder) {
         Ok(_) => None,
         Err(error) => Some(error),
     }
@@ -287,6 +298,19 @@ fn tell_unlisted<E: Console>(media: &str, reason: Option<io::Error>, err: &mut E
     if let Some(reason) = reason {
         err.print_line(format_args!("the folder {media} can't be read: {reason}"));
     }
+}
+
+/// The name of something in the folder of this path, where that was refused since it isn't empty.
+fn name_inside<R: Files + AllocGlobal + Clone + Drop>(
+    rt: &R,
+    fault: OpenFault,
+    path: &str,
+) -> Option<String> {
+    let OpenFault::NotEmpty = fault else {
+        return None;
+    };
+    let found = fs::read_dir(rt, path).ok()?.next()?.ok()?;
+    String::from_str(rt.alloc(), found.file_name()).ok()
 }
 
 /// Fails where the folder of this path can't be listed or isn't empty.

@@ -15,13 +15,20 @@ mod stored;
 
 use anyhow::Result;
 use console::Printer;
+use explanations::Shown;
 use folders::answer_words;
 use meter::ProgressLine;
+use std::env::FillError;
 use std::io::IsTerminal;
 use std::process::ExitCode;
 use std::rt::Env;
-use std::{env, io};
+use std::{env, io, str};
 use stored::run_stored;
+
+/// How many words are looked at for one that isn't UTF-8, and how many bytes of it are shown.
+const MOST_WORDS: usize = 65_536;
+
+const WORD_BYTES: usize = 160;
 
 /// The words behind the program's name.
 fn words_of(rt: &(impl Env + AllocGlobal)) -> io::Result<Vec<String>> {
@@ -40,19 +47,44 @@ fn run_words(rt: &HostRuntime, words: &[String]) -> io::Result<u8> {
     Ok(answer_words(rt, words.as_slice(), &mut out, &mut err, &mut meter))
 }
 
+/// Tells why the words can't be read: which one isn't UTF-8, or what the system said.
+fn tell_unread(rt: &HostRuntime, error: io::Error) -> io::Result<()> {
+    let mut buffer = [0; 4096];
+    for place in 1..MOST_WORDS {
+        match rt.arg(place, &mut buffer) {
+            Ok(length) => {
+                let word = &buffer[..length];
+                if str::from_utf8(word).is_err() {
+                    let word = Shown(word, WORD_BYTES);
+                    return rt.eprintln(format_args!("error: word {place} isn't UTF-8: {word}"));
+                }
+            }
+            Err(FillError::NotPresent) => break,
+            Err(FillError::TooLong) => {}
+        }
+    }
+    rt.eprintln(format_args!("error: the words can't be read: {error}"))
+}
+
+/// Renders the stored example, and says on a terminal where to go on.
+fn run_without_words(rt: &HostRuntime) -> Result<ExitCode> {
+    run_stored(rt)?;
+    if rt.stderr().is_terminal() {
+        let _ = rt.eprintln("this was a stored example; 'adlcons --help' tells the commands");
+    }
+    Ok(ExitCode::SUCCESS)
+}
+
 fn main(rt: HostRuntime) -> Result<ExitCode> {
     let status = match words_of(&rt) {
-        Ok(words) if words.is_empty() => {
-            run_stored(&rt)?;
-            return Ok(ExitCode::SUCCESS);
-        }
+        Ok(words) if words.is_empty() => return run_without_words(&rt),
         Ok(words) => run_words(&rt, words.as_slice()),
         Err(error) => Err(error),
     };
     match status {
         Ok(status) => Ok(ExitCode::from(status)),
         Err(error) => {
-            let _ = rt.eprintln(format_args!("error: the words can't be read: {error}"));
+            let _ = tell_unread(&rt, error);
             Ok(ExitCode::from(2))
         }
     }

@@ -4,7 +4,7 @@ ghost use Rattle.console.specs.Lines.{counts_text, notices_text};
 ghost use Rattle.console.specs.Printing.{Prints};
 
 use console::{Console, Counts, put_counts, put_notices};
-use explanations::NOTICES;
+use explanations::{NOTICES, PassedWords};
 use list_terms::Notice;
 
 /// Prints the notices and the line of a command that is done.
@@ -25,11 +25,12 @@ pub fn tell_done<C: Console>(
     console.end_line();
 }
 
-/// Prints what the notices mean, each kind once.
-pub fn tell_meanings<E: Console>(notices: &[Notice], err: &mut E) {
+/// Prints what the notices mean, each kind once, and what of the list is passed over without a notice.
+pub fn tell_meanings<E: Console>(notices: &[Notice], list: &[u8], err: &mut E) {
     for meaning in &NOTICES {
         if notices.iter().any(|notice| notice.kind == meaning.kind) {
             err.print_line(*meaning);
         }
     }
+    err.print(PassedWords(list));
 }

@@ -33,7 +33,7 @@ fn top_command<'a>(alloc: Global) -> Result<Command<'a>, AllocError>
     Command::new(alloc, "adlcons")
         .about("Checks, consolidates and renders audio decision lists (AES31-3) over WAVE files")
         .after_help(STATUSES)
-        .version("0.1.0")
+        .version("0.2.0")
         .no_binary_name(true)
         .arg_required_else_help(true)
         .subcommand_required(true)

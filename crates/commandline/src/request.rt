@@ -63,8 +63,16 @@ pub fn parse<'a>(alloc: Global, words: &'a [&'a str]) -> Result<Request<'a>, Err
 fn mistake_of(matches: &ArgMatches<'_>) -> &'static str {
     match matches.subcommand() {
         Some(("consolidate", _)) => "a handle is 0 to 4147200000 frames",
-        Some(("render", _)) => "there are 1 to 64 channels, and a depth is 16, 24 or 32",
+        Some(("render", words)) => mistake_of_rendering(words),
         _ => "one number can be explained, and behind the word notice that of a notice",
+    }
+}
+
+/// What is told of such words of a rendering.
+fn mistake_of_rendering(words: &ArgMatches<'_>) -> &'static str {
+    match words.get_str("depth").and_then(depth_in) {
+        Some(_) => "there are 1 to 64 channels",
+        None => "a depth is 16, 24 or 32",
     }
 }
 

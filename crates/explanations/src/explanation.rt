@@ -1,7 +1,9 @@
 // What is told of a refusal beside its line: what its number means there, what was found, and what to do.
 use crate::column::{Stood, stood_in};
-use crate::meanings::{Spot, meaning_at};
+use crate::hints::hint_at;
+use crate::meanings::{Meaning, Spot, meaning_at};
 use crate::names::PrintedName;
+use crate::remedies::{SystemWord, remedy_by};
 use adlread::{AdlFault, rate_of};
 use consolidate::{Fault, OutputFile};
 use list_terms::{Location, TextFault};
@@ -10,18 +12,20 @@ use sampletime::Rate;
 use std::fmt;
 use std::fmt::Display;
 use std::io::{Error, ErrorKind};
+use stores::Reason;
 
 /// How many bytes of a line at fault are shown, and of what stands at the fault.
 const SHOWN_BYTES: usize = 160;
 
 const STOOD_BYTES: usize = 60;
 
-/// What a command found where it refused: the line at fault, a file that the place doesn't name, what the system said,
-/// and what is unfinished.
+/// What a command found where it refused: the line at fault, a file that the place doesn't name, what lies in a folder,
+/// what the system said, and what is unfinished.
 #[derive(Clone, Copy)]
 struct Findings<'a> {
     line: Option<LineAtFault<'a>>,
     file: Option<&'a str>,
+    inside: Option<&'a str>,
     reason: Option<Error>,
     unfinished: Option<Unfinished>,
 }
@@ -40,8 +44,8 @@ impl<'a> Explanation<'a> {
     pub fn of(
         fault: &'a Fault,
         list: &'a [u8],
-        source: Option<Error>,
-        output: Option<Error>,
+        source: Option<Reason>,
+        output: Option<Reason>,
     ) -> Explanation<'a> {
         Explanation {
             number: fault.number(),
@@ -50,12 +54,21 @@ impl<'a> Explanation<'a> {
         }
     }
 
-    /// The explanation of a refusal that names a file or nothing, with what the system said.
-    pub fn by(number: u8, reason: Option<Error>) -> Explanation<'a> {
+    /// The explanation of a refusal that names a file or nothing, with what the system said, or the name of something
+    /// that lies in a folder which isn't empty.
+    pub fn by(number: u8, reason: Option<Error>, inside: Option<&'a str>) -> Explanation<'a> {
         Explanation {
             number,
             spot: Spot::File,
-            findings: Findings::by(reason),
+            findings: Findings::by(reason, inside),
+        }
+    }
+
+    /// What to do: by what the system said, or else by the number.
+    fn remedy(&self, meaning: Meaning) -> &'static str {
+        match self.findings.reason {
+            Some(error) => remedy_by(self.number, error.kind()).unwrap_or(meaning.remedy),
+            None => meaning.remedy,
         }
     }
 }
@@ -88,11 +101,12 @@ pub fn further_meaning(fault: &opening::Fault) -> Option<&'static str> {
 }
 
 impl<'a> Findings<'a> {
-    /// Nothing but what the system said.
-    fn by(reason: Option<Error>) -> Findings<'a> {
+    /// Nothing but what the system said, and what lies in a folder.
+    fn by(reason: Option<Error>, inside: Option<&'a str>) -> Findings<'a> {
         Findings {
             line: None,
             file: None,
+            inside,
             reason,
             unfinished: None,
         }
@@ -102,8 +116,8 @@ impl<'a> Findings<'a> {
     fn of(
         fault: &'a Fault,
         list: &'a [u8],
-        source: Option<Error>,
-        output: Option<Error>,
+        source: Option<Reason>,
+        output: Option<Reason>,
     ) -> Findings<'a> {
         Findings {
             line: line_at_fault(fault, list),
@@ -111,23 +125,31 @@ impl<'a> Findings<'a> {
                 Fault::Silence { name } => Some(name.as_str()),
                 _ => None,
             },
-            reason: match fault {
-                Fault::Project(opening::Fault::Media { .. }) | Fault::Silence { .. } => source,
-                Fault::GivenUp { .. } => source.or(output),
-                Fault::Output(_) => output,
-                _ => None,
-            },
+            inside: None,
+            reason: reason_of(fault, source, output).map(|reason| reason.error),
             unfinished: unfinished_after(fault, output),
         }
     }
 }
 
-/// A line of the list, what stands in it at the fault, and the list's rate, where a time's frame passes it.
+/// What the system said of the source or the output at which a call failed.
+fn reason_of(fault: &Fault, source: Option<Reason>, output: Option<Reason>) -> Option<Reason> {
+    match fault {
+        Fault::Project(opening::Fault::Media { .. }) | Fault::Silence { .. } => source,
+        Fault::GivenUp { .. } => source.or(output),
+        Fault::Output(_) => output,
+        _ => None,
+    }
+}
+
+/// A line of the list, what stands in it at the fault, the list's rate where a time's frame passes it, and what else
+/// helps there.
 #[derive(Clone, Copy)]
 struct LineAtFault<'a> {
     line: &'a [u8],
     stood: Stood<'a>,
     passed: Option<Rate>,
+    hint: Option<&'static str>,
 }
 
 /// The line at which the fault stands.
@@ -148,10 +170,12 @@ fn line_at_fault<'a>(fault: &Fault, list: &'a [u8]) -> Option<LineAtFault<'a>> {
     } else {
         None
     };
+    let hint = hint_at(*fault, stood.text, list);
     Some(LineAtFault {
         line,
         stood,
         passed,
+        hint,
     })
 }
 
@@ -166,16 +190,19 @@ fn passes(time: &[u8], rate: Rate) -> bool {
     }
 }
 
-/// What the fault leaves unfinished. A file that was there already isn't the program's.
-fn unfinished_after(fault: &Fault, output: Option<Error>) -> Option<Unfinished> {
+/// What the fault leaves unfinished. An output that wasn't made, or is gone, isn't there.
+fn unfinished_after(fault: &Fault, output: Option<Reason>) -> Option<Unfinished> {
     match fault {
         Fault::GivenUp { .. } => Some(Unfinished::Whole),
-        Fault::Output(file) => match output {
-            Some(error) if error.kind() == ErrorKind::AlreadyExists => None,
-            _ => Some(Unfinished::File(*file)),
-        },
+        Fault::Output(_) if output.is_some_and(|reason| !is_left(reason)) => None,
+        Fault::Output(file) => Some(Unfinished::File(*file)),
         _ => None,
     }
+}
+
+/// Whether an output is there after it failed for this reason.
+fn is_left(reason: Reason) -> bool {
+    reason.has_file && reason.error.kind() != ErrorKind::NotFound
 }
 
 /// The line of this number, counted from 1, without its end.
@@ -202,7 +229,7 @@ impl fmt::Display for Explanation<'_> {
         }
         self.findings.fmt(f)?;
         if let Some(meaning) = meaning {
-            write!(f, "; {}", meaning.remedy)?;
+            write!(f, "; {}", self.remedy(meaning))?;
         }
         write!(f, " (adlcons explain {number})")
     }
@@ -217,8 +244,13 @@ impl fmt::Display for Findings<'_> {
             let name = PrintedName(file);
             write!(f, "; the file is: {name}")?;
         }
+        if let Some(name) = self.inside {
+            let name = PrintedName(name);
+            write!(f, "; in it lies: {name}")?;
+        }
         if let Some(reason) = self.reason {
-            write!(f, "; the system says: {reason}")?;
+            let word = SystemWord(reason);
+            write!(f, "; {word}")?;
         }
         match self.unfinished {
             Some(Unfinished::File(file)) => write!(f, "; unfinished in the output: {file}"),
@@ -242,19 +274,24 @@ impl fmt::Display for LineAtFault<'_> {
             write!(f, "; the list has {frames} frames a second")?;
         }
         let line = Shown(self.line, SHOWN_BYTES);
-        write!(f, "; the line is: {line}")
+        write!(f, "; the line is: {line}")?;
+        match self.hint {
+            Some(hint) => write!(f, "; {hint}"),
+            None => Ok(()),
+        }
     }
 }
 
-/// The first bytes of a text, so many: printing ASCII as it stands, all else as percent escapes.
+/// The first bytes of a text, so many: printing ASCII as it stands, a tab as a blank, all else as percent escapes.
 #[derive(Clone, Copy)]
-struct Shown<'a>(&'a [u8], usize);
+pub struct Shown<'a>(pub &'a [u8], pub usize);
 
 impl fmt::Display for Shown<'_> {
     fn fmt<W: fmt::Write>(&self, f: &mut fmt::Formatter<W>) -> fmt::Result {
         for byte in self.0.iter().take(self.1) {
             match *byte {
                 b' '..=b'~' => write!(f, "{}", char::from(*byte))?,
+                b'\t' => f.write_str(" ")?,
                 other => f.write_str(percent_encode_byte(other))?,
             }
         }

@@ -3,12 +3,16 @@
 
 mod column;
 mod explanation;
+mod hints;
 mod meanings;
 mod names;
 mod notices;
+mod passed_over;
+mod remedies;
 mod saved;
 
-pub use explanation::{Explanation, further_meaning};
+pub use explanation::{Explanation, Shown, further_meaning};
 pub use meanings::{Explained, NoSuchNumber, meanings_of};
 pub use notices::{ExplainedNotices, NOTICES, NoSuchNotice, NoticeMeaning, notice_meanings_of};
+pub use passed_over::PassedWords;
 pub use saved::Saved;

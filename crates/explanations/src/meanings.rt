@@ -405,8 +405,9 @@ pub static MEANINGS: [Meaning; 55] = [
         number: 58,
         spot: Spot::Nowhere,
         meaning: "nothing lies in the range",
-        cause: "no entry has a length, or the range ends before it starts",
-        remedy: "name a range with sound",
+        cause: "it ends where it starts or before; without --from and --to it goes from the first entry's start \
+                to the last one's end",
+        remedy: "name a range by --from and --to, or check the list's entries",
         is_answered: true,
     },
     Meaning {
@@ -421,7 +422,7 @@ pub static MEANINGS: [Meaning; 55] = [
         number: 61,
         spot: Spot::Nowhere,
         meaning: "a file would be too long",
-        cause: "its size doesn't fit the size field of RIFF, 4 GB",
+        cause: "its size doesn't fit 64 bits, which no list leads to",
         remedy: "render a shorter range, or split the list",
         is_answered: false,
     },
@@ -431,7 +432,7 @@ pub static MEANINGS: [Meaning; 55] = [
         meaning: "the output can't be written",
         cause: "the disk is full, the device failed, the folder may not be written, \
                 or a file of the name is there already",
-        remedy: "make room, and run again into an empty folder",
+        remedy: "make room or get permission to write there, and run again into an empty folder",
         is_answered: true,
     },
     Meaning {
@@ -533,7 +534,7 @@ impl fmt::Display for Meaning {
         if self.is_answered {
             Ok(())
         } else {
-            f.write_str("    This version doesn't answer it yet.\n")
+            f.write_str("    This version doesn't answer it.\n")
         }
     }
 }

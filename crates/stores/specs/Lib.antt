@@ -1,3 +1,4 @@
 pub mod FileName
 pub mod Folder
 pub mod Memory
+pub mod Zeros

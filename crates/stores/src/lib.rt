@@ -1,11 +1,13 @@
-//! Stores of files by name: in memory, whose calls fail where a test wants it, and in a folder.
+//! Stores of files by name: in memory, whose calls fail where a test wants it, of zeros, and in a folder.
 #![tactic(auto)]
 
 mod failures;
 mod folder;
 mod memory;
 mod reason;
+mod zeros;
 
 pub use folder::{FolderBench, FolderShelf, Overwrite};
 pub use memory::{MemoryBench, MemoryShelf};
-pub use reason::Reasons;
+pub use reason::{Reason, Reasons};
+pub use zeros::ZeroShelf;

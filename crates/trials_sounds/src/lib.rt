@@ -18,6 +18,8 @@ mod intervals;
 #[cfg(test)]
 mod kernels;
 #[cfg(test)]
+mod long_files;
+#[cfg(test)]
 mod pass_lists;
 #[cfg(test)]
 mod samples;

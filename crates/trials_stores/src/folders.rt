@@ -215,13 +215,39 @@ fn no_file_is_replaced(rt: HostRuntime) -> Result<(), Fail> {
     for name in ["A.wav", "in", "link.wav"] {
         assert_eq!(rt; bench.create(name), Err(DeviceFault), "{name}");
         let reason = bench.reason().ok_or("no reason")?;
-        assert!(rt; reason.kind() == ErrorKind::AlreadyExists, "{name}");
+        assert!(rt; reason.error.kind() == ErrorKind::AlreadyExists, "{name}");
+        assert!(rt; !reason.has_file, "{name}");
     }
     assert_eq!(rt;
         fs::read(&rt, "bench_never/A.wav")?.as_slice(),
         b"abcdef".as_slice()
     );
     fs::remove_dir_all(&rt, "bench_never")?;
+    Ok(())
+}
+
+/// Whether this output fails to be synced for this reason.
+fn fails_to_sync(bench: &mut (impl Bench + Reasons), name: &str, kind: ErrorKind) -> bool {
+    bench.sync(name) == Err(DeviceFault)
+        && bench
+            .reason()
+            .is_some_and(|reason| reason.error.kind() == kind && reason.has_file)
+}
+
+#[test]
+fn an_output_that_is_gone_or_changed_is_a_failure(rt: HostRuntime) -> Result<(), Fail> {
+    fresh_folder(&rt, "bench_gone")?;
+    let mut bench = FolderBench::new(rt.alloc(), &rt, "bench_gone", Overwrite::Never)?;
+    for name in ["A.wav", "B.wav", "C.wav"] {
+        bench.create(name)?;
+        bench.append(name, b"abc")?;
+    }
+    fs::remove_file(&rt, "bench_gone/A.wav")?;
+    fs::write(&rt, "bench_gone/B.wav", "abcd")?;
+    assert!(rt; fails_to_sync(&mut bench, "A.wav", ErrorKind::NotFound));
+    assert!(rt; fails_to_sync(&mut bench, "B.wav", ErrorKind::InvalidData));
+    assert_eq!(rt; bench.sync("C.wav"), Ok(()));
+    fs::remove_dir_all(&rt, "bench_gone")?;
     Ok(())
 }
 

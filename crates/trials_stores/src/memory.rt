@@ -6,7 +6,10 @@ ghost use Rattle.stores.specs.Memory.{IsPut};
 use shelf::{Bench, DeviceFault, Shelf, ShelfFault};
 use std::alloc::{AllocError, Global};
 use std::test::Fail;
-use stores::{MemoryBench, MemoryShelf};
+use stores::{MemoryBench, MemoryShelf, ZeroShelf};
+
+/// The length of a file that no memory holds.
+const LONG: u64 = 10_000_000_000_000;
 
 /// The four bytes from a place on.
 fn four_bytes<S: Shelf>(shelf: &mut S, name: &str, at: u64) -> Result<[u8; 4], ShelfFault>
@@ -84,6 +87,47 @@ fn chosen_calls_of_a_shelf_fail(rt: HostRuntime) -> Result<(), Fail> {
     }
     assert_eq!(rt; shelf.failures(), 2);
     assert_eq!(rt; four_bytes(&mut shelf, "A.wav", 0)?, [10, 11, 12, 13]);
+    Ok(())
+}
+
+/// A file of ten million million bytes, the first six 10 to 15.
+fn long_file(alloc: Global) -> Result<ZeroShelf, AllocError> {
+    let head = [10, 11, 12, 13, 14, 15].to_vec(alloc)?;
+    Ok(ZeroShelf::new(String::from_str(alloc, "A.wav")?, head, LONG))
+}
+
+#[test]
+fn zeros_lie_behind_the_first_bytes(rt: HostRuntime) -> Result<(), Fail> {
+    let mut shelf = long_file(rt.alloc())?;
+    assert_eq!(rt; shelf.length("A.wav")?, LONG);
+    for (at, want) in [
+        (0, [10, 11, 12, 13]),
+        (2, [12, 13, 14, 15]),
+        (4, [14, 15, 0, 0]),
+        (6, [0; 4]),
+        (LONG - 4, [0; 4]),
+    ] {
+        assert_eq!(rt; four_bytes(&mut shelf, "A.wav", at)?, want, "at {at}");
+    }
+    assert_eq!(rt; shelf.length("B.wav"), Err(ShelfFault::NotFound));
+    assert_eq!(rt; shelf.failures(), 0);
+    for (name, at) in [("B.wav", 0), ("A.wav", LONG - 3), ("A.wav", u64::MAX)] {
+        assert_eq!(rt;
+            four_bytes(&mut shelf, name, at),
+            Err(ShelfFault::Device),
+            "{name} at {at}"
+        );
+    }
+    assert_eq!(rt; shelf.failures(), 3);
+    Ok(())
+}
+
+#[test]
+fn a_head_longer_than_its_file_is_the_file(rt: HostRuntime) -> Result<(), Fail> {
+    let head = [1, 2, 3, 4, 5].to_vec(rt.alloc())?;
+    let mut shelf = ZeroShelf::new(String::from_str(rt.alloc(), "A.wav")?, head, 3);
+    assert_eq!(rt; shelf.length("A.wav")?, 5);
+    assert_eq!(rt; four_bytes(&mut shelf, "A.wav", 1)?, [2, 3, 4, 5]);
     Ok(())
 }
 

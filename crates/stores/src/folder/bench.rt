@@ -4,11 +4,10 @@ ghost use Rattle.stores.specs.Folder.{folder_named};
 
 use super::failures::Failures;
 use super::open_files::{Access, OpenFiles, Overwrite};
-use crate::reason::Reasons;
+use crate::reason::{Reason, Reasons};
 use shelf::{Bench, DeviceFault, ShelfFault};
 use std::alloc::{AllocError, Global};
 use std::fs::Files;
-use std::io;
 use std::marker::Model;
 use std::os::unix::fs::FileExt;
 
@@ -75,8 +74,10 @@ impl<R: Files + Drop> Reasons for FolderBench<R>
 where
     R::File: FileExt,
 {
-    fn reason(&self) -> Option<io::Error> {
-        self.failures.reason
+    fn reason(&self) -> Option<Reason> {
+        let error = self.failures.reason?;
+        let has_file = self.files.is_made();
+        Some(Reason { error, has_file })
     }
 }
 

@@ -52,6 +52,8 @@ where
     open_folder: Option<R::File>,
     /// Files were created since the folder was synced.
     has_new_names: bool,
+    /// The file of the last create was made.
+    is_made: bool,
     ghost few_open: { handles.cap ≡ OPEN_FILES },
 }
 
@@ -77,7 +79,13 @@ where
             handles: LruCache::new(alloc, NonZeroUsize::new(OPEN_FILES).unwrap())?,
             open_folder,
             has_new_names: false,
+            is_made: false,
         })
+    }
+
+    /// Whether the last create made its file.
+    pub fn is_made(&self) -> bool {
+        self.is_made
     }
 
     /// How many bytes the file has, or `None` where no file has the name.
@@ -112,10 +120,13 @@ where
     }
 
     /// Waits until the file is on the disk, and its name too if it is new, and closes it. A later call opens it again.
+    /// It fails where the name isn't that of a file of this length any more.
     pub fn sync(&mut self, name: &str) -> io::Result<()>
         ensures no_name { is_file_name name.now ≡ false → IsErr result }
     {
-        let outcome = self.handle_there(name)?.sync();
+        let handle = self.handle_there(name)?;
+        let length = handle.length();
+        let outcome = handle.sync();
         self.handles.pop(name);
         self.hold_folder();
         outcome?;
@@ -124,7 +135,18 @@ where
             self.sync_folder()?;
             self.has_new_names = false;
         }
-        Ok(())
+        self.require_whole(name, length)
+    }
+
+    /// Fails where the name isn't that of a file of this length.
+    fn require_whole(&self, name: &str, length: u64) -> io::Result<()> {
+        require_file_name(name)?;
+        let found = fs::symlink_metadata(&self.files, &self.path_of(name)?)?;
+        if found.is_file() && found.len() == length {
+            Ok(())
+        } else {
+            Err(Error::from(ErrorKind::InvalidData))
+        }
     }
 
     /// Opens the folder where it was closed, so that the next output has a handle in reserve again.
@@ -153,6 +175,7 @@ where
         require_file_name(name)?;
         self.handles.pop(name);
         self.has_new_names = true;
+        self.is_made = false;
         let path = self.path_of(name)?;
         let file = if self.access == Access::Write(Overwrite::Files) {
             self.open_emptied(&path)?
@@ -162,6 +185,7 @@ where
                 &path,
             )?
         };
+        self.is_made = true;
         self.keep(name, Handle::new(file, 0))
     }
 

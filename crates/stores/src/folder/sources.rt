@@ -7,11 +7,10 @@ ghost use Rattle.stores.specs.Folder.{folder_named};
 use super::failures::Failures;
 use super::name::is_file_name;
 use super::open_files::{Access, OpenFiles};
-use crate::reason::Reasons;
+use crate::reason::{Reason, Reasons};
 use shelf::{DeviceFault, Shelf, ShelfFault};
 use std::alloc::{AllocError, Global};
 use std::fs::Files;
-use std::io;
 use std::marker::Model;
 use std::os::unix::fs::FileExt;
 
@@ -78,8 +77,12 @@ impl<R: Files + Drop> Reasons for FolderShelf<R>
 where
     R::File: FileExt,
 {
-    fn reason(&self) -> Option<io::Error> {
-        self.failures.reason
+    fn reason(&self) -> Option<Reason> {
+        let error = self.failures.reason?;
+        Some(Reason {
+            error,
+            has_file: true,
+        })
     }
 }
 

@@ -1,0 +1,52 @@
+// What else helps at a fault of the text, by what stands there.
+use adltoken::starts_in_any_case;
+use list_terms::TextFault;
+use percent_encoding::percent_decode;
+
+/// What else helps where a list has this fault at this text.
+pub fn hint_at(fault: TextFault, stood: &[u8], list: &[u8]) -> Option<&'static str> {
+    if list.starts_with(b"\xff\xfe") || list.starts_with(b"\xfe\xff") {
+        return Some("the list is UTF-16: save it as UTF-8");
+    }
+    match fault {
+        TextFault::BadUrl => url_hint(stood),
+        _ => None,
+    }
+}
+
+/// What else is to be said of a URL that names no file.
+fn url_hint(stood: &[u8]) -> Option<&'static str> {
+    if stood.contains(&b'\\') {
+        return Some("it holds \\, but / parts folders");
+    }
+    if has_other_text(path_in(stood)?) {
+        return Some("the name of the file isn't UTF-8");
+    }
+    None
+}
+
+/// The path of a URL of the form that is read, behind its host.
+fn path_in(stood: &[u8]) -> Option<&[u8]> {
+    let url = stood.strip_prefix(b"\"").unwrap_or(stood);
+    let file = if starts_in_any_case(b"url:", url) {
+        url.get(4..)?
+    } else {
+        url
+    };
+    if !starts_in_any_case(b"file://", file) {
+        return None;
+    }
+    let place = file.get(7..)?;
+    let mut parts = place.splitn(2, |byte| *byte == b'/');
+    parts.next()?;
+    parts.next()
+}
+
+/// Whether the last component of a path that names no file can't be for another reason than that it isn't UTF-8.
+fn has_other_text(path: &[u8]) -> bool {
+    let Some(name) = path.split(|byte| *byte == b'/').last() else {
+        return false;
+    };
+    percent_decode(name).any(|byte| byte >= 0x80)
+        && percent_decode(name).all(|byte| byte != 0 && byte != b'/')
+}

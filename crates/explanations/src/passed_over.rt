@@ -1,0 +1,147 @@
+// Words of a list that are passed over though they may be meant to be heard.
+use crate::explanation::Shown;
+use adltoken::{Token, TokenKind, Tokens, is_same_name, trimmed};
+use std::fmt;
+
+/// How many lines are told.
+const MOST: usize = 20;
+
+/// How many fields an entry has, its keyword among them.
+const ENTRY_FIELDS: usize = 10;
+
+/// How many bytes of such a word are shown.
+const WORD_BYTES: usize = 60;
+
+/// The words of a list that are passed over though they may be meant to be heard, each in a line of its own: gain, pan
+/// and mute in TRACKLIST, a length of crossfades in SYSTEM that isn't zero, what stands behind the fields of an entry,
+/// and sections of levels, which are skipped. At most 20 are told, and how many more there are.
+#[derive(Clone, Copy)]
+pub struct PassedWords<'a>(pub &'a [u8]);
+
+impl fmt::Display for PassedWords<'_> {
+    fn fmt<W: fmt::Write>(&self, f: &mut fmt::Formatter<W>) -> fmt::Result {
+        let mut section: &[u8] = b"";
+        let mut count: usize = 0;
+        for (place, line) in self.0.split(|byte| *byte == b'\n').enumerate() {
+            let text = trimmed(line);
+            if is_same_name(text, b"</ADL>") {
+                break;
+            }
+            if let Some(word) = word_in(section, text) {
+                count = count.saturating_add(1);
+                if count <= MOST {
+                    let number = place.saturating_add(1);
+                    let word = Shown(word, WORD_BYTES);
+                    writeln!(f, "not honoured at line {number}: {word}")?;
+                }
+            }
+            section = section_behind(section, text);
+        }
+        match count.checked_sub(MOST) {
+            None | Some(0) => Ok(()),
+            Some(more) => writeln!(f, "and {more} more lines with what isn't honoured"),
+        }
+    }
+}
+
+/// The section in which the next line stands.
+fn section_behind<'a>(section: &'a [u8], text: &'a [u8]) -> &'a [u8] {
+    match named_by(text) {
+        Some(name) => name,
+        None if text.starts_with(b"</") => b"",
+        None => section,
+    }
+}
+
+/// The name of the section that a line opens.
+fn named_by(text: &[u8]) -> Option<&[u8]> {
+    if text.starts_with(b"</") {
+        return None;
+    }
+    text.strip_prefix(b"<")?.strip_suffix(b">")
+}
+
+/// The word of a line in this section that is passed over.
+fn word_in<'a>(section: &[u8], line: &'a [u8]) -> Option<&'a [u8]> {
+    if named_by(line).is_some_and(says_levels) {
+        return Some(line);
+    }
+    let sought = Sought::of(section, line)?;
+    let mut tokens = Tokens::new(line);
+    for place in 1..=line.len() {
+        match tokens.next_token() {
+            Ok(Some(token)) if sought.is_at(place, token) => return Some(token.text),
+            Ok(Some(_)) => {}
+            _ => return None,
+        }
+    }
+    None
+}
+
+/// Whether the name of a section that isn't known says levels.
+fn says_levels(name: &[u8]) -> bool {
+    name.windows(5)
+        .any(|part| part.eq_ignore_ascii_case(b"LEVEL"))
+        || name
+            .windows(6)
+            .any(|part| part.eq_ignore_ascii_case(b"VOLUME"))
+}
+
+/// What a line may have that is passed over.
+#[derive(Clone, Copy, PartialEq, Eq)]
+enum Sought {
+    TrackSetting,
+    CrossfadeLength,
+    BehindEntry,
+}
+
+impl Sought {
+    /// What a line of this section may have.
+    fn of(section: &[u8], line: &[u8]) -> Option<Sought> {
+        if is_same_name(section, b"TRACKLIST") {
+            Some(Sought::TrackSetting)
+        } else if is_same_name(section, b"SYSTEM") && begins_with(line, b"SYS_XFADE_LENGTH") {
+            Some(Sought::CrossfadeLength)
+        } else if is_same_name(section, b"EVENT_LIST") && begins_with(line, b"Entry") {
+            Some(Sought::BehindEntry)
+        } else {
+            None
+        }
+    }
+
+    /// Whether it stands at this place of the line, counted from 1.
+    fn is_at(self, place: usize, token: Token<'_>) -> bool {
+        match self {
+            Sought::TrackSetting => is_track_setting(token),
+            Sought::CrossfadeLength => place == 2 && !is_zero(token.content),
+            Sought::BehindEntry => place > ENTRY_FIELDS && !is_usual(token.content),
+        }
+    }
+}
+
+/// Whether a line begins with this keyword.
+fn begins_with(line: &[u8], keyword: &[u8]) -> bool {
+    match Tokens::new(line).next_token() {
+        Ok(Some(token)) => is_keyword(token, keyword),
+        _ => false,
+    }
+}
+
+fn is_keyword(token: Token<'_>, keyword: &[u8]) -> bool {
+    token.kind == TokenKind::Keyword && token.content.eq_ignore_ascii_case(keyword)
+}
+
+/// Whether this keyword says how loud a track is, or where.
+fn is_track_setting(token: Token<'_>) -> bool {
+    is_keyword(token, b"Mute") || is_keyword(token, b"Gain") || is_keyword(token, b"Pan")
+}
+
+/// Whether a time is zero, or none.
+fn is_zero(content: &[u8]) -> bool {
+    content.iter().all(|byte| !matches!(*byte, b'1'..=b'9'))
+}
+
+/// Whether this word behind an entry says nothing that is to be heard.
+fn is_usual(content: &[u8]) -> bool {
+    content == b"_".as_slice() || content.eq_ignore_ascii_case(b"R")
+}

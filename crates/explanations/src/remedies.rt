@@ -1,0 +1,81 @@
+// What to do about a refusal, by what the system said.
+use std::fmt;
+use std::io::{Error, ErrorKind};
+
+/// What the system said, or what it means that a store failed without a word of the system.
+#[derive(Clone, Copy)]
+pub struct SystemWord(pub Error);
+
+impl fmt::Display for SystemWord {
+    fn fmt<W: fmt::Write>(&self, f: &mut fmt::Formatter<W>) -> fmt::Result {
+        let error = self.0;
+        match (error.raw_os_error(), error.kind()) {
+            (None, ErrorKind::InvalidInput) => f.write_str("it isn't a plain file"),
+            (None, ErrorKind::InvalidData) => f.write_str("it was changed meanwhile"),
+            (None, ErrorKind::UnexpectedEof) => f.write_str("it is shorter than it was"),
+            _ => write!(f, "the system says: {error}"),
+        }
+    }
+}
+
+/// What to do about a refusal of this number where a call failed in this way; none where that says no more than the
+/// number.
+pub fn remedy_by(number: u8, kind: ErrorKind) -> Option<&'static str> {
+    match number {
+        20 => output_folder_remedy(kind),
+        21 => list_remedy(kind),
+        22 | 52 => source_remedy(kind),
+        62 => Some(output_remedy(kind)),
+        _ => None,
+    }
+}
+
+/// What to do about a folder that can't be listed.
+fn output_folder_remedy(kind: ErrorKind) -> Option<&'static str> {
+    match kind {
+        ErrorKind::NotFound => Some("make that folder first"),
+        ErrorKind::NotADirectory => Some("name a folder, which this isn't"),
+        ErrorKind::PermissionDenied => Some("get permission to list that folder, or name another"),
+        _ => None,
+    }
+}
+
+/// What to do about a list that can't be read.
+fn list_remedy(kind: ErrorKind) -> Option<&'static str> {
+    match kind {
+        ErrorKind::NotFound => Some("check the path"),
+        ErrorKind::IsADirectory => Some("name the list itself, not its folder"),
+        ErrorKind::PermissionDenied => Some("get permission to read it"),
+        _ => None,
+    }
+}
+
+/// What to do about a source that can't be read.
+fn source_remedy(kind: ErrorKind) -> Option<&'static str> {
+    match kind {
+        ErrorKind::PermissionDenied => Some("get permission to read it"),
+        ErrorKind::InvalidInput => Some("put a plain file there"),
+        ErrorKind::InvalidData | ErrorKind::UnexpectedEof => {
+            Some("leave the file alone while the command runs, and run again into an empty folder")
+        }
+        _ => None,
+    }
+}
+
+/// What to do about an output that can't be written.
+fn output_remedy(kind: ErrorKind) -> &'static str {
+    match kind {
+        ErrorKind::StorageFull | ErrorKind::QuotaExceeded => {
+            "make room, and run again into an empty folder"
+        }
+        ErrorKind::PermissionDenied =>
+            "get permission to write there, or name another empty folder",
+        ErrorKind::ReadOnlyFilesystem => "name an empty folder on a disk that may be written",
+        ErrorKind::FileTooLarge =>
+            "name an empty folder on a file system that takes such long files",
+        ErrorKind::AlreadyExists | ErrorKind::NotFound | ErrorKind::InvalidData => {
+            "run again into an empty folder that nothing else uses meanwhile"
+        }
+        _ => "check the device, and run again into an empty folder",
+    }
+}

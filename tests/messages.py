@@ -1,0 +1,237 @@
+"""What standard error says beside the lines of the output: it says what is so, and what to do about just that."""
+
+import os
+import subprocess
+import time
+
+import model
+from harness import LIST, MEDIA, OUT, TIMEOUT, Mismatch, Outcome, Scene, Suite, same, same_outcome, same_shape
+from progress import on_terminal
+from tables import FIRST_LIST, changed, wave
+
+MIDNIGHT = b"00.00.00.00/0000"
+NOBODY = 65_534
+MEDIA_FILES = {"A.wav": wave()}
+STORED_RUN = b"698 bytes: 1000 -1000 32767 -32768\n"
+
+
+def expect_said(got: Outcome, line: str, said: tuple, unsaid: tuple = ()) -> None:
+    """The refusal, and what its explanation says and doesn't say."""
+    same_outcome(got, 1, line)
+    for text in said:
+        if text not in got.error.decode():
+            raise Mismatch(f"{text!r} isn't said of {line!r}: {got.error!r}")
+    for text in unsaid:
+        if text in got.error.decode():
+            raise Mismatch(f"{text!r} is said of {line!r}: {got.error!r}")
+
+
+def said_of(text: bytes, line: str, *said: str):
+    """`check` refuses the list with this line, and says this of it."""
+    def body(scene: Scene) -> None:
+        scene.put(text, MEDIA_FILES)
+        expect_said(scene.run("check", LIST, MEDIA), line, said)
+    return body
+
+
+def with_url(url: bytes) -> bytes:
+    return FIRST_LIST.replace(b"URL:file://localhost/A.wav", url)
+
+
+def without_rights() -> None:
+    """Makes a process one of a user who owns nothing, where it may do that."""
+    if os.getuid() == 0:
+        os.setgroups([])
+        os.setgid(NOBODY)
+        os.setuid(NOBODY)
+
+
+def not_permitted(scene: Scene) -> None:
+    """The remedy follows the system's word, and nothing is called unfinished that isn't there."""
+    scene.put(FIRST_LIST, MEDIA_FILES)
+    (scene.folder / OUT).chmod(0o555)
+    for command, name in (("render", "render.wav"), ("consolidate", "M00001.wav")):
+        got = scene.run(command, LIST, MEDIA, OUT, preexec_fn=without_rights)
+        said = "; the system says: Permission denied (os error 13); get permission to write there, or name another empty folder "
+        expect_said(got, f"refused 62 at file {name}", (said,), ("unfinished", "make room"))
+        same("the output", scene.files(), {})
+    (scene.folder / OUT).chmod(0o755)
+    (scene.folder / MEDIA / "A.wav").chmod(0)
+    got = scene.run("check", LIST, MEDIA, preexec_fn=without_rights)
+    said = "; the system says: Permission denied (os error 13); get permission to read it "
+    expect_said(got, "refused 22 at index 1 file A.wav", (said,))
+    (scene.folder / LIST).chmod(0)
+    got = scene.run("check", LIST, MEDIA, preexec_fn=without_rights)
+    expect_said(got, f"refused 21 at file {LIST}", (said,))
+
+
+def no_plain_file(scene: Scene) -> None:
+    scene.put(FIRST_LIST)
+    for make in (os.mkdir, os.mkfifo):
+        path = scene.folder / MEDIA / "A.wav"
+        make(path)
+        got = scene.run("check", LIST, MEDIA)
+        expect_said(got, "refused 22 at index 1 file A.wav", ("; it isn't a plain file; put a plain file there ",))
+        path.rmdir() if path.is_dir() else path.unlink()
+
+
+def in_the_output(scene: Scene) -> None:
+    """What is in an output that isn't empty is named; one that isn't there or is none is to be made or named."""
+    scene.put(FIRST_LIST, MEDIA_FILES)
+    (scene.folder / OUT / "lost+\nfound").mkdir()
+    got = scene.run("render", LIST, MEDIA, OUT)
+    expect_said(got, f"refused 20 at file {OUT}", ("; in it lies: lost+%0Afound; make an empty folder and name that ",))
+    for name, said in (("none", "; make that folder first "), (LIST, "; name a folder, which this isn't ")):
+        expect_said(scene.run("render", LIST, MEDIA, name), f"refused 20 at file {name}", (said,), ("in it lies",))
+
+
+def gone_meanwhile(scene: Scene) -> None:
+    """An output that is taken away, or changed, while the command is at work is 62."""
+    entries = [model.entry_line(1, 1, MIDNIGHT, MIDNIGHT, model.time_text(4)),
+               model.entry_line(2, 1, MIDNIGHT, model.time_text(400_000_000), model.time_text(400_000_004))]
+    scene.put(model.list_text([model.source_line(1, "A.wav", MIDNIGHT)], entries), MEDIA_FILES)
+    path = scene.folder / OUT / "render.wav"
+
+    def replace() -> None:
+        path.unlink()
+        path.write_bytes(b"another file")
+
+    for meddle, said, unsaid in (
+        (path.unlink, "; the system says: No such file or directory (os error 2); run again", "unfinished"),
+        (replace, "; it was changed meanwhile; unfinished in the output", "system"),
+    ):
+        with subprocess.Popen(
+                [scene.program, "render", LIST, MEDIA, OUT, "--depth", "16"], cwd=scene.folder,
+                stdout=subprocess.PIPE, stderr=subprocess.PIPE) as process:
+            end = time.monotonic() + TIMEOUT
+            while not path.exists() and time.monotonic() < end:
+                time.sleep(0.001)
+            meddle()
+            output, error = process.communicate(timeout=TIMEOUT)
+        got = Outcome(process.returncode, output, error)
+        expect_said(got, "refused 62 at file render.wav", (said,), (unsaid,))
+        scene.empty_out()
+
+
+def current_folder(scene: Scene) -> None:
+    """An empty name of the media is the current folder, which can be read."""
+    scene.put(FIRST_LIST)
+    (scene.folder / "A.wav").write_bytes(wave())
+    same_outcome(scene.run("check", LIST, ""), 0, "accepted 1 entries 1 indexes")
+
+
+def empty_ranges(scene: Scene) -> None:
+    """An empty range is refused, whatever the list has; one with silence alone is rendered."""
+    texts = model.list_text([], []), FIRST_LIST
+    said = ("; name a range by --from and --to, or check the list's entries ",)
+    for text, words in (
+        (texts[0], ()), (texts[0], ("--from", "01.00.00.00/0000")),
+        (texts[1], ("--from", "02.00.00.00/0000")), (texts[1], ("--to", "01.00.00.00/0000")),
+    ):
+        scene.put(text, MEDIA_FILES)
+        expect_said(scene.run("render", LIST, MEDIA, OUT, *words), "refused 58", said, ("no entry has a length",))
+    silent = "--from", "02.00.00.00/0000", "--to", "02.00.00.00/0010"
+    same_outcome(scene.run("render", LIST, MEDIA, OUT, *silent), 0, "rendered 10 frames 1 channels")
+
+
+def words_that_fail(scene: Scene) -> None:
+    """A word that isn't UTF-8 is named, a mistake names its option, and a bad time tells its form."""
+    scene.put(FIRST_LIST, MEDIA_FILES)
+    got = scene.run("check", LIST, b"M\xe9dia")
+    same("a word in Latin-1", got, Outcome(2, b"", b"error: word 3 isn't UTF-8: M%E9dia\n"))
+    for option, value, said in (
+        ("--depth", "24bit", b"a depth is 16, 24 or 32"), ("--channels", "65", b"there are 1 to 64 channels"),
+    ):
+        got = scene.run("render", LIST, MEDIA, OUT, option, value)
+        same(f"status and standard output of {option}", (got.status, got.output), (2, b""))
+        if not got.error.startswith(b"error: " + said + b"\n"):
+            raise Mismatch(f"{option} {value} is answered with {got.error!r}")
+    got = scene.run("render", LIST, MEDIA, OUT, "--from", "1 h")
+    same_shape("a bad time", got.error, r"bad time: --from\na time is hh\.mm\.ss\.ff/rrrr[^\n]*\n")
+
+
+def where_to_go_on(scene: Scene) -> None:
+    """Without words a terminal is told of help, and nothing else is."""
+    shown = on_terminal(scene, []).outcome
+    told = b"this was a stored example; 'adlcons --help' tells the commands\n"
+    same("what a terminal is told", shown, Outcome(0, STORED_RUN, told))
+    same("what a pipe is told", scene.run(), Outcome(0, STORED_RUN, b""))
+
+
+PASSED = FIRST_LIST.replace(b"<SEQUENCE>", b"""<TRACKLIST>
+(Track) 1 "Dialog (Mute)" _
+(Track) 2 "Music" (MUTE) (Gain) -6.0
+(Track) 3 "Atmos" (Pan) 0
+</TRACKLIST>
+<SYSTEM>
+(SYS_XFADE_LENGTH) 00.00.00.10/0000
+</SYSTEM>
+<LEVEL_LIST>
+(Level) 1 -12.0 dB
+</LEVEL_LIST>
+<SEQUENCE>""", 1).replace(b"01.00.00.00/0004\n", b"01.00.00.00/0004 _ MUTE\n")
+
+HONOURED = FIRST_LIST.replace(b"<SEQUENCE>", b"""<TRACKLIST>
+(Track) 1 Mute "Gain" Pan
+</TRACKLIST>
+<SYSTEM>
+(SYS_XFADE_LENGTH) 00.00.00.00/0000
+</SYSTEM>
+<SEQUENCE>""", 1).replace(b"01.00.00.00/0004\n", b"01.00.00.00/0004 _ R\n")
+
+
+def passed_over(scene: Scene) -> None:
+    """What may be meant to be heard and is passed over is told by its line, in every command that is done."""
+    told = "".join(f"not honoured at line {line}: {word}\n" for line, word in (
+        (4, "(MUTE)"), (5, "(Pan)"), (8, "(SYS_XFADE_LENGTH)"), (10, "<LEVEL_LIST>"), (21, "MUTE")))
+    told = told.replace("(SYS_XFADE_LENGTH)", "00.00.00.10/0000")
+    for text, wanted in ((PASSED, told), (HONOURED, "")):
+        scene.put(text, MEDIA_FILES)
+        for words in (("check", LIST, MEDIA), ("render", LIST, MEDIA, OUT), ("consolidate", LIST, MEDIA, OUT)):
+            got = scene.run(*words)
+            same(f"the status of {words[0]}", got.status, 0)
+            same("what isn't honoured", "".join(
+                line for line in got.error.decode().splitlines(keepends=True) if "honoured" in line), wanted)
+            scene.empty_out()
+
+
+def many_passed_over(scene: Scene) -> None:
+    """At most 20 of them are told, and how many more there are."""
+    for count, more in ((20, ""), (21, "and 1 more lines"), (50, "and 30 more lines")):
+        tracks = b"<TRACKLIST>\n" + b"(Mute)\n" * count + b"</TRACKLIST>\n<SEQUENCE>"
+        scene.put(FIRST_LIST.replace(b"<SEQUENCE>", tracks, 1), MEDIA_FILES)
+        got = scene.run("check", LIST, MEDIA)
+        same_outcome(got, 0, "accepted 1 entries 1 indexes")
+        same("the lines", got.error.count(b"not honoured at line "), min(count, 20))
+        same(f"whether {more!r} is told", more.encode() in got.error, True)
+
+
+OF_LISTS = {
+    "a name in Latin-1": (
+        with_url(b"URL:file://localhost/%E9.wav"), "refused 09 at line 7 index 1",
+        "; the name of the file isn't UTF-8; name the file"),
+    "a path with backslashes": (
+        with_url(rb"URL:file:\\C\A.wav"), "refused 09 at line 7 index 1", "; it holds \\, but / parts folders; name"),
+    "a name of dots": (
+        with_url(b"URL:file://localhost/.."), "refused 09 at line 7 index 1",
+        '; the line is: (Index) 0001 (F) "URL:file://localhost/.." _ 00.00.00.00/0000 _; name the file'),
+    "a list of UTF-16": (
+        FIRST_LIST.decode().encode("utf-16"), "refused 03 at line 1", "; the list is UTF-16: save it as UTF-8;"),
+    "a line with tabs": (
+        changed(10, b"(Entry)\t0001\t(Cut)\tI"), "refused 10 at line 10 entry 1", "; the line is: (Entry) 0001 (Cut) I;"),
+}
+
+
+def run(suite: Suite) -> None:
+    for name, (text, line, said) in OF_LISTS.items():
+        suite.case(f"said of {name}", said_of(text, line, said))
+    suite.case("said of what isn't permitted", not_permitted)
+    suite.case("said of what is no plain file", no_plain_file)
+    suite.case("said of what is in the output", in_the_output)
+    suite.case("an output that is gone or changed", gone_meanwhile)
+    suite.case("an empty name of the media", current_folder)
+    suite.case("said of empty ranges", empty_ranges)
+    suite.case("said of words that fail", words_that_fail)
+    suite.case("said without words", where_to_go_on)
+    suite.case("what isn't honoured", passed_over)
+    suite.case("much that isn't honoured", many_passed_over)
