@@ -1,6 +1,6 @@
 -- The jobs of a command, from what its parts leave.
-use Rattle.std.proofs.Common.{Bool, true, IsTrue, ◌≡◌, ◌∙◌, ℕ, ◌<◌, ◌≤◌, arith, length, false, Option, Some, None, Result, Ok, Err, List, sym, subst, refl}
-use Rattle.sound_terms.specs.Render.{ReadsBack, rendering_of}
+use Rattle.std.proofs.Common.{Bool, true, IsTrue, ◌≡◌, ◌∙◌, ℕ, ◌<◌, ◌≤◌, arith, length, false, Option, Some, None, Err, List, sym, subst, refl}
+use Rattle.sound_terms.specs.Render.{ReadsBack}
 use Rattle.work_terms.specs.Disk.{Files}
 use Rattle.job_terms.specs.Workers.{End, GivenUp, Jobs, jobs_over}
 use Rattle.list_terms.specs.Accepted.{OptionValues, range_of}

@@ -1,10 +1,7 @@
-use Rattle.std.proofs.Common.{◌≡◌, ◌∙◌, ◌≤◌, IsTrue, Option, None, Some, Ok, Err, List, ℕ, length, arith, ap, refl, subst, sym, rules}
+use Rattle.std.proofs.Common.{◌∙◌, IsTrue, None, Some, Err, length, arith, ap, refl, subst, sym}
 use Rattle.std.specs.Prelude.{codes, false}
-use Rattle.work_terms.specs.Disk.{Files}
 use Rattle.job_terms.specs.Workers.{GivenUp, jobs_over}
-use Rattle.consolidation.specs.Consolidated.{IsElsewhere}
 use Rattle.consolidation.specs.Jobs.{whole_of, work_of}
-use Rattle.consolidation.specs.Media.{IsNoMedium}
 use Rattle.schedule.specs.Ends.{ended_of}
 use Rattle.schedule.specs.Rounds.{RunsInRounds}
 use Rattle.schedule.specs.declared.fault.JobFault.{JobFault}
