@@ -27,6 +27,7 @@ refusal_of_opening (opened.List fault) list folder = refusal_of_read fault list
 refusal_of_opening (opened.Unlisted reason) list folder = early 20 (File folder)
 refusal_of_opening opened.NotEmpty list folder = early 20 (File folder)
 refusal_of_opening opened.Memory list folder = early 18 Nowhere
+refusal_of_opening opened.Passes list folder = early 51 Nowhere
 
 -- the command didn't come to its stores, and that is its line
 pub record IsKeptOut {O : Type 0} (out : console.Ghosts O) (list folder : List ℕ) (old new : O) (status : ℕ)
