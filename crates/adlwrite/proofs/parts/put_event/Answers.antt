@@ -11,7 +11,8 @@ pub returns-in_err-put_fade : goal.returns-in_err-put_fade
 unfolding event_text
 returns-in_err-put_fade g c =
     and_then g.B.Bench c.args.name.now c.in_ok-put_entry.ensures
-    (stopped g.B.Bench c.args.name.now _ _ c.from_residual-in_err-put_fade.result c.from_residual-in_err-put_fade.ensures.1 c.in_err-put_fade.ensures)
+    (stopped g.B.Bench c.args.name.now _ _ c.from_residual-in_err-put_fade.result
+    c.from_residual-in_err-put_fade.ensures.1 c.in_err-put_fade.ensures)
 
 pub returns : goal.returns
 unfolding event_text

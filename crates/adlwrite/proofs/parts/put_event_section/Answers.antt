@@ -11,7 +11,8 @@ pub returns-in_err-put_events : goal.returns-in_err-put_events
 unfolding event_section
 returns-in_err-put_events g c =
     and_then g.B.Bench c.args.name.now c.in_ok-put_opening.ensures
-    (stopped g.B.Bench c.args.name.now _ _ c.from_residual-in_err-put_events.result c.from_residual-in_err-put_events.ensures.1 c.in_err-put_events.ensures)
+    (stopped g.B.Bench c.args.name.now _ _ c.from_residual-in_err-put_events.result
+    c.from_residual-in_err-put_events.ensures.1 c.in_err-put_events.ensures)
 
 pub returns : goal.returns
 unfolding event_section

@@ -11,7 +11,8 @@ pub returns-in_err-put_sources : goal.returns-in_err-put_sources
 unfolding index_section
 returns-in_err-put_sources g c =
     and_then g.B.Bench c.args.name.now c.in_ok-put_opening.ensures
-    (stopped g.B.Bench c.args.name.now _ _ c.from_residual-in_err-put_sources.result c.from_residual-in_err-put_sources.ensures.1 c.in_err-put_sources.ensures)
+    (stopped g.B.Bench c.args.name.now _ _ c.from_residual-in_err-put_sources.result
+    c.from_residual-in_err-put_sources.ensures.1 c.in_err-put_sources.ensures)
 
 pub returns : goal.returns
 unfolding index_section

@@ -11,14 +11,16 @@ pub returns-in_err-put_head-clause-appends : goal.returns-in_err-put_head-clause
 unfolding list_text
 returns-in_err-put_head-clause-appends g c =
     and_then g.B.Bench c.args.name.now c.in_ok-put_start.ensures.appends
-    (stopped g.B.Bench c.args.name.now _ _ c.from_residual-in_err-put_head.result c.from_residual-in_err-put_head.ensures.1 c.in_err-put_head.ensures)
+    (stopped g.B.Bench c.args.name.now _ _ c.from_residual-in_err-put_head.result
+    c.from_residual-in_err-put_head.ensures.1 c.in_err-put_head.ensures)
 
 pub returns-in_err-put_index_section-clause-appends : goal.returns-in_err-put_index_section-clause-appends
 unfolding list_text
 returns-in_err-put_index_section-clause-appends g c =
     and_then g.B.Bench c.args.name.now c.in_ok-put_start.ensures.appends
     (and_then g.B.Bench c.args.name.now c.in_ok-put_head.ensures
-    (stopped g.B.Bench c.args.name.now _ _ c.from_residual-in_err-put_index_section.result c.from_residual-in_err-put_index_section.ensures.1 c.in_err-put_index_section.ensures))
+    (stopped g.B.Bench c.args.name.now _ _ c.from_residual-in_err-put_index_section.result
+    c.from_residual-in_err-put_index_section.ensures.1 c.in_err-put_index_section.ensures))
 
 pub returns-in_err-put_event_section-clause-appends : goal.returns-in_err-put_event_section-clause-appends
 unfolding list_text
@@ -26,7 +28,8 @@ returns-in_err-put_event_section-clause-appends g c =
     and_then g.B.Bench c.args.name.now c.in_ok-put_start.ensures.appends
     (and_then g.B.Bench c.args.name.now c.in_ok-put_head.ensures
     (and_then g.B.Bench c.args.name.now c.in_ok-put_index_section.ensures
-    (stopped g.B.Bench c.args.name.now _ _ c.from_residual-in_err-put_event_section.result c.from_residual-in_err-put_event_section.ensures.1 c.in_err-put_event_section.ensures)))
+    (stopped g.B.Bench c.args.name.now _ _ c.from_residual-in_err-put_event_section.result
+    c.from_residual-in_err-put_event_section.ensures.1 c.in_err-put_event_section.ensures)))
 
 pub returns-clause-appends : goal.returns-clause-appends
 unfolding list_text

@@ -11,7 +11,8 @@ pub returns-in_err-put_lines : goal.returns-in_err-put_lines
 unfolding section_text
 returns-in_err-put_lines g c =
     and_then g.B.Bench c.args.name.now c.in_ok-put_opening.ensures
-    (stopped g.B.Bench c.args.name.now _ _ c.from_residual-in_err-put_lines.result c.from_residual-in_err-put_lines.ensures.1 c.in_err-put_lines.ensures)
+    (stopped g.B.Bench c.args.name.now _ _ c.from_residual-in_err-put_lines.result
+    c.from_residual-in_err-put_lines.ensures.1 c.in_err-put_lines.ensures)
 
 pub returns : goal.returns
 unfolding section_text

@@ -11,7 +11,8 @@ pub returns-in_err-put_file : goal.returns-in_err-put_file
 unfolding source_text
 returns-in_err-put_file g c =
     and_then g.B.Bench c.args.name.now c.in_ok-put_index.ensures
-    (stopped g.B.Bench c.args.name.now _ _ c.from_residual-in_err-put_file.result c.from_residual-in_err-put_file.ensures.1 c.in_err-put_file.ensures)
+    (stopped g.B.Bench c.args.name.now _ _ c.from_residual-in_err-put_file.result
+    c.from_residual-in_err-put_file.ensures.1 c.in_err-put_file.ensures)
 
 pub returns : goal.returns
 unfolding source_text
