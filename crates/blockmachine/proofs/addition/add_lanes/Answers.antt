@@ -9,7 +9,7 @@ use Rattle.sound_terms.specs.Mix.{full_scale, share_of}
 use Rattle.sound_terms.specs.Blocks.{held}
 use Rattle.blockmachine.specs.Sums.{HasAddedTo}
 use Rattle.blockmachine.proofs.Added.{added_more, flat_share}
-use Rattle.blockmachine.proofs.adding.add_lanes.Goals as goal
+use Rattle.blockmachine.proofs.addition.add_lanes.Goals as goal
 
 pub loop-sums-preserved : goal.loop-sums-preserved
 loop-sums-preserved c =

@@ -1,7 +1,7 @@
 use Rattle.std.proofs.Common.{◌-◌, ◌≤◌, length}
 use Rattle.sound_terms.specs.Depth.{bits_of}
 use Rattle.blockmachine.specs.Sums.{HasAddedTo}
-use Rattle.blockmachine.proofs.adding.add_lanes.Given as goal
+use Rattle.blockmachine.proofs.addition.add_lanes.Given as goal
 
 abbrev pub invariant-loop-sums : goal.invariant-loop-sums
 invariant-loop-sums l = record {

@@ -7,7 +7,7 @@ use Rattle.sound_terms.specs.Depth.{bits_of}
 use Rattle.sound_terms.specs.Blocks.{held}
 use Rattle.blockmachine.proofs.Added.{added_more, flat_share}
 use Rattle.blockmachine.proofs.Bounds.{run_grown}
-use Rattle.blockmachine.proofs.adding.add_flat.Goals as goal
+use Rattle.blockmachine.proofs.addition.add_flat.Goals as goal
 
 pub loop-i-preserved : goal.loop-i-preserved
 loop-i-preserved c =
