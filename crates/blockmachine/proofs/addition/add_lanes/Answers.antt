@@ -39,8 +39,8 @@ loop-sums-preserved c =
     ∙ ap (λ z. held (get_or sums n (pos 0) +ℤ z)) (c.full_sample-low.ensures.value ∙ sym (flat_share _)) in
     let later = to_z-of_z w64 (get_or all 1 (pos 0)) other_fits ∙ ap (λ (l : List ℤ). get_or l 1 (pos 0)) told
     ∙ ap (λ z. held (get_or sums (n + 1) (pos 0) +ℤ z)) (c.full_sample-high.ensures.value ∙ sym (flat_share _))
-    ∙ ap (λ z. held (z
-    +ℤ share_of (full_scale bits (get_or samples (n + 1) (pos 0))) (1, 1))) (sym (get_or-set_other sums n (n + 1) first (pos 0) (λ same. absurd (omega arith)))) in
+    ∙ ap (λ z. held (z +ℤ share_of (full_scale bits (get_or samples (n + 1) (pos 0))) (1, 1)))
+    (sym (get_or-set_other sums n (n + 1) first (pos 0) (λ same. absurd (omega arith)))) in
     let one : HasAddedTo (n + 1) (1, 1) bits samples c.args.sums.now (set sums n first) =
     added_more n (1, 1) bits samples c.args.sums.now sums first (omega arith) c.loop-sums.invariant.added value in
     let two : HasAddedTo (n + 1 + 1) (1, 1) bits samples c.args.sums.now (set (set sums n first) (n + 1) second) =
