@@ -4,6 +4,7 @@ pub mod Bounds
 pub mod Emitted
 pub mod Fits
 pub mod Full
+pub mod Lanes
 pub mod Played
 pub mod Ran
 pub mod Filled

@@ -1,15 +1,15 @@
 //! The machine that runs the program of a block: it reads what the program plays, sums it, and hands out samples.
 #![tactic(auto)]
 
-mod adding;
+mod addition;
 mod alone;
 mod buffer;
-mod emitting;
 mod fault;
 mod frames;
 mod machine;
-mod playing;
+mod output;
 mod slope;
+mod stretches;
 mod sums;
 
 pub use fault::MachineFault;

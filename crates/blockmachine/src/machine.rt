@@ -15,7 +15,7 @@ ghost use Rattle.blockmachine.specs.Sums.{AreSums};
 use crate::MachineFault;
 use crate::alone::fills_alone;
 use crate::buffer::{Buffer, SAMPLES};
-use crate::playing::{add_stretch, read_part};
+use crate::stretches::{add_stretch, read_part};
 use crate::sums::Sums;
 use shelf::Shelf;
 use sound_terms::{Depth, Instruction};

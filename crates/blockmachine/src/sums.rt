@@ -4,9 +4,9 @@ ghost use Rattle.sound_terms.specs.Depth.{bits_of};
 ghost use Rattle.sound_terms.specs.Blocks.{FitsBlock, block_samples};
 ghost use Rattle.blockmachine.specs.Sums.{AreSums, BlockSums, HasPlayed};
 
-use crate::adding::add_played;
-use crate::emitting::emit;
+use crate::addition::add_played;
 use crate::frames::Played;
+use crate::output::emit;
 use sound_terms::Depth;
 use std::alloc::{AllocError, Global};
 use std::marker::Model;

@@ -2,7 +2,7 @@ use Rattle.std.proofs.Common.{◌≡◌, ℕ, ◌<◌, get_or}
 use Rattle.std.specs.Prelude.{pos}
 use Rattle.sound_terms.specs.Depth.{bits_of}
 use Rattle.sound_terms.specs.Mix.{quantized}
-use Rattle.blockmachine.proofs.emitting.emit_at.Given as goal
+use Rattle.blockmachine.proofs.output.emit_at.Given as goal
 
 abbrev pub invariant-loop-k : goal.invariant-loop-k
 invariant-loop-k l = (k : ℕ) → k < l.k → get_or l.out k (pos 0) ≡ quantized (bits_of l.depth) (get_or l.sums k (pos 0))

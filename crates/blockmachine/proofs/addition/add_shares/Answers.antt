@@ -7,7 +7,7 @@ use Rattle.sound_terms.specs.Depth.{bits_of}
 use Rattle.sound_terms.specs.Blocks.{held}
 use Rattle.blockmachine.proofs.Added.{added_more}
 use Rattle.blockmachine.proofs.Bounds.{run_grown}
-use Rattle.blockmachine.proofs.adding.add_shares.Goals as goal
+use Rattle.blockmachine.proofs.addition.add_shares.Goals as goal
 
 pub loop-i-preserved : goal.loop-i-preserved
 loop-i-preserved c =

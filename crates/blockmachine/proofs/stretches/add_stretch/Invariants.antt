@@ -4,7 +4,7 @@ use Rattle.sound_terms.specs.Blocks.{sums_with, IsFull}
 use Rattle.list_terms.specs.Heard.{reading_by}
 use Rattle.shelf.specs.Frame.{IsQuiet}
 use Rattle.blockmachine.specs.Sums.{AreSums}
-use Rattle.blockmachine.proofs.playing.add_stretch.Given as goal
+use Rattle.blockmachine.proofs.stretches.add_stretch.Given as goal
 
 abbrev pub invariant-loop-done : goal.invariant-loop-done
 invariant-loop-done g l = record {

@@ -9,7 +9,7 @@ use Rattle.blockmachine.proofs.Added.{IsRun, no_sample, run_fits, run_more, ramp
 use Rattle.blockmachine.proofs.Bounds.{part_grown, within_more}
 use Rattle.blockmachine.proofs.Places.{get_or-part, kept_elsewhere}
 use Rattle.facts.specs.Parts.{length-put_mid}
-use Rattle.blockmachine.proofs.adding.add_rows.Goals as goal
+use Rattle.blockmachine.proofs.addition.add_rows.Goals as goal
 
 pub loop-i-preserved : goal.loop-i-preserved
 loop-i-preserved c =

@@ -1,6 +1,6 @@
 use Rattle.sound_terms.specs.Depth.{bits_of}
 use Rattle.blockmachine.specs.Sums.{HasAddedTo}
-use Rattle.blockmachine.proofs.adding.add_shares.Given as goal
+use Rattle.blockmachine.proofs.addition.add_shares.Given as goal
 
 abbrev pub invariant-loop-i : goal.invariant-loop-i
 invariant-loop-i l = HasAddedTo l.i (l.fade.num, l.fade.den) (bits_of l.depth) l.samples l.fn.sums l.sums

@@ -5,7 +5,7 @@ use Rattle.sound_terms.specs.Mix.{Reading}
 use Rattle.sound_terms.specs.Blocks.{sums_with}
 use Rattle.blockmachine.specs.Playing.{Plays}
 use Rattle.blockmachine.specs.Sums.{AreSums, HasGrown}
-use Rattle.blockmachine.proofs.adding.add_rows.Given as goal
+use Rattle.blockmachine.proofs.addition.add_rows.Given as goal
 
 abbrev pub invariant-loop-i : goal.invariant-loop-i
 invariant-loop-i l = record {

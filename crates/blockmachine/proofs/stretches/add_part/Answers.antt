@@ -7,7 +7,7 @@ use Rattle.sound_terms.specs.Mix.{Reading}
 use Rattle.pcm.specs.Samples.{FitsDepth}
 use Rattle.list_terms.specs.Heard.{reading_by}
 use Rattle.blockmachine.specs.Playing.{Plays}
-use Rattle.blockmachine.proofs.playing.add_part.Goals as goal
+use Rattle.blockmachine.proofs.stretches.add_part.Goals as goal
 
 pub returns-clause-added : goal.returns-clause-added
 returns-clause-added g c = λ honest before are.

@@ -9,7 +9,7 @@ use Rattle.blockmachine.specs.Playing.{Plays}
 use Rattle.blockmachine.proofs.Full.{full_frames}
 use Rattle.facts.specs.Tests.{some_there}
 use Rattle.blockmachine.proofs.Played.{device_of, plays_sound}
-use Rattle.blockmachine.proofs.playing.read_part.Goals as goal
+use Rattle.blockmachine.proofs.stretches.read_part.Goals as goal
 
 pub returns-in-Ok-clause-plays : goal.returns-in-Ok-clause-plays
 returns-in-Ok-clause-plays g c = λ honest facts there.

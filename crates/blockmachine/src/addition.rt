@@ -1,17 +1,18 @@
 // Frames of a stretch, added to sums.
-ghost use Rattle.std.specs.Prelude.{IsTrue, ◌≡◌, ◌+◌, ◌*◌, ◌^◌, ◌<◌, ◌≤◌, ℕ, ℤ, pos, neg_ℤ, ◌+ℤ◌, ◌≤ℤ◌, length, slice_index_or};
+ghost use Rattle.std.specs.Prelude.{IsTrue, ◌≡◌, ◌∷◌, [], ◌+◌, ◌*◌, ◌^◌, ◌<◌, ◌≤◌, ℕ, ℤ, pos, neg_ℤ, ◌+ℤ◌, ◌≤ℤ◌, length, slice_index_or};
 ghost use Rattle.std.specs.List.{All};
 ghost use Rattle.sound_terms.specs.declared.piece.Shape.TheVariants as shape;
 ghost use Rattle.sound_terms.specs.Depth.{bits_of};
 ghost use Rattle.sound_terms.specs.Mix.{full_scale};
 ghost use Rattle.sound_terms.specs.Blocks.{FitsBlock, held};
 ghost use Rattle.pcm.specs.Samples.{FitsDepth};
-ghost use Rattle.blockmachine.specs.Sums.{HasAdded, HasGrown, HasPlayed, IsWithin};
+ghost use Rattle.blockmachine.specs.Sums.{HasAdded, HasAddedTo, HasGrown, HasPlayed, IsWithin};
 
 use crate::frames::Played;
 use crate::slope::{Fade, Slope};
 use sound_terms::{Depth, Shape};
 use soundlaw::widen;
+use std::simd::prelude::*;
 
 /// A sum and a share more. What is small can't leave 64 bits.
 #[inline(always)]
@@ -38,7 +39,40 @@ fn full_sample(samples: &[i32], k: usize, depth: Depth) -> i64
     widen(samples[k], depth)
 }
 
-/// Adds samples to as many sums.
+/// Two small sums, each with a sample more.
+#[inline(always)]
+fn two_added(first: i64, second: i64, low: i64, high: i64) -> [i64; 2]
+    requires first { IsWithin 32766 first }
+    requires second { IsWithin 32766 second }
+    requires low { IsWithin 1 low }
+    requires high { IsWithin 1 high }
+    ensures { result ≡ held (first +ℤ low) ∷ held (second +ℤ high) ∷ [] }
+{
+    (i64x2::from_array([first, second]) + i64x2::from_array([low, high])).to_array()
+}
+
+/// Adds samples to small sums two at a time, as long as two are left; gives how many it added.
+#[inline(always)]
+fn add_lanes(samples: &[i32], depth: Depth, sums: &mut [i64]) -> usize
+    requires each { length samples.now ≡ length sums.old }
+    requires fit { All (FitsDepth (bits_of depth)) samples.now }
+    requires small { All (IsWithin 32766) sums.old }
+    ensures some { result ≤ length sums.new }
+    ensures added { HasAddedTo result (1, 1) (bits_of depth) samples.now sums.old sums.new }
+{
+    let mut done = 0;
+    while sums.len() - done >= 2 {
+        let low = full_sample(samples, done, depth);
+        let high = full_sample(samples, done + 1, depth);
+        let [first, second] = two_added(sums[done], sums[done + 1], low, high);
+        sums[done] = first;
+        sums[done + 1] = second;
+        done += 2;
+    }
+    done
+}
+
+/// Adds samples to as many sums: small ones in lanes as far as that goes, and then one by one.
 #[inline(always)]
 fn add_flat(samples: &[i32], depth: Depth, is_small: bool, sums: &mut [i64])
     requires each { length samples.now ≡ length sums.old }
@@ -47,9 +81,14 @@ fn add_flat(samples: &[i32], depth: Depth, is_small: bool, sums: &mut [i64])
     ensures added { HasAdded (1, 1) (bits_of depth) samples.now sums.old sums.new }
     ensures grown { HasGrown sums.old sums.new }
 {
-    for (i, sum) in sums.iter_mut().enumerate() {
+    let done = if is_small {
+        add_lanes(samples, depth, sums)
+    } else {
+        0
+    };
+    for i in done..sums.len() {
         let sample = full_sample(samples, i, depth);
-        *sum = added(*sum, sample, is_small);
+        sums[i] = added(sums[i], sample, is_small);
     }
 }
 

@@ -9,7 +9,7 @@ use Rattle.list_terms.specs.Heard.{reading_by}
 use Rattle.blockmachine.specs.Sums.{AreSums}
 use Rattle.blockmachine.proofs.Full.{full_more}
 use Rattle.blockmachine.proofs.Played.{part_more}
-use Rattle.blockmachine.proofs.playing.add_stretch.Goals as goal
+use Rattle.blockmachine.proofs.stretches.add_stretch.Goals as goal
 
 pub loop-done-preserved : goal.loop-done-preserved
 loop-done-preserved g c =

@@ -9,7 +9,7 @@ use Rattle.blockmachine.specs.Sums.{AreSums, HasAdded, IsWithin}
 use Rattle.blockmachine.proofs.Added.{IsRun, no_sample, run_fits, run_more}
 use Rattle.blockmachine.proofs.Bounds.{part_grown, within_more}
 use Rattle.blockmachine.proofs.Places.{get_or-part}
-use Rattle.blockmachine.proofs.adding.add_at.Goals as goal
+use Rattle.blockmachine.proofs.addition.add_at.Goals as goal
 
 pub slice_bounds-run-end : goal.slice_bounds-run-end
 slice_bounds-run-end c =

@@ -7,7 +7,7 @@ use Rattle.sound_terms.specs.Depth.{bits_of}
 use Rattle.sound_terms.specs.Blocks.{held}
 use Rattle.blockmachine.proofs.Added.{added_more, flat_share}
 use Rattle.blockmachine.proofs.Bounds.{run_grown}
-use Rattle.blockmachine.proofs.adding.add_flat.Goals as goal
+use Rattle.blockmachine.proofs.addition.add_flat.Goals as goal
 
 pub loop-i-preserved : goal.loop-i-preserved
 loop-i-preserved c =
@@ -43,6 +43,7 @@ returns-clause-added c = λ k below. c.loop-i.invariant.0 k (omega arith)
 
 pub returns-clause-grown : goal.returns-clause-grown
 returns-clause-grown c = λ m small.
+    let same : length c.loop-i.sums ≡ length c.args.sums.now = search rules in
     run_grown m 1 1 c.args.depth c.args.samples.now c.args.sums.now c.loop-i.sums
-    (c.requires.each ∙ sym c.loop-i.auto.sums) (sym c.loop-i.auto.sums) (omega arith) (omega arith)
+    (c.requires.each ∙ sym same) (sym same) (omega arith) (omega arith)
     c.requires.fit (returns-clause-added c) small

@@ -4,7 +4,7 @@ use Rattle.std.proofs.lemmas.Int.{to_z-of_z}
 use mir.Syntax.{w64}
 use mir.Val.{SFits}
 use Rattle.blockmachine.proofs.Bounds.{held_few, within_add}
-use Rattle.blockmachine.proofs.adding.added.Goals as goal
+use Rattle.blockmachine.proofs.addition.added.Goals as goal
 
 pub returns-then-is_small : goal.returns-then-is_small
 returns-then-is_small c =

@@ -1,0 +1,9 @@
+use Rattle.std.proofs.Common.{refl}
+use Rattle.blockmachine.proofs.Lanes.{lane_added}
+use Rattle.blockmachine.proofs.addition.two_added.Goals as goal
+
+pub returns : goal.returns
+returns c = rw (
+  lane_added c.args.first c.args.low c.requires.first c.requires.low,
+  lane_added c.args.second c.args.high c.requires.second c.requires.high,
+) refl
