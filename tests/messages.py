@@ -243,6 +243,17 @@ OF_LISTS = {
         '; the line is: (Index) 0001 (F) "URL:file://localhost/.." _ 00.00.00.00/0000 _; name the file'),
     "a list of UTF-16": (
         FIRST_LIST.decode().encode("utf-16"), "refused 03 at line 1", "; the list is UTF-16: save it as UTF-8;"),
+    "an index of another kind": (
+        FIRST_LIST.replace(b"(F)", b"(M)"), "refused 13 at line 7 index 1", "; of an index only (F) is read; export"),
+    "an entry of another kind": (
+        FIRST_LIST.replace(b"(Cut)", b"(Silence)"), "refused 13 at line 10 entry 1",
+        "; of an entry only (Cut) I is read; export"),
+    "a curve": (
+        FIRST_LIST.replace(b"</EVENT_LIST>", b"(Infade) 00.00.00.00/0001 COS\n</EVENT_LIST>"),
+        "refused 13 at line 11 entry 1", "; of curves only LIN is read; export"),
+    "a gain": (
+        FIRST_LIST.replace(b"</EVENT_LIST>", b"(Gain) _ _ -3.00\n</EVENT_LIST>"), "refused 13 at line 11 entry 1",
+        "; of gains only zero is read; export"),
     "a line with tabs": (
         changed(10, b"(Entry)\t0001\t(Cut)\tI"), "refused 10 at line 10 entry 1", "; the line is: (Entry) 0001 (Cut) I;"),
 }

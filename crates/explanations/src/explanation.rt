@@ -161,7 +161,7 @@ fn line_at_fault<'a>(fault: &Fault, list: &'a [u8]) -> Option<LineAtFault<'a>> {
     };
     let line = line_of(list, number)?;
     let stood = stood_in(line, *fault, rate_of(list));
-    let hint = hint_at(*fault, stood.text, list);
+    let hint = hint_at(*fault, stood.text, line, list);
     Some(LineAtFault { line, stood, hint })
 }
 
