@@ -5,7 +5,7 @@ import subprocess
 import time
 
 import model
-from harness import LIST, MEDIA, OUT, TIMEOUT, Mismatch, Outcome, Scene, Suite, same, same_outcome, same_shape
+from harness import LIST, MEDIA, OUT, TIMEOUT, Mismatch, Outcome, Scene, Suite, expect_refused, same, same_outcome, same_shape
 from progress import on_terminal
 from tables import FIRST_LIST, changed, wave
 
@@ -206,6 +206,32 @@ def many_passed_over(scene: Scene) -> None:
         same(f"whether {more!r} is told", more.encode() in got.error, True)
 
 
+def further_lines(scene: Scene) -> None:
+    """A check tells the further lines at fault, 20 of them and whether there are more, and nothing that only follows from
+    the line before."""
+    lines = FIRST_LIST.splitlines(keepends=True)
+    entry = lines[9]
+    fades = b"(Infade) 00.00.00.00/0001 COS _ _ _\n(Gain) _ _ -3.00\n"
+    faulty = [
+        entry.replace(b"(Cut)", b"(Silence)") + b"(Infade) 00.00.00.00/0001 LIN _ _ _\n",
+        entry.replace(b"0001 (Cut)", b"0002 (Cut)") + fades,
+        entry.replace(b"0001 (Cut)", b"0003 (Cut)").replace(b"1 1", b"1 99"),
+        entry.replace(b"0001 (Cut)", b"0004 (Cut)"),
+    ]
+    faders = b"<FADER_LIST>\n(Fader) 1\n(Fader) 2\n</FADER_LIST>\n"
+    text = b"".join((*lines[:9], *faulty, *lines[10:11], faders, *lines[11:]))
+    wanted = (
+        "also 13 at line 13 entry 2", "also 13 at line 14 entry 2", "also 8 at line 15 entry 3", "also 13 at line 19",
+        "also 13 at line 20")
+    same("what the model tells", model.answer("check", text, MEDIA_FILES).further, wanted)
+    expect_refused(scene, text, MEDIA_FILES, "refused 13 at line 10 entry 1")
+    for count, more in ((21, ()), (22, ("and more",)), (40, ("and more",))):
+        text = FIRST_LIST.replace(b"</ADL>", b"<FADER_LIST>\n" + b"(Fader) 1\n" * count + b"</FADER_LIST>\n</ADL>")
+        wanted = (*(f"also 13 at line {line}" for line in range(14, 34)), *more)
+        same("what the model tells", model.answer("check", text, MEDIA_FILES).further, wanted)
+        expect_refused(scene, text, MEDIA_FILES, "refused 13 at line 13")
+
+
 OF_LISTS = {
     "a name in Latin-1": (
         with_url(b"URL:file://localhost/%E9.wav"), "refused 09 at line 7 index 1",
@@ -217,6 +243,17 @@ OF_LISTS = {
         '; the line is: (Index) 0001 (F) "URL:file://localhost/.." _ 00.00.00.00/0000 _; name the file'),
     "a list of UTF-16": (
         FIRST_LIST.decode().encode("utf-16"), "refused 03 at line 1", "; the list is UTF-16: save it as UTF-8;"),
+    "an index of another kind": (
+        FIRST_LIST.replace(b"(F)", b"(M)"), "refused 13 at line 7 index 1", "; of an index only (F) is read; export"),
+    "an entry of another kind": (
+        FIRST_LIST.replace(b"(Cut)", b"(Silence)"), "refused 13 at line 10 entry 1",
+        "; of an entry only (Cut) I is read; export"),
+    "a curve": (
+        FIRST_LIST.replace(b"</EVENT_LIST>", b"(Infade) 00.00.00.00/0001 COS\n</EVENT_LIST>"),
+        "refused 13 at line 11 entry 1", "; of curves only LIN is read; export"),
+    "a gain": (
+        FIRST_LIST.replace(b"</EVENT_LIST>", b"(Gain) _ _ -3.00\n</EVENT_LIST>"), "refused 13 at line 11 entry 1",
+        "; of gains only zero is read; export"),
     "a line with tabs": (
         changed(10, b"(Entry)\t0001\t(Cut)\tI"), "refused 10 at line 10 entry 1", "; the line is: (Entry) 0001 (Cut) I;"),
 }
@@ -235,3 +272,4 @@ def run(suite: Suite) -> None:
     suite.case("said without words", where_to_go_on)
     suite.case("what isn't honoured", passed_over)
     suite.case("much that isn't honoured", many_passed_over)
+    suite.case("further lines at fault", further_lines)

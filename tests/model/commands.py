@@ -1,5 +1,6 @@
 """What each command answers for a list over its media."""
 
+import re
 from bisect import bisect_right
 from typing import NamedTuple, Optional
 
@@ -12,9 +13,14 @@ from .sounds import Sound, packed, written_sound
 from .spelling import project_text
 from .text import read_list
 from .times import time_value
+from .tokens import BadToken, tokens_of
 
 MOST_NUMBERED = 32_767
 MOST_FURTHER = 20
+
+# Faults of a line alone, and not of its section.
+OF_A_LINE = (1, 2, 6, 7, 8, 9, 10, 13, 14, 16, 17)
+UNSUPPORTED = 13
 
 
 class Options(NamedTuple):
@@ -170,12 +176,50 @@ def answer(command: str, text: bytes, media: dict, options: Options = STANDARD) 
         return Answer(1, str(refusal), {}, further=further_faults(text, media, refusal) if command == "check" else ())
 
 
+def is_entry(line: bytes) -> bool:
+    try:
+        token = next(tokens_of(line), None)
+    except BadToken:
+        return False
+    return token is not None and token.content.lower() == b"entry"
+
+
+def without_line(text: bytes, number: int) -> bytes:
+    """The list with this line emptied, and with those that are of it where it is an entry's."""
+    lines = text.split(b"\n")
+    end = number
+    if is_entry(lines[number - 1]):
+        while end < len(lines) and not is_entry(lines[end]) and not lines[end].lstrip(b" \t").startswith(b"<"):
+            end += 1
+    lines[number - 1:end] = [b""] * (end - number + 1)
+    return b"\n".join(lines)
+
+
+def further_lines(text: bytes, first: Refused) -> list:
+    """The faults of the list without the lines at fault before, as long as these are faults of lines alone: 21."""
+    faults = [first]
+    while len(faults) <= MOST_FURTHER + 1:
+        place = re.fullmatch(r" at line (\d+)( \w+ \d+)?", faults[-1].place)
+        if not place or faults[-1].number not in OF_A_LINE or not (place[2] or faults[-1].number == UNSUPPORTED):
+            break
+        text = without_line(text, int(place[1]))
+        try:
+            read_list(text)
+            break
+        except Refused as refusal:
+            faults.append(refusal)
+    return faults[1:]
+
+
 def further_faults(text: bytes, media: dict, first: Refused) -> tuple:
-    """Behind the fault of a file or an entry the others of that kind: 20, and how many more."""
+    """Behind the fault of a line, a file or an entry the others of that kind: 20, and how many more, or that there are
+    more lines."""
     try:
         project = read_list(text)
     except Refused:
-        return ()
+        faults = further_lines(text, first)
+        told = tuple(fault.further() for fault in faults[:MOST_FURTHER])
+        return (*told, "and more") if len(faults) > MOST_FURTHER else told
     try:
         bound = bind(project, media)
     except Refused:

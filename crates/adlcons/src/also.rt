@@ -1,7 +1,9 @@
 // What else is told of a list that is refused: its further faults, each in a line.
 ghost use Rattle.opening.specs.Further.{WasRead};
 
+use crate::further_lines::further_lines;
 use crate::refusal::put_project_place;
+use adlread::AdlFault;
 use console::{Console, put_counted};
 use consolidate::Fault;
 use explanations::further_meaning;
@@ -9,8 +11,11 @@ use opening::further_faults;
 use shelf::Shelf;
 use std::alloc::Global;
 
-/// Prints the further faults of a list that is refused by this first one, and how many more there are. Nothing is
-/// printed where they can't be found.
+/// How many further lines at fault are told.
+const MOST_LINES: usize = 20;
+
+/// Prints the further faults of a list that is refused by this first one, and how many more there are; of lines,
+/// whether there are more. Nothing is printed where they can't be found.
 pub fn tell_further<S: Shelf, E: Console>(
     alloc: Global,
     list: &[u8],
@@ -23,6 +28,10 @@ pub fn tell_further<S: Shelf, E: Console>(
     let Fault::Project(first) = first else {
         return;
     };
+    if let opening::Fault::List(first) = first {
+        tell_further_lines(alloc, list, *first, err);
+        return;
+    }
     let Ok(further) = further_faults(alloc, list, shelf, first) else {
         return;
     };
@@ -31,6 +40,19 @@ pub fn tell_further<S: Shelf, E: Console>(
     }
     if further.more > 0 {
         err.print_line(format_args!("and {} more", further.more));
+    }
+}
+
+/// Prints the further lines at fault of a list whose text is refused by this first one, and whether there are more.
+fn tell_further_lines<E: Console>(alloc: Global, list: &[u8], first: AdlFault, err: &mut E) {
+    let Ok(faults) = further_lines(alloc, list, first, MOST_LINES + 1) else {
+        return;
+    };
+    for fault in faults.iter().take(MOST_LINES) {
+        tell_also(alloc, &opening::Fault::List(*fault), err);
+    }
+    if faults.len() > MOST_LINES {
+        err.print_line("and more");
     }
 }
 

@@ -7,6 +7,7 @@ mod answer;
 mod chosen;
 mod example;
 mod folders;
+mod further_lines;
 mod meter;
 mod reading;
 mod refusal;

@@ -8,7 +8,7 @@ use std::str;
 
 /// What a line says, by its keyword.
 #[derive(Clone, Copy, Debug, PartialEq, Eq)]
-enum LineKind {
+pub enum LineKind {
     Index,
     Entry,
     Fade,
@@ -49,6 +49,14 @@ pub fn stood_in<'a>(line: &'a [u8], fault: TextFault, rate: Rate) -> Stood<'a>
     Stood {
         column: line.len().saturating_sub(text.len()).saturating_add(1),
         text,
+    }
+}
+
+/// What a line says, by its first token.
+pub fn kind_of_line(line: &[u8]) -> LineKind {
+    match Tokens::new(line).next_token() {
+        Ok(Some(token)) => kind_of(token.content),
+        _ => LineKind::Other,
     }
 }
 

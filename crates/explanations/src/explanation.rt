@@ -170,7 +170,7 @@ fn line_at_fault<'a>(fault: &Fault, list: &'a [u8]) -> Option<LineAtFault<'a>> {
     } else {
         None
     };
-    let hint = hint_at(*fault, stood.text, list);
+    let hint = hint_at(*fault, stood.text, line, list);
     Some(LineAtFault {
         line,
         stood,

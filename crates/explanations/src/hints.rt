@@ -1,16 +1,30 @@
 // What else helps at a fault of the text, by what stands there.
+use crate::column::{LineKind, kind_of_line};
 use adltoken::starts_in_any_case;
 use list_terms::TextFault;
 use percent_encoding::percent_decode;
 
-/// What else helps where a list has this fault at this text.
-pub fn hint_at(fault: TextFault, stood: &[u8], list: &[u8]) -> Option<&'static str> {
+/// What else helps where a list has this fault at this text of this line.
+pub fn hint_at(fault: TextFault, stood: &[u8], line: &[u8], list: &[u8]) -> Option<&'static str> {
     if list.starts_with(b"\xff\xfe") || list.starts_with(b"\xfe\xff") {
         return Some("the list is UTF-16: save it as UTF-8");
     }
     match fault {
         TextFault::BadUrl => url_hint(stood),
+        TextFault::Unsupported => form_read(kind_of_line(line)),
         _ => None,
+    }
+}
+
+/// What alone is read in a line that says this.
+fn form_read(kind: LineKind) -> Option<&'static str> {
+    match kind {
+        LineKind::Index => Some("of an index only (F) is read"),
+        LineKind::Entry => Some("of an entry only (Cut) I is read"),
+        LineKind::Fade => Some("of curves only LIN is read"),
+        LineKind::Gain => Some("of gains only zero is read"),
+        LineKind::Setting => Some("only zero is read there"),
+        LineKind::Other => None,
     }
 }
 
