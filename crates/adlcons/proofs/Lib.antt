@@ -1,2 +1,3 @@
-mod Requests
 mod Rates
+mod Requests
+pub mod Tables

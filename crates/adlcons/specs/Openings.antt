@@ -1,9 +1,7 @@
 -- Why a command doesn't come to its stores, and what it is to come to them.
-use Rattle.std.specs.Prelude.{◌≡◌, ℕ, true, false, List, Option, None, Some, Result}
-use Rattle.std.specs.declared.io.Error.{Error}
+use Rattle.std.specs.Prelude.{◌≡◌, ℕ, true, false, List, Result}
 use Rattle.work_terms.specs.Refusals.{Refusal, Where, Nowhere, File}
 use Rattle.shelf.specs.declared.source.Shelf as source
-use Rattle.shelf.specs.declared.bench.Bench as output
 use Rattle.stores.specs.Folder.{OutputFolder, SourceFolder, folder_named}
 use Rattle.stores.specs.declared.Overwrite.TheVariants as overwrite
 use Rattle.consolidate.specs.declared.Fault.{Fault}
@@ -29,6 +27,7 @@ refusal_of_opening (opened.List fault) list folder = refusal_of_read fault list
 refusal_of_opening (opened.Unlisted reason) list folder = early 20 (File folder)
 refusal_of_opening opened.NotEmpty list folder = early 20 (File folder)
 refusal_of_opening opened.Memory list folder = early 18 Nowhere
+refusal_of_opening opened.Passes list folder = early 51 Nowhere
 
 -- the command didn't come to its stores, and that is its line
 pub record IsKeptOut {O : Type 0} (out : console.Ghosts O) (list folder : List ℕ) (old new : O) (status : ℕ)

@@ -4,6 +4,9 @@ ghost use Rattle.clap.specs.Walk.{Text};
 ghost use Rattle.clap.specs.Words.{kind_of};
 ghost use Rattle.consolidate.specs.Commands.{IsConsolidation, IsRendering};
 ghost use Rattle.consolidate.specs.Fault.{refusal_of};
+ghost use Rattle.passes.specs.Left.{left_by};
+ghost use Rattle.passes.specs.Standard.{AreStandard};
+ghost use Rattle.sound_terms.specs.Passes.{standard_groups};
 ghost use Rattle.rendering.specs.Rendering as rendering;
 ghost use Rattle.rendering.specs.Rendering.{HaveChannels};
 ghost use Rattle.commandline.specs.CommandLine as asked;
@@ -26,6 +29,7 @@ use commandline::Request;
 use console::{Console, Counts};
 use consolidate::{Fault, Options, check_project, consolidate, render};
 use explanations::{Explanation, Saved, meanings_of, notice_meanings_of};
+use passes::Pass;
 use shelf::{Bench, Shelf};
 use std::alloc::Global;
 use stores::Reasons;
@@ -40,7 +44,8 @@ const REFUSED: u8 = 1;
 pub const MISTAKE: u8 = 2;
 
 /// Runs the command that is asked for over the list, the shelf and the bench, prints the notices and one line, and
-/// answers the status: 0 done, 1 refused, 2 where a time can't be read, which is told on `err`. A refusal is explained
+/// answers the status: 0 done, 1 refused, 2 where a time can't be read, which is told on `err`. A consolidation lets the
+/// passes go over the pieces of the entries. A refusal is explained
 /// there too, in a line of its own; behind that of a check stand the list's further faults. What numbers mean is printed
 /// on `out`, with 0, or with 2 where nothing has the number.
 #[tactic(auto, using(crate::proofs::Rates::answered_by))]
@@ -48,6 +53,7 @@ pub fn answer<S: Shelf + Reasons, B: Bench + Reasons, O: Console, E: Console, M:
     alloc: Global,
     request: Request<'_>,
     list: &[u8],
+    passes: Vec<Box<dyn Pass>>,
     shelf: &mut S,
     bench: &mut B,
     out: &mut O,
@@ -63,7 +69,14 @@ pub fn answer<S: Shelf + Reasons, B: Bench + Reasons, O: Console, E: Console, M:
         rendered_lines O.Console out.old out.new result }
     ensures consolidated { (place media target : Text) (handle : ℕ)
         → asked_of request.entry ≡ asked.Consolidate place media target handle
-        → IsAnswered (IsConsolidation S.Shelf B.Bench list.now handle shelf.old shelf.new bench.old bench.new)
+        → IsAnswered (IsConsolidation S.Shelf B.Bench
+        (left_by (λ pass. looking pass) (λ pass. gives pass) passes.items)
+        list.now handle shelf.old shelf.new bench.old bench.new)
+        written_lines O.Console out.old out.new result }
+    ensures standard { AreStandard (λ pass. looking pass) (λ pass. gives pass) passes.items
+        → (place media target : Text) (handle : ℕ)
+        → asked_of request.entry ≡ asked.Consolidate place media target handle → IsAnswered
+        (IsConsolidation S.Shelf B.Bench standard_groups list.now handle shelf.old shelf.new bench.old bench.new)
         written_lines O.Console out.old out.new result }
     // It names a time that can't be read.
     ensures bad_time { (place media target : Text) (chosen : asked.Chosen) (option : Text)
@@ -87,7 +100,7 @@ pub fn answer<S: Shelf + Reasons, B: Bench + Reasons, O: Console, E: Console, M:
             Err(bad) => refuse_time(bad, err),
         },
         Request::Consolidate(_, handle) => {
-            answer_consolidate(alloc, list, handle, shelf, bench, out, err, meter)
+            answer_consolidate(alloc, list, handle, passes, shelf, bench, out, err, meter)
         }
         Request::Explain(number) => explain(number, out, err),
         Request::ExplainNotice(number) => explain_notice(number, out, err),
@@ -179,18 +192,20 @@ fn answer_consolidate<S: Shelf + Reasons, B: Bench + Reasons, O: Console, E: Con
     alloc: Global,
     list: &[u8],
     handle: u64,
+    passes: Vec<Box<dyn Pass>>,
     shelf: &mut S,
     bench: &mut B,
     out: &mut O,
     err: &mut E,
     meter: &mut M,
 ) -> u8
-    ensures answered { IsAnswered
-        (IsConsolidation S.Shelf B.Bench list.now handle shelf.old shelf.new bench.old bench.new)
+    ensures answered { IsAnswered (IsConsolidation S.Shelf B.Bench
+        (left_by (λ pass. looking pass) (λ pass. gives pass) passes.items)
+        list.now handle shelf.old shelf.new bench.old bench.new)
         written_lines O.Console out.old out.new result }
     ensures statuses { result ≤ 1 }
 {
-    let outcome = consolidate(alloc, list, handle, shelf, bench, meter);
+    let outcome = consolidate(alloc, list, handle, passes, shelf, bench, meter);
     meter.clear();
     match outcome {
         Ok(written) => {

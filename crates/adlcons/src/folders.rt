@@ -6,14 +6,16 @@ ghost use Rattle.commandline.specs.CommandLine as asked;
 ghost use Rattle.commandline.specs.CommandLine.{asks_for_help, request_of};
 ghost use Rattle.commandline.specs.Request.{asked_of};
 ghost use Rattle.console.specs.Places.{where_of};
+ghost use Rattle.sound_terms.specs.Passes.{standard_groups};
 ghost use Rattle.adlcons.specs.Answers.{RendersBy, rendered_lines, written_lines};
 ghost use Rattle.adlcons.specs.Openings.{ChecksFolder, IsKeptOut, WorksInFolders, refusal_of_opening};
 
 use crate::answer::{MISTAKE, answer, answer_error, explain, explain_notice};
 use crate::meter::Meter;
 use crate::reading::{ReadFault, read_list};
+use crate::standard::answer_standard;
 use commandline::{Places, Request, parse};
-use console::{Console, Refusal, put_refusal};
+use console::{Console, Place, Refusal, put_refusal};
 use explanations::Explanation;
 use std::alloc::AllocError;
 use std::fs::Files;
@@ -32,6 +34,8 @@ pub enum OpenFault {
     NotEmpty,
     /// Out of memory for the stores.
     Memory,
+    /// Out of memory for the passes.
+    Passes,
 }
 
 impl OpenFault {
@@ -44,6 +48,10 @@ impl OpenFault {
             OpenFault::List(fault) => fault.refusal(list),
             OpenFault::Unlisted(_) | OpenFault::NotEmpty => Refusal::of_file(20, out),
             OpenFault::Memory => Refusal::MEMORY,
+            OpenFault::Passes => Refusal {
+                number: 51,
+                place: Place::Nowhere,
+            },
         }
     }
 
@@ -52,7 +60,7 @@ impl OpenFault {
         match self {
             OpenFault::List(fault) => fault.reason(),
             OpenFault::Unlisted(error) => Some(error),
-            OpenFault::NotEmpty | OpenFault::Memory => None,
+            OpenFault::NotEmpty | OpenFault::Memory | OpenFault::Passes => None,
         }
     }
 }
@@ -95,7 +103,8 @@ where
         → request_of (texts words.now) ≡ Some (asked.Consolidate list media target handle) → result ≢ 2
         → IsKeptOut O.Console list target out.old out.new result
         ⊎ WorksInFolders
-        (λ list. IsConsolidation ⟦<FolderShelf<R> as shelf::Shelf>⟧ ⟦<FolderBench<R> as shelf::Bench>⟧ list handle)
+        (λ list. IsConsolidation ⟦<FolderShelf<R> as shelf::Shelf>⟧ ⟦<FolderBench<R> as shelf::Bench>⟧ standard_groups
+        list handle)
         written_lines O.Console media target out.old out.new result }
     ensures statuses { result ≤ 2 }
     ensures help { asks_for_help (texts words.now) ≡ true → result ≢ 1 }
@@ -182,6 +191,7 @@ where
         rt.alloc(),
         request,
         &list,
+        Vec::new(rt.alloc()),
         &mut shelf,
         &mut bench,
         out,
@@ -214,7 +224,8 @@ where
         → asked_of request.entry ≡ asked.Consolidate list media target handle
         → IsKeptOut O.Console places.entry.list.now places.entry.out.now out.old out.new result
         ⊎ WorksInFolders
-        (λ list. IsConsolidation ⟦<FolderShelf<R> as shelf::Shelf>⟧ ⟦<FolderBench<R> as shelf::Bench>⟧ list handle)
+        (λ list. IsConsolidation ⟦<FolderShelf<R> as shelf::Shelf>⟧ ⟦<FolderBench<R> as shelf::Bench>⟧ standard_groups
+        list handle)
         written_lines O.Console places.entry.media.now places.entry.out.now out.old out.new result }
     ensures statuses { result ≤ 2 }
 {
@@ -245,7 +256,8 @@ where
     ensures consolidated { (list media target : Text) (handle : ℕ)
         → asked_of request.entry ≡ asked.Consolidate list media target handle
         → IfOk result (λ status. WorksInFolders
-        (λ list. IsConsolidation ⟦<FolderShelf<R> as shelf::Shelf>⟧ ⟦<FolderBench<R> as shelf::Bench>⟧ list handle)
+        (λ list. IsConsolidation ⟦<FolderShelf<R> as shelf::Shelf>⟧ ⟦<FolderBench<R> as shelf::Bench>⟧ standard_groups
+        list handle)
         written_lines O.Console places.entry.media.now places.entry.out.now out.old out.new status) }
     ensures statuses { IfOk result (λ status. status ≤ 2) }
     ensures nothing { OnErr result (out.new ≡ out.old) }
@@ -255,7 +267,7 @@ where
     let mut bench = FolderBench::new(rt.alloc(), rt.clone()?, places.out, Overwrite::Never)?;
     let mut shelf = FolderShelf::new(rt.alloc(), rt.clone()?, places.media)?;
     let unlisted = unlisted_reason(rt, places.media);
-    let status = answer(
+    let answered = answer_standard(
         rt.alloc(),
         request,
         &list,
@@ -265,6 +277,9 @@ where
         err,
         meter,
     );
+    let Ok(status) = answered else {
+        return Err(OpenFault::Passes);
+    };
     if status != MISTAKE {
         tell_unlisted(places.media, unlisted, err);
     }

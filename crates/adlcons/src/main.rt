@@ -11,6 +11,7 @@ mod meter;
 mod reading;
 mod refusal;
 mod report;
+mod standard;
 mod stored;
 
 use anyhow::Result;

@@ -5,6 +5,7 @@ use Rattle.std.proofs.lemmas.Bool.Decides.{nat_tests}
 use Rattle.sound_terms.specs.Render.{Range}
 use Rattle.work_terms.specs.Disk.{Files}
 use Rattle.work_terms.specs.Refusals.{ComesInTurn, IsDue, Refusal, Nowhere, is_excused, turn_of}
+use Rattle.passes.specs.Left.{Leaving}
 use Rattle.list_terms.specs.Project.{ListProject}
 use Rattle.list_terms.specs.Binding.{Binding}
 use Rattle.list_terms.specs.Bound.{binding_of}
@@ -30,15 +31,15 @@ one_accepted text files p q b d one other =
     (same, cc)
 
 -- so what is made of it is made of that one
-pub one_work : (text : List ℕ) (files : Files) (p q : ListProject) (b d : Binding) (handle : ℕ) (work : Work)
+pub one_work : (leave : Leaving) (text : List ℕ) (files : Files) (p q : ListProject) (b d : Binding) (handle : ℕ) (work : Work)
     (refusal : Refusal)
     → IsAccepted text files p b → IsAccepted text files q d
-    → (IsWorkOf p b handle files work → IsDue refusal (work_fault work))
-    → IsWorkOf q d handle files work → IsDue refusal (work_fault work)
-one_work text files p q b d handle work refusal one other due is_work =
+    → (IsWorkOf leave p b handle files work → IsDue refusal (work_fault work))
+    → IsWorkOf leave q d handle files work → IsDue refusal (work_fault work)
+one_work leave text files p q b d handle work refusal one other due is_work =
     let same = one_accepted text files p q b d one other in
-    due (subst (λ (e : Binding). IsWorkOf p e handle files work) (sym same.1)
-    (subst (λ (r : ListProject). IsWorkOf r d handle files work) (sym same.0) is_work))
+    due (subst (λ (e : Binding). IsWorkOf leave p e handle files work) (sym same.1)
+    (subst (λ (r : ListProject). IsWorkOf leave r d handle files work) (sym same.0) is_work))
 
 -- what may come where the project is opened may come in place of what comes later
 pub due_behind : (refusal : Refusal) (first later : Option Refusal) → turn_of refusal ≤ 3

@@ -1,6 +1,6 @@
 -- What a call leaves of its stores that plans a consolidation and stops.
-use Rattle.std.proofs.Common.{◌≡◌, ◌∙◌, ℕ, List, true, false, arith, refl, subst, sym, ap, Some}
-use Rattle.std.specs.Prelude.{⊤, Err, ◌==◌, ◌||◌, slice_get}
+use Rattle.std.proofs.Common.{◌≡◌, ◌∙◌, ℕ, List, true, false, arith, refl, subst, sym, ap}
+use Rattle.std.specs.Prelude.{⊤, Err, ◌==◌, ◌||◌}
 use Rattle.sound_terms.specs.Sounds.{SoundFacts}
 use Rattle.shelf.specs.declared.source.Shelf as source
 use Rattle.shelf.specs.declared.bench.Bench as output
@@ -14,7 +14,7 @@ use Rattle.consolidation.specs.Fault as consolidation
 use Rattle.consolidation.specs.Fault.{FailsAt, number_of}
 use Rattle.consolidation.specs.declared.fault.ConsolidationFault.{ConsolidationFault}
 use Rattle.consolidation.specs.declared.fault.ConsolidationFault.TheVariants as plan
-use Rattle.consolidate.specs.Commands.{HoldsOfSource, IsOutput, IsSource, KeepsStores}
+use Rattle.consolidate.specs.Commands.{HoldsOfSource, IsSource, KeepsStores}
 use Rattle.consolidate.specs.Fault.{NamesOpened, refusal_of}
 use Rattle.consolidate.specs.declared.fault.Fault.{Fault}
 use Rattle.consolidate.specs.declared.fault.Fault.TheVariants as fault

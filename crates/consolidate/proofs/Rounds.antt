@@ -1,6 +1,6 @@
 -- The jobs of a command, from what its parts leave.
-use Rattle.std.proofs.Common.{Bool, true, IsTrue, ◌≡◌, ◌∙◌, ℕ, ◌<◌, ◌≤◌, arith, length, false, Option, Some, None, Result, Ok, Err, List, sym, subst, refl}
-use Rattle.sound_terms.specs.Render.{ReadsBack, rendering_of}
+use Rattle.std.proofs.Common.{Bool, true, IsTrue, ◌≡◌, ◌∙◌, ℕ, ◌<◌, ◌≤◌, arith, length, false, Option, Some, None, Err, List, sym, subst, refl}
+use Rattle.sound_terms.specs.Render.{ReadsBack}
 use Rattle.work_terms.specs.Disk.{Files}
 use Rattle.job_terms.specs.Workers.{End, GivenUp, Jobs, jobs_over}
 use Rattle.list_terms.specs.Accepted.{OptionValues, range_of}
@@ -12,6 +12,7 @@ use Rattle.list_terms.specs.MediaNames.{media_name-no_list}
 use Rattle.list_terms.specs.Renewed.{media_name}
 use Rattle.schedule.specs.Filled.{AreFilled, AreParts}
 use Rattle.schedule.specs.Marking.{IsNoOutput, Marking}
+use Rattle.passes.specs.Left.{Leaving}
 use Rattle.schedule.specs.Rounds.{RunsInRounds}
 use Rattle.consolidation.specs.Jobs as media
 use Rattle.consolidation.specs.Jobs.{HoldsMedia}
@@ -91,17 +92,17 @@ renders_list text values project binding sources opened shelf_old shelf_mid benc
       (subst (λ (n : ℕ). RendersInRounds project binding values opened n bench_old shelf_new bench_new written ended) quiet run);
 }
 
-pub consolidates_list : (text : List ℕ) (handle : ℕ) (project : ListProject) (binding : Binding)
+pub consolidates_list : (leave : Leaving) (text : List ℕ) (handle : ℕ) (project : ListProject) (binding : Binding)
     (sources opened : Files) (shelf_old shelf_mid bench_old shelf_new bench_new : ℕ) (written : Files) (ended : Option End)
     → opened ≡ sources → shelf_mid ≡ shelf_old → IsAccepted text sources project binding
-    → ConsolidatesInRounds project binding handle opened shelf_mid bench_old shelf_new bench_new written ended
-    → ConsolidatesList text handle sources shelf_old bench_old shelf_new bench_new written ended
-consolidates_list text handle project binding sources opened shelf_old shelf_mid bench_old shelf_new bench_new written ended same quiet accepted run = record {
+    → ConsolidatesInRounds leave project binding handle opened shelf_mid bench_old shelf_new bench_new written ended
+    → ConsolidatesList leave text handle sources shelf_old bench_old shelf_new bench_new written ended
+consolidates_list leave text handle project binding sources opened shelf_old shelf_mid bench_old shelf_new bench_new written ended same quiet accepted run = record {
   project = project;
   binding = binding;
   accepted = accepted;
-  run = subst (λ (f : Files). ConsolidatesInRounds project binding handle f shelf_old bench_old shelf_new bench_new written ended) same
-      (subst (λ (n : ℕ). ConsolidatesInRounds project binding handle opened n bench_old shelf_new bench_new written ended) quiet run);
+  run = subst (λ (f : Files). ConsolidatesInRounds leave project binding handle f shelf_old bench_old shelf_new bench_new written ended) same
+      (subst (λ (n : ℕ). ConsolidatesInRounds leave project binding handle opened n bench_old shelf_new bench_new written ended) quiet run);
 }
 
 -- a list that isn't accepted has no jobs
@@ -169,23 +170,23 @@ pub list_no_medium : (many : ℕ) → many ≤ 32767 → IsNoMedium many (codes 
 list_no_medium many few number low high same = media_name-no_list number (omega (arith, few, high)) (sym same)
 
 -- over the files that the passes left as they were
-pub ready : (text : List ℕ) (project : ListProject) (binding : Binding) (handle : ℕ) (honest : Bool) (old new : Files)
+pub ready : (leave : Leaving) (text : List ℕ) (project : ListProject) (binding : Binding) (handle : ℕ) (honest : Bool) (old new : Files)
     (plan : MediaPlan) → new ≡ old → IsTrue honest → IsAccepted text old project binding
-    → IsPlanOf project binding handle honest old plan → AreThere old (sounds_of binding)
-    → IsAccepted text new project binding × IsPlanOf project binding handle true new plan × AreThere new plan.sounds
-ready text project binding handle honest old new plan same is accepted planned there = (
+    → IsPlanOf leave project binding handle honest old plan → AreThere old (sounds_of binding)
+    → IsAccepted text new project binding × IsPlanOf leave project binding handle true new plan × AreThere new plan.sounds
+ready leave text project binding handle honest old new plan same is accepted planned there = (
   subst (λ (f : Files). IsAccepted text f project binding) (sym same) accepted,
-  subst (λ (f : Files). IsPlanOf project binding handle true f plan) (sym same)
-      (subst (λ (h : Bool). IsPlanOf project binding handle h old plan) is planned),
+  subst (λ (f : Files). IsPlanOf leave project binding handle true f plan) (sym same)
+      (subst (λ (h : Bool). IsPlanOf leave project binding handle h old plan) is planned),
   subst (λ (f : Files). AreThere f plan.sounds) (sym same)
       (subst (λ (sounds : List SoundFacts). AreThere old sounds) (sym planned.planned.sounds) there),
 )
 
-pub consolidates_from : (project : ListProject) (binding : Binding) (handle : ℕ) (old new : Files)
+pub consolidates_from : (leave : Leaving) (project : ListProject) (binding : Binding) (handle : ℕ) (old new : Files)
     (shelf_old shelf_mid bench_old shelf_new bench_new : ℕ) (written : Files) (ended : Option End)
     → new ≡ old → shelf_mid ≡ shelf_old
-    → ConsolidatesInRounds project binding handle new shelf_mid bench_old shelf_new bench_new written ended
-    → ConsolidatesInRounds project binding handle old shelf_old bench_old shelf_new bench_new written ended
-consolidates_from project binding handle old new shelf_old shelf_mid bench_old shelf_new bench_new written ended same quiet run =
-    subst (λ (f : Files). ConsolidatesInRounds project binding handle f shelf_old bench_old shelf_new bench_new written ended) same
-    (subst (λ (n : ℕ). ConsolidatesInRounds project binding handle new n bench_old shelf_new bench_new written ended) quiet run)
+    → ConsolidatesInRounds leave project binding handle new shelf_mid bench_old shelf_new bench_new written ended
+    → ConsolidatesInRounds leave project binding handle old shelf_old bench_old shelf_new bench_new written ended
+consolidates_from leave project binding handle old new shelf_old shelf_mid bench_old shelf_new bench_new written ended same quiet run =
+    subst (λ (f : Files). ConsolidatesInRounds leave project binding handle f shelf_old bench_old shelf_new bench_new written ended) same
+    (subst (λ (n : ℕ). ConsolidatesInRounds leave project binding handle new n bench_old shelf_new bench_new written ended) quiet run)

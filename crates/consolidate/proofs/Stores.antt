@@ -1,5 +1,5 @@
 -- What a call leaves of its stores.
-use Rattle.std.proofs.Common.{◌≡◌, ◌≢◌, ◌∙◌, ◌≤◌, ◌<◌, ◌+◌, ◌^◌, List, ℕ, true, false, inl, inr, arith, refl, subst, sym}
+use Rattle.std.proofs.Common.{◌≡◌, ◌≢◌, ◌∙◌, ◌≤◌, ◌+◌, ◌^◌, ℕ, true, false, inl, inr, arith, refl, subst, sym}
 use Rattle.std.proofs.lemmas.Bool.{cases_lt}
 use Rattle.consolidation.specs.Fault.{output_of}
 use Rattle.consolidation.specs.declared.fault.WriteFault.{WriteFault}
@@ -7,7 +7,7 @@ use Rattle.consolidation.specs.declared.fault.WriteFault.TheVariants as writing
 use Rattle.std.specs.Prelude.{⊤, Result, Ok, Err, IfErr}
 use Rattle.shelf.specs.declared.source.Shelf as source
 use Rattle.shelf.specs.declared.bench.Bench as output
-use Rattle.work_terms.specs.Disk.{Files, HasCause, HasRead, IsUntouched, Rises}
+use Rattle.work_terms.specs.Disk.{Files, HasRead, IsUntouched, Rises}
 use Rattle.consolidate.specs.Commands.{IsOutput, IsSource, KeepsStores, ReadsSources}
 use Rattle.consolidate.specs.Fault.{file_of, name_of_output, refusal_of}
 use Rattle.consolidate.specs.declared.fault.OutputFile.{OutputFile}

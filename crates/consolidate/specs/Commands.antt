@@ -12,6 +12,7 @@ use Rattle.list_terms.specs.Accepted.{OptionValues, first_fault, range_of}
 use Rattle.list_terms.specs.Heard.{IsAccepted, project_fault}
 use Rattle.list_terms.specs.Text.{text_value}
 use Rattle.adlread.specs.Spells.{Spells}
+use Rattle.passes.specs.Left.{Leaving}
 use Rattle.opening.specs.Commands as opening
 use Rattle.opening.specs.Faults as opening_faults
 use Rattle.opening.specs.declared.checking.Accepted.{Accepted}
@@ -89,13 +90,15 @@ range_refusal values (Ok project) = rendering.render_fault project values
 abbrev pub render_refusal : List ℕ → OptionValues → Files → Option Refusal
 render_refusal text values files = first_fault (project_fault text files) (range_refusal values (text_value text))
 
--- The list is accepted, its media are written and the list over them, and no other file has changed.
-pub record IsConsolidated (text : List ℕ) (handle : ℕ) (sources old new : Files) (told : Written) : Type 0 where
+-- The list is accepted, the media of what passes leave of it are written and the list over them, and no other file has
+-- changed.
+pub record IsConsolidated (leave : Leaving) (text : List ℕ) (handle : ℕ) (sources old new : Files) (told : Written)
+    : Type 0 where
   pub project : ListProject
   pub binding : Binding
   pub spelled : Spells text project
   pub accepted : IsAccepted text sources project binding
-  pub written : consolidation.IsConsolidated project binding handle sources old new
+  pub written : consolidation.IsConsolidated leave project binding handle sources old new
       (record { media = told.media; entries = told.entries; sizes = told.sizes })
   pub notices : told.notices.items ≡ all_notices project binding
 
@@ -105,9 +108,9 @@ RefusesBadList text files result =
     (refusal : Refusal) → project_fault text files ≡ Some refusal → IsRefusedBy refusal result
 
 -- a list that is accepted, by what is made of it
-abbrev pub RefusesByWork : {X : Type 0} → List ℕ → ℕ → Files → Result X Fault → Type 0
-RefusesByWork text handle files result = (project : ListProject) (binding : Binding) (work : Work)
-    → IsAccepted text files project binding → IsWorkOf project binding handle files work
+abbrev pub RefusesByWork : {X : Type 0} → Leaving → List ℕ → ℕ → Files → Result X Fault → Type 0
+RefusesByWork leave text handle files result = (project : ListProject) (binding : Binding) (work : Work)
+    → IsAccepted text files project binding → IsWorkOf leave project binding handle files work
     → Answers refusal_of result (work_fault work)
 
 module _ {S B : Type 0} (shelf : source.Ghosts S) (bench : output.Ghosts B) where
@@ -150,17 +153,17 @@ module _ {S B : Type 0} (shelf : source.Ghosts S) (bench : output.Ghosts B) wher
         (bench.failures bench_old) (shelf.failures shelf_new) (bench.failures bench_new) (bench.stored bench_new))
     pub stores : KeepsStores shelf_old shelf_new bench_old bench_new result
 
-  -- the list was consolidated over these stores, with this outcome
-  pub record IsConsolidation (list : List ℕ) (handle : ℕ) (shelf_old shelf_new : S) (bench_old bench_new : B)
-      (result : Result Written Fault) : Type 0 where
+  -- the list was consolidated over these stores by what passes leave of it, with this outcome
+  pub record IsConsolidation (leave : Leaving) (list : List ℕ) (handle : ℕ) (shelf_old shelf_new : S)
+      (bench_old bench_new : B) (result : Result Written Fault) : Type 0 where
     pub same_sound : IsTrue (shelf.honest shelf_old) → IsTrue (bench.honest bench_old)
         → OnOk result (SoundsTheSame list (shelf.stored shelf_old) (bench.stored bench_new))
     pub written : IsTrue (shelf.honest shelf_old) → IsTrue (bench.honest bench_old)
-        → IfOk result (IsConsolidated list handle (shelf.stored shelf_old) (bench.stored bench_old)
+        → IfOk result (IsConsolidated leave list handle (shelf.stored shelf_old) (bench.stored bench_old)
         (bench.stored bench_new))
     pub durable : IsTrue (bench.honest bench_old)
         → IfOk result (λ told. AreDurable told.media (bench.stored bench_new) (bench.may_leave bench_new))
-    pub refusals : IsTrue (shelf.honest shelf_old) → RefusesByWork list handle (shelf.stored shelf_old) result
+    pub refusals : IsTrue (shelf.honest shelf_old) → RefusesByWork leave list handle (shelf.stored shelf_old) result
     pub bad_list : IsTrue (shelf.honest shelf_old) → RefusesBadList list (shelf.stored shelf_old) result
     pub bad_text : RefusesBadText list result
     pub own : IfErr result (IsOfConsolidation list)
@@ -169,7 +172,7 @@ module _ {S B : Type 0} (shelf : source.Ghosts S) (bench : output.Ghosts B) wher
     pub list_last : IsTrue (bench.honest bench_old) → IfErr result (λ told. told ≢ fault.Output file.List
         → bench.stored bench_new (codes "consolidated.adl") ≡ bench.stored bench_old (codes "consolidated.adl"))
     pub rounds : IsTrue (shelf.honest shelf_old) → IsTrue (bench.honest bench_old)
-        → EndsOf result (ConsolidatesList list handle (shelf.stored shelf_old) (shelf.failures shelf_old)
+        → EndsOf result (ConsolidatesList leave list handle (shelf.stored shelf_old) (shelf.failures shelf_old)
         (bench.failures bench_old) (shelf.failures shelf_new) (bench.failures bench_new) (bench.stored bench_new))
     pub stores : KeepsStores shelf_old shelf_new bench_old bench_new result
 

@@ -7,6 +7,7 @@ use Rattle.list_terms.specs.Accepted.{OptionValues, range_of}
 use Rattle.list_terms.specs.Binding.{Binding}
 use Rattle.list_terms.specs.Heard.{IsAccepted, project_mix}
 use Rattle.list_terms.specs.Project.{ListProject}
+use Rattle.passes.specs.Left.{Leaving}
 use Rattle.schedule.specs.Rounds.{RunsInRounds}
 use Rattle.consolidation.specs.Jobs.{whole_of, work_of}
 use Rattle.consolidation.specs.Planned.{IsPlanOf, MediaPlan}
@@ -36,19 +37,20 @@ pub record RendersList (text : List ℕ) (values : OptionValues) (sources : File
   pub run : RendersInRounds project binding values sources shelf_old bench_old shelf_new bench_new written ended
 
 -- the jobs make the media of a consolidation of a project; the list may be written behind them
-pub record ConsolidatesInRounds (project : ListProject) (binding : Binding) (handle : ℕ) (sources : Files)
-    (shelf_old bench_old shelf_new bench_new : ℕ) (written : Files) (ended : Option End) : Type 0 where
+pub record ConsolidatesInRounds (leave : Leaving) (project : ListProject) (binding : Binding) (handle : ℕ)
+    (sources : Files) (shelf_old bench_old shelf_new bench_new : ℕ) (written : Files) (ended : Option End) : Type 0 where
   pub plan : MediaPlan
-  pub planned : IsPlanOf project binding handle true sources plan
+  pub planned : IsPlanOf leave project binding handle true sources plan
   pub media : Files
   pub behind : (n : List ℕ) → n ≢ codes "consolidated.adl" → written n ≡ media n
   pub run : RunsInRounds false (jobs_over (work_of plan) sources) (whole_of plan sources)
       shelf_old bench_old shelf_new bench_new media ended
 
 -- of the project of an accepted list
-pub record ConsolidatesList (text : List ℕ) (handle : ℕ) (sources : Files)
+pub record ConsolidatesList (leave : Leaving) (text : List ℕ) (handle : ℕ) (sources : Files)
     (shelf_old bench_old shelf_new bench_new : ℕ) (written : Files) (ended : Option End) : Type 0 where
   pub project : ListProject
   pub binding : Binding
   pub accepted : IsAccepted text sources project binding
-  pub run : ConsolidatesInRounds project binding handle sources shelf_old bench_old shelf_new bench_new written ended
+  pub run : ConsolidatesInRounds leave project binding handle sources shelf_old bench_old shelf_new bench_new written
+      ended

@@ -6,6 +6,9 @@ ghost use Rattle.job_terms.specs.Workers.{Nothing};
 ghost use Rattle.list_terms.specs.Binding.{Binding};
 ghost use Rattle.list_terms.specs.Heard.{IsAccepted};
 ghost use Rattle.list_terms.specs.Project.{ListProject};
+ghost use Rattle.passes.specs.Left.{Leaving, left_by};
+ghost use Rattle.passes.specs.Standard.{AreStandard};
+ghost use Rattle.sound_terms.specs.Passes.{standard_groups};
 ghost use Rattle.schedule.specs.Run.{HasRoom};
 ghost use Rattle.consolidation.specs.Consolidated as spec;
 ghost use Rattle.consolidation.specs.Consolidated.{AreDurable, IsElsewhere, IsWorkOf, Work, work_fault};
@@ -24,6 +27,7 @@ use crate::opened::{Opened, open};
 use crate::{Fault, OutputFile};
 use consolidation::{Consolidation, Sizes};
 use list_terms::Notice;
+use passes::Pass;
 use projectcheck::Checked;
 use schedule::{JobFault, Start, fresh_start, from_start};
 use shelf::{Bench, Shelf, Watch};
@@ -52,22 +56,22 @@ fn write_consolidation<S: Shelf, B: Bench, W: Watch>(
     requires room { HasRoom (work_of consolidation.now) start.old.worker.room }
     requires few { length consolidation.now.runs ≤ 32767 }
     ensures same_sound { IsTrue (S.honest shelf.old) → IsTrue (B.honest bench.old) → (text : List ℕ)
-        → (project : ListProject) (binding : Binding) (handle : ℕ)
+        → (leave : Leaving) (project : ListProject) (binding : Binding) (handle : ℕ)
         → IsAccepted text (S.stored shelf.old) project binding
-        → IsPlanOf project binding handle true (S.stored shelf.old) consolidation.now
+        → IsPlanOf leave project binding handle true (S.stored shelf.old) consolidation.now
         → AreThere (S.stored shelf.old) consolidation.now.sounds
         → OnOk result (SoundsTheSame text (S.stored shelf.old) (B.stored bench.new)) }
     ensures written { IsTrue (S.honest shelf.old) → IsTrue (B.honest bench.old)
-        → (project : ListProject) (binding : Binding) (handle : ℕ)
-        → IsPlanOf project binding handle true (S.stored shelf.old) consolidation.now
+        → (leave : Leaving) (project : ListProject) (binding : Binding) (handle : ℕ)
+        → IsPlanOf leave project binding handle true (S.stored shelf.old) consolidation.now
         → AreThere (S.stored shelf.old) consolidation.now.sounds
-        → IfOk result (λ written. spec.IsConsolidated project binding handle (S.stored shelf.old)
+        → IfOk result (λ written. spec.IsConsolidated leave project binding handle (S.stored shelf.old)
         (B.stored bench.old) (B.stored bench.new) written) }
     ensures rounds { IsTrue (S.honest shelf.old) → IsTrue (B.honest bench.old)
-        → (project : ListProject) (binding : Binding) (handle : ℕ)
-        → IsPlanOf project binding handle true (S.stored shelf.old) consolidation.now
+        → (leave : Leaving) (project : ListProject) (binding : Binding) (handle : ℕ)
+        → IsPlanOf leave project binding handle true (S.stored shelf.old) consolidation.now
         → AreThere (S.stored shelf.old) consolidation.now.sounds
-        → EndsOf result (ConsolidatesInRounds project binding handle (S.stored shelf.old) (S.failures shelf.old)
+        → EndsOf result (ConsolidatesInRounds leave project binding handle (S.stored shelf.old) (S.failures shelf.old)
         (B.failures bench.old) (S.failures shelf.new) (B.failures bench.new) (B.stored bench.new)) }
     ensures durable { IsTrue (B.honest bench.old)
         → IfOk result (λ written. AreDurable written.media (B.stored bench.new) (B.may_leave bench.new)) }
@@ -101,6 +105,7 @@ fn consolidate_checked<S: Shelf, B: Bench, W: Watch>(
     alloc: Global,
     checked: Checked,
     handle: u64,
+    passes: Vec<Box<dyn Pass>>,
     shelf: &mut S,
     bench: &mut B,
     watch: &mut W,
@@ -110,17 +115,18 @@ fn consolidate_checked<S: Shelf, B: Bench, W: Watch>(
         → OnOk result (SoundsTheSame text (S.stored shelf.old) (B.stored bench.new)) }
     ensures written { IsTrue (S.honest shelf.old) → IsTrue (B.honest bench.old) → (text : List ℕ)
         → IsAccepted text (S.stored shelf.old) checked.project checked.bound → IfOk result (λ written.
-        spec.IsConsolidated checked.project checked.bound handle (S.stored shelf.old) (B.stored bench.old)
-        (B.stored bench.new) written) }
+        spec.IsConsolidated (left_by (λ pass. looking pass) (λ pass. gives pass) passes.items)
+        checked.project checked.bound handle (S.stored shelf.old) (B.stored bench.old) (B.stored bench.new) written) }
     ensures rounds { IsTrue (S.honest shelf.old) → IsTrue (B.honest bench.old) → (text : List ℕ)
         → IsAccepted text (S.stored shelf.old) checked.project checked.bound
-        → EndsOf result (ConsolidatesInRounds checked.project checked.bound handle (S.stored shelf.old)
-        (S.failures shelf.old) (B.failures bench.old) (S.failures shelf.new) (B.failures bench.new)
+        → EndsOf result (ConsolidatesInRounds (left_by (λ pass. looking pass) (λ pass. gives pass) passes.items)
+        checked.project checked.bound handle (S.stored shelf.old) (S.failures shelf.old) (B.failures bench.old) (S.failures shelf.new) (B.failures bench.new)
         (B.stored bench.new)) }
     ensures durable { IsTrue (B.honest bench.old)
         → IfOk result (λ written. AreDurable written.media (B.stored bench.new) (B.may_leave bench.new)) }
     ensures refusals { IsTrue (S.honest shelf.old) → (work : Work)
-        → IsWorkOf checked.project checked.bound handle (S.stored shelf.old) work
+        → IsWorkOf (left_by (λ pass. looking pass) (λ pass. gives pass) passes.items)
+        checked.project checked.bound handle (S.stored shelf.old) work
         → Answers refusal_of result (work_fault work) }
     ensures own { (text : List ℕ) → IfErr result (IsOfConsolidation text) }
     ensures list_last { IsTrue (B.honest bench.old) → IfErr result (λ told. told ≢ fault.Output file.List
@@ -129,7 +135,7 @@ fn consolidate_checked<S: Shelf, B: Bench, W: Watch>(
         → B.stored bench.new n ≡ B.stored bench.old n }
     ensures stores { KeepsStores S.Shelf B.Bench shelf.old shelf.new bench.old bench.new result }
 {
-    let consolidation = match Consolidation::plan(alloc, &checked, handle, shelf) {
+    let consolidation = match Consolidation::plan(alloc, &checked, handle, passes, shelf) {
         Ok(consolidation) => consolidation,
         Err(fault) => return Err(Fault::of_consolidation(checked, fault)),
     };
@@ -143,10 +149,12 @@ fn consolidate_checked<S: Shelf, B: Bench, W: Watch>(
     }
 }
 
-/// Consolidates a list over the sources of a shelf. Kept are the frames that its entries play, without what is silent,
-/// and those at most `handle` frames away. Each run of kept frames becomes a medium (`M00001.wav` and so on, Broadcast
-/// Wave, EBU Tech 3285), with the channels, the depth and the texts of its source and the time of its first frame as
-/// TimeReference; `consolidated.adl` is the list over these media. It sounds as the given list does, sample for sample.
+/// Consolidates a list over the sources of a shelf. The passes go over the pieces of its entries, one after the other;
+/// the standard ones are `SplitFades`, `DropSilent`, `JoinCuts` and `Regroup`, which leave out what is silent. Kept are
+/// the frames that the pieces play that are left, and those at most `handle` frames away. Each run of kept frames becomes
+/// a medium (`M00001.wav` and so on, Broadcast Wave, EBU Tech 3285), with the channels, the depth and the texts of its
+/// source and the time of its first frame as TimeReference; `consolidated.adl` is the list over these media. Whatever the
+/// passes, it sounds as the given list does, sample for sample.
 ///
 /// The list is refused first, then a file in the order of the source index, then an entry in the order of the list,
 /// then more than 32,767 runs (53) or entries (55), and want of memory. All
@@ -158,14 +166,19 @@ pub fn consolidate<S: Shelf, B: Bench, W: Watch>(
     alloc: Global,
     list: &[u8],
     handle: u64,
+    passes: Vec<Box<dyn Pass>>,
     shelf: &mut S,
     bench: &mut B,
     watch: &mut W,
 ) -> Result<Written, Fault>
-    ensures { IsConsolidation S.Shelf B.Bench list.now handle shelf.old shelf.new bench.old bench.new result }
+    ensures consolidated { IsConsolidation S.Shelf B.Bench
+        (left_by (λ pass. looking pass) (λ pass. gives pass) passes.items)
+        list.now handle shelf.old shelf.new bench.old bench.new result }
+    ensures standard { AreStandard (λ pass. looking pass) (λ pass. gives pass) passes.items
+        → IsConsolidation S.Shelf B.Bench standard_groups list.now handle shelf.old shelf.new bench.old bench.new result }
 {
     let Opened { checked, notices } = open(alloc, list, shelf)?;
-    let written = consolidate_checked(alloc, checked, handle, shelf, bench, watch)?;
+    let written = consolidate_checked(alloc, checked, handle, passes, shelf, bench, watch)?;
     Ok(Written {
         media: written.media,
         entries: written.entries,

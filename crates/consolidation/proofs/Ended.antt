@@ -4,6 +4,7 @@ use Rattle.std.proofs.lemmas.Bool.{cases_lt}
 use Rattle.sound_terms.specs.declared.piece.Home.{Home}
 use Rattle.sound_terms.specs.Sounds.{SoundFacts}
 use Rattle.work_terms.specs.Disk.{Files, IsDurable}
+use Rattle.passes.specs.Left.{Leaving}
 use Rattle.list_terms.specs.Binding.{Binding}
 use Rattle.list_terms.specs.BoundHomes.{homes_of}
 use Rattle.list_terms.specs.Heard.{IsAccepted, sounds_of}
@@ -56,8 +57,8 @@ module _ (plan : MediaPlan) (is : IsMediaPlan plan) where
       let named = job_named plan is k below in
       others ((work_of plan).name k) (media_name-no_list _ (omega (arith, few, named))) ∙ holds k below
 
-  module _ (project : ListProject) (binding : Binding) (handle : ℕ) (sources written : Files)
-      (of : IsPlanOf project binding handle true sources plan) (there : AreThere sources plan.sounds)
+  module _ (leave : Leaving) (project : ListProject) (binding : Binding) (handle : ℕ) (sources written : Files)
+      (of : IsPlanOf leave project binding handle true sources plan) (there : AreThere sources plan.sounds)
       (holds : HoldsMedia plan sources written) (list : written (codes "consolidated.adl") ≡ Some plan.text) where
     pub same_sound : (text : List ℕ) → IsAccepted text sources project binding → SoundsTheSame text sources written
     same_sound text accepted =
@@ -78,7 +79,7 @@ module _ (plan : MediaPlan) (is : IsMediaPlan plan) where
         })
 
     pub consolidated : (old : Files) → ((n : List ℕ) → IsElsewhere (length plan.runs) n → written n ≡ old n)
-        → IsConsolidated project binding handle sources old written (written_of plan)
+        → IsConsolidated leave project binding handle sources old written (written_of plan)
     consolidated old others =
         let planned = of.planned in
         record {

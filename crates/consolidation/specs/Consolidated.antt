@@ -1,4 +1,5 @@
--- What a consolidation makes of a project without a fault, what it leaves, and which refusal is due.
+-- What a consolidation makes of a project without a fault, by what passes leave of it; what it leaves of the files, and
+-- which refusal is due.
 use Rattle.std.specs.Prelude.{◌≡◌, ◌≢◌, ℕ, ◌+◌, ◌<◌, nat_lt, Bool, false, List, length, Option, None, Some, slice_get, codes, if◌then◌else◌}
 use Rattle.sound_terms.specs.declared.piece.Piece.{Piece}
 use Rattle.sound_terms.specs.declared.piece.Run.{Run}
@@ -6,10 +7,10 @@ use Rattle.sound_terms.specs.Entries.{groups_of_entries}
 use Rattle.sound_terms.specs.Homes.{base_by, kept_of, place_by}
 use Rattle.sound_terms.specs.Kept.{AreRuns}
 use Rattle.sound_terms.specs.Media.{medium_of}
-use Rattle.sound_terms.specs.Passes.{standard_groups}
 use Rattle.sound_terms.specs.Sounds.{SoundFacts}
 use Rattle.work_terms.specs.Disk.{Files, IsDurable}
 use Rattle.work_terms.specs.Refusals.{Refusal, Nowhere}
+use Rattle.passes.specs.Left.{Leaving}
 use Rattle.list_terms.specs.Project.{ListProject}
 use Rattle.list_terms.specs.Binding.{Binding}
 use Rattle.list_terms.specs.BoundHomes.{homes_of}
@@ -27,11 +28,10 @@ pub record Work : Type 0 where
   pub groups : List (List Piece)
   pub runs : List Run
 
--- what the standard passes leave of a bound project, and the runs round it, with handles of so many frames
-pub record IsWorkOf (project : ListProject) (binding : Binding) (handle : ℕ) (sources : Files)
+-- what passes leave of a bound project, and the runs round it, with handles of so many frames
+pub record IsWorkOf (leave : Leaving) (project : ListProject) (binding : Binding) (handle : ℕ) (sources : Files)
     (work : Work) : Type 0 where
-  pub groups : work.groups ≡ standard_groups (reading_of sources binding)
-      (groups_of_entries binding.indexes project.events)
+  pub groups : work.groups ≡ leave (reading_of sources binding) (groups_of_entries binding.indexes project.events)
   pub runs : AreRuns (kept_of work.groups (homes_of binding) handle) (place_by (homes_of binding)) work.runs
 
 -- 53: more runs than a list has indexes; 55: more groups than it has entries
@@ -60,10 +60,10 @@ abbrev pub list_of : ListProject → Binding → Work → List ℕ
 list_of project binding work = text_of_project (consolidated_project project (homes_of binding) work.groups work.runs)
 
 -- The media of the runs are written and the list over them, and no other file has changed.
-pub record IsConsolidated (project : ListProject) (binding : Binding) (handle : ℕ) (sources old new : Files)
-    (told : Written) : Type 0 where
+pub record IsConsolidated (leave : Leaving) (project : ListProject) (binding : Binding) (handle : ℕ)
+    (sources old new : Files) (told : Written) : Type 0 where
   pub work : Work
-  pub is_work : IsWorkOf project binding handle sources work
+  pub is_work : IsWorkOf leave project binding handle sources work
   pub list : new (codes "consolidated.adl") ≡ Some (list_of project binding work)
   pub media : HoldAll (HoldsMedium binding sources new) work.runs
   pub others : (name : List ℕ) → IsElsewhere (length work.runs) name → new name ≡ old name

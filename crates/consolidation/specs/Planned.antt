@@ -10,10 +10,10 @@ use Rattle.sound_terms.specs.Homes.{base_by, kept_of, place_by}
 use Rattle.sound_terms.specs.Kept.{AreRuns}
 use Rattle.sound_terms.specs.Media.{IsRunOf, sound_at}
 use Rattle.sound_terms.specs.Mix.{Reading, mix_at}
-use Rattle.sound_terms.specs.Passes.{standard_groups}
 use Rattle.sound_terms.specs.Sounds.{SoundFacts}
 use Rattle.sound_terms.specs.Waves.{data_place, header_of}
 use Rattle.work_terms.specs.Disk.{Files}
+use Rattle.passes.specs.Left.{Leaving}
 use Rattle.list_terms.specs.Binding.{Binding}
 use Rattle.list_terms.specs.BoundHomes.{homes_of}
 use Rattle.list_terms.specs.Heard.{project_mix, reading_of, sounds_of}
@@ -39,10 +39,10 @@ pub record AreLeft (binding : Binding) (groups : List (List Piece)) : Type 0 whe
   pub whole : IsTrue (are_whole groups)
   pub at_home : All (IsAtHome (sounds_of binding) (homes_of binding)) (pieces_of groups)
 
--- these groups are what the standard passes leave of a project, and they sound as it does
-pub record SoundsAsGiven (project : ListProject) (binding : Binding) (sources : Files)
+-- these groups are what passes leave of a project, and they sound as it does
+pub record SoundsAsGiven (leave : Leaving) (project : ListProject) (binding : Binding) (sources : Files)
     (groups : List (List Piece)) : Type 0 where
-  pub gives : groups ≡ standard_groups (reading_of sources binding) (groups_of_entries binding.indexes project.events)
+  pub gives : groups ≡ leave (reading_of sources binding) (groups_of_entries binding.indexes project.events)
   pub same_mix : (channel time : ℕ)
       → mix_of (reading_of sources binding) groups channel time ≡ project_mix sources project binding channel time
 
@@ -88,9 +88,9 @@ pub record IsPlanned (project : ListProject) (binding : Binding) (handle : ℕ) 
   pub entries : plan.entries ≡ length groups
   pub linked : IsLinked project (sounds_of binding) (homes_of binding) groups plan.runs
 
--- planned round the groups that are left of the project
-pub record IsPlanOf (project : ListProject) (binding : Binding) (handle : ℕ) (honest : Bool) (sources : Files)
-    (plan : MediaPlan) : Type 0 where
+-- planned round the groups that passes leave of the project
+pub record IsPlanOf (leave : Leaving) (project : ListProject) (binding : Binding) (handle : ℕ) (honest : Bool)
+    (sources : Files) (plan : MediaPlan) : Type 0 where
   pub groups : List (List Piece)
   pub planned : IsPlanned project binding handle groups plan
-  pub left : IsTrue honest → SoundsAsGiven project binding sources groups
+  pub left : IsTrue honest → SoundsAsGiven leave project binding sources groups

@@ -1,6 +1,7 @@
 // Ends a consolidation: its media are synced, and then the list over them is written.
 ghost use Rattle.std.specs.Prelude.{◌≡◌, ◌≢◌, ◌<◌, ◌+◌, ℕ, IfErr, IfOk, IsTrue, List, OnOk, codes, length, true, ⊤};
 ghost use Rattle.work_terms.specs.Disk.{Files, IsDurable, ReadsTo};
+ghost use Rattle.passes.specs.Left.{Leaving};
 ghost use Rattle.list_terms.specs.Binding.{Binding};
 ghost use Rattle.list_terms.specs.Heard.{IsAccepted};
 ghost use Rattle.list_terms.specs.Project.{ListProject};
@@ -67,16 +68,16 @@ impl<'a> Consolidation<'a> {
 
     /// Syncs the media, each once, and then writes the list over them and syncs it: an unfinished output has no list.
     pub fn finish<B: Bench>(&self, bench: &mut B) -> Result<Written, WriteFault>
-        ensures same_sound { IsTrue (B.honest bench.old) → (text : List ℕ) (project : ListProject) (binding : Binding)
-            (handle : ℕ) (sources : Files) → IsAccepted text sources project binding
-            → IsPlanOf project binding handle true sources self.now → AreThere sources self.now.sounds
+        ensures same_sound { IsTrue (B.honest bench.old) → (text : List ℕ) (leave : Leaving) (project : ListProject)
+            (binding : Binding) (handle : ℕ) (sources : Files) → IsAccepted text sources project binding
+            → IsPlanOf leave project binding handle true sources self.now → AreThere sources self.now.sounds
             → HoldsMedia self.now sources (B.stored bench.old)
             → OnOk result (SoundsTheSame text sources (B.stored bench.new)) }
-        ensures written { IsTrue (B.honest bench.old) → (project : ListProject) (binding : Binding) (handle : ℕ)
-            (sources old : Files) → IsPlanOf project binding handle true sources self.now
+        ensures written { IsTrue (B.honest bench.old) → (leave : Leaving) (project : ListProject) (binding : Binding)
+            (handle : ℕ) (sources old : Files) → IsPlanOf leave project binding handle true sources self.now
             → AreThere sources self.now.sounds → HoldsMedia self.now sources (B.stored bench.old)
             → ((n : List ℕ) → IsElsewhere (length self.now.runs) n → B.stored bench.old n ≡ old n)
-            → IfOk result (IsConsolidated project binding handle sources old (B.stored bench.new)) }
+            → IfOk result (IsConsolidated leave project binding handle sources old (B.stored bench.new)) }
         ensures durable { IsTrue (B.honest bench.old)
             → IfOk result (λ told. AreDurable told.media (B.stored bench.new) (B.may_leave bench.new)) }
         ensures list_last { IsTrue (B.honest bench.old) → IfErr result (λ told. told ≢ fault.List

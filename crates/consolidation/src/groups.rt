@@ -1,32 +1,35 @@
-// The pieces that are left of the entries.
+// What passes leave of the pieces of the entries.
 ghost use Rattle.std.specs.Prelude.{IfOk, IsTrue};
 ghost use Rattle.list_terms.specs.Heard.{sounds_of};
+ghost use Rattle.passes.specs.Left.{left_by};
 ghost use Rattle.passes.specs.Silent.{IsDevice};
 ghost use Rattle.shelf.specs.Frame.{OnlyReads};
 ghost use Rattle.silence.specs.Fault.{FailsAt};
 ghost use Rattle.consolidation.specs.Planned.{AreEntries, AreLeft, SoundsAsGiven};
 
 use interval::Intervals;
-use passes::PassFault;
+use passes::{Pass, PassFault};
 use projectcheck::Checked;
 use shelf::Shelf;
-use silence::standard;
+use silence::run;
 use std::alloc::Global;
 
-/// What the standard passes leave of the pieces of the entries.
+/// What passes leave of the pieces of the entries.
 pub fn groups_left<S: Shelf>(
     alloc: Global,
     intervals: Intervals,
     checked: &Checked,
+    passes: Vec<Box<dyn Pass>>,
     shelf: &mut S,
 ) -> Result<Intervals, PassFault>
     requires { AreEntries checked.now.project checked.now.bound intervals }
     ensures left { IfOk result (AreLeft checked.now.bound) }
     ensures given { IsTrue (S.honest shelf.old)
-        → IfOk result (SoundsAsGiven checked.now.project checked.now.bound (S.stored shelf.old)) }
+        → IfOk result (SoundsAsGiven (left_by (λ pass. looking pass) (λ pass. gives pass) passes.items)
+        checked.now.project checked.now.bound (S.stored shelf.old)) }
     ensures only_reads { OnlyReads S.Shelf shelf.old shelf.new result IsDevice (FailsAt (sounds_of checked.now.bound)) }
 {
-    let left = standard(alloc, intervals, checked.bound().sounds(), shelf)?;
+    let left = run(alloc, passes, intervals, checked.bound().sounds(), shelf)?;
     // Its groups are known to be well formed from here on.
     let _ = left.groups();
     Ok(left)

@@ -4,6 +4,7 @@ ghost use Rattle.work_terms.specs.Disk.{Files};
 ghost use Rattle.work_terms.specs.Refusals.{Answers};
 ghost use Rattle.list_terms.specs.Bound.{binding_of};
 ghost use Rattle.list_terms.specs.Heard.{sounds_of};
+ghost use Rattle.passes.specs.Left.{left_by};
 ghost use Rattle.shelf.specs.Frame.{OnlyReads};
 ghost use Rattle.consolidation.specs.Consolidated.{IsWorkOf, Work, work_fault};
 ghost use Rattle.consolidation.specs.Fault.{FailsAt, IsSource, refusal_of};
@@ -13,6 +14,7 @@ ghost use Rattle.consolidation.specs.There.{AreThere};
 use crate::ConsolidationFault;
 use crate::groups::groups_left;
 use crate::planning::plan_of;
+use passes::Pass;
 use projectcheck::{Checked, from_checked};
 use shelf::Shelf;
 use sound_terms::{Home, Run};
@@ -59,11 +61,12 @@ impl<'a> Model for Consolidation<'a> {
 }
 
 impl<'a> Consolidation<'a> {
-    /// Plans the consolidation of a project without a fault over the sources of a shelf. Kept are the frames that the
-    /// entries play, without what is silent, and those at most `handle` frames away that can be addressed. Each run of
-    /// kept frames becomes a medium of its own (`M00001.wav` and so on, Broadcast Wave, EBU Tech 3285), with the channels,
-    /// the depth, the texts and the CodingHistory of its source and the time of its first frame as TimeReference;
-    /// `consolidated.adl` is the list over these media. It sounds as the given project does, sample for sample.
+    /// Plans the consolidation of a project without a fault over the sources of a shelf. The passes go over the pieces
+    /// of its entries, one after the other. Kept are the frames that the pieces play that they leave, and those at most
+    /// `handle` frames away that can be addressed. Each run of kept frames becomes a medium of its own (`M00001.wav` and
+    /// so on, Broadcast Wave, EBU Tech 3285), with the channels, the depth, the texts and the CodingHistory of its source
+    /// and the time of its first frame as TimeReference; `consolidated.adl` is the list over these media. Whatever the
+    /// passes, it sounds as the given project does, sample for sample.
     ///
     /// All memory that the consolidation needs is taken here. `Intervals`, `Pass`, `Runs` and `Relink`, in this turn; where
     /// no memory was left for the names of media, `Runs`.
@@ -72,12 +75,14 @@ impl<'a> Consolidation<'a> {
         alloc: Global,
         checked: &'a Checked,
         handle: u64,
+        passes: Vec<Box<dyn Pass>>,
         shelf: &mut S,
     ) -> Result<Self, ConsolidationFault>
-        ensures planned { IfOk result (IsPlanOf checked.now.project checked.now.bound handle (S.honest shelf.old)
-            (S.stored shelf.old)) }
+        ensures planned { IfOk result (IsPlanOf (left_by (λ pass. looking pass) (λ pass. gives pass) passes.items)
+            checked.now.project checked.now.bound handle (S.honest shelf.old) (S.stored shelf.old)) }
         ensures refusals { IsTrue (S.honest shelf.old) → (work : Work)
-            → IsWorkOf checked.now.project checked.now.bound handle (S.stored shelf.old) work
+            → IsWorkOf (left_by (λ pass. looking pass) (λ pass. gives pass) passes.items)
+            checked.now.project checked.now.bound handle (S.stored shelf.old) work
             → Answers refusal_of result (work_fault work) }
         ensures there { (sources : Files) → binding_of checked.now.project sources ≡ Ok checked.now.bound
             → AreThere sources (sounds_of checked.now.bound) }
@@ -85,7 +90,7 @@ impl<'a> Consolidation<'a> {
             (FailsAt (sounds_of checked.now.bound)) }
     {
         let intervals = from_checked(alloc, checked)?;
-        let left = groups_left(alloc, intervals, checked, shelf)?;
+        let left = groups_left(alloc, intervals, checked, passes, shelf)?;
         plan_of(alloc, checked, handle, left)
     }
 }

@@ -10,19 +10,12 @@ use Rattle.sound_terms.specs.declared.piece.Piece.{Piece}
 use Rattle.sound_terms.specs.Mix.{Reading}
 use Rattle.sound_terms.specs.Groups.{is_read, pieces_of, reads}
 use Rattle.sound_terms.specs.OrderLaws.{all_in_order, total, total_in_order}
-use Rattle.sound_terms.specs.Passes.{in_turn, is_called, join_cuts, silences, split_fades, standard_groups, without_silent}
+use Rattle.sound_terms.specs.Passes.{is_called, join_cuts, silences, split_fades, standard_groups, without_silent}
 use Rattle.passes.specs.Alone.{each_alone}
 use Rattle.passes.specs.Silent.{is_silent_in}
-use Rattle.passes.specs.Standard.{AreStandard, reads_sounding}
+use Rattle.passes.specs.Standard.{reads_sounding}
 use Rattle.passes.proofs.JoinedCuts.{reads_joined}
 use Rattle.passes.proofs.Regrouped.{reads_regrouped}
-
--- four passes in the standard order give the standard groups
-pub standard_in_turn : {B : Type 0} (looks : B → Bool) (gives : B → List (List Piece) → List Bool → List (List Piece))
-    (reading : Reading) (passes : List B) (groups : List (List Piece)) → AreStandard looks gives passes
-    → in_turn looks gives (silences reading) passes groups ≡ standard_groups reading groups
-standard_in_turn looks gives reading passes groups are =
-    rw (are.are, are.splits, are.looking, are.leaves_out, are.joins, are.regroups) refl
 
 -- a group of one piece
 abbrev IsAlone : List Piece → Type 0

@@ -10,4 +10,4 @@ mod turns;
 mod zeros;
 
 pub use silences::silent_of;
-pub use turns::{run, standard};
+pub use turns::run;

@@ -10,7 +10,7 @@ ghost use Rattle.silence.specs.Fault.{FailsAt};
 
 use crate::silences::silent_of;
 use interval::Intervals;
-use passes::{DropSilent, JoinCuts, Pass, PassFault, Regroup, SplitFades, turn};
+use passes::{Pass, PassFault, turn};
 use shelf::Shelf;
 use std::alloc::Global;
 use wavread::Sound;
@@ -73,31 +73,5 @@ pub fn run<S: Shelf>(
     for pass in passes {
         left = asked(alloc, pass, left, sounds, shelf)?;
     }
-    Ok(left)
-}
-
-/// What the standard passes make of these groups: each fade is a piece of its own, groups of silent pieces are left
-/// out, cuts are joined, and pieces that continue one another are groups again. `Device` where a read fails.
-pub fn standard<S: Shelf>(
-    alloc: Global,
-    intervals: Intervals,
-    sounds: &[Sound],
-    shelf: &mut S,
-) -> Result<Intervals, PassFault>
-    ensures gives { IsTrue (S.honest shelf.old)
-        → IfOk result (λ new. new ≡ standard_groups (reading_by (S.stored shelf.old) sounds.now) intervals) }
-    ensures keeps_mix { IsTrue (S.honest shelf.old) → (channel time : ℕ) → IfOk result (λ new.
-        mix_of (reading_by (S.stored shelf.old) sounds.now) new channel time
-        ≡ mix_of (reading_by (S.stored shelf.old) sounds.now) intervals channel time) }
-    ensures keeps_whole { IfOk result (λ new. IsTrue (are_whole intervals) → IsTrue (are_whole new)) }
-    ensures reads_no_more { (file channel frame : ℕ)
-        → IfOk result (λ new. IsTrue (reads new file channel frame) → IsTrue (reads intervals file channel frame)) }
-    ensures only_reads { OnlyReads S.Shelf shelf.old shelf.new result IsDevice (FailsAt sounds.now) }
-{
-    let split = SplitFades.apply(alloc, intervals, &[])?;
-    let silent = silent_of(alloc, &split, sounds, shelf)?;
-    let sounding = DropSilent.apply(alloc, split, silent.as_slice())?;
-    let joined = JoinCuts.apply(alloc, sounding, &[])?;
-    let left = Regroup.apply(alloc, joined, &[])?;
     Ok(left)
 }

@@ -1,8 +1,12 @@
-//! Tests of lists: their text, projects that are bound to files, and renderings of these.
+//! Tests of lists: their text, projects that are bound to files, and renderings and consolidations of these.
 #![tactic(auto)]
 
 #[cfg(test)]
 mod bound_projects;
+#[cfg(test)]
+mod consolidations;
+#[cfg(test)]
+mod flat_cut;
 #[cfg(test)]
 mod renderings;
 #[cfg(test)]

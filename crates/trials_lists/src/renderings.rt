@@ -13,7 +13,12 @@ use stores::{MemoryBench, MemoryShelf};
 use wavwrite::{SoundInfo, header};
 
 /// The header of a file that begins at midnight.
-fn head(alloc: Global, channels: u8, depth: Depth, frames: u64) -> Result<Vec<u8>, Fail> {
+pub(crate) fn head(
+    alloc: Global,
+    channels: u8,
+    depth: Depth,
+    frames: u64,
+) -> Result<Vec<u8>, Fail> {
     let bext = Bext {
         text: [0; 338],
         time_reference: 0,

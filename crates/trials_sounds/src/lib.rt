@@ -10,8 +10,6 @@ mod cuts;
 #[cfg(test)]
 mod files;
 #[cfg(test)]
-mod flat_cut;
-#[cfg(test)]
 mod intervals;
 #[cfg(test)]
 mod kernels;

@@ -49,7 +49,7 @@ fn length_of(group: &Group) -> u64 {
 
 /// Where the groups begin and how long they are, that these passes leave of an entry of 12 samples with both fades of
 /// four and a silent middle; and how many pieces were asked for.
-pub(crate) fn left_of_entry(
+fn left_of_entry(
     rt: &HostRuntime,
     passes: Vec<Box<dyn Pass>>,
 ) -> Result<(Vec<(u64, u64)>, u64), Fail> {

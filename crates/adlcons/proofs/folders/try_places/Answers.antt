@@ -4,24 +4,24 @@ pub returns-clause-rendered : goal.returns-clause-rendered
 returns-clause-rendered g c = λ list media target chosen request told. record {
   list = c.deref.result.now;
   before = c.in_ok-shelf.shelf;
-  after = c.answer-status.new.shelf;
+  after = c.answer_standard-answered.new.shelf;
   empty = c.in_ok-bench.bench;
-  full = c.answer-status.new.bench;
+  full = c.answer_standard-answered.new.bench;
   folder = c.in_ok-shelf.ensures.folder;
   output = c.in_ok-bench.ensures.folder;
   careful = c.in_ok-bench.ensures.overwrite;
-  answered = c.answer-status.ensures.rendered list media target chosen request told;
+  answered = c.in-Ok.ensures.rendered list media target chosen request told;
 }
 
 pub returns-clause-consolidated : goal.returns-clause-consolidated
 returns-clause-consolidated g c = λ list media target handle request. record {
   list = c.deref.result.now;
   before = c.in_ok-shelf.shelf;
-  after = c.answer-status.new.shelf;
+  after = c.answer_standard-answered.new.shelf;
   empty = c.in_ok-bench.bench;
-  full = c.answer-status.new.bench;
+  full = c.answer_standard-answered.new.bench;
   folder = c.in_ok-shelf.ensures.folder;
   output = c.in_ok-bench.ensures.folder;
   careful = c.in_ok-bench.ensures.overwrite;
-  answered = c.answer-status.ensures.consolidated list media target handle request;
+  answered = c.in-Ok.ensures.consolidated list media target handle request;
 }

@@ -1,8 +1,10 @@
-use Rattle.std.proofs.Common.{◌≡◌, ◌∙◌, IsTrue, None, Ok, Err, rules, subst, sym}
+use Rattle.std.proofs.Common.{◌∙◌, IsTrue, None, Ok, Err, rules, subst, sym}
 use Rattle.std.proofs.lemmas.Result.{err_from_is_err_and}
 use Rattle.list_terms.specs.Binding.{Binding}
 use Rattle.list_terms.specs.Project.{ListProject}
-use Rattle.consolidation.specs.Consolidated.{IsWorkOf, work_fault}
+use Rattle.consolidation.specs.Consolidated.{IsWorkOf}
+use Rattle.passes.specs.Left.{Leaving, left_by, standard_left}
+use Rattle.consolidate.specs.Commands.{IsConsolidation}
 use Rattle.consolidate.specs.Fault.{refusal_of}
 use Rattle.consolidate.proofs.Due.{none_due, one_accepted, one_work, opening_due_of_work}
 use Rattle.consolidation.specs.declared.written.Written as consolidation
@@ -12,8 +14,8 @@ use Rattle.consolidate.proofs.Rounds.{consolidates_list, ends_map, none_ended}
 use Rattle.consolidate.proofs.Stores.{answered_as, opened_before, refused_as, stopped_early}
 use Rattle.consolidate.proofs.consolidated.consolidate.Goals as goal
 
-pub returns-in_err-checked : goal.returns-in_err-checked
-returns-in_err-checked g c =
+pub returns-in_err-checked-clause-consolidated : goal.returns-in_err-checked-clause-consolidated
+returns-in_err-checked-clause-consolidated g c =
     let p = err_from_is_err_and c.from_residual.result c.from_residual.ensures.1 in
     let fault = c.in_err-checked.field-0.0 in
     let told = c.in_err-checked.ensures in
@@ -31,20 +33,22 @@ returns-in_err-checked g c =
       named = search rules;
       list_last = search rules;
       rounds = λ honest right. none_ended Written c.args.list.now fault
-          (ConsolidatesList c.args.list.now c.args.handle sources (g.S.Shelf.failures c.args.shelf.now)
+          (ConsolidatesList _ c.args.list.now c.args.handle sources (g.S.Shelf.failures c.args.shelf.now)
           (g.B.Bench.failures c.args.bench.now) (g.S.Shelf.failures c.open.new.shelf)
           (g.B.Bench.failures c.args.bench.now) (g.B.Bench.stored c.args.bench.now)) told.own;
       stores = stopped_early g.S.Shelf g.B.Bench c.args.shelf.now c.open.new.shelf c.args.bench.now fault
           (g.met.B.Bench.only_now c.args.bench.now) told.only_reads (search rules);
     })
 
-pub returns-in_err-written : goal.returns-in_err-written
-returns-in_err-written g c =
+pub returns-in_err-written-clause-consolidated : goal.returns-in_err-written-clause-consolidated
+returns-in_err-written-clause-consolidated g c =
     let p = err_from_is_err_and c.from_residual-in_err-written.result c.from_residual-in_err-written.ensures.1 in
     let fault = c.in_err-written.field-0.0 in
     let opened = c.in_ok-checked.ensures in
     let told = c.in_err-written.ensures in
     let list = c.args.list.now in
+    let leave : Leaving = left_by (λ pass. (goal.Pass-dyn g (pass.vtable, pass.value)).looking pass.value)
+    (λ pass. (goal.Pass-dyn g (pass.vtable, pass.value)).gives pass.value) c.args.passes.items in
     let sources = g.S.Shelf.stored c.args.shelf.now in
     let checked = c.in_ok-checked.field-0.checked in
     rw (p.1, p.2) (record {
@@ -54,9 +58,9 @@ returns-in_err-written g c =
       refusals = λ honest project binding work accepted is_work.
           let honest_now : IsTrue (g.S.Shelf.honest c.open.new.shelf) =
           rw c.open.ensures.only_reads.honest_same honest in
-          one_work list sources _ project _ binding c.args.handle work (refusal_of fault)
+          one_work leave list sources _ project _ binding c.args.handle work (refusal_of fault)
           (opened.accepted honest) accepted
-          (λ is. let now : IsWorkOf checked.project checked.bound c.args.handle
+          (λ is. let now : IsWorkOf leave checked.project checked.bound c.args.handle
           (g.S.Shelf.stored c.open.new.shelf) work =
           rw c.open.ensures.only_reads.same is in told.refusals honest_now work now) is_work;
       bad_list = λ honest refusal due.
@@ -66,15 +70,15 @@ returns-in_err-written g c =
       named = search rules;
       list_last = search rules;
       rounds = λ honest right. ends_map consolidation.Written Written fault
-          (ConsolidatesInRounds checked.project checked.bound c.args.handle (g.S.Shelf.stored c.open.new.shelf)
+          (ConsolidatesInRounds leave checked.project checked.bound c.args.handle (g.S.Shelf.stored c.open.new.shelf)
           (g.S.Shelf.failures c.open.new.shelf) (g.B.Bench.failures c.args.bench.now)
           (g.S.Shelf.failures c.consolidate_checked.new.shelf) (g.B.Bench.failures c.consolidate_checked.new.bench)
           (g.B.Bench.stored c.consolidate_checked.new.bench))
-          (ConsolidatesList list c.args.handle sources
+          (ConsolidatesList leave list c.args.handle sources
           (g.S.Shelf.failures c.args.shelf.now) (g.B.Bench.failures c.args.bench.now)
           (g.S.Shelf.failures c.consolidate_checked.new.shelf) (g.B.Bench.failures c.consolidate_checked.new.bench)
           (g.B.Bench.stored c.consolidate_checked.new.bench))
-          (λ ended run. consolidates_list list c.args.handle checked.project checked.bound sources
+          (λ ended run. consolidates_list leave list c.args.handle checked.project checked.bound sources
           (g.S.Shelf.stored c.open.new.shelf) (g.S.Shelf.failures c.args.shelf.now)
           (g.S.Shelf.failures c.open.new.shelf) (g.B.Bench.failures c.args.bench.now)
           (g.S.Shelf.failures c.consolidate_checked.new.shelf) (g.B.Bench.failures c.consolidate_checked.new.bench)
@@ -88,12 +92,14 @@ returns-in_err-written g c =
           c.consolidate_checked.new.shelf c.args.bench.now c.consolidate_checked.new.bench fault told.stores);
     })
 
-pub returns : goal.returns
-returns g c =
+pub returns-clause-consolidated : goal.returns-clause-consolidated
+returns-clause-consolidated g c =
     let opened = c.in_ok-checked.ensures in
     let told = c.in_ok-written.ensures in
     let list = c.args.list.now in
     let handle = c.args.handle in
+    let leave : Leaving = left_by (λ pass. (goal.Pass-dyn g (pass.vtable, pass.value)).looking pass.value)
+    (λ pass. (goal.Pass-dyn g (pass.vtable, pass.value)).gives pass.value) c.args.passes.items in
     let sources = g.S.Shelf.stored c.args.shelf.now in
     let project = c.in_ok-checked.field-0.checked.project in
     let binding = c.in_ok-checked.field-0.checked.bound in
@@ -113,10 +119,10 @@ returns g c =
       durable = search rules;
       refusals = λ honest other bound work accepted is_work.
           let same = one_accepted list sources project other binding bound (opened.accepted honest) accepted in
-          let now : IsWorkOf project binding handle (g.S.Shelf.stored c.open.new.shelf) work =
+          let now : IsWorkOf leave project binding handle (g.S.Shelf.stored c.open.new.shelf) work =
           rw c.open.ensures.only_reads.same
-          (subst (λ (e : Binding). IsWorkOf project e handle sources work) (sym same.1)
-          (subst (λ (r : ListProject). IsWorkOf r bound handle sources work) (sym same.0) is_work)) in
+          (subst (λ (e : Binding). IsWorkOf leave project e handle sources work) (sym same.1)
+          (subst (λ (r : ListProject). IsWorkOf leave r bound handle sources work) (sym same.0) is_work)) in
           told.refusals (honest_now honest) work now;
       bad_list = λ honest refusal due.
           (tt, λ _. let none = sym (none_due list sources project binding (opened.accepted honest)) ∙ due in cc);
@@ -124,7 +130,7 @@ returns g c =
       own = tt;
       named = search rules;
       list_last = search rules;
-      rounds = λ honest right. consolidates_list list handle project binding sources
+      rounds = λ honest right. consolidates_list leave list handle project binding sources
           (g.S.Shelf.stored c.open.new.shelf) (g.S.Shelf.failures c.args.shelf.now)
           (g.S.Shelf.failures c.open.new.shelf) (g.B.Bench.failures c.args.bench.now)
           (g.S.Shelf.failures c.consolidate_checked.new.shelf) (g.B.Bench.failures c.consolidate_checked.new.bench)
@@ -136,3 +142,27 @@ returns g c =
           (answered_as g.S.Shelf g.B.Bench consolidation.Written Written c.open.new.shelf
           c.consolidate_checked.new.shelf c.args.bench.now c.consolidate_checked.new.bench _ _ told.stores);
     }
+
+pub returns-in_err-checked-clause-standard : goal.returns-in_err-checked-clause-standard
+returns-in_err-checked-clause-standard g c are =
+    subst (λ (leave : Leaving). IsConsolidation g.S.Shelf g.B.Bench leave c.args.list.now c.args.handle
+    c.args.shelf.now c.open.new.shelf c.args.bench.now c.args.bench.now c.from_residual.result)
+    (standard_left _ _ c.args.passes.items are) (returns-in_err-checked-clause-consolidated g c)
+
+pub returns-in_err-written-clause-standard : goal.returns-in_err-written-clause-standard
+returns-in_err-written-clause-standard g c are =
+    subst (λ (leave : Leaving). IsConsolidation g.S.Shelf g.B.Bench leave c.args.list.now c.args.handle
+    c.args.shelf.now c.consolidate_checked.new.shelf c.args.bench.now c.consolidate_checked.new.bench
+    c.from_residual-in_err-written.result)
+    (standard_left _ _ c.args.passes.items are) (returns-in_err-written-clause-consolidated g c)
+
+pub returns-clause-standard : goal.returns-clause-standard
+returns-clause-standard g c are =
+    subst (λ (leave : Leaving). IsConsolidation g.S.Shelf g.B.Bench leave c.args.list.now c.args.handle
+    c.args.shelf.now c.consolidate_checked.new.shelf c.args.bench.now c.consolidate_checked.new.bench (Ok (record {
+      media = c.in_ok-written.written.media;
+      entries = c.in_ok-written.written.entries;
+      sizes = c.in_ok-written.written.sizes;
+      notices = c.in_ok-checked.field-0.notices;
+    })))
+    (standard_left _ _ c.args.passes.items are) (returns-clause-consolidated g c)

@@ -1,10 +1,7 @@
-use Rattle.std.proofs.Common.{◌≡◌, ◌∙◌, ◌≤◌, IsTrue, Option, None, Some, Ok, Err, List, ℕ, length, arith, ap, refl, subst, sym, rules}
+use Rattle.std.proofs.Common.{◌∙◌, IsTrue, None, Some, Err, length, arith, ap, refl, subst, sym}
 use Rattle.std.specs.Prelude.{codes, false}
-use Rattle.work_terms.specs.Disk.{Files}
 use Rattle.job_terms.specs.Workers.{GivenUp, jobs_over}
-use Rattle.consolidation.specs.Consolidated.{IsElsewhere}
 use Rattle.consolidation.specs.Jobs.{whole_of, work_of}
-use Rattle.consolidation.specs.Media.{IsNoMedium}
 use Rattle.schedule.specs.Ends.{ended_of}
 use Rattle.schedule.specs.Rounds.{RunsInRounds}
 use Rattle.schedule.specs.declared.fault.JobFault.{JobFault}
@@ -18,7 +15,7 @@ use Rattle.consolidate.proofs.Rounds.{few_media, list_no_medium, lent_finished, 
 use Rattle.consolidate.proofs.consolidated.write_consolidation.Goals as goal
 
 pub returns-in-Err-GivenUp-clause-rounds : goal.returns-in-Err-GivenUp-clause-rounds
-returns-in-Err-GivenUp-clause-rounds g c honest right project binding handle planned there = record {
+returns-in-Err-GivenUp-clause-rounds g c honest right leave project binding handle planned there = record {
   plan = c.args.consolidation.now;
   planned = planned;
   media = (g.B.Bench.stored c.from_start.new.bench);
@@ -31,7 +28,7 @@ returns-in-Err-GivenUp-clause-rounds g c honest right project binding handle pla
 }
 
 pub returns-in-Ok-finish-clause-rounds : goal.returns-in-Ok-finish-clause-rounds
-returns-in-Ok-finish-clause-rounds g c honest right project binding handle planned there = record {
+returns-in-Ok-finish-clause-rounds g c honest right leave project binding handle planned there = record {
   plan = c.args.consolidation.now;
   planned = planned;
   media = (g.B.Bench.stored c.from_start.new.bench);
@@ -42,12 +39,12 @@ returns-in-Ok-finish-clause-rounds g c honest right project binding handle plann
 }
 
 pub returns-in-Ok-finish-clause-same_sound : goal.returns-in-Ok-finish-clause-same_sound
-returns-in-Ok-finish-clause-same_sound g c honest right text project binding handle accepted planned there =
-    c.in-Ok-finish.ensures.same_sound (subst IsTrue (sym (c.from_start.ensures.same_bench ∙ c.in-Ok.ensures.only_writes.honest_same)) right) text project binding handle (g.S.Shelf.stored c.args.shelf.now) accepted planned there (lent_finished c.args.consolidation.now c.pieces-pieces.result (g.S.Shelf.stored c.args.shelf.now) (g.B.Bench.stored c.lay_out.new.bench) (g.B.Bench.stored c.from_start.new.bench) c.pieces-pieces.ensures.lent (c.in-Ok-from_start.ensures.finished honest (subst IsTrue (sym c.in-Ok.ensures.only_writes.honest_same) right)) (c.pieces-pieces.ensures.parts (g.S.Shelf.stored c.args.shelf.now) there) (c.in-Ok.ensures.filled right (g.S.Shelf.stored c.args.shelf.now) there))
+returns-in-Ok-finish-clause-same_sound g c honest right text leave project binding handle accepted planned there =
+    c.in-Ok-finish.ensures.same_sound (subst IsTrue (sym (c.from_start.ensures.same_bench ∙ c.in-Ok.ensures.only_writes.honest_same)) right) text leave project binding handle (g.S.Shelf.stored c.args.shelf.now) accepted planned there (lent_finished c.args.consolidation.now c.pieces-pieces.result (g.S.Shelf.stored c.args.shelf.now) (g.B.Bench.stored c.lay_out.new.bench) (g.B.Bench.stored c.from_start.new.bench) c.pieces-pieces.ensures.lent (c.in-Ok-from_start.ensures.finished honest (subst IsTrue (sym c.in-Ok.ensures.only_writes.honest_same) right)) (c.pieces-pieces.ensures.parts (g.S.Shelf.stored c.args.shelf.now) there) (c.in-Ok.ensures.filled right (g.S.Shelf.stored c.args.shelf.now) there))
 
 pub returns-in-Ok-finish-clause-written : goal.returns-in-Ok-finish-clause-written
-returns-in-Ok-finish-clause-written g c honest right project binding handle planned there =
-    c.in-Ok-finish.ensures.written (subst IsTrue (sym (c.from_start.ensures.same_bench ∙ c.in-Ok.ensures.only_writes.honest_same)) right) project binding handle (g.S.Shelf.stored c.args.shelf.now) (g.B.Bench.stored c.args.bench.now) planned there (lent_finished c.args.consolidation.now c.pieces-pieces.result (g.S.Shelf.stored c.args.shelf.now) (g.B.Bench.stored c.lay_out.new.bench) (g.B.Bench.stored c.from_start.new.bench) c.pieces-pieces.ensures.lent (c.in-Ok-from_start.ensures.finished honest (subst IsTrue (sym c.in-Ok.ensures.only_writes.honest_same) right)) (c.pieces-pieces.ensures.parts (g.S.Shelf.stored c.args.shelf.now) there) (c.in-Ok.ensures.filled right (g.S.Shelf.stored c.args.shelf.now) there))
+returns-in-Ok-finish-clause-written g c honest right leave project binding handle planned there =
+    c.in-Ok-finish.ensures.written (subst IsTrue (sym (c.from_start.ensures.same_bench ∙ c.in-Ok.ensures.only_writes.honest_same)) right) leave project binding handle (g.S.Shelf.stored c.args.shelf.now) (g.B.Bench.stored c.args.bench.now) planned there (lent_finished c.args.consolidation.now c.pieces-pieces.result (g.S.Shelf.stored c.args.shelf.now) (g.B.Bench.stored c.lay_out.new.bench) (g.B.Bench.stored c.from_start.new.bench) c.pieces-pieces.ensures.lent (c.in-Ok-from_start.ensures.finished honest (subst IsTrue (sym c.in-Ok.ensures.only_writes.honest_same) right)) (c.pieces-pieces.ensures.parts (g.S.Shelf.stored c.args.shelf.now) there) (c.in-Ok.ensures.filled right (g.S.Shelf.stored c.args.shelf.now) there))
     (λ n away. c.in-Ok-from_start.ensures.others (subst IsTrue (sym c.in-Ok.ensures.only_writes.honest_same) right) n (no_output c.args.consolidation.now c.pieces-pieces.result n c.pieces-pieces.ensures.lent c.pieces-pieces.ensures.names away.no_medium)
     ∙ c.in-Ok.ensures.only_writes.others right n away.no_medium)
 

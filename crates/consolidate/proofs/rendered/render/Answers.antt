@@ -1,6 +1,5 @@
-use Rattle.std.proofs.Common.{◌≡◌, ◌∙◌, IsTrue, Option, Ok, Err, None, ℕ, rules, subst, sym}
+use Rattle.std.proofs.Common.{◌∙◌, IsTrue, Ok, Err, None, rules, subst, sym}
 use Rattle.std.proofs.lemmas.Result.{err_from_is_err_and}
-use Rattle.job_terms.specs.Workers.{End}
 use Rattle.rendering.specs.Rendering.{values_of}
 use Rattle.rendering.specs.declared.work.Rendered as rendering
 use Rattle.consolidate.specs.Fault.{refusal_of}

@@ -1,4 +1,4 @@
-use Rattle.std.proofs.Common.{Option, None, Err, List, ℕ}
+use Rattle.std.proofs.Common.{None}
 use Rattle.std.specs.Prelude.{false}
 use Rattle.job_terms.specs.Workers.{jobs_over}
 use Rattle.rendering.specs.Rendering.{values_of}

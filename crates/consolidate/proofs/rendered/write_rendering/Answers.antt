@@ -1,4 +1,4 @@
-use Rattle.std.proofs.Common.{◌≡◌, ◌∙◌, IsTrue, Option, None, Some, Err, List, ℕ, ap, refl, subst, sym}
+use Rattle.std.proofs.Common.{◌∙◌, IsTrue, None, Some, Err, ap, refl, subst, sym}
 use Rattle.std.specs.Prelude.{codes, false}
 use Rattle.work_terms.specs.Disk.{Files}
 use Rattle.job_terms.specs.Workers.{GivenUp, jobs_over}

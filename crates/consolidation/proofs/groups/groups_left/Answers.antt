@@ -16,7 +16,7 @@ returns-clause-left g c =
 pub returns-clause-given : goal.returns-clause-given
 returns-clause-given g c = λ honest. record {
   gives = rw (c.sounds.ensures.sounds, c.bound.ensures, c.requires.parts) at
-      (c.in_ok-left.ensures.gives honest);
+      (c.in_ok-left.ensures.given honest);
   same_mix = λ channel time.
       (rw (c.sounds.ensures.sounds, c.bound.ensures) at (c.in_ok-left.ensures.keeps_mix honest channel time))
       ∙ c.requires.same_mix (reading_of (g.S.Shelf.stored c.args.shelf.now) c.args.checked.now.bound)

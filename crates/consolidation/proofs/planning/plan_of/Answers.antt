@@ -1,24 +1,19 @@
-use Rattle.std.proofs.Common.{◌≡◌, ◌∙◌, ◌≤◌, ℕ, List, All, ap, arith, length, refl, true}
-use Rattle.std.specs.List.{list_any}
-use Rattle.std.proofs.lemmas.List.Elements.{All-weaker}
+use Rattle.std.proofs.Common.{◌≡◌, ◌∙◌, ◌≤◌, ℕ, List, All, ap, arith, length}
 use Rattle.std.proofs.lemmas.Result.{err_from_is_err_and}
 use Rattle.sound_terms.specs.declared.piece.Home.{Home}
 use Rattle.sound_terms.specs.declared.piece.Piece.{Piece}
 use Rattle.sound_terms.specs.declared.piece.Run.{Run}
 use Rattle.sound_terms.specs.Homes.{AreHomes, kept_of, place_by}
 use Rattle.sound_terms.specs.Kept.{AreRuns}
-use Rattle.sound_terms.specs.Waves.{is_large}
 use Rattle.list_terms.specs.BoundHomes.{IsBinding, homes_of}
 use Rattle.list_terms.specs.Heard.{sounds_of}
 use Rattle.relink.specs.declared.fault.RelinkFault.TheVariants as relink
 use Rattle.work_terms.specs.Refusals.{IsDue}
-use Rattle.wavwrite.specs.Info.{Fits}
 use Rattle.list_terms.specs.Binding.{Binding}
 use Rattle.consolidation.specs.Consolidated.{Work, work_fault}
 use Rattle.consolidation.specs.Fault.{refusal_of}
 use Rattle.consolidation.specs.Own.{IsOfLinking}
-use Rattle.consolidation.specs.Planned.{AreLeft, IsAddressed, IsMediumRun}
-use Rattle.consolidation.specs.Work.{run_info}
+use Rattle.consolidation.specs.Planned.{AreLeft, IsAddressed}
 use Rattle.consolidation.specs.declared.fault.ConsolidationFault.{ConsolidationFault}
 use Rattle.consolidation.specs.declared.fault.ConsolidationFault.TheVariants as fault
 use Rattle.consolidation.proofs.Addressed.{all_addressed}

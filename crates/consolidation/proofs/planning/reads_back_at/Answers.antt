@@ -1,4 +1,4 @@
-use Rattle.std.proofs.Common.{◌≡◌, ◌∙◌, ◌<◌, ◌^◌, arith}
+use Rattle.std.proofs.Common.{◌≡◌, ◌∙◌}
 use Rattle.sound_terms.specs.Media.{sound_at}
 use Rattle.list_terms.specs.BoundHomes.{no_home}
 use Rattle.consolidation.proofs.Places.{base_read, same_facts, sound_read}

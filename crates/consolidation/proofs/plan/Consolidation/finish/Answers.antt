@@ -8,7 +8,7 @@ use Rattle.consolidation.proofs.Ended.{consolidated, holds_kept, same_sound}
 use Rattle.consolidation.proofs.plan.Consolidation.finish.Goals as goal
 
 pub returns-in-Ok-clause-same_sound : goal.returns-in-Ok-clause-same_sound
-returns-in-Ok-clause-same_sound g c = λ honest text project binding handle sources accepted of there holds.
+returns-in-Ok-clause-same_sound g c = λ honest text leave project binding handle sources accepted of there holds.
     let plan = c.args.self.now in
     let is : IsMediaPlan plan = subst IsMediaPlan c.self.view_is c.self.invariant.0 in
     let synced = c.sync_media.ensures.only_reads in
@@ -18,11 +18,11 @@ returns-in-Ok-clause-same_sound g c = λ honest text project binding handle sour
     (subst (HoldsMedia plan sources) (sym synced.same) holds) in
     let list = c.in-Ok.ensures.written now
     ∙ ap Some (c.deref.ensures.value ∙ ap (λ (p : MediaPlan). p.text) c.self.view_is) in
-    same_sound plan is project binding handle sources (g.B.Bench.stored c.write_list.new.bench) of there kept list text
+    same_sound plan is leave project binding handle sources (g.B.Bench.stored c.write_list.new.bench) of there kept list text
     accepted
 
 pub returns-in-Ok-clause-written : goal.returns-in-Ok-clause-written
-returns-in-Ok-clause-written g c = λ honest project binding handle sources old of there holds stays.
+returns-in-Ok-clause-written g c = λ honest leave project binding handle sources old of there holds stays.
     let plan = c.args.self.now in
     let is : IsMediaPlan plan = subst IsMediaPlan c.self.view_is c.self.invariant.0 in
     let synced = c.sync_media.ensures.only_reads in
@@ -33,7 +33,7 @@ returns-in-Ok-clause-written g c = λ honest project binding handle sources old 
     let list = c.in-Ok.ensures.written now
     ∙ ap Some (c.deref.ensures.value ∙ ap (λ (p : MediaPlan). p.text) c.self.view_is) in
     rw c.written.ensures
-    (consolidated plan is project binding handle sources (g.B.Bench.stored c.write_list.new.bench) of there kept list old
+    (consolidated plan is leave project binding handle sources (g.B.Bench.stored c.write_list.new.bench) of there kept list old
     (λ n elsewhere. c.in-Ok.ensures.only_writes.others now n elsewhere.no_list
     ∙ ap (λ (files : Files). files n) synced.same ∙ stays n elsewhere))
 

@@ -2,18 +2,16 @@
 ghost use Rattle.std.specs.Prelude.{◌≡◌, ◌++◌, ◌∷◌, [], false, MatchOption, IfOk, IfSome, OnOk};
 ghost use Rattle.std.specs.List.{flat_map};
 ghost use Rattle.sound_terms.specs.Groups.{IsPiece};
-ghost use Rattle.trials_sounds.specs.FlatCut as spec;
+ghost use Rattle.trials_lists.specs.FlatCut as spec;
 
-use crate::pass_lists::left_of_entry;
 use interval::{Group, Intervals, Piece, Shape};
-use passes::{Pass, PassFault, Regroup, SplitFades};
+use passes::{Pass, PassFault};
 use std::alloc::{AllocError, Global};
-use std::test::Fail;
 
 /// Cuts each group of one flat piece that goes on over a time in two.
 #[derive(Drop)]
-struct FlatCut {
-    time: u64,
+pub(crate) struct FlatCut {
+    pub(crate) time: u64,
 }
 
 /// What a group is cut into, where it is one flat piece over this time.
@@ -88,31 +86,4 @@ impl Pass for FlatCut {
         let _ = intervals.groups();
         Ok(Intervals::ordered(cut(self.time, alloc, intervals)?)?)
     }
-}
-
-#[test]
-fn a_flat_group_is_two_behind_a_pass_of_its_own(rt: HostRuntime) -> Result<(), Fail> {
-    let alloc = rt.alloc();
-    let mut passes: Vec<Box<dyn Pass>> = Vec::new(alloc);
-    passes.push(Box::new(alloc, SplitFades)?)?;
-    passes.push(Box::new(alloc, FlatCut { time: 6 })?)?;
-    let (groups, asked) = left_of_entry(&rt, passes)?;
-    assert_eq!(rt;
-        groups.as_slice(),
-        [(0, 4), (4, 2), (6, 2), (8, 4)].as_slice()
-    );
-    assert_eq!(rt; asked, 0);
-    Ok(())
-}
-
-#[test]
-fn fades_go_with_both_parts_of_a_flat_group_that_was_cut(rt: HostRuntime) -> Result<(), Fail> {
-    let alloc = rt.alloc();
-    let mut passes: Vec<Box<dyn Pass>> = Vec::new(alloc);
-    passes.push(Box::new(alloc, SplitFades)?)?;
-    passes.push(Box::new(alloc, FlatCut { time: 6 })?)?;
-    passes.push(Box::new(alloc, Regroup)?)?;
-    let (groups, _) = left_of_entry(&rt, passes)?;
-    assert_eq!(rt; groups.as_slice(), [(0, 6), (6, 6)].as_slice());
-    Ok(())
 }

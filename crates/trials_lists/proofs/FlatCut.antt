@@ -14,7 +14,7 @@ use Rattle.sound_terms.specs.Mix.{Reading, share_of}
 use Rattle.sound_terms.specs.Groups.{IsGroup, IsPiece, are_whole, is_read, is_whole, mix_of, part_of, reads}
 use Rattle.sound_terms.specs.OrderLaws.{mix_total, read_by, reads_total, sum_at, total, whole_total}
 use Rattle.sound_terms.specs.Passes.{is_flat}
-use Rattle.trials_sounds.specs.FlatCut.{behind, flat_cut, front}
+use Rattle.trials_lists.specs.FlatCut.{behind, flat_cut, front}
 
 -- a time inside a flat piece, n samples behind its start
 record IsCut (time : ℕ) (p : Piece) : Type 0 where

@@ -1,8 +1,8 @@
 use Rattle.std.proofs.Common.{◌≡◌, ◌++◌}
 use Rattle.std.specs.List.{flat_map}
 use Rattle.std.specs.Vec.Iter.{into_iter_items}
-use Rattle.trials_sounds.specs.FlatCut.{flat_cut}
-use Rattle.trials_sounds.proofs.flat_cut.cut.Given as goal
+use Rattle.trials_lists.specs.FlatCut.{flat_cut}
+use Rattle.trials_lists.proofs.flat_cut.cut.Given as goal
 
 abbrev pub invariant-loop-group : goal.invariant-loop-group
 invariant-loop-group l =

@@ -1,6 +1,6 @@
 use Rattle.std.proofs.Common.{◌∙◌}
-use Rattle.trials_sounds.proofs.FlatCut.{groups_cut, mix_cut, pieces_cut, reads_cut, whole_cut}
-use Rattle.trials_sounds.proofs.flat_cut.FlatCutPass.apply.Goals as goal
+use Rattle.trials_lists.proofs.FlatCut.{groups_cut, mix_cut, pieces_cut, reads_cut, whole_cut}
+use Rattle.trials_lists.proofs.flat_cut.FlatCutPass.apply.Goals as goal
 
 pub ordered-requires-clause-groups : goal.ordered-requires-clause-groups
 ordered-requires-clause-groups c =

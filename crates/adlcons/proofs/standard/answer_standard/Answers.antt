@@ -1,0 +1,53 @@
+use Rattle.std.proofs.Common.{◌≡◌, ◌∙◌, true, refl, ap, sym, inl, inr}
+use Rattle.commandline.specs.Request.{asked_of}
+use Rattle.sound_terms.specs.Passes.{join_cuts, regroup, split_fades, without_silent}
+use Rattle.passes.specs.contracts.turn as turn
+use Rattle.adlcons.proofs.Tables.{at_table}
+use Rattle.adlcons.proofs.standard.answer_standard.OwnLists as own
+use Rattle.adlcons.proofs.standard.answer_standard.Goals as goal
+
+pub returns-in_ok-passes-in-Consolidate-clause-consolidated : goal.returns-in_ok-passes-in-Consolidate-clause-consolidated
+returns-in_ok-passes-in-Consolidate-clause-consolidated g c place media target handle request =
+    c.answer.ensures.standard (record {
+      splitting = c.into_dyn_box.result;
+      leaving_out = c.into_dyn_box-in_ok-new-in-Consolidate-2.result;
+      joining = c.into_dyn_box-in_ok-new-in-Consolidate-3.result;
+      grouping = c.into_dyn_box-in_ok-new-in-Consolidate-4.result;
+      are = c.in_ok-passes-in-Consolidate.ensures.items;
+      looking = at_table
+          (λ table v. ((turn.dyn-1-ghosts (own.own-1, own.lawful-own-1)).0.entry table).1.looking v ≡ true)
+          _ _ c.into_dyn_box-in_ok-new-in-Consolidate-2.result.value c.into_dyn_box-in_ok-new-in-Consolidate-2.ensures.0 (λ v. refl);
+      splits = λ groups silent. at_table
+          (λ table v. ((turn.dyn-1-ghosts (own.own-1, own.lawful-own-1)).0.entry table).1.gives v groups silent
+          ≡ split_fades groups)
+          _ _ c.into_dyn_box.result.value c.into_dyn_box.ensures.0 (λ v. refl);
+      leaves_out = λ groups silent. at_table
+          (λ table v. ((turn.dyn-1-ghosts (own.own-1, own.lawful-own-1)).0.entry table).1.gives v groups silent
+          ≡ without_silent groups silent)
+          _ _ c.into_dyn_box-in_ok-new-in-Consolidate-2.result.value c.into_dyn_box-in_ok-new-in-Consolidate-2.ensures.0 (λ v. refl);
+      joins = λ groups silent. at_table
+          (λ table v. ((turn.dyn-1-ghosts (own.own-1, own.lawful-own-1)).0.entry table).1.gives v groups silent
+          ≡ join_cuts groups)
+          _ _ c.into_dyn_box-in_ok-new-in-Consolidate-3.result.value c.into_dyn_box-in_ok-new-in-Consolidate-3.ensures.0 (λ v. refl);
+      regroups = λ groups silent. at_table
+          (λ table v. ((turn.dyn-1-ghosts (own.own-1, own.lawful-own-1)).0.entry table).1.gives v groups silent
+          ≡ regroup groups)
+          _ _ c.into_dyn_box-in_ok-new-in-Consolidate-4.result.value c.into_dyn_box-in_ok-new-in-Consolidate-4.ensures.0 (λ v. refl);
+    }) place media target handle request
+
+pub returns-in-Check : goal.returns-in-Check
+returns-in-Check g c = record {
+  rendered = c.answer-in-Check.ensures.rendered;
+  consolidated = λ place media target handle request. absurd (elim c.in-Check.is [
+    | inl check ↦ let other = ap asked_of (sym check.2) ∙ request in cc
+    | inr rest ↦ elim rest [
+      | inl render ↦ let other = ap asked_of (sym render.2) ∙ request in cc
+      | inr rest ↦ elim rest [
+        | inl explain ↦ let other = ap asked_of (sym explain.1) ∙ request in cc
+        | inr notice ↦ let other = ap asked_of (sym notice.1) ∙ request in cc
+      ]
+    ]
+  ]);
+  statuses = c.answer-in-Check.ensures.statuses;
+  nothing = tt;
+}

@@ -1,0 +1,66 @@
+// Answers with the standard passes.
+ghost use Rattle.std.specs.Prelude.{◌≡◌, ◌≢◌, ◌≤◌, ℕ, IfOk, OnErr};
+ghost use Rattle.clap.specs.Walk.{Text};
+ghost use Rattle.commandline.specs.CommandLine as asked;
+ghost use Rattle.commandline.specs.Request.{asked_of};
+ghost use Rattle.consolidate.specs.Commands.{IsConsolidation};
+ghost use Rattle.sound_terms.specs.Passes.{standard_groups};
+ghost use Rattle.adlcons.specs.Answers.{IsAnswered, RendersBy, rendered_lines, written_lines};
+
+use crate::answer::answer;
+use crate::meter::Meter;
+use commandline::Request;
+use console::Console;
+use passes::{DropSilent, JoinCuts, Pass, Regroup, SplitFades};
+use shelf::{Bench, Shelf};
+use std::alloc::{AllocError, Global};
+use stores::Reasons;
+
+/// Answers a request as `answer` does, a consolidation with the standard passes: each fade becomes a piece of its own,
+/// what is silent is left out, cuts are joined, and pieces that continue one another are groups again.
+pub fn answer_standard<S: Shelf + Reasons, B: Bench + Reasons, O: Console, E: Console, M: Meter>(
+    alloc: Global,
+    request: Request<'_>,
+    list: &[u8],
+    shelf: &mut S,
+    bench: &mut B,
+    out: &mut O,
+    err: &mut E,
+    meter: &mut M,
+) -> Result<u8, AllocError>
+    ensures rendered { (place media target : Text) (chosen : asked.Chosen)
+        → asked_of request.entry ≡ asked.Render place media target chosen → IfOk result (λ status. status ≢ 2
+        → IsAnswered (RendersBy S.Shelf B.Bench chosen list.now shelf.old shelf.new bench.old bench.new)
+        rendered_lines O.Console out.old out.new status) }
+    ensures consolidated { (place media target : Text) (handle : ℕ)
+        → asked_of request.entry ≡ asked.Consolidate place media target handle → IfOk result (λ status. IsAnswered
+        (IsConsolidation S.Shelf B.Bench standard_groups list.now handle shelf.old shelf.new bench.old bench.new)
+        written_lines O.Console out.old out.new status) }
+    ensures statuses { IfOk result (λ status. status ≤ 2) }
+    ensures nothing { OnErr result (out.new ≡ out.old) }
+{
+    match request {
+        Request::Consolidate(_, _) => {
+            let splitting: Box<dyn Pass> = Box::new(alloc, SplitFades)?;
+            let leaving_out: Box<dyn Pass> = Box::new(alloc, DropSilent)?;
+            let joining: Box<dyn Pass> = Box::new(alloc, JoinCuts)?;
+            let grouping: Box<dyn Pass> = Box::new(alloc, Regroup)?;
+            let passes = vec![in alloc; splitting, leaving_out, joining, grouping]?;
+            Ok(answer(alloc, request, list, passes, shelf, bench, out, err, meter))
+        }
+        Request::Check(_, _)
+        | Request::Render(_, _)
+        | Request::Explain(_)
+        | Request::ExplainNotice(_) => Ok(answer(
+            alloc,
+            request,
+            list,
+            Vec::new(alloc),
+            shelf,
+            bench,
+            out,
+            err,
+            meter,
+        )),
+    }
+}
