@@ -1,4 +1,4 @@
-use Rattle.std.proofs.Common.{◌≡◌, ◌∙◌, ℕ, Some, ap, subst, sym}
+use Rattle.std.proofs.Common.{◌∙◌, ℕ, Some, ap, subst, sym}
 use Rattle.passes.specs.Left.{Leaving, left_by, standard_left}
 use Rattle.consolidate.specs.Commands.{IsConsolidation}
 use Rattle.commandline.specs.Request.{asked_of}
