@@ -102,7 +102,10 @@ impl Sought {
             Some(Sought::TrackSetting)
         } else if is_same_name(section, b"SYSTEM") && begins_with(line, b"SYS_XFADE_LENGTH") {
             Some(Sought::CrossfadeLength)
-        } else if is_same_name(section, b"EVENT_LIST") && begins_with(line, b"Entry") {
+        } else if is_same_name(section, b"EVENT_LIST")
+            && !ends_with_time(line)
+            && begins_with(line, b"Entry")
+        {
             Some(Sought::BehindEntry)
         } else {
             None
@@ -116,6 +119,14 @@ impl Sought {
             Sought::CrossfadeLength => place == 2 && !is_zero(token.content),
             Sought::BehindEntry => place > ENTRY_FIELDS && !is_usual(token.content),
         }
+    }
+}
+
+/// Whether a line ends with a time, as an entry does that has nothing behind its fields: so most lines are done.
+fn ends_with_time(line: &[u8]) -> bool {
+    match line.split_last_chunk::<17>() {
+        Some((_, [blank, first, ..])) => blank.is_ascii_whitespace() && first.is_ascii_digit(),
+        None => false,
     }
 }
 
