@@ -31,7 +31,8 @@ one_accepted text files p q b d one other =
     (same, cc)
 
 -- so what is made of it is made of that one
-pub one_work : (leave : Leaving) (text : List ℕ) (files : Files) (p q : ListProject) (b d : Binding) (handle : ℕ) (work : Work)
+pub one_work : (leave : Leaving) (text : List ℕ) (files : Files) (p q : ListProject) (b d : Binding) (handle : ℕ)
+    (work : Work)
     (refusal : Refusal)
     → IsAccepted text files p b → IsAccepted text files q d
     → (IsWorkOf leave p b handle files work → IsDue refusal (work_fault work))

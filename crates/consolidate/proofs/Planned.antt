@@ -24,7 +24,8 @@ untrue : false ≡ true → ⊥
 untrue e = cc
 
 -- 52 alone tells that a source's device failed
-tells_source : (of : ConsolidationFault) → ((number_of of == 22) || (number_of of == 52)) ≡ true → consolidation.IsSource of
+tells_source : (of : ConsolidationFault) → ((number_of of == 22) || (number_of of == 52)) ≡ true →
+    consolidation.IsSource of
 tells_source plan.Intervals e = absurd (untrue e)
 tells_source (plan.Pass pass.Memory) e = absurd (untrue e)
 tells_source (plan.Pass (pass.Device file)) e = tt
@@ -33,7 +34,8 @@ tells_source (plan.Runs runs.Memory) e = absurd (untrue e)
 tells_source (plan.Relink list.TooManyEntries) e = absurd (untrue e)
 tells_source (plan.Relink list.Memory) e = absurd (untrue e)
 
-source_told : (of : ConsolidationFault) → consolidation.IsSource of → ((number_of of == 22) || (number_of of == 52)) ≡ true
+source_told : (of : ConsolidationFault) → consolidation.IsSource of → ((number_of of == 22) || (number_of of == 52)) ≡
+    true
 source_told plan.Intervals e = absurd e
 source_told (plan.Pass pass.Memory) e = absurd e
 source_told (plan.Pass (pass.Device file)) e = refl
@@ -51,7 +53,8 @@ no_output (plan.Relink list.Memory) e = omega (arith, e)
 
 -- the fault that is told names the file where the device failed
 holds_of : (sounds : List SoundFacts) (file : ℕ) (told : Fault) (P : List ℕ → Type 0)
-    → NamesOpened sounds (plan.Pass (pass.Device file)) told → consolidation.HoldsOfSound sounds file P → HoldsOfSource told P
+    → NamesOpened sounds (plan.Pass (pass.Device file)) told → consolidation.HoldsOfSound sounds file P →
+    HoldsOfSource told P
 holds_of sounds file (fault.Silence name) P names failed = subst P (sym (names failed.0 failed.1)) failed.2
 holds_of sounds file (fault.Project of) P names failed = absurd names
 holds_of sounds file fault.Intervals P names failed = absurd names
@@ -75,7 +78,8 @@ named_there sounds (plan.Relink of) told P names is failed = absurd is
 
 module _ {S B : Type 0} (shelf : source.Ghosts S) (bench : output.Ghosts B) where
   -- a plan that is refused
-  pub not_planned : (X Y : Type 0) (sounds : List SoundFacts) (old new : S) (b : B) (of : ConsolidationFault) (told : Fault)
+  pub not_planned : (X Y : Type 0) (sounds : List SoundFacts) (old new : S) (b : B) (of : ConsolidationFault)
+      (told : Fault)
       → ((c : Files) → bench.left_since b (bench.moment b) c → bench.may_leave b c)
       → refusal_of told ≡ consolidation.refusal_of of → NamesOpened sounds of told
       → OnlyReads {X = X} shelf old new (Err of) consolidation.IsSource (FailsAt sounds)
@@ -96,7 +100,8 @@ module _ {S B : Type 0} (shelf : source.Ghosts S) (bench : output.Ghosts B) wher
         cause_of_62 = λ e. absurd (no_output of (sym number ∙ e));
         quiet_source = λ early quiet. reads.cause.left (λ e. quiet (sounded e));
         quiet_output = λ early. refl;
-        failed_source = λ e. named_there sounds of told (shelf.failed_at new) names (source e) (reads.failed_there (source e));
+        failed_source = λ e. named_there sounds of told (shelf.failed_at new) names (source e) (reads.failed_there
+            (source e));
         failed_output = λ e. absurd (no_output of (sym number ∙ e));
       }
 
@@ -106,4 +111,5 @@ module _ {S B : Type 0} (shelf : source.Ghosts S) (bench : output.Ghosts B) wher
       → HasRead shelf.stored shelf.honest shelf.failures shelf.failed_at old mid ⊤ ⊥ ⊤
       → KeepsStores shelf bench {X = Y} old mid b b (Err fault.BoardMemory)
   no_board Y old mid b only_now read = opened_before shelf bench old mid mid b b (Err fault.BoardMemory) read
-      (not_begun shelf bench mid b fault.BoardMemory only_now (λ e. untrue e) (λ e. let n : 60 ≡ 62 = e in omega (arith, n)))
+      (not_begun shelf bench mid b fault.BoardMemory only_now (λ e. untrue e) (λ e. let n : 60 ≡ 62 = e in omega
+      (arith, n)))

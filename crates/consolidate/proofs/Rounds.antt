@@ -33,20 +33,23 @@ pub rounds_between : (jobs : Jobs) (whole : List ℕ → List ℕ) (shelf_old be
     (behind written : Files) (ended : Option End) → laid_out ≡ bench_old → bench_new ≡ done → written ≡ behind
     → RunsInRounds false jobs whole shelf_old laid_out shelf_new done behind ended
     → RunsInRounds false jobs whole shelf_old bench_old shelf_new bench_new written ended
-rounds_between jobs whole shelf_old bench_old laid_out shelf_new done bench_new behind written ended before after same run =
+rounds_between jobs whole shelf_old bench_old laid_out shelf_new done bench_new behind written ended before after same
+    run =
     subst (λ (f : Files). RunsInRounds false jobs whole shelf_old bench_old shelf_new bench_new f ended) (sym same)
     (subst (λ (n : ℕ). RunsInRounds false jobs whole shelf_old bench_old shelf_new n behind ended) (sym after)
     (subst (λ (n : ℕ). RunsInRounds false jobs whole shelf_old n shelf_new done behind ended) before run))
 
 -- the file that its jobs made is the rendering
-pub rendered_of : (project : ListProject) (binding : Binding) (values : OptionValues) (work : RenderWork) (sources : Files)
+pub rendered_of : (project : ListProject) (binding : Binding) (values : OptionValues) (work : RenderWork)
+    (sources : Files)
     (file : Option (List ℕ)) → IsRenderingOf project binding values work → file ≡ Some (whole_of work sources)
     → rendering.IsRendered project binding values sources file
 rendered_of project binding values work sources file of there = record {
   bytes = whole_of work sources;
   there = there;
   whole = of.whole sources;
-  reads_back = subst (ReadsBack (range_of project values) (project_mix sources project binding)) (sym (of.whole sources))
+  reads_back = subst (ReadsBack (range_of project values) (project_mix sources project binding))
+      (sym (of.whole sources))
       (of.reads_back (project_mix sources project binding));
 }
 
@@ -56,12 +59,13 @@ pub renders_in_rounds : (project : ListProject) (binding : Binding) (values : Op
     → RunsInRounds false (jobs_over (work_of work) sources) (λ _. whole_of work sources)
     shelf_old bench_old shelf_new bench_new written ended
     → RendersInRounds project binding values sources shelf_old bench_old shelf_new bench_new written ended
-renders_in_rounds project binding values work sources shelf_old bench_old shelf_new bench_new written ended of run = record {
-  jobs = jobs_over (work_of work) sources;
-  named = λ k. refl;
-  run = subst (λ (w : List ℕ). RunsInRounds false (jobs_over (work_of work) sources) (λ _. w)
-      shelf_old bench_old shelf_new bench_new written ended) (of.whole sources) run;
-}
+renders_in_rounds project binding values work sources shelf_old bench_old shelf_new bench_new written ended of run =
+    record {
+      jobs = jobs_over (work_of work) sources;
+      named = λ k. refl;
+      run = subst (λ (w : List ℕ). RunsInRounds false (jobs_over (work_of work) sources) (λ _. w)
+          shelf_old bench_old shelf_new bench_new written ended) (of.whole sources) run;
+    }
 
 -- a refusal tells of its jobs what one of its parts told
 pub ends_map : (X Y : Type 0) (fault : Fault) (P Q : Option End → Type 0) → ((ended : Option End) → P ended → Q ended)
@@ -81,30 +85,38 @@ ends_map X Y (told.Output file) P Q f h = tt
 
 -- the sources are those that the list was opened over, which failed nowhere
 pub renders_list : (text : List ℕ) (values : OptionValues) (project : ListProject) (binding : Binding)
-    (sources opened : Files) (shelf_old shelf_mid bench_old shelf_new bench_new : ℕ) (written : Files) (ended : Option End)
+    (sources opened : Files) (shelf_old shelf_mid bench_old shelf_new bench_new : ℕ) (written : Files) (ended : Option
+    End)
     → opened ≡ sources → shelf_mid ≡ shelf_old → IsAccepted text sources project binding
     → RendersInRounds project binding values opened shelf_mid bench_old shelf_new bench_new written ended
     → RendersList text values sources shelf_old bench_old shelf_new bench_new written ended
-renders_list text values project binding sources opened shelf_old shelf_mid bench_old shelf_new bench_new written ended same quiet accepted run = record {
-  project = project;
-  binding = binding;
-  accepted = accepted;
-  run = subst (λ (f : Files). RendersInRounds project binding values f shelf_old bench_old shelf_new bench_new written ended) same
-      (subst (λ (n : ℕ). RendersInRounds project binding values opened n bench_old shelf_new bench_new written ended) quiet run);
-}
+renders_list text values project binding sources opened shelf_old shelf_mid bench_old shelf_new bench_new written
+    ended same quiet accepted run = record {
+      project = project;
+      binding = binding;
+      accepted = accepted;
+      run = subst (λ (f : Files). RendersInRounds project binding values f shelf_old bench_old shelf_new bench_new written
+          ended) same
+          (subst (λ (n : ℕ). RendersInRounds project binding values opened n bench_old shelf_new bench_new written ended)
+          quiet run);
+    }
 
 pub consolidates_list : (leave : Leaving) (text : List ℕ) (handle : ℕ) (project : ListProject) (binding : Binding)
-    (sources opened : Files) (shelf_old shelf_mid bench_old shelf_new bench_new : ℕ) (written : Files) (ended : Option End)
+    (sources opened : Files) (shelf_old shelf_mid bench_old shelf_new bench_new : ℕ) (written : Files) (ended : Option
+    End)
     → opened ≡ sources → shelf_mid ≡ shelf_old → IsAccepted text sources project binding
     → ConsolidatesInRounds leave project binding handle opened shelf_mid bench_old shelf_new bench_new written ended
     → ConsolidatesList leave text handle sources shelf_old bench_old shelf_new bench_new written ended
-consolidates_list leave text handle project binding sources opened shelf_old shelf_mid bench_old shelf_new bench_new written ended same quiet accepted run = record {
-  project = project;
-  binding = binding;
-  accepted = accepted;
-  run = subst (λ (f : Files). ConsolidatesInRounds leave project binding handle f shelf_old bench_old shelf_new bench_new written ended) same
-      (subst (λ (n : ℕ). ConsolidatesInRounds leave project binding handle opened n bench_old shelf_new bench_new written ended) quiet run);
-}
+consolidates_list leave text handle project binding sources opened shelf_old shelf_mid bench_old shelf_new bench_new
+    written ended same quiet accepted run = record {
+      project = project;
+      binding = binding;
+      accepted = accepted;
+      run = subst (λ (f : Files). ConsolidatesInRounds leave project binding handle f shelf_old bench_old shelf_new
+          bench_new written ended) same
+          (subst (λ (n : ℕ). ConsolidatesInRounds leave project binding handle opened n bench_old shelf_new bench_new
+          written ended) quiet run);
+    }
 
 -- a list that isn't accepted has no jobs
 pub none_ended : (X : Type 0) (text : List ℕ) (fault : Fault) (P : Option End → Type 0) → IsOfProject text fault
@@ -127,7 +139,8 @@ pub lent_rounds : (plan pieces : MediaPlan) (sources laid written : Files) (shel
     (ended : Option End) → pieces ≡ plan
     → ((whole : List ℕ → List ℕ) → AreParts (jobs_over (media.work_of pieces) sources) whole
     → AreFilled (jobs_over (media.work_of pieces) sources) whole (λ _. false) laid
-    → RunsInRounds false (jobs_over (media.work_of pieces) sources) whole shelf_old bench_old shelf_new bench_new written ended)
+    → RunsInRounds false (jobs_over (media.work_of pieces) sources) whole shelf_old bench_old shelf_new bench_new
+    written ended)
     → AreParts (jobs_over (media.work_of plan) sources) (media.whole_of plan sources)
     → AreFilled (jobs_over (media.work_of plan) sources) (media.whole_of plan sources) (λ _. false) laid
     → RunsInRounds false (jobs_over (media.work_of plan) sources) (media.whole_of plan sources)
@@ -135,20 +148,23 @@ pub lent_rounds : (plan pieces : MediaPlan) (sources laid written : Files) (shel
 lent_rounds plan pieces sources laid written shelf_old bench_old shelf_new bench_new ended same told =
     subst (λ (p : MediaPlan). (whole : List ℕ → List ℕ) → AreParts (jobs_over (media.work_of p) sources) whole
     → AreFilled (jobs_over (media.work_of p) sources) whole (λ _. false) laid
-    → RunsInRounds false (jobs_over (media.work_of p) sources) whole shelf_old bench_old shelf_new bench_new written ended)
+    → RunsInRounds false (jobs_over (media.work_of p) sources) whole shelf_old bench_old shelf_new bench_new written
+    ended)
     same told (media.whole_of plan sources)
 
 pub lent_finished : (plan pieces : MediaPlan) (sources laid written : Files) → pieces ≡ plan
     → ((whole : List ℕ → List ℕ) → AreParts (jobs_over (media.work_of pieces) sources) whole
     → AreFilled (jobs_over (media.work_of pieces) sources) whole (λ _. false) laid
-    → (k : ℕ) → k < (media.work_of pieces).count → written ((media.work_of pieces).name k) ≡ Some (whole ((media.work_of pieces).name k)))
+    → (k : ℕ) → k < (media.work_of pieces).count → written ((media.work_of pieces).name k) ≡ Some
+    (whole ((media.work_of pieces).name k)))
     → AreParts (jobs_over (media.work_of plan) sources) (media.whole_of plan sources)
     → AreFilled (jobs_over (media.work_of plan) sources) (media.whole_of plan sources) (λ _. false) laid
     → HoldsMedia plan sources written
 lent_finished plan pieces sources laid written same told =
     subst (λ (p : MediaPlan). (whole : List ℕ → List ℕ) → AreParts (jobs_over (media.work_of p) sources) whole
     → AreFilled (jobs_over (media.work_of p) sources) whole (λ _. false) laid
-    → (k : ℕ) → k < (media.work_of p).count → written ((media.work_of p).name k) ≡ Some (whole ((media.work_of p).name k)))
+    → (k : ℕ) → k < (media.work_of p).count → written ((media.work_of p).name k) ≡ Some (whole ((media.work_of p).name
+    k)))
     same told (media.whole_of plan sources)
 
 none_some : (m : Marking) → None ≡ Some m → ⊥
@@ -159,10 +175,11 @@ pub no_output : (plan pieces : MediaPlan) (n : List ℕ) → pieces ≡ plan
     → ((k : ℕ) → k < (media.work_of plan).count → (number : ℕ) × (1 ≤ number) × (number ≤ length plan.runs)
     × ((media.work_of plan).name k ≡ media_name number))
     → IsNoMedium (length plan.runs) n → IsNoOutput (media.work_of pieces) (λ sources. None) n
-no_output plan pieces n same names away = subst (λ (p : MediaPlan). IsNoOutput (media.work_of p) (λ sources. None) n) (sym same) (record {
-  jobs = λ k lt e. let it = names k lt in away it.0 it.1 it.2 (sym e ∙ it.3);
-  marks = λ sources m e. absurd (none_some m e);
-})
+no_output plan pieces n same names away = subst (λ (p : MediaPlan). IsNoOutput (media.work_of p) (λ sources. None) n)
+    (sym same) (record {
+      jobs = λ k lt e. let it = names k lt in away it.0 it.1 it.2 (sym e ∙ it.3);
+      marks = λ sources m e. absurd (none_some m e);
+    })
 
 pub few_media : (few many : ℕ) (n : List ℕ) → few ≤ many → IsNoMedium many n → IsNoMedium few n
 few_media few many n le away number low high = away number low (omega (arith, le, high))
@@ -172,10 +189,12 @@ pub list_no_medium : (many : ℕ) → many ≤ 32767 → IsNoMedium many (codes 
 list_no_medium many few number low high same = media_name-no_list number (omega (arith, few, high)) (sym same)
 
 -- over the files that the passes left as they were
-pub ready : (leave : Leaving) (text : List ℕ) (project : ListProject) (binding : Binding) (handle : ℕ) (honest : Bool) (old new : Files)
+pub ready : (leave : Leaving) (text : List ℕ) (project : ListProject) (binding : Binding) (handle : ℕ) (honest : Bool)
+    (old new : Files)
     (plan : MediaPlan) → new ≡ old → IsTrue honest → IsAccepted text old project binding
     → IsPlanOf leave project binding handle honest old plan → AreThere old (sounds_of binding)
-    → IsAccepted text new project binding × IsPlanOf leave project binding handle true new plan × AreThere new plan.sounds
+    → IsAccepted text new project binding × IsPlanOf leave project binding handle true new plan × AreThere new
+    plan.sounds
 ready leave text project binding handle honest old new plan same is accepted planned there = (
   subst (λ (f : Files). IsAccepted text f project binding) (sym same) accepted,
   subst (λ (f : Files). IsPlanOf leave project binding handle true f plan) (sym same)
@@ -189,6 +208,9 @@ pub consolidates_from : (leave : Leaving) (project : ListProject) (binding : Bin
     → new ≡ old → shelf_mid ≡ shelf_old
     → ConsolidatesInRounds leave project binding handle new shelf_mid bench_old shelf_new bench_new written ended
     → ConsolidatesInRounds leave project binding handle old shelf_old bench_old shelf_new bench_new written ended
-consolidates_from leave project binding handle old new shelf_old shelf_mid bench_old shelf_new bench_new written ended same quiet run =
-    subst (λ (f : Files). ConsolidatesInRounds leave project binding handle f shelf_old bench_old shelf_new bench_new written ended) same
-    (subst (λ (n : ℕ). ConsolidatesInRounds leave project binding handle new n bench_old shelf_new bench_new written ended) quiet run)
+consolidates_from leave project binding handle old new shelf_old shelf_mid bench_old shelf_new bench_new written ended
+    same quiet run =
+    subst (λ (f : Files). ConsolidatesInRounds leave project binding handle f shelf_old bench_old shelf_new bench_new
+    written ended) same
+    (subst (λ (n : ℕ). ConsolidatesInRounds leave project binding handle new n bench_old shelf_new bench_new written
+    ended) quiet run)

@@ -125,8 +125,10 @@ module _ {S B : Type 0} (shelf : source.Ghosts S) (bench : output.Ghosts B) wher
     pub honest_bench : bench.honest bench_new ≡ bench.honest bench_old
     pub later_at_source : shelf.failures shelf_old ≤ shelf.failures shelf_new
     pub later_at_output : bench.failures bench_old ≤ bench.failures bench_new
-    pub cause_at_source : IfErr result (λ fault. IsSource fault → Rises (shelf.failures shelf_old) (shelf.failures shelf_new))
-    pub cause_of_62 : IfErr result (λ fault. IsOutput fault → Rises (bench.failures bench_old) (bench.failures bench_new))
+    pub cause_at_source : IfErr result (λ fault. IsSource fault → Rises (shelf.failures shelf_old) (shelf.failures
+        shelf_new))
+    pub cause_of_62 : IfErr result (λ fault. IsOutput fault → Rises (bench.failures bench_old) (bench.failures
+        bench_new))
     pub quiet_source : IfErr result (λ fault. (refusal_of fault).late ≡ false → ¬ IsSource fault
         → shelf.failures shelf_new ≡ shelf.failures shelf_old)
     pub quiet_output : IfErr result (λ fault. (refusal_of fault).late ≡ false

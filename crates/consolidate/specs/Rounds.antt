@@ -38,13 +38,14 @@ pub record RendersList (text : List ℕ) (values : OptionValues) (sources : File
 
 -- the jobs make the media of a consolidation of a project; the list may be written behind them
 pub record ConsolidatesInRounds (leave : Leaving) (project : ListProject) (binding : Binding) (handle : ℕ)
-    (sources : Files) (shelf_old bench_old shelf_new bench_new : ℕ) (written : Files) (ended : Option End) : Type 0 where
-  pub plan : MediaPlan
-  pub planned : IsPlanOf leave project binding handle true sources plan
-  pub media : Files
-  pub behind : (n : List ℕ) → n ≢ codes "consolidated.adl" → written n ≡ media n
-  pub run : RunsInRounds false (jobs_over (work_of plan) sources) (whole_of plan sources)
-      shelf_old bench_old shelf_new bench_new media ended
+    (sources : Files) (shelf_old bench_old shelf_new bench_new : ℕ) (written : Files) (ended : Option End) : Type 0
+  where
+    pub plan : MediaPlan
+    pub planned : IsPlanOf leave project binding handle true sources plan
+    pub media : Files
+    pub behind : (n : List ℕ) → n ≢ codes "consolidated.adl" → written n ≡ media n
+    pub run : RunsInRounds false (jobs_over (work_of plan) sources) (whole_of plan sources)
+        shelf_old bench_old shelf_new bench_new media ended
 
 -- of the project of an accepted list
 pub record ConsolidatesList (leave : Leaving) (text : List ℕ) (handle : ℕ) (sources : Files)

@@ -56,7 +56,8 @@ pub record HasRendering (text : List ℕ) (values : OptionValues) (sources writt
 
 module _ {S B : Type 0} (shelf : source.Ghosts S) (bench : output.Ghosts B) where
   -- the list was rendered by these events over these stores, with this outcome
-  pub record IsRenderSchedule (list : List ℕ) (values : OptionValues) (events : List BoardEvent) (shelf_old shelf_new : S)
+  pub record IsRenderSchedule (list : List ℕ) (values : OptionValues) (events : List BoardEvent) (shelf_old shelf_new
+      : S)
       (bench_old bench_new : B) (result : Result Progress Fault) : Type 0 where
     pub ran : IsTrue (shelf.honest shelf_old) → IsTrue (bench.honest bench_old)
         → EndsEvents result (SchedulesList list values events (shelf.stored shelf_old) (shelf.failures shelf_old)

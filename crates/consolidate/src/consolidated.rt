@@ -120,7 +120,8 @@ fn consolidate_checked<S: Shelf, B: Bench, W: Watch>(
     ensures rounds { IsTrue (S.honest shelf.old) → IsTrue (B.honest bench.old) → (text : List ℕ)
         → IsAccepted text (S.stored shelf.old) checked.project checked.bound
         → EndsOf result (ConsolidatesInRounds (left_by (λ pass. looking pass) (λ pass. gives pass) passes.items)
-        checked.project checked.bound handle (S.stored shelf.old) (S.failures shelf.old) (B.failures bench.old) (S.failures shelf.new) (B.failures bench.new)
+        checked.project checked.bound handle (S.stored shelf.old) (S.failures shelf.old) (B.failures bench.old)
+        (S.failures shelf.new) (B.failures bench.new)
         (B.stored bench.new)) }
     ensures durable { IsTrue (B.honest bench.old)
         → IfOk result (λ written. AreDurable written.media (B.stored bench.new) (B.may_leave bench.new)) }
@@ -175,7 +176,8 @@ pub fn consolidate<S: Shelf, B: Bench, W: Watch>(
         (left_by (λ pass. looking pass) (λ pass. gives pass) passes.items)
         list.now handle shelf.old shelf.new bench.old bench.new result }
     ensures standard { AreStandard (λ pass. looking pass) (λ pass. gives pass) passes.items
-        → IsConsolidation S.Shelf B.Bench standard_groups list.now handle shelf.old shelf.new bench.old bench.new result }
+        → IsConsolidation S.Shelf B.Bench standard_groups list.now handle shelf.old shelf.new bench.old bench.new
+        result }
 {
     let Opened { checked, notices } = open(alloc, list, shelf)?;
     let written = consolidate_checked(alloc, checked, handle, passes, shelf, bench, watch)?;

@@ -22,36 +22,71 @@ pub returns-in-Ok-write_consolidation-clause-same_sound : goal.returns-in-Ok-wri
 returns-in-Ok-write_consolidation-clause-same_sound g c honest right text accepted =
     let leave : Leaving = left_by (λ pass. (goal.Pass-dyn g (pass.vtable, pass.value)).looking pass.value)
     (λ pass. (goal.Pass-dyn g (pass.vtable, pass.value)).gives pass.value) c.args.passes.items in
-    let now = ready leave text c.args.checked.project c.args.checked.bound c.args.handle (g.S.Shelf.honest c.args.shelf.now) (g.S.Shelf.stored c.args.shelf.now) (g.S.Shelf.stored c.plan.new.shelf) c.in-Ok.consolidation c.in-Ok.ensures.only_reads.same honest accepted c.in-Ok.ensures.planned (c.in-Ok.ensures.there (g.S.Shelf.stored c.args.shelf.now) accepted.bound) in
-    subst (λ (f : Files). SoundsTheSame text f (g.B.Bench.stored c.write_consolidation.new.bench)) c.in-Ok.ensures.only_reads.same
-    (c.in-Ok-write_consolidation.ensures.same_sound (subst IsTrue (sym c.in-Ok.ensures.only_reads.honest_same) honest) right text leave c.args.checked.project c.args.checked.bound c.args.handle now.0 now.1 now.2)
+    let now = ready leave text c.args.checked.project c.args.checked.bound c.args.handle (g.S.Shelf.honest
+    c.args.shelf.now) (g.S.Shelf.stored c.args.shelf.now) (g.S.Shelf.stored c.plan.new.shelf)
+    c.in-Ok.consolidation c.in-Ok.ensures.only_reads.same honest accepted c.in-Ok.ensures.planned
+    (c.in-Ok.ensures.there (g.S.Shelf.stored c.args.shelf.now) accepted.bound) in
+    subst (λ (f : Files). SoundsTheSame text f (g.B.Bench.stored c.write_consolidation.new.bench))
+    c.in-Ok.ensures.only_reads.same
+    (c.in-Ok-write_consolidation.ensures.same_sound (subst IsTrue (sym c.in-Ok.ensures.only_reads.honest_same) honest)
+    right text leave c.args.checked.project c.args.checked.bound c.args.handle now.0 now.1 now.2)
 
 pub returns-in-Ok-write_consolidation-clause-written : goal.returns-in-Ok-write_consolidation-clause-written
 returns-in-Ok-write_consolidation-clause-written g c honest right text accepted =
     let leave : Leaving = left_by (λ pass. (goal.Pass-dyn g (pass.vtable, pass.value)).looking pass.value)
     (λ pass. (goal.Pass-dyn g (pass.vtable, pass.value)).gives pass.value) c.args.passes.items in
-    let now = ready leave text c.args.checked.project c.args.checked.bound c.args.handle (g.S.Shelf.honest c.args.shelf.now) (g.S.Shelf.stored c.args.shelf.now) (g.S.Shelf.stored c.plan.new.shelf) c.in-Ok.consolidation c.in-Ok.ensures.only_reads.same honest accepted c.in-Ok.ensures.planned (c.in-Ok.ensures.there (g.S.Shelf.stored c.args.shelf.now) accepted.bound) in
-    subst (λ (f : Files). spec.IsConsolidated leave c.args.checked.project c.args.checked.bound c.args.handle f (g.B.Bench.stored c.args.bench.now) (g.B.Bench.stored c.write_consolidation.new.bench) c.in-Ok-write_consolidation.written) c.in-Ok.ensures.only_reads.same
-    (c.in-Ok-write_consolidation.ensures.written (subst IsTrue (sym c.in-Ok.ensures.only_reads.honest_same) honest) right leave c.args.checked.project c.args.checked.bound c.args.handle now.1 now.2)
+    let now = ready leave text c.args.checked.project c.args.checked.bound c.args.handle (g.S.Shelf.honest
+    c.args.shelf.now) (g.S.Shelf.stored c.args.shelf.now) (g.S.Shelf.stored c.plan.new.shelf)
+    c.in-Ok.consolidation c.in-Ok.ensures.only_reads.same honest accepted c.in-Ok.ensures.planned
+    (c.in-Ok.ensures.there (g.S.Shelf.stored c.args.shelf.now) accepted.bound) in
+    subst (λ (f : Files). spec.IsConsolidated leave c.args.checked.project c.args.checked.bound c.args.handle f
+    (g.B.Bench.stored c.args.bench.now) (g.B.Bench.stored c.write_consolidation.new.bench)
+    c.in-Ok-write_consolidation.written) c.in-Ok.ensures.only_reads.same
+    (c.in-Ok-write_consolidation.ensures.written (subst IsTrue (sym c.in-Ok.ensures.only_reads.honest_same) honest)
+    right leave c.args.checked.project c.args.checked.bound c.args.handle now.1 now.2)
 
 pub returns-in-Ok-write_consolidation-clause-rounds : goal.returns-in-Ok-write_consolidation-clause-rounds
 returns-in-Ok-write_consolidation-clause-rounds g c honest right text accepted =
     let leave : Leaving = left_by (λ pass. (goal.Pass-dyn g (pass.vtable, pass.value)).looking pass.value)
     (λ pass. (goal.Pass-dyn g (pass.vtable, pass.value)).gives pass.value) c.args.passes.items in
-    let now = ready leave text c.args.checked.project c.args.checked.bound c.args.handle (g.S.Shelf.honest c.args.shelf.now) (g.S.Shelf.stored c.args.shelf.now) (g.S.Shelf.stored c.plan.new.shelf) c.in-Ok.consolidation c.in-Ok.ensures.only_reads.same honest accepted c.in-Ok.ensures.planned (c.in-Ok.ensures.there (g.S.Shelf.stored c.args.shelf.now) accepted.bound) in
-    consolidates_from leave c.args.checked.project c.args.checked.bound c.args.handle (g.S.Shelf.stored c.args.shelf.now) (g.S.Shelf.stored c.plan.new.shelf) (g.S.Shelf.failures c.args.shelf.now) (g.S.Shelf.failures c.plan.new.shelf) (g.B.Bench.failures c.args.bench.now) (g.S.Shelf.failures c.write_consolidation.new.shelf) (g.B.Bench.failures c.write_consolidation.new.bench) (g.B.Bench.stored c.write_consolidation.new.bench) None c.in-Ok.ensures.only_reads.same (c.in-Ok.ensures.only_reads.cause.left tt)
-    (c.in-Ok-write_consolidation.ensures.rounds (subst IsTrue (sym c.in-Ok.ensures.only_reads.honest_same) honest) right leave c.args.checked.project c.args.checked.bound c.args.handle now.1 now.2)
+    let now = ready leave text c.args.checked.project c.args.checked.bound c.args.handle (g.S.Shelf.honest
+    c.args.shelf.now) (g.S.Shelf.stored c.args.shelf.now) (g.S.Shelf.stored c.plan.new.shelf)
+    c.in-Ok.consolidation c.in-Ok.ensures.only_reads.same honest accepted c.in-Ok.ensures.planned
+    (c.in-Ok.ensures.there (g.S.Shelf.stored c.args.shelf.now) accepted.bound) in
+    consolidates_from leave c.args.checked.project c.args.checked.bound c.args.handle (g.S.Shelf.stored
+    c.args.shelf.now) (g.S.Shelf.stored c.plan.new.shelf) (g.S.Shelf.failures c.args.shelf.now)
+    (g.S.Shelf.failures c.plan.new.shelf) (g.B.Bench.failures c.args.bench.now) (g.S.Shelf.failures
+    c.write_consolidation.new.shelf) (g.B.Bench.failures c.write_consolidation.new.bench)
+    (g.B.Bench.stored c.write_consolidation.new.bench) None c.in-Ok.ensures.only_reads.same
+    (c.in-Ok.ensures.only_reads.cause.left tt)
+    (c.in-Ok-write_consolidation.ensures.rounds (subst IsTrue (sym c.in-Ok.ensures.only_reads.honest_same) honest)
+    right leave c.args.checked.project c.args.checked.bound c.args.handle now.1 now.2)
 
 pub returns-in-Err-write_consolidation-clause-rounds : goal.returns-in-Err-write_consolidation-clause-rounds
 returns-in-Err-write_consolidation-clause-rounds g c honest right text accepted =
     let leave : Leaving = left_by (λ pass. (goal.Pass-dyn g (pass.vtable, pass.value)).looking pass.value)
     (λ pass. (goal.Pass-dyn g (pass.vtable, pass.value)).gives pass.value) c.args.passes.items in
-    let now = ready leave text c.args.checked.project c.args.checked.bound c.args.handle (g.S.Shelf.honest c.args.shelf.now) (g.S.Shelf.stored c.args.shelf.now) (g.S.Shelf.stored c.plan.new.shelf) c.in-Ok.consolidation c.in-Ok.ensures.only_reads.same honest accepted c.in-Ok.ensures.planned (c.in-Ok.ensures.there (g.S.Shelf.stored c.args.shelf.now) accepted.bound) in
+    let now = ready leave text c.args.checked.project c.args.checked.bound c.args.handle (g.S.Shelf.honest
+    c.args.shelf.now) (g.S.Shelf.stored c.args.shelf.now) (g.S.Shelf.stored c.plan.new.shelf)
+    c.in-Ok.consolidation c.in-Ok.ensures.only_reads.same honest accepted c.in-Ok.ensures.planned
+    (c.in-Ok.ensures.there (g.S.Shelf.stored c.args.shelf.now) accepted.bound) in
     ends_map consolidation.Written consolidation.Written c.in-Err-write_consolidation.fault
-    (ConsolidatesInRounds leave c.args.checked.project c.args.checked.bound c.args.handle (g.S.Shelf.stored c.plan.new.shelf) (g.S.Shelf.failures c.plan.new.shelf) (g.B.Bench.failures c.args.bench.now) (g.S.Shelf.failures c.write_consolidation.new.shelf) (g.B.Bench.failures c.write_consolidation.new.bench) (g.B.Bench.stored c.write_consolidation.new.bench))
-    (ConsolidatesInRounds leave c.args.checked.project c.args.checked.bound c.args.handle (g.S.Shelf.stored c.args.shelf.now) (g.S.Shelf.failures c.args.shelf.now) (g.B.Bench.failures c.args.bench.now) (g.S.Shelf.failures c.write_consolidation.new.shelf) (g.B.Bench.failures c.write_consolidation.new.bench) (g.B.Bench.stored c.write_consolidation.new.bench))
-    (λ ended run. consolidates_from leave c.args.checked.project c.args.checked.bound c.args.handle (g.S.Shelf.stored c.args.shelf.now) (g.S.Shelf.stored c.plan.new.shelf) (g.S.Shelf.failures c.args.shelf.now) (g.S.Shelf.failures c.plan.new.shelf) (g.B.Bench.failures c.args.bench.now) (g.S.Shelf.failures c.write_consolidation.new.shelf) (g.B.Bench.failures c.write_consolidation.new.bench) (g.B.Bench.stored c.write_consolidation.new.bench) ended c.in-Ok.ensures.only_reads.same (c.in-Ok.ensures.only_reads.cause.left tt) run)
-    (c.in-Err-write_consolidation.ensures.rounds (subst IsTrue (sym c.in-Ok.ensures.only_reads.honest_same) honest) right leave c.args.checked.project c.args.checked.bound c.args.handle now.1 now.2)
+    (ConsolidatesInRounds leave c.args.checked.project c.args.checked.bound c.args.handle (g.S.Shelf.stored
+    c.plan.new.shelf) (g.S.Shelf.failures c.plan.new.shelf) (g.B.Bench.failures c.args.bench.now)
+    (g.S.Shelf.failures c.write_consolidation.new.shelf) (g.B.Bench.failures c.write_consolidation.new.bench)
+    (g.B.Bench.stored c.write_consolidation.new.bench))
+    (ConsolidatesInRounds leave c.args.checked.project c.args.checked.bound c.args.handle (g.S.Shelf.stored
+    c.args.shelf.now) (g.S.Shelf.failures c.args.shelf.now) (g.B.Bench.failures c.args.bench.now)
+    (g.S.Shelf.failures c.write_consolidation.new.shelf) (g.B.Bench.failures c.write_consolidation.new.bench)
+    (g.B.Bench.stored c.write_consolidation.new.bench))
+    (λ ended run. consolidates_from leave c.args.checked.project c.args.checked.bound c.args.handle (g.S.Shelf.stored
+    c.args.shelf.now) (g.S.Shelf.stored c.plan.new.shelf) (g.S.Shelf.failures c.args.shelf.now)
+    (g.S.Shelf.failures c.plan.new.shelf) (g.B.Bench.failures c.args.bench.now) (g.S.Shelf.failures
+    c.write_consolidation.new.shelf) (g.B.Bench.failures c.write_consolidation.new.bench)
+    (g.B.Bench.stored c.write_consolidation.new.bench) ended c.in-Ok.ensures.only_reads.same
+    (c.in-Ok.ensures.only_reads.cause.left tt) run)
+    (c.in-Err-write_consolidation.ensures.rounds (subst IsTrue (sym c.in-Ok.ensures.only_reads.honest_same) honest)
+    right leave c.args.checked.project c.args.checked.bound c.args.handle now.1 now.2)
 
 pub returns-in-Err-clause-stores : goal.returns-in-Err-clause-stores
 returns-in-Err-clause-stores g c = not_planned g.S.Shelf g.B.Bench MediaPlan consolidation.Written

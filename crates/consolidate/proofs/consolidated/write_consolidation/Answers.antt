@@ -20,11 +20,27 @@ returns-in-Err-GivenUp-clause-rounds g c honest right leave project binding hand
   planned = planned;
   media = (g.B.Bench.stored c.from_start.new.bench);
   behind = λ n other. refl;
-  run = rounds_between (jobs_over (work_of c.args.consolidation.now) (g.S.Shelf.stored c.args.shelf.now)) (whole_of c.args.consolidation.now (g.S.Shelf.stored c.args.shelf.now)) (g.S.Shelf.failures c.args.shelf.now) (g.B.Bench.failures c.args.bench.now) (g.B.Bench.failures c.lay_out.new.bench) (g.S.Shelf.failures c.from_start.new.shelf) (g.B.Bench.failures c.from_start.new.bench) (g.B.Bench.failures c.from_start.new.bench) (g.B.Bench.stored c.from_start.new.bench) (g.B.Bench.stored c.from_start.new.bench) (Some (GivenUp c.in-Err-GivenUp.job))
+  run = rounds_between (jobs_over (work_of c.args.consolidation.now) (g.S.Shelf.stored c.args.shelf.now))
+      (whole_of c.args.consolidation.now (g.S.Shelf.stored c.args.shelf.now)) (g.S.Shelf.failures c.args.shelf.now)
+      (g.B.Bench.failures c.args.bench.now) (g.B.Bench.failures c.lay_out.new.bench) (g.S.Shelf.failures
+      c.from_start.new.shelf) (g.B.Bench.failures c.from_start.new.bench) (g.B.Bench.failures
+      c.from_start.new.bench) (g.B.Bench.stored c.from_start.new.bench) (g.B.Bench.stored
+      c.from_start.new.bench) (Some (GivenUp c.in-Err-GivenUp.job))
       (c.in-Ok.ensures.only_writes.cause.left tt) refl refl
-      (subst (λ (f : JobFault). RunsInRounds false (jobs_over (work_of c.args.consolidation.now) (g.S.Shelf.stored c.args.shelf.now)) (whole_of c.args.consolidation.now (g.S.Shelf.stored c.args.shelf.now)) (g.S.Shelf.failures c.args.shelf.now) (g.B.Bench.failures c.lay_out.new.bench) (g.S.Shelf.failures c.from_start.new.shelf) (g.B.Bench.failures c.from_start.new.bench) (g.B.Bench.stored c.from_start.new.bench) (ended_of {X = Unit {0}} (Err f)))
+      (subst (λ (f : JobFault). RunsInRounds false (jobs_over (work_of c.args.consolidation.now) (g.S.Shelf.stored
+      c.args.shelf.now)) (whole_of c.args.consolidation.now (g.S.Shelf.stored c.args.shelf.now))
+      (g.S.Shelf.failures c.args.shelf.now) (g.B.Bench.failures c.lay_out.new.bench) (g.S.Shelf.failures
+      c.from_start.new.shelf) (g.B.Bench.failures c.from_start.new.bench) (g.B.Bench.stored
+      c.from_start.new.bench) (ended_of {X = Unit {0}} (Err f)))
       c.in-Err-GivenUp.field-0-is
-      (lent_rounds c.args.consolidation.now c.pieces-pieces.result (g.S.Shelf.stored c.args.shelf.now) (g.B.Bench.stored c.lay_out.new.bench) (g.B.Bench.stored c.from_start.new.bench) (g.S.Shelf.failures c.args.shelf.now) (g.B.Bench.failures c.lay_out.new.bench) (g.S.Shelf.failures c.from_start.new.shelf) (g.B.Bench.failures c.from_start.new.bench) (ended_of {X = Unit {0}} (Err c.in-Err-GivenUp.field-0)) c.pieces-pieces.ensures.lent (c.in-Err-GivenUp.ensures.rounds honest (subst IsTrue (sym c.in-Ok.ensures.only_writes.honest_same) right)) (c.pieces-pieces.ensures.parts (g.S.Shelf.stored c.args.shelf.now) there) (c.in-Ok.ensures.filled right (g.S.Shelf.stored c.args.shelf.now) there)));
+      (lent_rounds c.args.consolidation.now c.pieces-pieces.result (g.S.Shelf.stored c.args.shelf.now)
+      (g.B.Bench.stored c.lay_out.new.bench) (g.B.Bench.stored c.from_start.new.bench) (g.S.Shelf.failures
+      c.args.shelf.now) (g.B.Bench.failures c.lay_out.new.bench) (g.S.Shelf.failures c.from_start.new.shelf)
+      (g.B.Bench.failures c.from_start.new.bench) (ended_of {X = Unit {0}} (Err c.in-Err-GivenUp.field-0))
+      c.pieces-pieces.ensures.lent (c.in-Err-GivenUp.ensures.rounds honest (subst IsTrue
+      (sym c.in-Ok.ensures.only_writes.honest_same) right)) (c.pieces-pieces.ensures.parts
+      (g.S.Shelf.stored c.args.shelf.now) there) (c.in-Ok.ensures.filled right
+      (g.S.Shelf.stored c.args.shelf.now) there)));
 }
 
 pub returns-in-Ok-finish-clause-rounds : goal.returns-in-Ok-finish-clause-rounds
@@ -32,78 +48,141 @@ returns-in-Ok-finish-clause-rounds g c honest right leave project binding handle
   plan = c.args.consolidation.now;
   planned = planned;
   media = (g.B.Bench.stored c.from_start.new.bench);
-  behind = λ n other. c.in-Ok-finish.ensures.only_writes.others (subst IsTrue (sym (c.from_start.ensures.same_bench ∙ c.in-Ok.ensures.only_writes.honest_same)) right) n other;
-  run = rounds_between (jobs_over (work_of c.args.consolidation.now) (g.S.Shelf.stored c.args.shelf.now)) (whole_of c.args.consolidation.now (g.S.Shelf.stored c.args.shelf.now)) (g.S.Shelf.failures c.args.shelf.now) (g.B.Bench.failures c.args.bench.now) (g.B.Bench.failures c.lay_out.new.bench) (g.S.Shelf.failures c.from_start.new.shelf) (g.B.Bench.failures c.from_start.new.bench) (g.B.Bench.failures c.finish.new.bench) (g.B.Bench.stored c.from_start.new.bench) (g.B.Bench.stored c.from_start.new.bench) None
+  behind = λ n other. c.in-Ok-finish.ensures.only_writes.others (subst IsTrue (sym (c.from_start.ensures.same_bench ∙
+      c.in-Ok.ensures.only_writes.honest_same)) right) n other;
+  run = rounds_between (jobs_over (work_of c.args.consolidation.now) (g.S.Shelf.stored c.args.shelf.now))
+      (whole_of c.args.consolidation.now (g.S.Shelf.stored c.args.shelf.now)) (g.S.Shelf.failures c.args.shelf.now)
+      (g.B.Bench.failures c.args.bench.now) (g.B.Bench.failures c.lay_out.new.bench) (g.S.Shelf.failures
+      c.from_start.new.shelf) (g.B.Bench.failures c.from_start.new.bench) (g.B.Bench.failures
+      c.finish.new.bench) (g.B.Bench.stored c.from_start.new.bench) (g.B.Bench.stored
+      c.from_start.new.bench) None
       (c.in-Ok.ensures.only_writes.cause.left tt) (c.in-Ok-finish.ensures.only_writes.cause.left tt) refl
-      (lent_rounds c.args.consolidation.now c.pieces-pieces.result (g.S.Shelf.stored c.args.shelf.now) (g.B.Bench.stored c.lay_out.new.bench) (g.B.Bench.stored c.from_start.new.bench) (g.S.Shelf.failures c.args.shelf.now) (g.B.Bench.failures c.lay_out.new.bench) (g.S.Shelf.failures c.from_start.new.shelf) (g.B.Bench.failures c.from_start.new.bench) None c.pieces-pieces.ensures.lent (c.in-Ok-from_start.ensures.rounds honest (subst IsTrue (sym c.in-Ok.ensures.only_writes.honest_same) right)) (c.pieces-pieces.ensures.parts (g.S.Shelf.stored c.args.shelf.now) there) (c.in-Ok.ensures.filled right (g.S.Shelf.stored c.args.shelf.now) there));
+      (lent_rounds c.args.consolidation.now c.pieces-pieces.result (g.S.Shelf.stored c.args.shelf.now)
+      (g.B.Bench.stored c.lay_out.new.bench) (g.B.Bench.stored c.from_start.new.bench) (g.S.Shelf.failures
+      c.args.shelf.now) (g.B.Bench.failures c.lay_out.new.bench) (g.S.Shelf.failures c.from_start.new.shelf)
+      (g.B.Bench.failures c.from_start.new.bench) None c.pieces-pieces.ensures.lent
+      (c.in-Ok-from_start.ensures.rounds honest (subst IsTrue
+      (sym c.in-Ok.ensures.only_writes.honest_same) right)) (c.pieces-pieces.ensures.parts
+      (g.S.Shelf.stored c.args.shelf.now) there) (c.in-Ok.ensures.filled right
+      (g.S.Shelf.stored c.args.shelf.now) there));
 }
 
 pub returns-in-Ok-finish-clause-same_sound : goal.returns-in-Ok-finish-clause-same_sound
 returns-in-Ok-finish-clause-same_sound g c honest right text leave project binding handle accepted planned there =
-    c.in-Ok-finish.ensures.same_sound (subst IsTrue (sym (c.from_start.ensures.same_bench ∙ c.in-Ok.ensures.only_writes.honest_same)) right) text leave project binding handle (g.S.Shelf.stored c.args.shelf.now) accepted planned there (lent_finished c.args.consolidation.now c.pieces-pieces.result (g.S.Shelf.stored c.args.shelf.now) (g.B.Bench.stored c.lay_out.new.bench) (g.B.Bench.stored c.from_start.new.bench) c.pieces-pieces.ensures.lent (c.in-Ok-from_start.ensures.finished honest (subst IsTrue (sym c.in-Ok.ensures.only_writes.honest_same) right)) (c.pieces-pieces.ensures.parts (g.S.Shelf.stored c.args.shelf.now) there) (c.in-Ok.ensures.filled right (g.S.Shelf.stored c.args.shelf.now) there))
+    c.in-Ok-finish.ensures.same_sound (subst IsTrue (sym (c.from_start.ensures.same_bench ∙
+    c.in-Ok.ensures.only_writes.honest_same)) right) text leave project binding handle (g.S.Shelf.stored
+    c.args.shelf.now) accepted planned there (lent_finished c.args.consolidation.now c.pieces-pieces.result
+    (g.S.Shelf.stored c.args.shelf.now) (g.B.Bench.stored c.lay_out.new.bench) (g.B.Bench.stored
+    c.from_start.new.bench) c.pieces-pieces.ensures.lent (c.in-Ok-from_start.ensures.finished honest
+    (subst IsTrue (sym c.in-Ok.ensures.only_writes.honest_same) right))
+    (c.pieces-pieces.ensures.parts (g.S.Shelf.stored c.args.shelf.now) there)
+    (c.in-Ok.ensures.filled right (g.S.Shelf.stored c.args.shelf.now) there))
 
 pub returns-in-Ok-finish-clause-written : goal.returns-in-Ok-finish-clause-written
 returns-in-Ok-finish-clause-written g c honest right leave project binding handle planned there =
-    c.in-Ok-finish.ensures.written (subst IsTrue (sym (c.from_start.ensures.same_bench ∙ c.in-Ok.ensures.only_writes.honest_same)) right) leave project binding handle (g.S.Shelf.stored c.args.shelf.now) (g.B.Bench.stored c.args.bench.now) planned there (lent_finished c.args.consolidation.now c.pieces-pieces.result (g.S.Shelf.stored c.args.shelf.now) (g.B.Bench.stored c.lay_out.new.bench) (g.B.Bench.stored c.from_start.new.bench) c.pieces-pieces.ensures.lent (c.in-Ok-from_start.ensures.finished honest (subst IsTrue (sym c.in-Ok.ensures.only_writes.honest_same) right)) (c.pieces-pieces.ensures.parts (g.S.Shelf.stored c.args.shelf.now) there) (c.in-Ok.ensures.filled right (g.S.Shelf.stored c.args.shelf.now) there))
-    (λ n away. c.in-Ok-from_start.ensures.others (subst IsTrue (sym c.in-Ok.ensures.only_writes.honest_same) right) n (no_output c.args.consolidation.now c.pieces-pieces.result n c.pieces-pieces.ensures.lent c.pieces-pieces.ensures.names away.no_medium)
+    c.in-Ok-finish.ensures.written (subst IsTrue (sym (c.from_start.ensures.same_bench ∙
+    c.in-Ok.ensures.only_writes.honest_same)) right) leave project binding handle (g.S.Shelf.stored
+    c.args.shelf.now) (g.B.Bench.stored c.args.bench.now) planned there (lent_finished
+    c.args.consolidation.now c.pieces-pieces.result (g.S.Shelf.stored c.args.shelf.now) (g.B.Bench.stored
+    c.lay_out.new.bench) (g.B.Bench.stored c.from_start.new.bench) c.pieces-pieces.ensures.lent
+    (c.in-Ok-from_start.ensures.finished honest (subst IsTrue
+    (sym c.in-Ok.ensures.only_writes.honest_same) right)) (c.pieces-pieces.ensures.parts
+    (g.S.Shelf.stored c.args.shelf.now) there) (c.in-Ok.ensures.filled right
+    (g.S.Shelf.stored c.args.shelf.now) there))
+    (λ n away. c.in-Ok-from_start.ensures.others (subst IsTrue (sym c.in-Ok.ensures.only_writes.honest_same) right) n
+    (no_output c.args.consolidation.now c.pieces-pieces.result n c.pieces-pieces.ensures.lent
+    c.pieces-pieces.ensures.names away.no_medium)
     ∙ c.in-Ok.ensures.only_writes.others right n away.no_medium)
 
 pub returns-in-Ok-finish-clause-named : goal.returns-in-Ok-finish-clause-named
 returns-in-Ok-finish-clause-named g c right n away =
     let few = few_media (length c.args.consolidation.now.runs) 32767 n c.requires.few away.no_medium in
-    c.in-Ok-finish.ensures.only_writes.others (subst IsTrue (sym (c.from_start.ensures.same_bench ∙ c.in-Ok.ensures.only_writes.honest_same)) right) n away.no_list
-    ∙ (c.in-Ok-from_start.ensures.others (subst IsTrue (sym c.in-Ok.ensures.only_writes.honest_same) right) n (no_output c.args.consolidation.now c.pieces-pieces.result n c.pieces-pieces.ensures.lent c.pieces-pieces.ensures.names few)
+    c.in-Ok-finish.ensures.only_writes.others (subst IsTrue (sym (c.from_start.ensures.same_bench ∙
+    c.in-Ok.ensures.only_writes.honest_same)) right) n away.no_list
+    ∙ (c.in-Ok-from_start.ensures.others (subst IsTrue (sym c.in-Ok.ensures.only_writes.honest_same) right) n
+    (no_output c.args.consolidation.now c.pieces-pieces.result n c.pieces-pieces.ensures.lent
+    c.pieces-pieces.ensures.names few)
     ∙ c.in-Ok.ensures.only_writes.others right n few)
 
 pub returns-in-Err-clause-named : goal.returns-in-Err-clause-named
 returns-in-Err-clause-named g c right n away =
-    c.in-Err.ensures.only_writes.others right n (few_media (length c.args.consolidation.now.runs) 32767 n c.requires.few away.no_medium)
+    c.in-Err.ensures.only_writes.others right n (few_media (length c.args.consolidation.now.runs) 32767 n
+    c.requires.few away.no_medium)
 
 pub returns-in-Err-GivenUp-clause-named : goal.returns-in-Err-GivenUp-clause-named
 returns-in-Err-GivenUp-clause-named g c right n away =
     let few = few_media (length c.args.consolidation.now.runs) 32767 n c.requires.few away.no_medium in
-    c.in-Err-GivenUp.ensures.others (subst IsTrue (sym c.in-Ok.ensures.only_writes.honest_same) right) n (no_output c.args.consolidation.now c.pieces-pieces.result n c.pieces-pieces.ensures.lent c.pieces-pieces.ensures.names few)
+    c.in-Err-GivenUp.ensures.others (subst IsTrue (sym c.in-Ok.ensures.only_writes.honest_same) right) n
+    (no_output c.args.consolidation.now c.pieces-pieces.result n c.pieces-pieces.ensures.lent
+    c.pieces-pieces.ensures.names few)
     ∙ c.in-Ok.ensures.only_writes.others right n few
 
 pub returns-in-Err-finish-clause-named : goal.returns-in-Err-finish-clause-named
 returns-in-Err-finish-clause-named g c right n away =
     let few = few_media (length c.args.consolidation.now.runs) 32767 n c.requires.few away.no_medium in
-    c.in-Err-finish.ensures.only_writes.others (subst IsTrue (sym (c.from_start.ensures.same_bench ∙ c.in-Ok.ensures.only_writes.honest_same)) right) n away.no_list
-    ∙ (c.in-Ok-from_start.ensures.others (subst IsTrue (sym c.in-Ok.ensures.only_writes.honest_same) right) n (no_output c.args.consolidation.now c.pieces-pieces.result n c.pieces-pieces.ensures.lent c.pieces-pieces.ensures.names few)
+    c.in-Err-finish.ensures.only_writes.others (subst IsTrue (sym (c.from_start.ensures.same_bench ∙
+    c.in-Ok.ensures.only_writes.honest_same)) right) n away.no_list
+    ∙ (c.in-Ok-from_start.ensures.others (subst IsTrue (sym c.in-Ok.ensures.only_writes.honest_same) right) n
+    (no_output c.args.consolidation.now c.pieces-pieces.result n c.pieces-pieces.ensures.lent
+    c.pieces-pieces.ensures.names few)
     ∙ c.in-Ok.ensures.only_writes.others right n few)
 
 pub returns-in-Err-clause-list_last : goal.returns-in-Err-clause-list_last
 returns-in-Err-clause-list_last g c right different =
-    c.in-Err.ensures.only_writes.others right (codes "consolidated.adl") (list_no_medium (length c.args.consolidation.now.runs) c.requires.few)
+    c.in-Err.ensures.only_writes.others right (codes "consolidated.adl") (list_no_medium
+    (length c.args.consolidation.now.runs) c.requires.few)
 
 pub returns-in-Err-GivenUp-clause-list_last : goal.returns-in-Err-GivenUp-clause-list_last
 returns-in-Err-GivenUp-clause-list_last g c right different =
     let away = list_no_medium (length c.args.consolidation.now.runs) c.requires.few in
-    c.in-Err-GivenUp.ensures.others (subst IsTrue (sym c.in-Ok.ensures.only_writes.honest_same) right) (codes "consolidated.adl") (no_output c.args.consolidation.now c.pieces-pieces.result (codes "consolidated.adl") c.pieces-pieces.ensures.lent c.pieces-pieces.ensures.names away)
+    c.in-Err-GivenUp.ensures.others (subst IsTrue (sym c.in-Ok.ensures.only_writes.honest_same) right)
+    (codes "consolidated.adl") (no_output c.args.consolidation.now c.pieces-pieces.result
+    (codes "consolidated.adl") c.pieces-pieces.ensures.lent c.pieces-pieces.ensures.names away)
     ∙ c.in-Ok.ensures.only_writes.others right (codes "consolidated.adl") away
 
 pub returns-in-Err-finish-clause-list_last : goal.returns-in-Err-finish-clause-list_last
 returns-in-Err-finish-clause-list_last g c right different =
     let away = list_no_medium (length c.args.consolidation.now.runs) c.requires.few in
-    c.in-Err-finish.ensures.list_last (subst IsTrue (sym (c.from_start.ensures.same_bench ∙ c.in-Ok.ensures.only_writes.honest_same)) right) (λ e. different (c.of_writing-in-Err-finish.ensures.told ∙ ap (λ f. told.Output (file_of f)) e))
-    ∙ (c.in-Ok-from_start.ensures.others (subst IsTrue (sym c.in-Ok.ensures.only_writes.honest_same) right) (codes "consolidated.adl") (no_output c.args.consolidation.now c.pieces-pieces.result (codes "consolidated.adl") c.pieces-pieces.ensures.lent c.pieces-pieces.ensures.names away)
+    c.in-Err-finish.ensures.list_last (subst IsTrue (sym (c.from_start.ensures.same_bench ∙
+    c.in-Ok.ensures.only_writes.honest_same)) right) (λ e. different (c.of_writing-in-Err-finish.ensures.told ∙ ap
+    (λ f. told.Output (file_of f)) e))
+    ∙ (c.in-Ok-from_start.ensures.others (subst IsTrue (sym c.in-Ok.ensures.only_writes.honest_same) right)
+    (codes "consolidated.adl") (no_output c.args.consolidation.now c.pieces-pieces.result
+    (codes "consolidated.adl") c.pieces-pieces.ensures.lent c.pieces-pieces.ensures.names away)
     ∙ c.in-Ok.ensures.only_writes.others right (codes "consolidated.adl") away)
 
 pub returns-in-Err-clause-stores : goal.returns-in-Err-clause-stores
 returns-in-Err-clause-stores g c =
-    subst (λ (f : Fault). KeepsStores g.S.Shelf g.B.Bench {X = consolidation.Written} c.args.shelf.now c.args.shelf.now c.args.bench.now c.lay_out.new.bench (Err f)) (sym c.of_writing.ensures.told)
-    (stopped_at g.S.Shelf g.B.Bench c.args.shelf.now c.args.shelf.now c.args.bench.now c.lay_out.new.bench (file_of c.in-Err.fault) refl refl
+    subst (λ (f : Fault). KeepsStores g.S.Shelf g.B.Bench {X = consolidation.Written} c.args.shelf.now
+    c.args.shelf.now c.args.bench.now c.lay_out.new.bench (Err f)) (sym c.of_writing.ensures.told)
+    (stopped_at g.S.Shelf g.B.Bench c.args.shelf.now c.args.shelf.now c.args.bench.now c.lay_out.new.bench
+    (file_of c.in-Err.fault) refl refl
     c.in-Err.ensures.only_writes.honest_same (omega arith)
     (record { later = c.in-Err.ensures.only_writes.cause.later; rose = c.in-Err.ensures.only_writes.cause.rose tt })
-    (subst (g.B.Bench.failed_at c.lay_out.new.bench) (same_output c.in-Err.fault) (c.in-Err.ensures.only_writes.failed_there tt)))
+    (subst (g.B.Bench.failed_at c.lay_out.new.bench) (same_output c.in-Err.fault)
+    (c.in-Err.ensures.only_writes.failed_there tt)))
 
 pub returns-in-Err-finish-clause-stores : goal.returns-in-Err-finish-clause-stores
 returns-in-Err-finish-clause-stores g c =
-    subst (λ (f : Fault). KeepsStores g.S.Shelf g.B.Bench {X = consolidation.Written} c.args.shelf.now c.from_start.new.shelf c.args.bench.now c.finish.new.bench (Err f)) (sym c.of_writing-in-Err-finish.ensures.told)
-    (stopped_at g.S.Shelf g.B.Bench c.args.shelf.now c.from_start.new.shelf c.args.bench.now c.finish.new.bench (file_of c.in-Err-finish.fault)
+    subst (λ (f : Fault). KeepsStores g.S.Shelf g.B.Bench {X = consolidation.Written} c.args.shelf.now
+    c.from_start.new.shelf c.args.bench.now c.finish.new.bench (Err f))
+    (sym c.of_writing-in-Err-finish.ensures.told)
+    (stopped_at g.S.Shelf g.B.Bench c.args.shelf.now c.from_start.new.shelf c.args.bench.now c.finish.new.bench
+    (file_of c.in-Err-finish.fault)
     c.from_start.ensures.same_shelf c.from_start.ensures.same_honest
-    (c.in-Err-finish.ensures.only_writes.honest_same ∙ (c.from_start.ensures.same_bench ∙ c.in-Ok.ensures.only_writes.honest_same))
+    (c.in-Err-finish.ensures.only_writes.honest_same ∙ (c.from_start.ensures.same_bench ∙
+    c.in-Ok.ensures.only_writes.honest_same))
     c.from_start.ensures.later_shelf
-    (raised_behind (g.B.Bench.failures c.args.bench.now) (g.B.Bench.failures c.from_start.new.bench) (g.B.Bench.failures c.finish.new.bench) (omega (arith, c.in-Ok.ensures.only_writes.cause.left tt, c.from_start.ensures.later_bench))
-    (record { later = c.in-Err-finish.ensures.only_writes.cause.later; rose = c.in-Err-finish.ensures.only_writes.cause.rose tt }))
-    (subst (g.B.Bench.failed_at c.finish.new.bench) (same_output c.in-Err-finish.fault) (c.in-Err-finish.ensures.only_writes.failed_there tt)))
+    (raised_behind (g.B.Bench.failures c.args.bench.now) (g.B.Bench.failures c.from_start.new.bench)
+    (g.B.Bench.failures c.finish.new.bench) (omega (
+      arith,
+      c.in-Ok.ensures.only_writes.cause.left tt,
+      c.from_start.ensures.later_bench,
+    ))
+    (record {
+      later = c.in-Err-finish.ensures.only_writes.cause.later;
+      rose =
+          c.in-Err-finish.ensures.only_writes.cause.rose tt;
+    }))
+    (subst (g.B.Bench.failed_at c.finish.new.bench) (same_output c.in-Err-finish.fault)
+    (c.in-Err-finish.ensures.only_writes.failed_there tt)))

@@ -20,13 +20,15 @@ returns-in-Err-Memory-clause-ran g c honest right project binding values of =
     events_between (jobs_over (work_of work) sources) (λ _. whole_of work sources) c.args.board.now.order
     c.args.events.now (g.S.Shelf.failures c.args.shelf.now) (g.B.Bench.failures c.args.bench.now)
     (g.B.Bench.failures c.lay_out.new.bench) (g.S.Shelf.failures c.run_laid.new.shelf)
-    (g.B.Bench.failures c.run_laid.new.bench) (g.B.Bench.failures c.run_laid.new.bench) (g.B.Bench.stored c.run_laid.new.bench)
+    (g.B.Bench.failures c.run_laid.new.bench) (g.B.Bench.failures c.run_laid.new.bench) (g.B.Bench.stored
+    c.run_laid.new.bench)
     (g.B.Bench.stored c.run_laid.new.bench) None None (c.in-Ok.ensures.only_writes.cause.left tt) (refl) (refl)
     (subst (λ (f : RunFault). EndsIn {X = Progress} (Err f) (RunsEvents false (jobs_over (work_of work) sources)
     (λ _. whole_of work sources) c.args.board.now.order c.args.events.now (g.S.Shelf.failures c.args.shelf.now)
     (g.B.Bench.failures c.lay_out.new.bench) (g.S.Shelf.failures c.run_laid.new.shelf)
     (g.B.Bench.failures c.run_laid.new.bench) (g.B.Bench.stored c.run_laid.new.bench)))
-    c.in-Err-Memory.field-0-is (c.in-Err-Memory.ensures.events honest (subst IsTrue (sym c.in-Ok.ensures.only_writes.honest_same) right)
+    c.in-Err-Memory.field-0-is (c.in-Err-Memory.ensures.events honest (subst IsTrue
+    (sym c.in-Ok.ensures.only_writes.honest_same) right)
     (λ _. whole_of work sources) (of.parts sources) (c.in-Ok.ensures.filled right sources)))
 
 pub returns-in-Err-GivenUp-clause-ran : goal.returns-in-Err-GivenUp-clause-ran
@@ -36,13 +38,16 @@ returns-in-Err-GivenUp-clause-ran g c honest right project binding values of =
     events_between (jobs_over (work_of work) sources) (λ _. whole_of work sources) c.args.board.now.order
     c.args.events.now (g.S.Shelf.failures c.args.shelf.now) (g.B.Bench.failures c.args.bench.now)
     (g.B.Bench.failures c.lay_out.new.bench) (g.S.Shelf.failures c.run_laid.new.shelf)
-    (g.B.Bench.failures c.run_laid.new.bench) (g.B.Bench.failures c.run_laid.new.bench) (g.B.Bench.stored c.run_laid.new.bench)
-    (g.B.Bench.stored c.run_laid.new.bench) None (Some (GivenUp c.in-Err-GivenUp.job)) (c.in-Ok.ensures.only_writes.cause.left tt) (refl) (refl)
+    (g.B.Bench.failures c.run_laid.new.bench) (g.B.Bench.failures c.run_laid.new.bench) (g.B.Bench.stored
+    c.run_laid.new.bench)
+    (g.B.Bench.stored c.run_laid.new.bench) None (Some (GivenUp c.in-Err-GivenUp.job))
+    (c.in-Ok.ensures.only_writes.cause.left tt) (refl) (refl)
     (subst (λ (f : RunFault). EndsIn {X = Progress} (Err f) (RunsEvents false (jobs_over (work_of work) sources)
     (λ _. whole_of work sources) c.args.board.now.order c.args.events.now (g.S.Shelf.failures c.args.shelf.now)
     (g.B.Bench.failures c.lay_out.new.bench) (g.S.Shelf.failures c.run_laid.new.shelf)
     (g.B.Bench.failures c.run_laid.new.bench) (g.B.Bench.stored c.run_laid.new.bench)))
-    c.in-Err-GivenUp.field-0-is (c.in-Err-GivenUp.ensures.events honest (subst IsTrue (sym c.in-Ok.ensures.only_writes.honest_same) right)
+    c.in-Err-GivenUp.field-0-is (c.in-Err-GivenUp.ensures.events honest (subst IsTrue
+    (sym c.in-Ok.ensures.only_writes.honest_same) right)
     (λ _. whole_of work sources) (of.parts sources) (c.in-Ok.ensures.filled right sources)))
 
 pub returns-then-not-progress-clause-ran : goal.returns-then-not-progress-clause-ran
@@ -52,8 +57,10 @@ returns-then-not-progress-clause-ran g c honest right project binding values of 
     events_between (jobs_over (work_of work) sources) (λ _. whole_of work sources) c.args.board.now.order
     c.args.events.now (g.S.Shelf.failures c.args.shelf.now) (g.B.Bench.failures c.args.bench.now)
     (g.B.Bench.failures c.lay_out.new.bench) (g.S.Shelf.failures c.run_laid.new.shelf)
-    (g.B.Bench.failures c.run_laid.new.bench) (g.B.Bench.failures c.run_laid.new.bench) (g.B.Bench.stored c.run_laid.new.bench)
-    (g.B.Bench.stored c.run_laid.new.bench) (Some c.in-Ok-run_laid.progress) None (c.in-Ok.ensures.only_writes.cause.left tt) (refl) (refl)
+    (g.B.Bench.failures c.run_laid.new.bench) (g.B.Bench.failures c.run_laid.new.bench) (g.B.Bench.stored
+    c.run_laid.new.bench)
+    (g.B.Bench.stored c.run_laid.new.bench) (Some c.in-Ok-run_laid.progress) None
+    (c.in-Ok.ensures.only_writes.cause.left tt) (refl) (refl)
     (c.in-Ok-run_laid.ensures.events honest (subst IsTrue (sym c.in-Ok.ensures.only_writes.honest_same) right)
     (λ _. whole_of work sources) (of.parts sources) (c.in-Ok.ensures.filled right sources))
 
@@ -64,8 +71,11 @@ returns-in-Ok-finish-clause-ran g c honest right project binding values of =
     events_between (jobs_over (work_of work) sources) (λ _. whole_of work sources) c.args.board.now.order
     c.args.events.now (g.S.Shelf.failures c.args.shelf.now) (g.B.Bench.failures c.args.bench.now)
     (g.B.Bench.failures c.lay_out.new.bench) (g.S.Shelf.failures c.run_laid.new.shelf)
-    (g.B.Bench.failures c.run_laid.new.bench) (g.B.Bench.failures c.finish.new.bench) (g.B.Bench.stored c.run_laid.new.bench)
-    (g.B.Bench.stored c.finish.new.bench) (Some c.in-Ok-run_laid.progress) None (c.in-Ok.ensures.only_writes.cause.left tt) (c.in-Ok-finish.ensures.only_writes.cause.left tt) (c.in-Ok-finish.ensures.same)
+    (g.B.Bench.failures c.run_laid.new.bench) (g.B.Bench.failures c.finish.new.bench) (g.B.Bench.stored
+    c.run_laid.new.bench)
+    (g.B.Bench.stored c.finish.new.bench) (Some c.in-Ok-run_laid.progress) None
+    (c.in-Ok.ensures.only_writes.cause.left tt) (c.in-Ok-finish.ensures.only_writes.cause.left tt)
+    (c.in-Ok-finish.ensures.same)
     (c.in-Ok-run_laid.ensures.events honest (subst IsTrue (sym c.in-Ok.ensures.only_writes.honest_same) right)
     (λ _. whole_of work sources) (of.parts sources) (c.in-Ok.ensures.filled right sources))
 
