@@ -1,11 +1,12 @@
 -- Stretches, one more behind the others.
-use Rattle.std.proofs.Common.{◌≡◌, ◌<◌, ◌++◌, ℕ, List, [], ◌∷◌, inl, inr, length, get_or, refl, sym, ap, subst, ◌∙◌, arith, length-append}
+use Rattle.std.proofs.Common.{◌≡◌, ◌+◌, ◌*◌, ◌<◌, ◌++◌, ℕ, false, List, [], ◌∷◌, inl, inr, length, get_or, refl, sym, ap, subst, ◌∙◌, arith, length-append}
 use Rattle.std.specs.List.{All}
+use Rattle.std.specs.Prelude.{min}
 use Rattle.std.proofs.Math.Seq.{get_or-append_seam}
 use Rattle.std.proofs.lemmas.Bool.{cases_lt}
 use Rattle.std.proofs.lemmas.List.{get_or_append_left}
 use Rattle.blockcut.specs.declared.stretch.Stretch.{Stretch}
-use Rattle.blockcut.specs.Cut.{IsCut}
+use Rattle.blockcut.specs.Cut.{AreEven, IsCut, even_stretch}
 
 pub cut-push : (stretches : List Stretch) (from mid : ℕ) (s : Stretch) → IsCut from stretches mid → s.first ≡ mid
     → s.first < s.behind → IsCut from (stretches ++ s ∷ []) s.behind
@@ -21,3 +22,35 @@ all-push P stretches s all here k d below = elim (cases_lt k (length stretches))
   | inr past ↦ let at : k ≡ length stretches = omega (arith, below, past, length-append stretches (s ∷ [])) in
       subst P (sym (ap (λ (i : ℕ). get_or (stretches ++ s ∷ []) i d) at ∙ get_or-append_seam stretches s [] d)) here
 ]
+
+-- stretches of as many blocks each, and the next of them
+pub even-push : (most to : ℕ) (stretches : List Stretch) (s : Stretch) → AreEven most to stretches
+    → s ≡ even_stretch most to (length stretches) → AreEven most to (stretches ++ s ∷ [])
+even-push most to stretches s even here k d below = elim (cases_lt k (length stretches)) [
+  | inl before ↦ get_or_append_left stretches (s ∷ []) d k before ∙ even k d before
+  | inr past ↦ let at : k ≡ length stretches = omega (arith, below, past, length-append stretches (s ∷ [])) in
+      ap (λ (i : ℕ). get_or (stretches ++ s ∷ []) i d) at ∙ get_or-append_seam stretches s [] d
+      ∙ here ∙ ap (even_stretch most to) (sym at)
+]
+
+abbrev fresh_from : ℕ → ℕ → Stretch
+fresh_from first behind = record { first = first; behind = behind; done = false }
+
+pub even-next : (most to n first behind : ℕ) → first ≡ min (n * most) to → first < to → behind ≡ min (first + most) to
+    → record { first = first; behind = behind; done = false } ≡ even_stretch most to n
+even-next most to n first behind place some ends =
+    let begins : first ≡ n * most = omega (arith, place, some) in
+    ap (λ (x : ℕ). fresh_from x behind) begins
+    ∙ ap (λ (x : ℕ). fresh_from (n * most) x) (ends ∙ ap (λ (x : ℕ). min (x + most) to) begins)
+
+-- where the next one begins
+pub place-push : (most to : ℕ) (stretches : List Stretch) (s : Stretch) (first behind : ℕ)
+    → first ≡ min (length stretches * most) to → first < to → behind ≡ min (first + most) to
+    → behind ≡ min (length (stretches ++ s ∷ []) * most) to
+place-push most to stretches s first behind place some ends =
+    let n = length stretches in
+    let begins : first ≡ n * most = omega (arith, place, some) in
+    let longer : length (stretches ++ s ∷ []) ≡ n + 1 = length-append stretches (s ∷ []) in
+    let more : length (stretches ++ s ∷ []) * most ≡ n * most + most =
+    ap (λ (x : ℕ). x * most) longer ∙ omega arith in
+    ends ∙ ap (λ (x : ℕ). min (x + most) to) begins ∙ ap (λ (x : ℕ). min x to) (sym more)

@@ -1,5 +1,5 @@
 -- Blocks cut into stretches.
-use Rattle.std.specs.Prelude.{◌≡◌, ℕ, ◌-◌, ◌/◌, ◌<◌, ◌≤◌, Bool, false, cond, nat_le, max, List, [], ◌∷◌, slice_index_or}
+use Rattle.std.specs.Prelude.{◌≡◌, ℕ, ◌+◌, ◌-◌, ◌*◌, ◌/◌, ◌<◌, ◌≤◌, Bool, false, cond, nat_le, max, min, List, [], ◌∷◌, length, slice_index_or}
 use Rattle.blockcut.specs.declared.stretch.Stretch.{Stretch}
 
 -- the stretches follow one another, from one block on up to, and without, another; each has at least one block
@@ -14,6 +14,15 @@ IsFresh s = s.done ≡ false
 -- what isn't done is at most so many blocks
 abbrev pub IsShort : ℕ → Stretch → Type 0
 IsShort most s = s.done ≡ false → s.behind - s.first ≤ most
+
+-- the stretch of this number, counted from 0, where each but the last has so many blocks
+abbrev pub even_stretch : (most to : ℕ) → ℕ → Stretch
+even_stretch most to k = record { first = k * most; behind = min (k * most + most) to; done = false }
+
+-- these are the first of them
+abbrev pub AreEven : (most to : ℕ) → List Stretch → Type 0
+AreEven most to stretches = (k : ℕ) (d : Stretch) → k < length stretches
+    → slice_index_or stretches k d ≡ even_stretch most to k
 
 -- the stretch is done where its blocks are marked, all or none
 abbrev pub IsUniform : List Bool → Stretch → Type 0

@@ -1,7 +1,7 @@
 // Cuts blocks into stretches.
 ghost use Rattle.std.specs.Prelude.{◌≡◌, ◌≤◌, ◌<◌, ◌-◌, ◌/◌, ◌^◌, true, false, length, max, cond, nat_le, IfOk};
 ghost use Rattle.std.specs.List.{All};
-ghost use Rattle.blockcut.specs.Cut.{IsCut, IsFresh, IsShort, IsUniform, blocks_at_once};
+ghost use Rattle.blockcut.specs.Cut.{AreEven, IsCut, IsFresh, IsShort, IsUniform, blocks_at_once};
 
 use crate::Stretch;
 use std::alloc::{AllocError, Global};
@@ -27,6 +27,7 @@ pub fn blocks_at_once(blocks: u32, block_size: u32) -> u32
 pub fn fresh_stretches(alloc: Global, blocks: u32, most: u32) -> Result<Vec<Stretch>, AllocError>
     requires { 1 ≤ most }
     ensures cut { IfOk result (λ stretches. IsCut 0 stretches.items blocks) }
+    ensures even { IfOk result (λ stretches. AreEven most blocks stretches.items) }
     ensures fresh { IfOk result (λ stretches. All IsFresh stretches.items) }
     ensures short { IfOk result (λ stretches. All (IsShort most) stretches.items) }
 {

@@ -36,6 +36,8 @@ asked project binding values work is whole =
     (omega (arith, some)) in
     record {
       range = is.range;
+      cut = whole.cut;
+      even = is.even;
       some = omega (arith, first.there);
       parts = λ sources. are_parts work sources whole;
       whole = λ sources. whole_asked project binding values work sources is;

@@ -13,7 +13,7 @@ use Rattle.renderplan.specs.Planned.{IsPlan, Planned}
 use Rattle.wavwrite.specs.Info.{Fits}
 use Rattle.job_terms.specs.Workers.{JobsBy}
 use Rattle.blockcut.specs.declared.stretch.Stretch.{Stretch}
-use Rattle.blockcut.specs.Cut.{IsCut}
+use Rattle.blockcut.specs.Cut.{AreEven, IsCut, blocks_at_once}
 use Rattle.rendering.specs.Written.{bytes_of_blocks, frames_before}
 
 -- a plan over opened files
@@ -59,6 +59,11 @@ stretch_at stretches k = slice_index_or stretches k no_stretch
 
 abbrev pub stretch_frames : Range → Stretch → ℕ
 stretch_frames range s = frames_before range s.behind - frames_before range s.first
+
+-- as many blocks in each stretch but the last as are done at once
+abbrev pub AreAtOnce : Range → List Stretch → Type 0
+AreAtOnce range stretches =
+    AreEven (blocks_at_once (block_count range) (bytes_for range block_length)) (block_count range) stretches
 
 -- where a stretch begins in the rendered file
 abbrev pub place_of : Range → Stretch → ℕ

@@ -14,7 +14,7 @@ ghost use Rattle.blockcut.specs.Cut.{IsCut};
 ghost use Rattle.rendering.specs.Fault.{ComesFirst, refusal_of};
 ghost use Rattle.rendering.specs.Planned.{IsPlanFor, IsRenderingOf, MixAs};
 ghost use Rattle.rendering.specs.Rendering.{HasRange, HaveChannels, render_fault, values_of};
-ghost use Rattle.rendering.specs.Work.{IsRenderWork};
+ghost use Rattle.rendering.specs.Work.{AreAtOnce, IsRenderWork};
 ghost use Rattle.rendering.specs.declared.fault.RenderFault.TheVariants.{Memory};
 
 use crate::blocks::{BLOCK_LENGTH, Blocks};
@@ -126,6 +126,7 @@ fn head_of(alloc: Global, info: &SoundInfoRef) -> Result<Vec<u8>, AllocError>
 /// All blocks, cut into stretches that are done at once.
 fn stretches_of(alloc: Global, blocks: &Blocks) -> Result<Vec<Stretch>, RenderFault>
     ensures cut { IfOk result (λ stretches. IsCut 0 stretches.items (block_count blocks.now.planned.range)) }
+    ensures even { IfOk result (λ stretches. AreAtOnce blocks.now.planned.range stretches.items) }
     ensures only_memory { IfErr result (λ fault. fault ≡ Memory) }
 {
     let count = blocks.count();

@@ -28,6 +28,7 @@ returns-clause-prepared c =
     ap (λ (b : BlockWork). b.planned) c.in_ok-blocks.ensures.made in
     let fits : Fits info = c.reads_back.ensures.short c.info_of-info.ensures.short in
     record {
+      even = c.in_ok-stretches.ensures.even;
       range = ap (λ (p : Planned). p.range) planned ∙ c.in_ok-plan.ensures.range ∙ chosen;
       sounds = ap (λ (b : BlockWork). b.sounds) c.in_ok-blocks.ensures.made ∙ c.sounds.ensures.sounds
           ∙ ap sounds_of c.bound.ensures;
