@@ -1,10 +1,10 @@
 -- Events from a fresh board on.
 use Rattle.std.proofs.Common.{◌≡◌, ◌<◌, ℕ, Bool, true, false, Option, None, Some, List, ap, length, replicate, subst, sym, take}
-use Rattle.std.proofs.lemmas.List.{get_or-replicate, length-replicate}
+use Rattle.std.proofs.lemmas.List.{length-replicate}
 use Rattle.work_terms.specs.Disk.{Files}
 use Rattle.job_terms.specs.declared.BoardEvent.{BoardEvent}
 use Rattle.job_terms.specs.declared.Job.{Job}
-use Rattle.job_terms.specs.Board.{Board, fresh_job, is_done, is_finished, no_job}
+use Rattle.job_terms.specs.Board.{Board, fresh_job, is_finished}
 use Rattle.job_terms.specs.Workers.{End, Jobs}
 use Rattle.job_terms.specs.declared.Progress.{Progress}
 use Rattle.schedule.specs.Events.{IsTold, RanSome, RunsEvents, fresh_board}
@@ -14,11 +14,7 @@ use Rattle.schedule.specs.Run.{state_of}
 use Rattle.schedule.proofs.Filling.{filled-whole}
 use Rattle.schedule.proofs.Rests.{finished-done}
 use Rattle.schedule.proofs.Rounds.{leads-good}
-use Rattle.schedule.proofs.Starting.{filled-fresh}
-
--- no job of a fresh board is done
-pub fresh-open : (count : ℕ) (order : List ℕ) (k : ℕ) → k < count → done_of (fresh_board count order) k ≡ false
-fresh-open count order k lt = ap (λ (job : Job). is_done job.standing) (get_or-replicate count k fresh_job no_job lt)
+use Rattle.schedule.proofs.Starting.{filled-fresh, none-done}
 
 -- outputs in which no job is done, by a board that is fresh
 pub filled-as-fresh : (jobs : Jobs) (whole : List ℕ → List ℕ) (board : Board) (laid : Files)
@@ -28,7 +24,7 @@ filled-as-fresh jobs whole board laid fresh filled =
     subst (λ (js : List Job). AreFilled jobs whole (done_of (record { jobs = js; order = board.order })) laid)
     (sym fresh)
     (filled-fresh jobs whole (done_of (fresh_board jobs.count board.order)) laid
-    (fresh-open jobs.count board.order) filled)
+    (none-done jobs.count board.order) filled)
 
 -- what events did from laid out files on
 pub events-laid : (marks : Bool) (jobs : Jobs) (whole : List ℕ → List ℕ) (board : Board) (events : List BoardEvent)
@@ -57,7 +53,7 @@ events-laid marks jobs whole board events laid written shelf_old bench_old shelf
           (record {
             board = length-replicate jobs.count fresh_job;
             filled = filled-fresh jobs whole (done_of (fresh_board jobs.count board.order)) laid
-                (fresh-open jobs.count board.order) filled;
+                (none-done jobs.count board.order) filled;
           })).filled;
     }
 

@@ -1,12 +1,13 @@
 -- Where no job is done yet.
-use Rattle.std.proofs.Common.{◌≡◌, ◌∙◌, ◌^◌, ◌+◌, ◌++◌, [], ◌∷◌, ℕ, ◌<◌, ◌≤◌, Bool, true, false, None, Some, Result, Ok, Err, OnOk, List, take, get_or, refl, sym, ap, subst, arith}
+use Rattle.std.proofs.Common.{◌≡◌, ◌∙◌, ◌^◌, ◌+◌, ◌++◌, [], ◌∷◌, ℕ, ◌<◌, ◌≤◌, Bool, true, false, None, Some, Result, Ok, Err, OnOk, List, replicate, take, get_or, refl, sym, ap, subst, arith}
 use Rattle.std.specs.List.{range_with_len}
 use Rattle.std.proofs.lemmas.List.{get_or-replicate, length-replicate, map-id}
 use Rattle.std.proofs.lemmas.List.FromFn.{get_or-range_with_len, length-range_with_len, map-range_with_len_more}
 use Rattle.job_terms.specs.declared.Job.{Job}
-use Rattle.job_terms.specs.Board.{Board, board_of, fresh_job, is_done, job_at, no_job}
+use Rattle.job_terms.specs.Board.{Board, fresh_job, is_done, job_at, no_job}
 use Rattle.schedule.specs.Alone.{AtRest, IsAtRest, Waits, only}
 use Rattle.schedule.specs.Ends.{ended_of}
+use Rattle.schedule.specs.Events.{fresh_board}
 use Rattle.schedule.specs.Rounds.{RunsInRounds}
 use Rattle.schedule.specs.Run.{Leads, state_of}
 use Rattle.schedule.specs.declared.fault.JobFault.{JobFault}
@@ -18,12 +19,12 @@ use Rattle.job_terms.specs.Workers.{BoardRun, End, GivenUp, MarkFailed, Hand, Jo
 use Rattle.schedule.specs.Filled.{AreFilled, AreParts}
 
 -- each job of a fresh board is open
-pub open-fresh : (count k : ℕ) → k < count → job_at (board_of count) k ≡ fresh_job
-open-fresh count k lt = get_or-replicate count k fresh_job no_job lt
+pub open-fresh : (count : ℕ) (order : List ℕ) (k : ℕ) → k < count → job_at (fresh_board count order) k ≡ fresh_job
+open-fresh count order k lt = get_or-replicate count k fresh_job no_job lt
 
-pub rest-fresh : (count : ℕ) → AtRest (board_of count)
-rest-fresh count = record {
-  each = λ k lt. subst IsAtRest (sym (open-fresh count k (omega (
+pub rest-fresh : (count : ℕ) (order : List ℕ) → AtRest (fresh_board count order)
+rest-fresh count order = record {
+  each = λ k lt. subst IsAtRest (sym (open-fresh count order k (omega (
     arith,
     lt,
     length-replicate
@@ -31,8 +32,12 @@ rest-fresh count = record {
   )))) (Waits refl refl (omega arith));
 }
 
-pub none-done : (count k : ℕ) → k < count → done_of (board_of count) k ≡ false
-none-done count k lt = ap (λ (job : Job). is_done job.standing) (open-fresh count k lt)
+pub rest-of : (count : ℕ) (board : Board) → board.jobs ≡ replicate count fresh_job → AtRest board
+rest-of count board fresh = subst (λ (js : List Job). AtRest (record { jobs = js; order = board.order })) (sym fresh)
+    (rest-fresh count board.order)
+
+pub none-done : (count : ℕ) (order : List ℕ) (k : ℕ) → k < count → done_of (fresh_board count order) k ≡ false
+none-done count order k lt = ap (λ (job : Job). is_done job.standing) (open-fresh count order k lt)
 
 -- one number more
 pub range-more : (n : ℕ) → range_with_len 0 (n + 1) ≡ range_with_len 0 n ++ n ∷ []
@@ -68,8 +73,8 @@ filled-fresh jobs whole done files fresh filled = record {
 -- what one worker alone did from a fresh board on
 pub rounds-from : (X : Type 0) (r : Result X JobFault) (marks : Bool) (jobs : Jobs) (whole : List ℕ → List ℕ)
     (old new : Board) (laid written : Files)
-    (shelf_old bench_old shelf_new bench_new : ℕ) → old ≡ board_of jobs.count → AreParts jobs whole → AreFilled jobs
-    whole (λ _. false) laid
+    (shelf_old bench_old shelf_new bench_new : ℕ) → old.jobs ≡ replicate jobs.count fresh_job → AreParts jobs whole
+    → AreFilled jobs whole (λ _. false) laid
     → ((n : ℕ) × (m : ℕ) × (hand : Hand) × (m ≤ 3) × (OnOk r (m ≡ 0)) × Leads (λ world next. BoardRun marks jobs world
     (rounds n ++ take m (rounds 1)) next)
     (state_of old laid 0 shelf_old bench_old None) (λ _. Nothing) (state_of new written 0 shelf_new bench_new
@@ -81,15 +86,16 @@ rounds-from X r marks jobs whole old new laid written shelf_old bench_old shelf_
       parts = parts;
       laid = laid;
       filled = filled;
+      order = old.order;
       board = new;
       hands = only hand;
       full = n;
       more = m;
       few = few;
       in_full = λ e. on-none r (m ≡ 0) full e;
-      run = subst (λ (b : Board). Leads (λ world next. BoardRun marks jobs world (rounds n ++ take m (rounds 1)) next)
-          (state_of b laid 0 shelf_old bench_old None) (λ _. Nothing) (state_of new written 0 shelf_new bench_new
-          (ended_of r)) (only hand)) fresh run;
+      run = subst (λ (js : List Job). Leads (λ world next. BoardRun marks jobs world (rounds n ++ take m (rounds 1)) next)
+          (state_of (record { jobs = js; order = old.order }) laid 0 shelf_old bench_old None) (λ _. Nothing)
+          (state_of new written 0 shelf_new bench_new (ended_of r)) (only hand)) fresh run;
       all = λ e. on-none r ((k : ℕ) → k < jobs.count → done_of new k ≡ true) all e;
     }
   where

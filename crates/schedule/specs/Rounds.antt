@@ -1,19 +1,21 @@
 -- The jobs of a work as one worker alone does them.
 use Rattle.std.specs.Prelude.{◌≡◌, ℕ, ◌<◌, ◌≤◌, Bool, true, false, Option, None, List, ◌++◌, take}
 use Rattle.work_terms.specs.Disk.{Files}
-use Rattle.job_terms.specs.Board.{Board, board_of}
+use Rattle.job_terms.specs.Board.{Board}
 use Rattle.job_terms.specs.Workers.{BoardRun, End, Hand, Jobs, Nothing, rounds}
+use Rattle.schedule.specs.Events.{fresh_board}
 use Rattle.schedule.specs.Filled.{AreFilled, AreParts}
 use Rattle.schedule.specs.Marking.{done_of}
 use Rattle.schedule.specs.Run.{Leads, state_of}
 
 -- From files that are laid out, in which no job is done, rounds of one worker led to these files and these counts of
--- failures: whole rounds, and where the run ended the events of one more.
+-- failures: whole rounds, and where the run ended the events of one more. The board hands the jobs out in some order.
 pub record RunsInRounds (marks : Bool) (jobs : Jobs) (whole : List ℕ → List ℕ)
     (shelf_old bench_old shelf_new bench_new : ℕ) (written : Files) (ended : Option End) : Type 0 where
   pub parts : AreParts jobs whole
   pub laid : Files
   pub filled : AreFilled jobs whole (λ _. false) laid
+  pub order : List ℕ
   pub board : Board
   pub hands : ℕ → Hand
   pub full : ℕ
@@ -21,6 +23,6 @@ pub record RunsInRounds (marks : Bool) (jobs : Jobs) (whole : List ℕ → List 
   pub few : more ≤ 3
   pub in_full : ended ≡ None → more ≡ 0
   pub run : Leads (λ world next. BoardRun marks jobs world (rounds full ++ take more (rounds 1)) next)
-      (state_of (board_of jobs.count) laid 0 shelf_old bench_old None) (λ _. Nothing)
+      (state_of (fresh_board jobs.count order) laid 0 shelf_old bench_old None) (λ _. Nothing)
       (state_of board written 0 shelf_new bench_new ended) hands
   pub all : ended ≡ None → (k : ℕ) → k < jobs.count → done_of board k ≡ true

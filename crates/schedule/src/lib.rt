@@ -21,5 +21,5 @@ pub use placing::place_marked;
 pub use resting::resting_board;
 pub use running::run;
 pub use single::{alone, most_bytes};
-pub use start::{Start, fresh_board, fresh_start, from_start};
+pub use start::{Start, fresh_board, fresh_start, from_start, in_turn};
 pub use worker::Worker;

@@ -1,9 +1,10 @@
 // What one worker alone begins with.
-ghost use Rattle.std.specs.Prelude.{◌≡◌, ◌<◌, ◌≤◌, ℕ, false, Some, List, IfOk, IsErrOf, IsTrue, OnOk};
+ghost use Rattle.std.specs.Prelude.{◌≡◌, ◌<◌, ◌≤◌, ℕ, false, Some, List, IfOk, IsErrOf, IsTrue, OnOk, replicate};
 ghost use Rattle.std.specs.List.{range_with_len};
-ghost use Rattle.job_terms.specs.Board.{board_of};
+ghost use Rattle.job_terms.specs.Board.{fresh_job};
 ghost use Rattle.job_terms.specs.Workers.{Nothing, jobs_over};
 ghost use Rattle.schedule.specs.Ends.{ended_of};
+ghost use Rattle.schedule.specs.Events as spec;
 ghost use Rattle.schedule.specs.Filled.{AreFilled, AreParts};
 ghost use Rattle.schedule.specs.Marking.{IsNoOutput};
 ghost use Rattle.schedule.specs.Rounds.{RunsInRounds};
@@ -24,8 +25,8 @@ pub struct Start {
     pub worker: Worker,
 }
 
-/// The numbers from 0 on, so many of them.
-fn in_turn(alloc: Global, count: u32) -> Result<Vec<u32>, BoardFault>
+/// The numbers from 0 on, so many of them: each job in its turn.
+pub fn in_turn(alloc: Global, count: u32) -> Result<Vec<u32>, BoardFault>
     ensures order { IfOk result (λ order. IsOrder count order.items) }
     ensures numbers { IfOk result (λ order. order.items ≡ range_with_len 0 count) }
 {
@@ -38,22 +39,30 @@ fn in_turn(alloc: Global, count: u32) -> Result<Vec<u32>, BoardFault>
     Ok(order)
 }
 
-/// A board on which all jobs of a work are open, in the order of their numbers.
-pub fn fresh_board<J: JobMaker>(alloc: Global, maker: &J) -> Result<Board, BoardFault>
-    ensures { IfOk result (λ board. board ≡ board_of (J.work maker.now).count) }
+/// A board on which all jobs of a work are open, to be handed out in this order. `Memory` where none was left.
+pub fn fresh_board<J: JobMaker>(
+    alloc: Global,
+    maker: &J,
+    order: Vec<u32>,
+) -> Result<Board, BoardFault>
+    requires { IsOrder (J.work maker.now).count order.items }
+    ensures { IfOk result (λ board. board ≡ spec.fresh_board (J.work maker.now).count order.items) }
 {
-    let count = maker.count();
-    let order = in_turn(alloc, count)?;
-    Board::new(alloc, count, order)
+    Board::new(alloc, maker.count(), order)
 }
 
-/// All jobs of a work are open, in the order of their numbers. It takes all memory that the loop over them needs.
-pub fn fresh_start<J: JobMaker>(alloc: Global, maker: &J) -> Result<Start, BoardFault>
-    ensures board { IfOk result (λ start. start.board ≡ board_of (J.work maker.now).count) }
+/// All jobs of a work are open, to be handed out in this order. It takes all memory that the loop over them needs.
+pub fn fresh_start<J: JobMaker>(
+    alloc: Global,
+    maker: &J,
+    order: Vec<u32>,
+) -> Result<Start, BoardFault>
+    requires { IsOrder (J.work maker.now).count order.items }
+    ensures board { IfOk result (λ start. start.board ≡ spec.fresh_board (J.work maker.now).count order.items) }
     ensures empty { IfOk result (λ start. start.worker.hand ≡ Nothing) }
     ensures room { IfOk result (λ start. HasRoom (J.work maker.now) start.worker.room) }
 {
-    let board = fresh_board(alloc, maker)?;
+    let board = fresh_board(alloc, maker, order)?;
     match Worker::with_room(alloc, most_bytes(maker)) {
         Ok(worker) => Ok(Start { board, worker }),
         Err(_) => Err(BoardFault::Memory),
@@ -68,7 +77,7 @@ pub fn from_start<J: JobMaker, S: Shelf, B: Bench, W: Watch>(
     bench: &mut B,
     watch: &mut W,
 ) -> Result<(), JobFault>
-    requires board { start.old.board ≡ board_of (J.work maker.old).count }
+    requires board { start.old.board.jobs ≡ replicate (J.work maker.old).count fresh_job }
     requires empty { start.old.worker.hand ≡ Nothing }
     requires room { HasRoom (J.work maker.old) start.old.worker.room }
     ensures rounds { IsTrue (S.honest shelf.old) → IsTrue (B.honest bench.old) → (whole : List ℕ → List ℕ)

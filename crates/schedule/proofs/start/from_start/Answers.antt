@@ -1,17 +1,15 @@
-use Rattle.std.proofs.Common.{◌∙◌, Ok, Err, length, sym, ap, subst}
+use Rattle.std.proofs.Common.{◌∙◌, Ok, Err, length, ap}
 use Rattle.std.proofs.lemmas.List.{length-replicate}
-use Rattle.job_terms.specs.Board.{Board, fresh_job}
+use Rattle.job_terms.specs.Board.{fresh_job}
 use Rattle.job_terms.specs.Workers.{jobs_over}
-use Rattle.schedule.specs.Alone.{AtRest}
-use Rattle.schedule.specs.Marking.{done_of}
-use Rattle.schedule.proofs.Starting.{filled-fresh, none-done, rest-fresh, rounds-from}
+use Rattle.schedule.proofs.Fresh.{filled-as-fresh}
+use Rattle.schedule.proofs.Starting.{rest-of, rounds-from}
 use Rattle.schedule.proofs.start.from_start.Goals as goal
 
 pub alone-requires : goal.alone-requires
 alone-requires g c = record {
-  whole = ap (λ (b : Board). length b.jobs) c.requires.board ∙ length-replicate (g.J.JobMaker.work
-      c.args.maker.now).count fresh_job;
-  rest = subst AtRest (sym c.requires.board) (rest-fresh (g.J.JobMaker.work c.args.maker.now).count);
+  whole = ap length c.requires.board ∙ length-replicate (g.J.JobMaker.work c.args.maker.now).count fresh_job;
+  rest = rest-of (g.J.JobMaker.work c.args.maker.now).count c.args.start.now.board c.requires.board;
   empty = c.requires.empty;
   room = c.requires.room;
 }
@@ -35,7 +33,5 @@ returns-in-Err-clause-rounds g c honest right whole parts filled = rounds-from (
 
 pub returns-in-Ok-clause-finished : goal.returns-in-Ok-clause-finished
 returns-in-Ok-clause-finished g c honest right whole parts filled = c.in-Ok.ensures.finished honest right whole parts
-    (filled-fresh (jobs_over (g.J.JobMaker.work c.args.maker.now) (g.S.Shelf.stored c.args.shelf.now)) whole
-    (done_of c.args.start.now.board) (g.B.Bench.stored c.args.bench.now)
-    (λ k lt. ap (λ (b : Board). done_of b k) c.requires.board ∙ none-done (g.J.JobMaker.work c.args.maker.now).count k
-    lt) filled)
+    (filled-as-fresh (jobs_over (g.J.JobMaker.work c.args.maker.now) (g.S.Shelf.stored c.args.shelf.now)) whole
+    c.args.start.now.board (g.B.Bench.stored c.args.bench.now) c.requires.board filled)
