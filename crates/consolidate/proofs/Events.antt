@@ -36,8 +36,8 @@ pub schedules_project : (project : ListProject) (binding : Binding) (values : Op
     ended
 schedules_project project binding values work order events sources shelf_old bench_old shelf_new bench_new written
     progress ended of run = record {
-      jobs = jobs_over (work_of work) sources;
-      named = λ k. refl;
+      work = work;
+      renders = of;
       order = order;
       run = subst (λ (w : List ℕ). RunsEvents false (jobs_over (work_of work) sources) (λ _. w) order events
           shelf_old bench_old shelf_new bench_new written progress ended) (of.whole sources) run;

@@ -61,8 +61,8 @@ pub renders_in_rounds : (project : ListProject) (binding : Binding) (values : Op
     → RendersInRounds project binding values sources shelf_old bench_old shelf_new bench_new written ended
 renders_in_rounds project binding values work sources shelf_old bench_old shelf_new bench_new written ended of run =
     record {
-      jobs = jobs_over (work_of work) sources;
-      named = λ k. refl;
+      work = work;
+      renders = of;
       run = subst (λ (w : List ℕ). RunsInRounds false (jobs_over (work_of work) sources) (λ _. w)
           shelf_old bench_old shelf_new bench_new written ended) (of.whole sources) run;
     }

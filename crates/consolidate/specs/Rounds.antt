@@ -2,13 +2,16 @@
 use Rattle.std.specs.Prelude.{◌≡◌, ◌≢◌, ℕ, ⊤, true, false, Option, None, Some, List, Result, Ok, Err, codes}
 use Rattle.sound_terms.specs.Render.{rendering_of}
 use Rattle.work_terms.specs.Disk.{Files}
-use Rattle.job_terms.specs.Workers.{End, GivenUp, Jobs, jobs_over}
+use Rattle.job_terms.specs.Workers.{End, GivenUp, jobs_over}
 use Rattle.list_terms.specs.Accepted.{OptionValues, range_of}
 use Rattle.list_terms.specs.Binding.{Binding}
 use Rattle.list_terms.specs.Heard.{IsAccepted, project_mix}
 use Rattle.list_terms.specs.Project.{ListProject}
 use Rattle.passes.specs.Left.{Leaving}
 use Rattle.schedule.specs.Rounds.{RunsInRounds}
+use Rattle.rendering.specs.Planned.{IsRenderingOf}
+use Rattle.rendering.specs.Work as blocks
+use Rattle.rendering.specs.Work.{RenderWork}
 use Rattle.consolidation.specs.Jobs.{whole_of, work_of}
 use Rattle.consolidation.specs.Planned.{IsPlanOf, MediaPlan}
 use Rattle.consolidate.specs.declared.fault.Fault.{Fault}
@@ -20,12 +23,12 @@ EndsOf (Ok x) P = P None
 EndsOf (Err (fault.GivenUp job)) P = P (Some (GivenUp job))
 EndsOf (Err _) P = ⊤
 
--- the jobs make the rendering of a project, all in one file
+-- the jobs are the blocks of a project, so many at once, and make its rendering
 pub record RendersInRounds (project : ListProject) (binding : Binding) (values : OptionValues) (sources : Files)
     (shelf_old bench_old shelf_new bench_new : ℕ) (written : Files) (ended : Option End) : Type 0 where
-  pub jobs : Jobs
-  pub named : (k : ℕ) → jobs.name k ≡ codes "render.wav"
-  pub run : RunsInRounds false jobs (λ _. rendering_of (range_of project values) (project_mix sources project binding))
+  pub work : RenderWork
+  pub renders : IsRenderingOf project binding values work
+  pub run : RunsInRounds false (jobs_over (blocks.work_of work) sources) (λ _. rendering_of (range_of project values) (project_mix sources project binding))
       shelf_old bench_old shelf_new bench_new written ended
 
 -- of the project of an accepted list

@@ -7,13 +7,15 @@ use Rattle.work_terms.specs.Disk.{Files, IsDurable}
 use Rattle.work_terms.specs.Refusals.{Answers}
 use Rattle.job_terms.specs.declared.BoardEvent.{BoardEvent}
 use Rattle.job_terms.specs.declared.Progress.{Progress}
-use Rattle.job_terms.specs.Workers.{End, GivenUp, Jobs}
+use Rattle.job_terms.specs.Workers.{End, GivenUp, jobs_over}
 use Rattle.list_terms.specs.Accepted.{OptionValues, range_of}
 use Rattle.list_terms.specs.Binding.{Binding}
 use Rattle.list_terms.specs.Heard.{IsAccepted, project_mix}
 use Rattle.list_terms.specs.Project.{ListProject}
 use Rattle.schedule.specs.Events.{RunsEvents}
+use Rattle.rendering.specs.Planned.{IsRenderingOf}
 use Rattle.rendering.specs.Rendering as rendering
+use Rattle.rendering.specs.Work.{RenderWork, work_of}
 use Rattle.consolidate.specs.Commands.{KeepsStores, RefusesBadText, render_refusal}
 use Rattle.consolidate.specs.Fault.{refusal_of}
 use Rattle.consolidate.specs.Own.{IsFirst, IsOfRenderSchedule}
@@ -27,14 +29,14 @@ EndsEvents (Err (fault.GivenUp job)) P = P None (Some (GivenUp job))
 EndsEvents (Err fault.WorkerMemory) P = P None None
 EndsEvents (Err _) P = ⊤
 
--- the jobs make the rendering of a project, all in one file
+-- the jobs are the blocks of a project, so many at once, and make its rendering
 pub record SchedulesProject (project : ListProject) (binding : Binding) (values : OptionValues)
     (events : List BoardEvent) (sources : Files) (shelf_old bench_old shelf_new bench_new : ℕ) (written : Files)
     (told : Option Progress) (ended : Option End) : Type 0 where
-  pub jobs : Jobs
-  pub named : (k : ℕ) → jobs.name k ≡ codes "render.wav"
+  pub work : RenderWork
+  pub renders : IsRenderingOf project binding values work
   pub order : List ℕ
-  pub run : RunsEvents false jobs (λ _. rendering_of (range_of project values) (project_mix sources project binding))
+  pub run : RunsEvents false (jobs_over (work_of work) sources) (λ _. rendering_of (range_of project values) (project_mix sources project binding))
       order events shelf_old bench_old shelf_new bench_new written told ended
 
 -- of the project of an accepted list

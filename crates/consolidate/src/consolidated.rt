@@ -1,7 +1,7 @@
 // Consolidates a list.
-ghost use Rattle.std.specs.Prelude.{◌≡◌, ◌≢◌, ◌≤◌, IfErr, IfOk, IsTrue, List, None, OnOk, codes, false, length, true, ℕ};
+ghost use Rattle.std.specs.Prelude.{◌≡◌, ◌≢◌, ◌≤◌, IfErr, IfOk, IsTrue, List, None, OnOk, codes, false, length, replicate, true, ℕ};
 ghost use Rattle.work_terms.specs.Refusals.{Answers, IsDue};
-ghost use Rattle.job_terms.specs.Board.{board_of};
+ghost use Rattle.job_terms.specs.Board.{fresh_job};
 ghost use Rattle.job_terms.specs.Workers.{Nothing};
 ghost use Rattle.list_terms.specs.Binding.{Binding};
 ghost use Rattle.list_terms.specs.Heard.{IsAccepted};
@@ -29,7 +29,7 @@ use consolidation::{Consolidation, Sizes};
 use list_terms::Notice;
 use passes::Pass;
 use projectcheck::Checked;
-use schedule::{JobFault, Start, fresh_start, from_start};
+use schedule::{JobFault, JobMaker, Start, fresh_start, from_start, in_turn};
 use shelf::{Bench, Shelf, Watch};
 use std::alloc::Global;
 
@@ -51,7 +51,7 @@ fn write_consolidation<S: Shelf, B: Bench, W: Watch>(
     bench: &mut B,
     watch: &mut W,
 ) -> Result<consolidation::Written, Fault>
-    requires board { start.old.board ≡ board_of (work_of consolidation.now).count }
+    requires board { start.old.board.jobs ≡ replicate (work_of consolidation.now).count fresh_job }
     requires empty { start.old.worker.hand ≡ Nothing }
     requires room { HasRoom (work_of consolidation.now) start.old.worker.room }
     requires few { length consolidation.now.runs ≤ 32767 }
@@ -140,7 +140,12 @@ fn consolidate_checked<S: Shelf, B: Bench, W: Watch>(
         Ok(consolidation) => consolidation,
         Err(fault) => return Err(Fault::of_consolidation(checked, fault)),
     };
-    let mut start = match fresh_start(alloc, &consolidation.pieces()) {
+    let pieces = consolidation.pieces();
+    let order = match in_turn(alloc, pieces.count()) {
+        Ok(order) => order,
+        Err(_) => return Err(Fault::BoardMemory),
+    };
+    let mut start = match fresh_start(alloc, &pieces, order) {
         Ok(start) => start,
         Err(_) => return Err(Fault::BoardMemory),
     };

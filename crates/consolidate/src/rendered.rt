@@ -1,8 +1,8 @@
 // Renders a list to one sound file.
-ghost use Rattle.std.specs.Prelude.{◌≡◌, ◌≢◌, IfErr, IfOk, IsTrue, List, None, OnOk, codes, false, true, ℕ};
+ghost use Rattle.std.specs.Prelude.{◌≡◌, ◌≢◌, IfErr, IfOk, IsTrue, List, None, OnOk, codes, false, replicate, true, ℕ};
 ghost use Rattle.work_terms.specs.Disk.{IsDurable};
 ghost use Rattle.work_terms.specs.Refusals.{Answers, IsDue};
-ghost use Rattle.job_terms.specs.Board.{board_of};
+ghost use Rattle.job_terms.specs.Board.{fresh_job};
 ghost use Rattle.job_terms.specs.Workers.{Nothing, jobs_over};
 ghost use Rattle.list_terms.specs.Accepted.{OptionValues, range_of};
 ghost use Rattle.list_terms.specs.Binding.{Binding};
@@ -23,7 +23,7 @@ use crate::{Fault, OutputFile};
 use list_terms::Notice;
 use projectcheck::Checked;
 use rendering::{Options, Rendering};
-use schedule::{JobFault, Start, fresh_start, from_start};
+use schedule::{JobFault, JobMaker, Start, fresh_start, from_start, in_turn};
 use shelf::{Bench, Shelf, Watch};
 use std::alloc::Global;
 
@@ -43,7 +43,7 @@ fn write_rendering<S: Shelf, B: Bench, W: Watch>(
     bench: &mut B,
     watch: &mut W,
 ) -> Result<(), Fault>
-    requires board { start.old.board ≡ board_of (work_of rendering.old).count }
+    requires board { start.old.board.jobs ≡ replicate (work_of rendering.old).count fresh_job }
     requires empty { start.old.worker.hand ≡ Nothing }
     requires room { HasRoom (work_of rendering.old) start.old.worker.room }
     ensures rounds { IsTrue (S.honest shelf.old) → IsTrue (B.honest bench.old)
@@ -111,7 +111,11 @@ fn render_checked<S: Shelf, B: Bench, W: Watch>(
         Ok(rendering) => rendering,
         Err(fault) => return Err(Fault::of_rendering(fault)),
     };
-    let mut start = match fresh_start(alloc, &rendering) {
+    let order = match in_turn(alloc, rendering.count()) {
+        Ok(order) => order,
+        Err(_) => return Err(Fault::BoardMemory),
+    };
+    let mut start = match fresh_start(alloc, &rendering, order) {
         Ok(start) => start,
         Err(_) => return Err(Fault::BoardMemory),
     };

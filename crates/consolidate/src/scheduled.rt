@@ -1,8 +1,8 @@
 // Renders a list by the events of any number of workers.
-ghost use Rattle.std.specs.Prelude.{◌≡◌, ◌≢◌, IfErr, IfOk, IsTrue, List, None, codes, false, true, ℕ};
+ghost use Rattle.std.specs.Prelude.{◌≡◌, ◌≢◌, IfErr, IfOk, IsTrue, List, None, codes, false, replicate, true, ℕ};
 ghost use Rattle.work_terms.specs.Disk.{IsDurable};
 ghost use Rattle.work_terms.specs.Refusals.{Answers, IsDue};
-ghost use Rattle.job_terms.specs.Board.{board_of};
+ghost use Rattle.job_terms.specs.Board.{fresh_job};
 ghost use Rattle.job_terms.specs.Workers.{jobs_over};
 ghost use Rattle.list_terms.specs.Accepted.{OptionValues};
 ghost use Rattle.list_terms.specs.Binding.{Binding};
@@ -22,7 +22,7 @@ use crate::{Fault, OutputFile};
 use job_terms::{BoardEvent, Progress};
 use projectcheck::Checked;
 use rendering::{Options, Rendering};
-use schedule::{RunFault, fresh_board, run_laid};
+use schedule::{JobMaker, RunFault, fresh_board, in_turn, run_laid};
 use shelf::{Bench, Shelf};
 use std::alloc::Global;
 use workboard::Board;
@@ -36,7 +36,7 @@ fn schedule_rendering<S: Shelf, B: Bench>(
     shelf: &mut S,
     bench: &mut B,
 ) -> Result<Progress, Fault>
-    requires { board.old ≡ board_of (work_of rendering.old).count }
+    requires { board.old.jobs ≡ replicate (work_of rendering.old).count fresh_job }
     ensures ran { IsTrue (S.honest shelf.old) → IsTrue (B.honest bench.old)
         → (project : ListProject) (binding : Binding) (values : OptionValues)
         → IsRenderingOf project binding values rendering.old
@@ -104,7 +104,11 @@ fn schedule_checked<S: Shelf, B: Bench>(
         Ok(rendering) => rendering,
         Err(fault) => return Err(Fault::of_rendering(fault)),
     };
-    let mut board = match fresh_board(alloc, &rendering) {
+    let order = match in_turn(alloc, rendering.count()) {
+        Ok(order) => order,
+        Err(_) => return Err(Fault::BoardMemory),
+    };
+    let mut board = match fresh_board(alloc, &rendering, order) {
         Ok(board) => board,
         Err(_) => return Err(Fault::BoardMemory),
     };
