@@ -15,7 +15,7 @@ use Rattle.consolidate.proofs.consolidated.consolidate_checked.Goals as goal
 
 pub write_consolidation-requires-clause-room : goal.write_consolidation-requires-clause-room
 write_consolidation-requires-clause-room g c =
-    subst (λ (plan : MediaPlan). HasRoom (work_of plan) c.in-Ok-fresh_start.start.worker.room) c.pieces.ensures.lent
+    subst (λ (plan : MediaPlan). HasRoom (work_of plan) c.in-Ok-fresh_start.start.worker.room) c.pieces-pieces.ensures.lent
     c.in-Ok-fresh_start.ensures.room
 
 pub returns-in-Ok-write_consolidation-clause-same_sound : goal.returns-in-Ok-write_consolidation-clause-same_sound
@@ -96,4 +96,8 @@ returns-in-Err-clause-stores g c = not_planned g.S.Shelf g.B.Bench MediaPlan con
 
 pub returns-in-Err-fresh_start-clause-stores : goal.returns-in-Err-fresh_start-clause-stores
 returns-in-Err-fresh_start-clause-stores g c = no_board g.S.Shelf g.B.Bench consolidation.Written c.args.shelf.now
+    c.plan.new.shelf c.args.bench.now (g.met.B.Bench.only_now c.args.bench.now) c.in-Ok.ensures.only_reads
+
+pub returns-in-Err-in_turn-clause-stores : goal.returns-in-Err-in_turn-clause-stores
+returns-in-Err-in_turn-clause-stores g c = no_board g.S.Shelf g.B.Bench consolidation.Written c.args.shelf.now
     c.plan.new.shelf c.args.bench.now (g.met.B.Bench.only_now c.args.bench.now) c.in-Ok.ensures.only_reads
