@@ -1,3 +1,4 @@
 pub mod Fault
 pub mod Planned
 pub mod Reaches
+pub mod Sources

@@ -6,7 +6,9 @@ mod fault;
 mod lines;
 mod plan;
 mod reach;
+mod source;
 
 pub use fault::PlanFault;
 pub use plan::Plan;
 pub use sound_terms::{Depth, Instruction, Shape, Stretch};
+pub use source::SourceFrame;

@@ -1,17 +1,20 @@
 // The plan of a rendering.
-ghost use Rattle.std.specs.Prelude.{◌≡◌, ◌+◌, ◌<◌, ◌≤◌, ◌↔◌, List, length, take, IfOk, IsErrOf};
+ghost use Rattle.std.specs.Prelude.{◌≡◌, ◌+◌, ◌<◌, ◌≤◌, ◌↔◌, List, length, take, IfOk, IfSome, IsErrOf};
 ghost use Rattle.std.specs.List.{All};
+ghost use Rattle.sampletime.specs.TimeCode.{day};
 ghost use Rattle.sound_terms.specs.Sounds.{SoundFacts};
 ghost use Rattle.sound_terms.specs.Media.{IsPieceOf};
 ghost use Rattle.sound_terms.specs.Mix.{Reading};
 ghost use Rattle.sound_terms.specs.Groups as spec;
 ghost use Rattle.sound_terms.specs.Groups.{IsBounded, IsPiece, sum_of};
-ghost use Rattle.sound_terms.specs.Blocks.{BlockState, IsBlockProgram, LiesInFiles, PlaysFull, block_count, block_frames, executed_all, mixed_block, program_of};
+ghost use Rattle.sound_terms.specs.Blocks.{BlockState, IsBlockProgram, LiesInFiles, PlaysFull, block_count, block_frames, block_start, executed_all, mixed_block, program_of};
 ghost use Rattle.renderplan.specs.Planned.{IsPlan, range_of};
+ghost use Rattle.renderplan.specs.Sources as sources;
 
 use crate::PlanFault;
 use crate::lines::{Window, put, put_lines};
 use crate::reach::{Reach, reaches_of};
+use crate::source::{SourceFrame, first_source};
 use interval::Intervals;
 use sampletime::SampleTime;
 use sound_terms::{Depth, Format, Instruction, Piece};
@@ -136,6 +139,32 @@ impl Plan {
         }
     }
 
+    /// The samples of block k.
+    fn window_of(&self, k: u64) -> Window
+        requires { k < block_count self.now.range }
+        ensures from { result.from ≡ block_start self.now.range k }
+        ensures frames { result.frames ≡ block_frames self.now.range k }
+        ensures channels { result.channels ≡ self.now.range.channels }
+        ensures in_day { result.from + result.frames ≤ day }
+    {
+        Window {
+            from: self.from.get() + k * BLOCK_LENGTH,
+            frames: self.frames_of(k),
+            channels: self.channels,
+        }
+    }
+
+    /// Where the first of the plan's pieces that sounds in block k meets it: its file, and the frame that is heard first.
+    /// `None` where the block is silent.
+    pub fn source_of(&self, k: u64) -> Option<SourceFrame>
+        requires { k < block_count self.now.range }
+        ensures source { result ≡ sources.source_of self.now.pieces self.now.range k }
+        ensures in_day { IfSome result (λ source. source.frame < day) }
+    {
+        let window = self.window_of(k);
+        first_source(self.pieces.as_slice(), self.reaches.as_slice(), window)
+    }
+
     /// Writes the instructions of block k; gives how many.
     fn write_block(&self, k: u64, program: &mut [Instruction]) -> usize
         requires there { k < block_count self.now.range }
@@ -144,11 +173,7 @@ impl Plan {
         ensures few { result ≤ length program.new }
         ensures planned { IsPlan self.now }
     {
-        let window = Window {
-            from: self.from.get() + k * BLOCK_LENGTH,
-            frames: self.frames_of(k),
-            channels: self.channels,
-        };
+        let window = self.window_of(k);
         let start = Instruction::Start {
             frames: window.frames,
         };
