@@ -185,7 +185,9 @@ def passed_over(scene: Scene) -> None:
     told = "".join(f"not honoured at line {line}: {word}\n" for line, word in (
         (4, "(MUTE)"), (5, "(Pan)"), (8, "(SYS_XFADE_LENGTH)"), (10, "<LEVEL_LIST>"), (21, "MUTE")))
     told = told.replace("(SYS_XFADE_LENGTH)", "00.00.00.10/0000")
-    for text, wanted in ((PASSED, told), (HONOURED, "")):
+    lists = [(PASSED, told), (HONOURED, "")]
+    lists += [(text.replace(b"\n", b"\r\n"), wanted) for text, wanted in lists]
+    for text, wanted in lists:
         scene.put(text, MEDIA_FILES)
         for words in (("check", LIST, MEDIA), ("render", LIST, MEDIA, OUT), ("consolidate", LIST, MEDIA, OUT)):
             got = scene.run(*words)

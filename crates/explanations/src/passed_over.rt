@@ -23,7 +23,7 @@ impl fmt::Display for PassedWords<'_> {
         let mut section: &[u8] = b"";
         let mut count: usize = 0;
         for (place, line) in self.0.split(|byte| *byte == b'\n').enumerate() {
-            let text = trimmed(line);
+            let text = trimmed(line.strip_suffix(b"\r").unwrap_or(line));
             if is_same_name(text, b"</ADL>") {
                 break;
             }
