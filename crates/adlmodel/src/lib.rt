@@ -7,6 +7,7 @@ mod header;
 mod place;
 mod project;
 mod source;
+mod sources;
 
 pub use bytes::Bytes;
 pub use header::{Header, KeptLines};
@@ -15,3 +16,4 @@ pub use place::{Place, place_of};
 pub use project::Project;
 pub use sound_terms::{Channels, Event, Fade};
 pub use source::Source;
+pub use sources::Sources;

@@ -10,6 +10,7 @@ ghost use Rattle.adlmodel.specs.Header.{header_view, project_of};
 
 use crate::header::Header;
 use crate::source::Source;
+use crate::sources::Sources;
 use list_terms::Notice;
 use sampletime::{Rate, Separators};
 use sound_terms::Event;
@@ -22,7 +23,7 @@ use std::marker::Model;
 pub struct Project {
     header: Header,
     rate: Rate,
-    sources: Vec<Source>,
+    sources: Sources,
     events: Vec<Event>,
     separators: Separators,
     notices: Vec<Notice>,
@@ -35,9 +36,9 @@ impl Model for Project {
 
     ghost Value = { ListProject };
 
-    ghost view = { λ p. project_of p.header p.rate p.sources.items p.events.items p.separators p.notices.items };
+    ghost view = { λ p. project_of p.header p.rate p.sources p.events.items p.separators p.notices.items };
 
-    ghost invariant = { λ p. IsProject (project_of p.header p.rate p.sources.items p.events.items p.separators p.notices.items) };
+    ghost invariant = { λ p. IsProject (project_of p.header p.rate p.sources p.events.items p.separators p.notices.items) };
 }
 
 impl Project {
@@ -46,16 +47,16 @@ impl Project {
     pub fn new(
         header: Header,
         rate: Rate,
-        sources: Vec<Source>,
+        sources: Sources,
         events: Vec<Event>,
         separators: Separators,
         notices: Vec<Notice>,
     ) -> Self
         requires header { IsHeader (frames_per_second rate) (header_view header) }
-        requires sources { AreSources sources.items }
+        requires sources { AreSources sources }
         requires events { AreEvents events.items }
         requires standard { events.items ≡ [] → separators ≡ default_separators }
-        ensures { result ≡ project_of header rate sources.items events.items separators notices.items }
+        ensures { result ≡ project_of header rate sources events.items separators notices.items }
     {
         let _ = separators.bytes();
         Project {
@@ -70,10 +71,10 @@ impl Project {
 
     /// The project of these sources and events under the header and at the rate of this one, without a notice. Its
     /// separators are those of this one, or the standard ones where it has no event.
-    pub fn with(&self, sources: Vec<Source>, events: Vec<Event>) -> Result<Project, AllocError>
-        requires sources { AreSources sources.items }
+    pub fn with(&self, sources: Sources, events: Vec<Event>) -> Result<Project, AllocError>
+        requires sources { AreSources sources }
         requires events { AreEvents events.items }
-        ensures renewed { IfOk result (λ project. project ≡ with_lists self.now sources.items events.items) }
+        ensures renewed { IfOk result (λ project. project ≡ with_lists self.now sources events.items) }
     {
         let header = self.header.try_copy()?;
         let separators = separators_for(&events, self.separators);
@@ -86,7 +87,7 @@ impl Project {
         ensures copy { IfOk result (λ copy. copy ≡ self.now) }
     {
         let header = self.header.try_copy()?;
-        let sources = copied(&self.sources)?;
+        let sources = Sources::from_slice(*self.events.allocator(), self.sources.as_slice())?;
         let events = Vec::from_slice(*self.events.allocator(), self.events.as_slice())?;
         let notices = Vec::from_slice(*self.notices.allocator(), self.notices.as_slice())?;
         Ok(Project::new(header, self.rate, sources, events, self.separators, notices))
@@ -103,6 +104,7 @@ impl Project {
     /// The lines of the source index.
     pub fn sources(&self) -> &[Source]
         ensures sources { result.now ≡ self.now.sources }
+        ensures again { AreSources result.now }
         ensures whole { IsTrue (list_all is_source result.now) }
         ensures distinct { AreDistinct (index_numbers result.now) }
         ensures few { length result.now ≤ 32767 }
@@ -113,6 +115,7 @@ impl Project {
     /// The entries of the event list.
     pub fn events(&self) -> &[Event]
         ensures events { result.now ≡ self.now.events }
+        ensures again { AreEvents result.now }
         ensures whole { IsTrue (list_all is_event result.now) }
         ensures distinct { AreDistinct (entry_numbers result.now) }
         ensures few { length result.now ≤ 32767 }
@@ -146,12 +149,7 @@ impl Project {
     pub fn into_source(self, place: usize) -> Option<Source>
         ensures { result ≡ slice_get self.sources place }
     {
-        let mut sources = self.sources;
-        if place < sources.len() {
-            Some(sources.swap_remove(place))
-        } else {
-            None
-        }
+        self.sources.into_source(place)
     }
 }
 
@@ -165,16 +163,4 @@ fn separators_for(events: &Vec<Event>, separators: Separators) -> Separators
     } else {
         separators
     }
-}
-
-/// Copies of the sources.
-fn copied(sources: &Vec<Source>) -> Result<Vec<Source>, AllocError>
-    ensures { IfOk result (λ copies. copies.items ≡ sources.now.items) }
-{
-    let mut copies = Vec::new(*sources.allocator());
-    for source in sources.as_slice() {
-        let copy = source.try_copy()?;
-        copies.push(copy)?;
-    }
-    Ok(copies)
 }

@@ -36,7 +36,7 @@ impl<'a> Draft<'a> {
     pub fn new(alloc: Global) -> Result<Self, AllocError>
         ensures { IfOk result (λ draft. context_of draft ≡ nothing_read) }
     {
-        let index = SourceIndex::new(alloc)?;
+        let index = SourceIndex::new(alloc);
         let events = EventList::new(alloc)?;
         Ok(Draft {
             stage: Stage::Before,

@@ -12,31 +12,27 @@ ghost use Rattle.adlread.specs.Flags.{AreFlags};
 use crate::entry_lines::{entry_with, event_fields, remark, source_fields};
 use crate::fault::LineFault;
 use crate::taken::Numbers;
-use adlmodel::{Event, Source};
+use adlmodel::{Event, Sources};
 use adltoken::{TextFault, Token, Tokens};
 use list_terms::OpenEntry;
 use sampletime::{Rate, Separators};
 use std::alloc::{AllocError, Global};
 
-/// The sources so far, and their numbers.
+/// The sources so far.
 #[derive(Drop)]
 pub struct SourceIndex {
-    pub sources: Vec<Source>,
-    numbers: Numbers,
-    ghost flags: { AreFlags (λ s. s.number) sources.items numbers.taken.items },
-    pub ghost whole: { AreNumberedSources sources.items } by { Prim.hlevel props },
+    pub sources: Sources,
+    pub ghost whole: { AreNumberedSources sources } by { Prim.hlevel props },
 }
 
 impl SourceIndex {
     /// No source.
-    pub fn new(alloc: Global) -> Result<Self, AllocError>
-        ensures { IfOk result (λ index. index.sources.items ≡ []) }
+    pub fn new(alloc: Global) -> Self
+        ensures { result.sources ≡ [] }
     {
-        let numbers = Numbers::new(alloc)?;
-        Ok(SourceIndex {
-            sources: Vec::new(alloc),
-            numbers,
-        })
+        SourceIndex {
+            sources: Sources::new(alloc),
+        }
     }
 
     /// Adds the source that a line says behind its number, where no other has that number.
@@ -49,15 +45,14 @@ impl SourceIndex {
         rate: Rate,
     ) -> Result<(), LineFault>
         requires { IsTrue (is_number number) }
-        ensures { Says (λ _. self.new.sources.items) result
-            (source_with (frames_per_second rate) self.old.sources.items number tokens.old.rest.now) }
+        ensures { Says (λ _. self.new.sources) result
+            (source_with (frames_per_second rate) self.old.sources number tokens.old.rest.now) }
     {
-        if self.numbers.contains(number) {
+        if self.sources.contains(number) {
             return Err(LineFault::Text(TextFault::DuplicateNumber));
         }
         let source = source_fields(alloc, number, tokens, rate)?;
         self.sources.push(source)?;
-        self.numbers.insert(number);
         Ok(())
     }
 }

@@ -1,5 +1,8 @@
 -- What is numbered, one after another.
-use Rattle.std.proofs.Common.{◌≡◌, ℕ, zero, suc, ◌+◌, ◌<◌, List, [], ◌∷◌, ◌++◌, length, take, get_or, arith, add-one, sym, ap, ◌∙◌}
+use Rattle.std.proofs.Common.{◌≡◌, ℕ, zero, suc, ◌+◌, ◌<◌, List, [], ◌∷◌, ◌++◌, length, take, get_or, arith, add-one, sym, ap, ◌∙◌, ◌≤◌, refl, false}
+use Rattle.std.specs.Prelude.{◌==◌}
+use Rattle.std.specs.List.{list_any}
+use Rattle.std.proofs.lemmas.Bool.Decides.{nat_tests}
 use Rattle.list_terms.specs.Renewed.{numbered}
 
 numbered_more : {X Y : Type 0} (made : ℕ → X → Y) (number k : ℕ) (xs : List X) (d : X) → k < length xs
@@ -28,3 +31,13 @@ pub numbered_step : {X Y : Type 0} (made : ℕ → X → Y) (k : ℕ) (xs : List
 numbered_step made k xs d one before now below so_far more is =
     more ∙ ap (λ front. front ++ one ∷ []) so_far ∙ ap (λ (y : _). numbered made 1 (take k xs) ++ y ∷ []) is
     ∙ numbered_push made k xs d below
+
+-- none of them has a number behind theirs
+pub numbered_free :
+    {X Y : Type 0} (made : ℕ → X → Y) (number_of : Y → ℕ) → ((n : ℕ) (x : X) → number_of (made n x) ≡ n)
+    → (number behind : ℕ) (xs : List X) → number + length xs ≤ behind
+    → list_any (λ y. number_of y == behind) (numbered made number xs) ≡ false
+numbered_free made number_of told number behind [] few = refl
+numbered_free made number_of told number behind (x ∷ xs) few =
+    let other : (number == behind) ≡ false = grind (arith, nat_tests) in
+    rw (told number x, other) (numbered_free made number_of told (suc number) behind xs (omega arith))

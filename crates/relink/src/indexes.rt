@@ -8,7 +8,7 @@ ghost use Rattle.relink.specs.Linked.{EndsInDay};
 
 use crate::homes::base_of;
 use crate::naming::media_name;
-use adlmodel::{Bytes, Source};
+use adlmodel::{Bytes, Source, Sources};
 use sampletime::SampleTime;
 use sound_terms::{Home, Run};
 use std::alloc::{AllocError, Global};
@@ -47,16 +47,12 @@ fn index_of(alloc: Global, homes: &[Home], number: u32, run: &Run) -> Result<Sou
 }
 
 /// The indexes of these runs, numbered from 1 on.
-pub(crate) fn indexes_of(
-    alloc: Global,
-    homes: &[Home],
-    runs: &[Run],
-) -> Result<Vec<Source>, AllocError>
+pub(crate) fn indexes_of(alloc: Global, homes: &[Home], runs: &[Run]) -> Result<Sources, AllocError>
     requires few { length runs.now ≤ 32767 }
     requires in_day { All (EndsInDay homes.now) runs.now }
-    ensures { IfOk result (λ sources. sources.items ≡ numbered (run_source homes.now) 1 runs.now) }
+    ensures { IfOk result (λ sources. sources ≡ numbered (run_source homes.now) 1 runs.now) }
 {
-    let mut sources = Vec::with_capacity(alloc, runs.len())?;
+    let mut sources = Sources::new(alloc);
     for (place, run) in runs.iter().enumerate() {
         let source = index_of(alloc, homes, place as u32 + 1, run)?;
         sources.push(source)?;

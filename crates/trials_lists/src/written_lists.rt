@@ -1,4 +1,5 @@
 // Lists that are written.
+use adlmodel::Sources;
 use adlread::read;
 use adlwrite::{WriteFault, text_of, write};
 use sampletime::SampleTime;
@@ -108,6 +109,18 @@ fn a_copy_is_the_same_project(rt: HostRuntime) -> Result<(), Fail> {
     assert!(rt; copy.try_copy()?.into_source(2).is_none());
     let source = copy.into_source(1).ok_or("no source")?;
     assert_eq!(rt; source.number(), 12_345);
+    Ok(())
+}
+
+#[test]
+fn a_project_of_the_same_parts_is_the_same_list(rt: HostRuntime) -> Result<(), Fail> {
+    let project = read(rt.alloc(), GIVEN.as_bytes())?;
+    let sources = Sources::from_slice(rt.alloc(), project.sources())?;
+    assert_eq!(rt; sources.get(12_345).map(|source| source.number()), Some(12_345));
+    let events = Vec::from_slice(rt.alloc(), project.events())?;
+    let anew = project.with(sources, events)?;
+    let written = text_of(rt.alloc(), &anew)?;
+    assert_eq!(rt; written.as_slice(), WRITTEN.as_bytes());
     Ok(())
 }
 

@@ -1,0 +1,96 @@
+// Sources under their numbers.
+ghost use Rattle.std.specs.Prelude.{◌≡◌, ◌++◌, ◌==◌, ◌∷◌, [], IfOk, OnErr, OnOk, false, option_copied, slice_get};
+ghost use Rattle.std.specs.List.{list_any};
+ghost use Rattle.list_terms.specs.WholeProject.{AreDistinct, index_numbers};
+ghost use Rattle.adlmodel.specs.Numbered.{source_of};
+
+use crate::source::Source;
+use indexmap::IndexMap;
+use std::alloc::{AllocError, Global};
+use std::marker::Model;
+
+/// Sources in the order of their lines, each under a number of its own, by which it is found.
+#[derive(Debug, Drop)]
+pub struct Sources {
+    by_number: IndexMap<u32, Source>,
+}
+
+impl Model for Sources {
+    ghost use Rattle.std.specs.Prelude.{◌≡◌, List};
+    ghost use Rattle.indexmap.specs.IndexMap.{keys, values};
+    ghost use Rattle.list_terms.specs.Project as list;
+    ghost use Rattle.list_terms.specs.WholeProject.{index_numbers};
+
+    ghost Value = { List list.Source };
+
+    ghost view = { λ s. values s.by_number };
+
+    ghost invariant = { λ s. keys s.by_number ≡ index_numbers (values s.by_number) };
+}
+
+impl Sources {
+    /// No source.
+    pub fn new(alloc: Global) -> Self
+        ensures { result ≡ [] }
+    {
+        Sources {
+            by_number: IndexMap::new(alloc),
+        }
+    }
+
+    /// Copies of these sources, each of which has a number of its own.
+    pub fn from_slice(alloc: Global, sources: &[Source]) -> Result<Self, AllocError>
+        requires { AreDistinct (index_numbers sources.now) }
+        ensures { IfOk result (λ copies. copies ≡ sources.now) }
+    {
+        let mut copies = Sources::new(alloc);
+        for source in sources {
+            let copy = source.try_copy()?;
+            copies.push(copy)?;
+        }
+        Ok(copies)
+    }
+
+    /// Adds a source behind the others, none of which has its number.
+    pub fn push(&mut self, source: Source) -> Result<(), AllocError>
+        requires { list_any (λ other. other.number == source.number) self.old ≡ false }
+        ensures pushed { OnOk result (self.new ≡ self.old ++ source ∷ []) }
+        ensures unchanged { OnErr result (self.new ≡ self.old) }
+    {
+        let number = source.number();
+        self.by_number.insert(number, source)?;
+        Ok(())
+    }
+
+    /// Whether one of them has this number.
+    pub fn contains(&self, number: u32) -> bool
+        ensures { result ≡ list_any (λ other. other.number == number) self.now }
+    {
+        self.by_number.contains_key(&number)
+    }
+
+    /// The source of this number.
+    pub fn get(&self, number: u32) -> Option<&Source>
+        ensures { option_copied result ≡ source_of self.now number }
+    {
+        self.by_number.get(&number)
+    }
+
+    /// The sources, in the order of their lines.
+    pub fn as_slice(&self) -> &[Source]
+        ensures sources { result.now ≡ self.now }
+        ensures distinct { AreDistinct (index_numbers result.now) }
+    {
+        let _ = self.by_number.len();
+        self.by_number.values().as_slice()
+    }
+
+    /// Hands out the source at this place, counted from 0.
+    pub fn into_source(self, place: usize) -> Option<Source>
+        ensures { result ≡ slice_get self place }
+    {
+        let mut by_number = self.by_number;
+        let (_, source) = by_number.swap_remove_index(place)?;
+        Some(source)
+    }
+}
