@@ -116,7 +116,10 @@ fn a_copy_is_the_same_project(rt: HostRuntime) -> Result<(), Fail> {
 fn a_project_of_the_same_parts_is_the_same_list(rt: HostRuntime) -> Result<(), Fail> {
     let project = read(rt.alloc(), GIVEN.as_bytes())?;
     let sources = Sources::from_slice(rt.alloc(), project.sources())?;
-    assert_eq!(rt; sources.get(12_345).map(|source| source.number()), Some(12_345));
+    assert_eq!(rt;
+        sources.get(12_345).map(|source| source.number()),
+        Some(12_345)
+    );
     let events = Vec::from_slice(rt.alloc(), project.events())?;
     let anew = project.with(sources, events)?;
     let written = text_of(rt.alloc(), &anew)?;
