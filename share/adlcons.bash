@@ -3,12 +3,14 @@ _adlcons() {
     local word=${COMP_WORDS[COMP_CWORD]} last=${COMP_WORDS[COMP_CWORD - 1]} options=--help
     case ${COMP_WORDS[1]} in
         consolidate) options='--handle --help' ;;
-        render) options='--from --to --channels --depth --help' ;;
+        render) options='--from --to --channels --depth --order --help' ;;
     esac
     if ((COMP_CWORD == 1)); then
         mapfile -t COMPREPLY < <(compgen -W "check consolidate render explain help --help --version" -- "$word")
     elif [[ $last == --depth ]]; then
         mapfile -t COMPREPLY < <(compgen -W "16 24 32" -- "$word")
+    elif [[ $last == --order ]]; then
+        mapfile -t COMPREPLY < <(compgen -W "time source" -- "$word")
     elif [[ $last == --handle || $last == --from || $last == --to || $last == --channels ]]; then
         COMPREPLY=()
     elif [[ $word == -* ]]; then

@@ -19,6 +19,9 @@ MISTAKES = {
     "a depth of 20": ("render", LIST, MEDIA, OUT, "--depth", "20"),
     "a depth of nothing": ("render", LIST, MEDIA, OUT, "--depth"),
     "a depth twice": ("render", LIST, MEDIA, OUT, "--depth", "16", "--depth", "16"),
+    "an order of a consolidation": ("consolidate", LIST, MEDIA, OUT, "--order", "time"),
+    "an order by name": ("render", LIST, MEDIA, OUT, "--order", "name"),
+    "an order in capitals": ("render", LIST, MEDIA, OUT, "--order", "TIME"),
     "no channels": ("render", LIST, MEDIA, OUT, "--channels", "0"),
     "65 channels": ("render", LIST, MEDIA, OUT, "--channels", "65"),
     "channels in words": ("render", LIST, MEDIA, OUT, "--channels", "two"),
@@ -158,6 +161,8 @@ def option_forms(scene: Scene) -> None:
     prepared(scene)
     for words in (
         ("render", "--depth=16", LIST, MEDIA, OUT, "--channels", "+1"), ("render", LIST, "--depth", "16", MEDIA, OUT),
+        ("render", LIST, MEDIA, OUT, "--depth", "16", "--order", "time"),
+        ("render", "--order=source", LIST, MEDIA, OUT, "--depth", "16"),
         ("render", LIST, MEDIA, OUT, "--depth", "16", "--from=01.00.00.00/0000", "--to", "01:00|00,00=0004"),
     ):
         same(f"the answer of {words}", scene.run(*words), Outcome(0, b"rendered 4 frames 1 channels\n", b""))

@@ -127,6 +127,7 @@ def completion(scene: Scene) -> None:
     same("the media", sorted(completed(scene, "render", "L.adl", "")), ["M", "OUT", "path"])
     same("the output", completed(scene, "consolidate", "L.adl", "M", "O"), ["OUT"])
     same("the depths", completed(scene, "render", "L.adl", "M", "OUT", "--depth", ""), ["16", "24", "32"])
+    same("the orders", completed(scene, "render", "L.adl", "M", "OUT", "--order", ""), ["time", "source"])
     same("a handle", completed(scene, "consolidate", "L.adl", "M", "OUT", "--handle", ""), [])
     same("the numbers", completed(scene, "explain", "2")[:3], ["20", "21", "22"])
 

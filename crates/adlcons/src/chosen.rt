@@ -36,6 +36,7 @@ pub fn tell_bad_time<C: Console>(bad: BadTime, console: &mut C)
 pub fn options_of(chosen: Chosen<'_>, rate: Rate) -> Result<Options, BadTime>
     ensures read { IfOk result (λ options. values_of (frames_per_second rate) (chosen_of chosen.entry)
         ≡ Ok (rendering.values_of options)) }
+    ensures order { IfOk result (λ options. options.order ≡ chosen.entry.order) }
     ensures channels { IfOk result HaveChannels }
     ensures bad { IfErr result (λ bad. values_of (frames_per_second rate) (chosen_of chosen.entry)
         ≡ Err (name_of bad)) }
@@ -47,6 +48,7 @@ pub fn options_of(chosen: Chosen<'_>, rate: Rate) -> Result<Options, BadTime>
         to,
         channels: chosen.channels,
         depth: chosen.depth,
+        order: chosen.order,
     })
 }
 

@@ -1,7 +1,7 @@
 // The stored run: the example over memory.
 use crate::example;
 use anyhow::{Context, Result};
-use consolidate::{Depth, Options, render};
+use consolidate::{Depth, Options, Order, render};
 use shelf::Unwatched;
 use stores::{MemoryBench, MemoryShelf};
 
@@ -15,6 +15,7 @@ pub fn run_stored(rt: &(impl AllocGlobal + Print)) -> Result<()> {
         to: None,
         channels: None,
         depth: Depth::Sixteen,
+        order: Order::ByTime,
     };
     render(
         alloc,

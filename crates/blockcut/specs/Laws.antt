@@ -21,6 +21,16 @@ cut-inside (s ∷ stretches) from to (suc k) d cut below =
     let rest = cut-inside stretches s.behind to k d cut.2 (omega (arith, below)) in
     (omega (arith, cut.0, cut.1, rest.0), rest.1, rest.2)
 
+-- two of them don't meet
+pub cut-apart : (stretches : List Stretch) (from to j k : ℕ) (d : Stretch) → IsCut from stretches to → j < k
+    → k < length stretches → (get_or stretches j d).behind ≤ (get_or stretches k d).first
+cut-apart [] from to j k d cut less below = absurd (omega (arith, below))
+cut-apart (s ∷ stretches) from to j zero d cut less below = absurd (omega (arith, less))
+cut-apart (s ∷ stretches) from to zero (suc k) d cut less below =
+    (cut-inside stretches s.behind to k d cut.2 (omega (arith, below))).0
+cut-apart (s ∷ stretches) from to (suc j) (suc k) d cut less below =
+    cut-apart stretches s.behind to j k d cut.2 (omega (arith, less)) (omega (arith, below))
+
 -- a block of one of them
 pub record IsInside (stretches : List Stretch) (d : Stretch) (b : ℕ) : Type 0 where
   pub place : ℕ

@@ -10,7 +10,8 @@ use Rattle.clap.specs.declared.error.ErrorKind.{ErrorKind}
 use Rattle.clap.specs.declared.error.ErrorKind.TheVariants as kind
 use Rattle.clap.proofs.OnLiterals.{clap_on_literals}
 use Rattle.clap.proofs.WalkLemmas.{first_value-rows}
-use Rattle.commandline.specs.CommandLine.{Asked, Check, explained, adlcons_app, channels_in, chosen_of, depth_in, handle_of, number_in, asked, asked_over, asked_to, asks_for_help, is_shown, named_by, request_of, unless_faulty, words_fault}
+use Rattle.job_terms.specs.declared.Order.{Order}
+use Rattle.commandline.specs.CommandLine.{Asked, Check, explained, adlcons_app, channels_in, chosen_of, depth_in, handle_of, number_in, order_in, ordered_by, asked, asked_over, asked_to, asks_for_help, is_shown, named_by, request_of, unless_faulty, words_fault}
 
 is_simple-here : is_simple adlcons_app ≡ true
 unfolding clap_on_literals
@@ -108,17 +109,38 @@ chosen-bad_channels found text depth channels given deep named bad =
       ← bad,
     ) refl
 
-pub chosen-all : (found : Found) (text : Text) (depth : ℕ) (channels from to : Option Text) (count : Option ℕ)
+-- what is chosen of a rendering, where its depth and its channels can be read
+pub chosen-ordered : (found : Found) (text : Text) (depth : ℕ) (channels : Option Text) (count : Option ℕ)
     → Some text ≡ first_value found (codes "depth")
     → Some depth ≡ depth_in text → channels ≡ first_value found (codes "channels") → Some count ≡ channels_in channels
-    → from ≡ first_value found (codes "from") → to ≡ first_value found (codes "to")
-    → chosen_of (rows_of found) ≡ Some (record { from = from; to = to; channels = count; depth = depth })
-chosen-all found text depth channels from to count given deep named read first last =
+    → chosen_of (rows_of found) ≡ ordered_by (rows_of found) depth count
+chosen-ordered found text depth channels count given deep named read =
     rw (
       row_of_value found (codes "depth") (Some text) given,
       ← deep,
       row_of_value found (codes "channels") channels named,
       ← read,
+    ) refl
+
+pub ordered-without_order : (found : Found) (depth : ℕ) (count : Option ℕ) → None ≡ first_value found (codes "order")
+    → ordered_by (rows_of found) depth count ≡ None
+ordered-without_order found depth count missing = rw (row_of_value found (codes "order") None missing) refl
+
+pub ordered-bad_order : (found : Found) (depth : ℕ) (count : Option ℕ) (text : Text)
+    → Some text ≡ first_value found (codes "order") → None ≡ order_in text
+    → ordered_by (rows_of found) depth count ≡ None
+ordered-bad_order found depth count text given bad =
+    rw (row_of_value found (codes "order") (Some text) given, ← bad) refl
+
+pub ordered-all : (found : Found) (depth : ℕ) (count : Option ℕ) (text : Text) (order : Order) (from to : Option Text)
+    → Some text ≡ first_value found (codes "order") → Some order ≡ order_in text
+    → from ≡ first_value found (codes "from") → to ≡ first_value found (codes "to")
+    → ordered_by (rows_of found) depth count
+    ≡ Some (record { from = from; to = to; channels = count; depth = depth; order = order })
+ordered-all found depth count text order from to given named first last =
+    rw (
+      row_of_value found (codes "order") (Some text) given,
+      ← named,
       row_of_value found (codes "from") from first,
       row_of_value found (codes "to") to last,
     ) refl

@@ -8,6 +8,8 @@ use Rattle.std.specs.Option.{option_map_or}
 use Rattle.clap.specs.Words.{App, Kinds, Row, Rule, Shape, Text, fault_of, first_of, new_app, new_rule, subcommand_of, with_rule, with_subcommand}
 use Rattle.clap.specs.declared.error.ErrorKind.{ErrorKind}
 use Rattle.clap.specs.declared.error.ErrorKind.TheVariants.{DisplayHelp, DisplayVersion}
+use Rattle.job_terms.specs.declared.Order.{Order}
+use Rattle.job_terms.specs.declared.Order.TheVariants.{ByTime, BySource}
 
 -- a word that has to be given, by its place
 abbrev pub place_rule : Text → Rule
@@ -39,7 +41,8 @@ abbrev pub render_shape : Shape
 render_shape =
     let places = over_folders (codes "render") in
     let timed = with_rule (with_rule places (option_rule (codes "from"))) (option_rule (codes "to")) in
-    (with_rule (with_rule timed (option_rule (codes "channels"))) (default_rule (codes "depth") (codes "24"))).top
+    let sounding = with_rule (with_rule timed (option_rule (codes "channels"))) (default_rule (codes "depth") (codes "24")) in
+    (with_rule sounding (default_rule (codes "order") (codes "time"))).top
 
 -- The program itself: it has a version and wants a command, and its words are those behind its name.
 abbrev pub top_app : App
@@ -65,12 +68,13 @@ adlcons_app =
     let writing = with_subcommand (with_subcommand checking consolidate_shape) render_shape in
     with_subcommand writing explain_shape
 
--- what is chosen of a rendering: times by their texts, a number of channels, and the bits of a sample
+-- what is chosen of a rendering: times by their texts, a number of channels, the bits of a sample, the order of jobs
 pub record Chosen : Type 0 where
   pub from : Option Text
   pub to : Option Text
   pub channels : Option ℕ
   pub depth : ℕ
+  pub order : Order
 
 -- What the program is asked for: a command with its list, the folder of its media, and the folder that is written to;
 -- or what the number of a refusal or of a notice means, or all of them.
@@ -103,18 +107,34 @@ depth_in text =
     else if bytes_eq text (codes "32") then Some 32
     else None
 
+abbrev pub order_in : Text → Option Order
+order_in text =
+    if bytes_eq text (codes "time") then Some ByTime
+    else if bytes_eq text (codes "source") then Some BySource
+    else None
+
 -- none are chosen, or 1 to 64
 abbrev pub channels_in : Option Text → Option (Option ℕ)
 channels_in None = Some None
 channels_in (Some text) = option_map (λ channels. Some channels) (number_in 1 64 text)
 
-abbrev pub chosen_by : List Row → ℕ → Option ℕ → Chosen
-chosen_by rows depth channels =
-    record { from = first_of (codes "from") rows; to = first_of (codes "to") rows; channels = channels; depth = depth }
+abbrev pub chosen_by : List Row → ℕ → Option ℕ → Order → Chosen
+chosen_by rows depth channels order = record {
+  from = first_of (codes "from") rows;
+  to = first_of (codes "to") rows;
+  channels = channels;
+  depth = depth;
+  order = order;
+}
+
+-- the order of this depth and of these channels
+abbrev pub ordered_by : List Row → ℕ → Option ℕ → Option Chosen
+ordered_by rows depth channels =
+    option_map (chosen_by rows depth channels) (option_and_then order_in (first_of (codes "order") rows))
 
 abbrev pub chosen_of : List Row → Option Chosen
 chosen_of rows =
-    option_and_then (λ depth. option_map (chosen_by rows depth) (channels_in (first_of (codes "channels") rows)))
+    option_and_then (λ depth. option_and_then (ordered_by rows depth) (channels_in (first_of (codes "channels") rows)))
     (option_and_then depth_in (first_of (codes "depth") rows))
 
 -- the command of this name that writes to a folder

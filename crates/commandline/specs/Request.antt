@@ -13,6 +13,7 @@ chosen_of chosen = record {
   to = option_map (λ text. text.now) chosen.to;
   channels = chosen.channels;
   depth = bits_of chosen.depth;
+  order = chosen.order;
 }
 
 -- what the request asks for

@@ -2,13 +2,14 @@
 use Rattle.std.specs.Prelude.{◌≡◌, [], ◌∷◌, None, Some, refl, codes, true, false}
 use Rattle.clap.specs.declared.error.ErrorKind.TheVariants.{DisplayHelp, DisplayHelpOnMissingArgumentOrSubcommand, DisplayVersion, InvalidSubcommand, MissingRequiredArgument, UnknownArgument}
 use Rattle.clap.proofs.OnLiterals.{clap_on_literals}
+use Rattle.job_terms.specs.declared.Order.TheVariants.{ByTime, BySource}
 use Rattle.commandline.specs.CommandLine.{Check, Chosen, Render, Consolidate, Explain, ExplainNotice, asks_for_help, named_by, request_of, words_fault}
 
 -- ---- good words
 
--- the whole range, on all channels, at 24 bits
+-- the whole range, on all channels, at 24 bits, by time
 abbrev default_choice : Chosen
-default_choice = record { from = None; to = None; channels = None; depth = 24 }
+default_choice = record { from = None; to = None; channels = None; depth = 24; order = ByTime }
 
 checks : request_of (codes "check" ∷ codes "L.adl" ∷ codes "M" ∷ []) ≡ Some (Check (codes "L.adl") (codes "M"))
 unfolding words_fault named_by clap_on_literals
@@ -17,16 +18,27 @@ checks = refl
 chooses : request_of (codes "render" ∷ codes "L" ∷ codes "M" ∷ codes "O"
     ∷ codes "--depth" ∷ codes "16" ∷ codes "--channels=2" ∷ codes "--from" ∷ codes "x" ∷ [])
     ≡ Some (Render (codes "L") (codes "M") (codes "O")
-    (record { from = Some (codes "x"); to = None; channels = Some 2; depth = 16 }))
+    (record { from = Some (codes "x"); to = None; channels = Some 2; depth = 16; order = ByTime }))
 unfolding words_fault named_by clap_on_literals
 chooses = refl
+
+orders : request_of (codes "render" ∷ codes "L" ∷ codes "M" ∷ codes "O" ∷ codes "--order" ∷ codes "source" ∷ [])
+    ≡ Some (Render (codes "L") (codes "M") (codes "O")
+    (record { from = None; to = None; channels = None; depth = 24; order = BySource }))
+unfolding words_fault named_by clap_on_literals
+orders = refl
+
+orders_by_time : request_of (codes "render" ∷ codes "--order=time" ∷ codes "L" ∷ codes "M" ∷ codes "O" ∷ [])
+    ≡ Some (Render (codes "L") (codes "M") (codes "O") default_choice)
+unfolding words_fault named_by clap_on_literals
+orders_by_time = refl
 
 handles : request_of (codes "consolidate" ∷ codes "--handle" ∷ codes "0" ∷ codes "L" ∷ codes "M" ∷ codes "O" ∷ [])
     ≡ Some (Consolidate (codes "L") (codes "M") (codes "O") 0)
 unfolding words_fault named_by clap_on_literals
 handles = refl
 
--- ---- numbers out of range, which are mistakes
+-- ---- values that no option takes, which are mistakes
 
 no_channel : request_of (codes "render" ∷ codes "L" ∷ codes "M" ∷ codes "O" ∷ codes "--channels" ∷ codes "65" ∷ [])
     ≡ None
@@ -36,6 +48,10 @@ no_channel = refl
 no_depth : request_of (codes "render" ∷ codes "L" ∷ codes "M" ∷ codes "O" ∷ codes "--depth" ∷ codes "20" ∷ []) ≡ None
 unfolding words_fault named_by clap_on_literals
 no_depth = refl
+
+no_order : request_of (codes "render" ∷ codes "L" ∷ codes "M" ∷ codes "O" ∷ codes "--order" ∷ codes "Time" ∷ []) ≡ None
+unfolding words_fault named_by clap_on_literals
+no_order = refl
 
 long_handle : request_of (codes "consolidate" ∷ codes "L" ∷ codes "M" ∷ codes "O"
     ∷ codes "--handle" ∷ codes "4147200001" ∷ []) ≡ None
@@ -120,9 +136,14 @@ unfolding words_fault clap_on_literals
 three_words = refl
 
 unknown_option : words_fault (codes "render" ∷ codes "L.adl" ∷ codes "M" ∷ codes "O"
-    ∷ codes "--order" ∷ codes "time" ∷ []) ≡ UnknownArgument ∷ []
+    ∷ codes "--loud" ∷ codes "time" ∷ []) ≡ UnknownArgument ∷ []
 unfolding words_fault clap_on_literals
 unknown_option = refl
+
+order_of_consolidation : words_fault (codes "consolidate" ∷ codes "L.adl" ∷ codes "M" ∷ codes "O"
+    ∷ codes "--order" ∷ codes "time" ∷ []) ≡ UnknownArgument ∷ []
+unfolding words_fault clap_on_literals
+order_of_consolidation = refl
 
 unknown_short_option : words_fault (codes "-x" ∷ codes "render" ∷ codes "L.adl" ∷ codes "M" ∷ codes "O" ∷ [])
     ≡ UnknownArgument ∷ []

@@ -2,14 +2,17 @@
 ghost use Rattle.std.specs.Prelude.{◌≡◌, true};
 ghost use Rattle.commandline.specs.Channels.{are_few};
 
+use job_terms::Order;
 use sound_terms::Depth;
 
-/// What is chosen of a rendering: the texts of its times, a number of channels from 1 to 64, and the depth.
+/// What is chosen of a rendering: the texts of its times, a number of channels from 1 to 64, the depth, and the order
+/// of its jobs.
 #[derive(Clone, Copy, Debug, PartialEq, Eq)]
 pub struct Chosen<'a> {
     pub from: Option<&'a str>,
     pub to: Option<&'a str>,
     pub channels: Option<u8>,
     pub depth: Depth,
+    pub order: Order,
     ghost few_channels: { are_few channels ≡ true },
 }

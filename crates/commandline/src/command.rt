@@ -85,14 +85,10 @@ fn render_command<'a>(alloc: Global) -> Result<Command<'a>, AllocError>
     let command = with_option(alloc, command, "to", "T", to)?;
     let channels = "Channels, 1 to 64 [default: all that entries name]";
     let command = with_option(alloc, command, "channels", "N", channels)?;
-    with_default(
-        alloc,
-        command,
-        "depth",
-        "D",
-        "24",
-        "Bits of a sample: 16, 24 or 32",
-    )
+    let depth = "Bits of a sample: 16, 24 or 32";
+    let command = with_default(alloc, command, "depth", "D", "24", depth)?;
+    let order = "Which sound is read first: time or source";
+    with_default(alloc, command, "order", "O", "time", order)
 }
 
 /// A command over a list and the folder of its media.

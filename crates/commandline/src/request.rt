@@ -14,6 +14,7 @@ use crate::choice::Chosen;
 use crate::command::command;
 use clap::error::ErrorKind;
 use clap::{ArgMatches, Error};
+use job_terms::Order;
 use sound_terms::Depth;
 use std::alloc::Global;
 
@@ -70,9 +71,12 @@ fn mistake_of(matches: &ArgMatches<'_>) -> &'static str {
 
 /// What is told of such words of a rendering.
 fn mistake_of_rendering(words: &ArgMatches<'_>) -> &'static str {
-    match words.get_str("depth").and_then(depth_in) {
-        Some(_) => "there are 1 to 64 channels",
-        None => "a depth is 16, 24 or 32",
+    if words.get_str("depth").and_then(depth_in).is_none() {
+        "a depth is 16, 24 or 32"
+    } else if words.get_str("order").and_then(order_in).is_none() {
+        "an order is time or source"
+    } else {
+        "there are 1 to 64 channels"
     }
 }
 
@@ -152,11 +156,13 @@ fn chosen_in<'a>(words: &ArgMatches<'a>) -> Option<Chosen<'a>>
 {
     let depth = depth_in(words.get_str("depth")?)?;
     let channels = channels_in(words.get_str("channels"))?;
+    let order = order_in(words.get_str("order")?)?;
     Some(Chosen {
         from: words.get_str("from"),
         to: words.get_str("to"),
         channels,
         depth,
+        order,
     })
 }
 
@@ -168,6 +174,17 @@ fn depth_in(text: &str) -> Option<Depth>
         "16" => Some(Depth::Sixteen),
         "24" => Some(Depth::TwentyFour),
         "32" => Some(Depth::ThirtyTwo),
+        _ => None,
+    }
+}
+
+/// The order of jobs that a text names.
+fn order_in(text: &str) -> Option<Order>
+    ensures { result ≡ line.order_in text.now }
+{
+    match text {
+        "time" => Some(Order::ByTime),
+        "source" => Some(Order::BySource),
         _ => None,
     }
 }

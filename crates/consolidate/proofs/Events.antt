@@ -12,6 +12,7 @@ use Rattle.list_terms.specs.Project.{ListProject}
 use Rattle.schedule.specs.Events.{RunsEvents}
 use Rattle.rendering.specs.Planned.{IsRenderingOf}
 use Rattle.rendering.specs.Work.{RenderWork, whole_of, work_of}
+use Rattle.workboard.specs.Indexed.{IsOrder}
 use Rattle.consolidate.specs.Own.{IsOfProject}
 use Rattle.consolidate.specs.Schedules.{EndsEvents, SchedulesList, SchedulesProject}
 use Rattle.consolidate.specs.declared.fault.Fault.{Fault}
@@ -29,16 +30,17 @@ events_between jobs whole order events shelf_old bench_old laid_out shelf_new do
 pub schedules_project : (project : ListProject) (binding : Binding) (values : OptionValues) (work : RenderWork)
     (order : List ℕ) (events : List BoardEvent) (sources : Files) (shelf_old bench_old shelf_new bench_new : ℕ)
     (written : Files) (progress : Option Progress) (ended : Option End)
-    → IsRenderingOf project binding values work
+    → IsRenderingOf project binding values work → IsOrder (work_of work).count order
     → RunsEvents false (jobs_over (work_of work) sources) (λ _. whole_of work sources) order events
     shelf_old bench_old shelf_new bench_new written progress ended
     → SchedulesProject project binding values events sources shelf_old bench_old shelf_new bench_new written progress
     ended
 schedules_project project binding values work order events sources shelf_old bench_old shelf_new bench_new written
-    progress ended of run = record {
+    progress ended of is run = record {
       work = work;
       renders = of;
       order = order;
+      is_order = is;
       run = subst (λ (w : List ℕ). RunsEvents false (jobs_over (work_of work) sources) (λ _. w) order events
           shelf_old bench_old shelf_new bench_new written progress ended) (of.whole sources) run;
     }

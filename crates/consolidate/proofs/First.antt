@@ -9,7 +9,7 @@ use Rattle.opening.specs.Own as opening
 use Rattle.opening.specs.Own.{IsOfOpening}
 use Rattle.opening.specs.declared.fault.Fault.{Fault}
 use Rattle.opening.specs.declared.fault.Fault.TheVariants as opened
-use Rattle.consolidate.specs.Own.{IsFirst, IsOfConsolidation, IsOfRenderSchedule, IsOfRendering}
+use Rattle.consolidate.specs.Own.{IsFirst, IsOfConsolidation, IsOfConsolidationSchedule, IsOfRenderSchedule, IsOfRendering}
 use Rattle.consolidate.specs.declared.fault.Fault as consolidate
 use Rattle.consolidate.specs.declared.fault.Fault.TheVariants as fault
 
@@ -40,3 +40,8 @@ pub scheduled_first : (text : bytes.List bytes.ℕ) (files : Files) (told : cons
     → ((any : bytes.List bytes.ℕ) → IsOfRenderSchedule any told) → IsFirst text files told
 scheduled_first text files (fault.Project of) own = opened_first text files of own
 scheduled_first text files _ own = tt
+
+pub remade_first : (text : bytes.List bytes.ℕ) (files : Files) (told : consolidate.Fault)
+    → ((any : bytes.List bytes.ℕ) → IsOfConsolidationSchedule any told) → IsFirst text files told
+remade_first text files (fault.Project of) own = opened_first text files of own
+remade_first text files _ own = tt

@@ -10,7 +10,9 @@ use Rattle.list_terms.specs.Project.{ListProject}
 use Rattle.std.specs.Prelude.{codes}
 use Rattle.list_terms.specs.MediaNames.{media_name-no_list}
 use Rattle.list_terms.specs.Renewed.{media_name}
-use Rattle.schedule.specs.Filled.{AreFilled, AreParts}
+use Rattle.std.specs.List.{range_with_len}
+use Rattle.workboard.specs.Indexed.{IsOrder}
+use Rattle.schedule.specs.Filled.{AreApart, AreFilled, AreParts}
 use Rattle.schedule.specs.Marking.{IsNoOutput, Marking}
 use Rattle.passes.specs.Left.{Leaving}
 use Rattle.schedule.specs.Rounds.{RunsInRounds}
@@ -29,15 +31,15 @@ use Rattle.consolidate.specs.declared.fault.Fault.{Fault}
 use Rattle.consolidate.specs.declared.fault.Fault.TheVariants as told
 
 -- calls before and behind the jobs that failed nowhere, and wrote nothing behind them
-pub rounds_between : (jobs : Jobs) (whole : List ℕ → List ℕ) (shelf_old bench_old laid_out shelf_new done bench_new : ℕ)
-    (behind written : Files) (ended : Option End) → laid_out ≡ bench_old → bench_new ≡ done → written ≡ behind
-    → RunsInRounds false jobs whole shelf_old laid_out shelf_new done behind ended
-    → RunsInRounds false jobs whole shelf_old bench_old shelf_new bench_new written ended
-rounds_between jobs whole shelf_old bench_old laid_out shelf_new done bench_new behind written ended before after same
+pub rounds_between : (jobs : Jobs) (whole : List ℕ → List ℕ) (order : List ℕ)
+    (shelf_old bench_old laid_out shelf_new done bench_new : ℕ) (behind written : Files) (ended : Option End) → laid_out ≡ bench_old → bench_new ≡ done → written ≡ behind
+    → RunsInRounds false jobs whole order shelf_old laid_out shelf_new done behind ended
+    → RunsInRounds false jobs whole order shelf_old bench_old shelf_new bench_new written ended
+rounds_between jobs whole order shelf_old bench_old laid_out shelf_new done bench_new behind written ended before after same
     run =
-    subst (λ (f : Files). RunsInRounds false jobs whole shelf_old bench_old shelf_new bench_new f ended) (sym same)
-    (subst (λ (n : ℕ). RunsInRounds false jobs whole shelf_old bench_old shelf_new n behind ended) (sym after)
-    (subst (λ (n : ℕ). RunsInRounds false jobs whole shelf_old n shelf_new done behind ended) before run))
+    subst (λ (f : Files). RunsInRounds false jobs whole order shelf_old bench_old shelf_new bench_new f ended) (sym same)
+    (subst (λ (n : ℕ). RunsInRounds false jobs whole order shelf_old bench_old shelf_new n behind ended) (sym after)
+    (subst (λ (n : ℕ). RunsInRounds false jobs whole order shelf_old n shelf_new done behind ended) before run))
 
 -- the file that its jobs made is the rendering
 pub rendered_of : (project : ListProject) (binding : Binding) (values : OptionValues) (work : RenderWork)
@@ -54,16 +56,18 @@ rendered_of project binding values work sources file of there = record {
 }
 
 pub renders_in_rounds : (project : ListProject) (binding : Binding) (values : OptionValues) (work : RenderWork)
-    (sources : Files) (shelf_old bench_old shelf_new bench_new : ℕ) (written : Files) (ended : Option End)
-    → IsRenderingOf project binding values work
-    → RunsInRounds false (jobs_over (work_of work) sources) (λ _. whole_of work sources)
+    (order : List ℕ) (sources : Files) (shelf_old bench_old shelf_new bench_new : ℕ) (written : Files)
+    (ended : Option End) → IsRenderingOf project binding values work → IsOrder (work_of work).count order
+    → RunsInRounds false (jobs_over (work_of work) sources) (λ _. whole_of work sources) order
     shelf_old bench_old shelf_new bench_new written ended
     → RendersInRounds project binding values sources shelf_old bench_old shelf_new bench_new written ended
-renders_in_rounds project binding values work sources shelf_old bench_old shelf_new bench_new written ended of run =
-    record {
+renders_in_rounds project binding values work order sources shelf_old bench_old shelf_new bench_new written ended of is
+    run = record {
       work = work;
       renders = of;
-      run = subst (λ (w : List ℕ). RunsInRounds false (jobs_over (work_of work) sources) (λ _. w)
+      order = order;
+      is_order = is;
+      run = subst (λ (w : List ℕ). RunsInRounds false (jobs_over (work_of work) sources) (λ _. w) order
           shelf_old bench_old shelf_new bench_new written ended) (of.whole sources) run;
     }
 
@@ -135,22 +139,29 @@ none_ended X text (told.GivenUp job) P own = absurd own
 none_ended X text (told.Output file) P own = tt
 
 -- what holds of the plan that the pieces are lent by holds of theirs
-pub lent_rounds : (plan pieces : MediaPlan) (sources laid written : Files) (shelf_old bench_old shelf_new bench_new : ℕ)
-    (ended : Option End) → pieces ≡ plan
+pub lent_rounds : (plan pieces : MediaPlan) (order : List ℕ) (sources laid written : Files)
+    (shelf_old bench_old shelf_new bench_new : ℕ) (ended : Option End) → pieces ≡ plan
+    → order ≡ range_with_len 0 (media.work_of plan).count
     → ((whole : List ℕ → List ℕ) → AreParts (jobs_over (media.work_of pieces) sources) whole
+    → AreApart (jobs_over (media.work_of pieces) sources)
     → AreFilled (jobs_over (media.work_of pieces) sources) whole (λ _. false) laid
-    → RunsInRounds false (jobs_over (media.work_of pieces) sources) whole shelf_old bench_old shelf_new bench_new
+    → RunsInRounds false (jobs_over (media.work_of pieces) sources) whole order shelf_old bench_old shelf_new bench_new
     written ended)
     → AreParts (jobs_over (media.work_of plan) sources) (media.whole_of plan sources)
+    → AreApart (jobs_over (media.work_of plan) sources)
     → AreFilled (jobs_over (media.work_of plan) sources) (media.whole_of plan sources) (λ _. false) laid
     → RunsInRounds false (jobs_over (media.work_of plan) sources) (media.whole_of plan sources)
-    shelf_old bench_old shelf_new bench_new written ended
-lent_rounds plan pieces sources laid written shelf_old bench_old shelf_new bench_new ended same told =
-    subst (λ (p : MediaPlan). (whole : List ℕ → List ℕ) → AreParts (jobs_over (media.work_of p) sources) whole
+    (range_with_len 0 (media.work_of plan).count) shelf_old bench_old shelf_new bench_new written ended
+lent_rounds plan pieces order sources laid written shelf_old bench_old shelf_new bench_new ended same in_turn told
+    parts apart filled =
+    subst (λ (o : List ℕ). RunsInRounds false (jobs_over (media.work_of plan) sources) (media.whole_of plan sources) o
+    shelf_old bench_old shelf_new bench_new written ended) in_turn
+    (subst (λ (p : MediaPlan). (whole : List ℕ → List ℕ) → AreParts (jobs_over (media.work_of p) sources) whole
+    → AreApart (jobs_over (media.work_of p) sources)
     → AreFilled (jobs_over (media.work_of p) sources) whole (λ _. false) laid
-    → RunsInRounds false (jobs_over (media.work_of p) sources) whole shelf_old bench_old shelf_new bench_new written
-    ended)
-    same told (media.whole_of plan sources)
+    → RunsInRounds false (jobs_over (media.work_of p) sources) whole order shelf_old bench_old shelf_new bench_new
+    written ended)
+    same told (media.whole_of plan sources) parts apart filled)
 
 pub lent_finished : (plan pieces : MediaPlan) (sources laid written : Files) → pieces ≡ plan
     → ((whole : List ℕ → List ℕ) → AreParts (jobs_over (media.work_of pieces) sources) whole

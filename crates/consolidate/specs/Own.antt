@@ -56,3 +56,8 @@ IsOfConsolidation text fault.BoardMemory = ⊤
 IsOfConsolidation text (fault.GivenUp job) = ⊤
 IsOfConsolidation text (fault.Output file) = IsConsolidatedFile file
 IsOfConsolidation text _ = ⊥
+
+-- or one of the schedule of a consolidation
+abbrev pub IsOfConsolidationSchedule : bytes.List ℕ → Fault → Type 0
+IsOfConsolidationSchedule text fault.WorkerMemory = ⊤
+IsOfConsolidationSchedule text of = IsOfConsolidation text of

@@ -1,5 +1,6 @@
 -- The jobs of a command: those of one worker alone, in rounds, from the files that it laid out on.
 use Rattle.std.specs.Prelude.{◌≡◌, ◌≢◌, ℕ, ⊤, true, false, Option, None, Some, List, Result, Ok, Err, codes}
+use Rattle.std.specs.List.{range_with_len}
 use Rattle.sound_terms.specs.Render.{rendering_of}
 use Rattle.work_terms.specs.Disk.{Files}
 use Rattle.job_terms.specs.Workers.{End, GivenUp, jobs_over}
@@ -14,6 +15,7 @@ use Rattle.rendering.specs.Work as blocks
 use Rattle.rendering.specs.Work.{RenderWork}
 use Rattle.consolidation.specs.Jobs.{whole_of, work_of}
 use Rattle.consolidation.specs.Planned.{IsPlanOf, MediaPlan}
+use Rattle.workboard.specs.Indexed.{IsOrder}
 use Rattle.consolidate.specs.declared.fault.Fault.{Fault}
 use Rattle.consolidate.specs.declared.fault.Fault.TheVariants as fault
 
@@ -28,8 +30,10 @@ pub record RendersInRounds (project : ListProject) (binding : Binding) (values :
     (shelf_old bench_old shelf_new bench_new : ℕ) (written : Files) (ended : Option End) : Type 0 where
   pub work : RenderWork
   pub renders : IsRenderingOf project binding values work
+  pub order : List ℕ
+  pub is_order : IsOrder (blocks.work_of work).count order
   pub run : RunsInRounds false (jobs_over (blocks.work_of work) sources) (λ _. rendering_of (range_of project values) (project_mix sources project binding))
-      shelf_old bench_old shelf_new bench_new written ended
+      order shelf_old bench_old shelf_new bench_new written ended
 
 -- of the project of an accepted list
 pub record RendersList (text : List ℕ) (values : OptionValues) (sources : Files)
@@ -39,7 +43,7 @@ pub record RendersList (text : List ℕ) (values : OptionValues) (sources : File
   pub accepted : IsAccepted text sources project binding
   pub run : RendersInRounds project binding values sources shelf_old bench_old shelf_new bench_new written ended
 
--- the jobs make the media of a consolidation of a project; the list may be written behind them
+-- the jobs, each in its turn, make the media of a consolidation of a project; the list may be written behind them
 pub record ConsolidatesInRounds (leave : Leaving) (project : ListProject) (binding : Binding) (handle : ℕ)
     (sources : Files) (shelf_old bench_old shelf_new bench_new : ℕ) (written : Files) (ended : Option End) : Type 0
   where
@@ -48,7 +52,7 @@ pub record ConsolidatesInRounds (leave : Leaving) (project : ListProject) (bindi
     pub media : Files
     pub behind : (n : List ℕ) → n ≢ codes "consolidated.adl" → written n ≡ media n
     pub run : RunsInRounds false (jobs_over (work_of plan) sources) (whole_of plan sources)
-        shelf_old bench_old shelf_new bench_new media ended
+        (range_with_len 0 (work_of plan).count) shelf_old bench_old shelf_new bench_new media ended
 
 -- of the project of an accepted list
 pub record ConsolidatesList (leave : Leaving) (text : List ℕ) (handle : ℕ) (sources : Files)

@@ -1,5 +1,6 @@
 // Consolidates a list.
 ghost use Rattle.std.specs.Prelude.{◌≡◌, ◌≢◌, ◌≤◌, IfErr, IfOk, IsTrue, List, None, OnOk, codes, false, length, replicate, true, ℕ};
+ghost use Rattle.std.specs.List.{range_with_len};
 ghost use Rattle.work_terms.specs.Refusals.{Answers, IsDue};
 ghost use Rattle.job_terms.specs.Board.{fresh_job};
 ghost use Rattle.job_terms.specs.Workers.{Nothing};
@@ -52,6 +53,7 @@ fn write_consolidation<S: Shelf, B: Bench, W: Watch>(
     watch: &mut W,
 ) -> Result<consolidation::Written, Fault>
     requires board { start.old.board.jobs ≡ replicate (work_of consolidation.now).count fresh_job }
+    requires order { start.old.board.order ≡ range_with_len 0 (work_of consolidation.now).count }
     requires empty { start.old.worker.hand ≡ Nothing }
     requires room { HasRoom (work_of consolidation.now) start.old.worker.room }
     requires few { length consolidation.now.runs ≤ 32767 }

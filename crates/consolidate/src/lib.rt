@@ -5,6 +5,7 @@ mod checking;
 mod consolidated;
 mod fault;
 mod opened;
+mod remade;
 mod rendered;
 mod scheduled;
 
@@ -15,6 +16,7 @@ pub use fault::{Fault, OutputFile};
 pub use job_terms::{BoardEvent, Progress};
 pub use list_terms::Notice;
 pub use opening::Accepted;
+pub use remade::schedule_media;
 pub use rendered::{Rendered, render};
-pub use rendering::{Depth, Options};
+pub use rendering::{Depth, Options, Order};
 pub use scheduled::run_schedule;

@@ -23,7 +23,7 @@ use crate::{Fault, OutputFile};
 use list_terms::Notice;
 use projectcheck::Checked;
 use rendering::{Options, Rendering};
-use schedule::{JobFault, JobMaker, Start, fresh_start, from_start, in_turn};
+use schedule::{JobFault, Start, fresh_start, from_start};
 use shelf::{Bench, Shelf, Watch};
 use std::alloc::Global;
 
@@ -50,8 +50,8 @@ fn write_rendering<S: Shelf, B: Bench, W: Watch>(
         → (project : ListProject) (binding : Binding) (values : OptionValues)
         → IsRenderingOf project binding values rendering.old
         → EndsOf result (RunsInRounds false (jobs_over (work_of rendering.old) (S.stored shelf.old))
-        (λ _. whole_of rendering.old (S.stored shelf.old)) (S.failures shelf.old) (B.failures bench.old)
-        (S.failures shelf.new) (B.failures bench.new) (B.stored bench.new)) }
+        (λ _. whole_of rendering.old (S.stored shelf.old)) start.old.board.order (S.failures shelf.old)
+        (B.failures bench.old) (S.failures shelf.new) (B.failures bench.new) (B.stored bench.new)) }
     ensures rendered { IsTrue (S.honest shelf.old) → IsTrue (B.honest bench.old)
         → (project : ListProject) (binding : Binding) (values : OptionValues)
         → IsRenderingOf project binding values rendering.old → OnOk result (spec.IsRendered project binding values
@@ -111,7 +111,7 @@ fn render_checked<S: Shelf, B: Bench, W: Watch>(
         Ok(rendering) => rendering,
         Err(fault) => return Err(Fault::of_rendering(fault)),
     };
-    let order = match in_turn(alloc, rendering.count()) {
+    let order = match rendering.order(alloc, checked, options.order) {
         Ok(order) => order,
         Err(_) => return Err(Fault::BoardMemory),
     };
@@ -132,7 +132,7 @@ fn render_checked<S: Shelf, B: Bench, W: Watch>(
 ///
 /// The list is refused first, then a file in the order of the source index, then an entry in the order of the list,
 /// then an empty range, and want of memory. All of these come before the first write, and no memory is
-/// taken behind it. The file is laid out at its full length; then its stretches are jobs, done in turn by one worker. A
+/// taken behind it. The file is laid out at its full length; then its stretches are jobs, done by one worker in the chosen order. A
 /// job whose device fails is done again; the third time it is given up (66), and what is written is unfinished. Outside
 /// the jobs a device that fails ends the call at once (62). Memory doesn't grow with the range. The watch is told
 /// behind each job how many frames are there.

@@ -22,7 +22,7 @@ use crate::{Fault, OutputFile};
 use job_terms::{BoardEvent, Progress};
 use projectcheck::Checked;
 use rendering::{Options, Rendering};
-use schedule::{JobMaker, RunFault, fresh_board, in_turn, run_laid};
+use schedule::{RunFault, fresh_board, run_laid};
 use shelf::{Bench, Shelf};
 use std::alloc::Global;
 use workboard::Board;
@@ -104,7 +104,7 @@ fn schedule_checked<S: Shelf, B: Bench>(
         Ok(rendering) => rendering,
         Err(fault) => return Err(Fault::of_rendering(fault)),
     };
-    let order = match in_turn(alloc, rendering.count()) {
+    let order = match rendering.order(alloc, checked, options.order) {
         Ok(order) => order,
         Err(_) => return Err(Fault::BoardMemory),
     };

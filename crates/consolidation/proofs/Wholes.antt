@@ -1,8 +1,10 @@
 -- The media of runs over sources that are there: laid out, cut into pieces, and whole.
-use Rattle.std.proofs.Common.{◌≡◌, ◌∙◌, ℕ, zero, suc, ◌+◌, ◌-◌, ◌*◌, ◌/◌, ◌%◌, ◌<◌, ◌≤◌, true, false, bytes_eq, List, [], ◌∷◌, ◌++◌, length, take, drop, Some, refl, sym, ap, subst, arith, get_or, length-append}
+use Rattle.std.proofs.Common.{◌≡◌, ◌≢◌, ◌∙◌, ◌⊎◌, inl, inr, ℕ, zero, suc, ◌+◌, ◌-◌, ◌*◌, ◌/◌, ◌%◌, ◌<◌, ◌≤◌, true, false, bytes_eq, List, [], ◌∷◌, ◌++◌, length, take, drop, Some, refl, sym, ap, subst, arith, get_or, length-append}
 use Rattle.std.specs.Prelude.{min, unwrap_or}
 use Rattle.std.specs.List.{slice_get}
 use Rattle.std.proofs.Math.Nat.{mul-le-mul_right}
+use Rattle.std.proofs.lemmas.Bool.{cases_lt}
+use Rattle.std.proofs.lemmas.List.{length-take}
 use Rattle.std.proofs.lemmas.Option.{slice_get_within}
 use Rattle.std.proofs.lemmas.Slice.Eq.{bytes_eq-Decides}
 use Rattle.facts.specs.Lists.{holds_there}
@@ -13,10 +15,10 @@ use Rattle.sound_terms.specs.Media.{frame_length, frames_in, no_sound, sound_at}
 use Rattle.sound_terms.specs.Sounds.{SoundFacts}
 use Rattle.sound_terms.specs.Waves.{data_place, data_size, file_of, header_of, zeros}
 use Rattle.work_terms.specs.Disk.{Files}
-use Rattle.list_terms.specs.MediaNames.{other_media_name}
+use Rattle.list_terms.specs.MediaNames.{media_name-injective, other_media_name}
 use Rattle.list_terms.specs.Renewed.{media_name}
 use Rattle.job_terms.specs.Workers.{jobs_over}
-use Rattle.schedule.specs.Filled.{AreFilled, AreParts, IsFilled}
+use Rattle.schedule.specs.Filled.{AreApart, AreFilled, AreParts, IsFilled}
 use Rattle.mediacopy.specs.declared.piece.CopyJob.{CopyJob}
 use Rattle.mediacopy.specs.Copied.{HasFrames, laid_out}
 use Rattle.mediacopy.specs.Pieces.{IsPieceOf, content, no_run, piece_bytes, piece_place, run_at}
@@ -25,7 +27,7 @@ use Rattle.consolidation.specs.Pieces.{job_count, job_of, jobs_before, piece_fro
 use Rattle.consolidation.specs.Planned.{IsMediaPlan, IsMediumRun, MediaPlan}
 use Rattle.consolidation.specs.There.{AreThere, IsThere}
 use Rattle.consolidation.specs.Work.{run_info}
-use Rattle.consolidation.proofs.Jobwise.{found, job_is, job_within, piece_there}
+use Rattle.consolidation.proofs.Jobwise.{IsJob, found, job_is, job_within, piece_there}
 use Rattle.consolidation.proofs.Spread.{StandsIn, frame_of, length-stretch, same_outside, stretch_stands}
 
 -- the medium of a run is found by its name
@@ -91,6 +93,64 @@ module _ (plan : MediaPlan) (is : IsMediaPlan plan) where
       let job = found plan.runs k below in
       let within = slice_get_within plan.runs job.place job.run job.there in
       rw (job_is plan.runs k job) within
+
+  -- a piece of a run ends where a later one begins, or before
+  ends_before : (sources : Files) (place : ℕ) (one other : Run) (p q : ℕ) → p < q
+      → piece_place plan.sounds plan.runs (piece_from place one p)
+      + length (piece_bytes sources plan.sounds plan.runs (piece_from place one p))
+      ≤ piece_place plan.sounds plan.runs (piece_from place other q)
+  ends_before sources place one other p q less =
+      let run = run_at plan.runs place in
+      let facts = source_at run in
+      let width = frame_length facts in
+      let n : ℕ = min 65536 (one.length - p * 65536) in
+      let few : length (frames_in facts (content sources facts.name) (run.first + p * 65536) n) ≤ n * width =
+      omega (
+        arith,
+        length-take (n * width)
+            (drop (facts.place + (run.first + p * 65536) * width) (content sources facts.name)),
+      ) in
+      let most : (p * 65536 + n) * width ≤ (q * 65536) * width = mul-le-mul_right width (omega (arith, less)) in
+      omega (arith, few, most)
+
+  -- the places of two pieces don't meet
+  abbrev Apart : Files → CopyJob → CopyJob → Type 0
+  Apart sources p q = (piece_place plan.sounds plan.runs p + length (piece_bytes sources plan.sounds plan.runs p)
+      ≤ piece_place plan.sounds plan.runs q)
+      ⊎ (piece_place plan.sounds plan.runs q + length (piece_bytes sources plan.sounds plan.runs q)
+      ≤ piece_place plan.sounds plan.runs p)
+
+  -- two pieces of one medium are of one run
+  pub are_apart : (sources : Files) → AreApart (jobs_over (work_of plan) sources)
+  are_apart sources j k first second other same =
+      let a = found plan.runs j first in
+      let b = found plan.runs k second in
+      let few = is.few in
+      let one = job_named j first in
+      let two = job_named k second in
+      let numbers = media_name-injective (suc (job_of plan.runs j).run) (suc (job_of plan.runs k).run)
+      (omega (arith, few, one)) (omega (arith, few, two)) same in
+      let own : (job_of plan.runs j).run ≡ a.place = ap (λ (p : CopyJob). p.run) (job_is plan.runs j a) in
+      let that : (job_of plan.runs k).run ≡ b.place = ap (λ (p : CopyJob). p.run) (job_is plan.runs k b) in
+      let places : a.place ≡ b.place = omega (arith, numbers, own, that) in
+      subst (λ (p : CopyJob). Apart sources p (job_of plan.runs k)) (sym (job_is plan.runs j a))
+      (subst (λ (p : CopyJob). Apart sources (piece_from a.place a.run a.number) p) (sym (job_is plan.runs k b))
+      (subst (λ (n : ℕ). Apart sources (piece_from a.place a.run a.number) (piece_from n b.run b.number)) places
+      (by_number a.place a.run b.run a.number b.number (numbers_differ a b places))))
+    where
+      numbers_differ : (a : IsJob plan.runs j) (b : IsJob plan.runs k) → a.place ≡ b.place → a.number ≢ b.number
+      numbers_differ a b places equal = other (a.at ∙ ap (λ (n : ℕ). jobs_before plan.runs n + a.number) places
+          ∙ ap (λ (n : ℕ). jobs_before plan.runs b.place + n) equal ∙ sym b.at)
+
+      by_number : (place : ℕ) (one two : Run) (p q : ℕ) → p ≢ q
+          → Apart sources (piece_from place one p) (piece_from place two q)
+      by_number place one two p q differ = elim (cases_lt p q) [
+        | inl before ↦ inl (ends_before sources place one two p q before)
+        | inr behind ↦ elim (cases_lt q p) [
+          | inl after ↦ inr (ends_before sources place two one q p after)
+          | inr equal ↦ absurd (differ (omega (arith, behind, equal)))
+        ]
+      ]
 
   module _ (sources : Files) (there_all : AreThere sources plan.sounds) where
     abbrev source_of_run : Run → List ℕ

@@ -3,7 +3,7 @@ ghost use Rattle.std.specs.Prelude.{◌≡◌, ◌≤◌, ◌<◌, ℕ, length};
 ghost use Rattle.work_terms.specs.Disk.{Files};
 ghost use Rattle.list_terms.specs.Renewed.{media_name};
 ghost use Rattle.job_terms.specs.Workers.{jobs_over};
-ghost use Rattle.schedule.specs.Filled.{AreParts};
+ghost use Rattle.schedule.specs.Filled.{AreApart, AreParts};
 ghost use Rattle.consolidation.specs.Jobs.{whole_of, work_of};
 ghost use Rattle.consolidation.specs.There.{AreThere};
 
@@ -32,6 +32,7 @@ impl<'a> Consolidation<'a> {
         ensures lent { result ≡ self.now }
         ensures parts { (sources : Files) → AreThere sources self.now.sounds
             → AreParts (jobs_over (work_of self.now) sources) (whole_of self.now sources) }
+        ensures apart { (sources : Files) → AreApart (jobs_over (work_of self.now) sources) }
         ensures names { (k : ℕ) → k < (work_of self.now).count → (number : ℕ) × (1 ≤ number)
             × (number ≤ length self.now.runs) × ((work_of self.now).name k ≡ media_name number) }
     {

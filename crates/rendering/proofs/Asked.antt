@@ -14,7 +14,7 @@ use Rattle.blockcut.specs.Laws.{cut-covers}
 use Rattle.rendering.specs.Planned.{IsPlanFor, IsRenderingOf}
 use Rattle.rendering.specs.Work.{IsRenderWork, RenderWork, heard, no_stretch, whole_of}
 use Rattle.rendering.proofs.Frames.{rendering_same}
-use Rattle.rendering.proofs.Parts.{are_parts}
+use Rattle.rendering.proofs.Parts.{are_apart, are_parts}
 
 whole_asked : (project : ListProject) (binding : Binding) (values : OptionValues) (work : RenderWork) (sources : Files)
     → IsPlanFor project binding values work
@@ -40,6 +40,7 @@ asked project binding values work is whole =
       even = is.even;
       some = omega (arith, first.there);
       parts = λ sources. are_parts work sources whole;
+      apart = λ sources. are_apart work sources whole;
       whole = λ sources. whole_asked project binding values work sources is;
       reads_back = is.reads_back;
     }

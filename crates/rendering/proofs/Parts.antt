@@ -1,5 +1,5 @@
 -- Where the bytes of a stretch stand in the rendered file, and which bytes are in none.
-use Rattle.std.proofs.Common.{◌≡◌, ℕ, zero, suc, ◌+◌, ◌-◌, ◌*◌, ◌/◌, ◌%◌, ◌<◌, ◌≤◌, List, ◌++◌, length, get_or, codes, Some, inl, inr, refl, sym, ap, subst, ◌∙◌, arith, length-append}
+use Rattle.std.proofs.Common.{◌≡◌, ◌≢◌, ℕ, zero, suc, ◌+◌, ◌-◌, ◌*◌, ◌/◌, ◌%◌, ◌<◌, ◌≤◌, List, ◌++◌, length, get_or, codes, Some, inl, inr, refl, sym, ap, subst, ◌∙◌, arith, length-append}
 use Rattle.std.specs.Prelude.{ℤ, min, true, false, Result, Ok, Err, OnOk}
 use Rattle.std.proofs.Math.Nat.{div-mul-le_self, lt-div-mul-add, mul-le-mul_right}
 use Rattle.std.proofs.lemmas.Bool.{cases_lt}
@@ -10,9 +10,9 @@ use Rattle.sound_terms.specs.Render.{Range, frames_of, render_info, rendering_of
 use Rattle.sound_terms.specs.Waves.{file_of, header_of, zeros}
 use Rattle.work_terms.specs.Disk.{Files}
 use Rattle.job_terms.specs.Workers.{jobs_over}
-use Rattle.schedule.specs.Filled.{AreFilled, AreParts, IsFixedIn}
+use Rattle.schedule.specs.Filled.{AreApart, AreFilled, AreParts, IsFixedIn}
 use Rattle.blockcut.specs.declared.stretch.Stretch.{Stretch}
-use Rattle.blockcut.specs.Laws.{cut-covers, cut-few, cut-inside}
+use Rattle.blockcut.specs.Laws.{cut-apart, cut-covers, cut-few, cut-inside}
 use Rattle.rendering.specs.Work.{IsRenderWork, RenderWork, bytes_for, heard, no_stretch, place_of, stretch_at, whole_of, work_of}
 use Rattle.rendering.specs.Written.{bytes_of_blocks, frames_before}
 use Rattle.rendering.proofs.Frames.{frames_behind, length-frames_of}
@@ -93,6 +93,38 @@ are_parts work sources is k below =
           ∙ get_or-append-add part.front (bytes ++ part.back) i 0
           ∙ get_or_append_left bytes part.back 0 i less);
     }
+
+-- a stretch ends where a later one begins, or before
+ends_before : (work : RenderWork) (sources : Files) (j k : ℕ) → IsRenderWork work → j < k → k < length work.stretches
+    → place_of work.planned.range (stretch_at work.stretches j)
+    + length (bytes_of_blocks work.planned.range (heard work.planned work.sounds sources)
+    (stretch_at work.stretches j).first (stretch_at work.stretches j).behind)
+    ≤ place_of work.planned.range (stretch_at work.stretches k)
+ends_before work sources j k is less below =
+    let range = work.planned.range in
+    let s = stretch_at work.stretches j in
+    let t = stretch_at work.stretches k in
+    let wide = range.channels * (range.depth / 8) in
+    let n = frames_before range s.behind - frames_before range s.first in
+    let in_cut = stretch_inside work j is (omega (arith, less, below)) in
+    let behind = cut-apart work.stretches 0 (block_count range) j k no_stretch is.cut less below in
+    let long = length-frames_of range.depth range.channels (block_start range s.first) n
+    (heard work.planned work.sounds sources) in
+    let few : (n + s.first * 4096) * wide ≤ (t.first * 4096) * wide =
+    mul-le-mul_right wide (omega (arith, in_cut.0, behind)) in
+    omega (arith, long, few)
+
+pub are_apart : (work : RenderWork) (sources : Files) → IsRenderWork work → AreApart (jobs_over (work_of work) sources)
+are_apart work sources is j k first second other same = elim (cases_lt j k) [
+  | inl before ↦ inl (ends_before work sources j k is before second)
+  | inr behind ↦ inr (ends_before work sources k j is (lt_of behind other) first)
+]
+  where
+    lt_of : k ≤ j → j ≢ k → k < j
+    lt_of le ne = elim (cases_lt k j) [
+      | inl lt ↦ lt
+      | inr ge ↦ absurd (ne (omega (arith, le, ge)))
+    ]
 
 -- ---- a file of zeros behind its header
 

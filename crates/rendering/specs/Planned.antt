@@ -9,7 +9,7 @@ use Rattle.list_terms.specs.Binding.{Binding}
 use Rattle.list_terms.specs.Heard.{project_mix, reading_of, sounds_of}
 use Rattle.list_terms.specs.Project.{ListProject}
 use Rattle.job_terms.specs.Workers.{jobs_over}
-use Rattle.schedule.specs.Filled.{AreParts}
+use Rattle.schedule.specs.Filled.{AreApart, AreParts}
 use Rattle.blockcut.specs.Cut.{IsCut}
 use Rattle.sound_terms.specs.Blocks.{block_count}
 use Rattle.rendering.specs.Work.{AreAtOnce, RenderWork, whole_of, work_of}
@@ -39,6 +39,7 @@ pub record IsRenderingOf (project : ListProject) (binding : Binding) (values : O
   pub even : AreAtOnce work.planned.range work.stretches
   pub some : 0 < (work_of work).count
   pub parts : (sources : Files) → AreParts (jobs_over (work_of work) sources) (λ _. whole_of work sources)
+  pub apart : (sources : Files) → AreApart (jobs_over (work_of work) sources)
   pub whole : (sources : Files) → whole_of work sources
       ≡ rendering_of (range_of project values) (project_mix sources project binding)
   pub reads_back : (mix : ℕ → ℕ → ℤ)

@@ -1,6 +1,7 @@
 // Blocks that are summed, and their bytes.
-ghost use Rattle.std.specs.Prelude.{◌≡◌, ◌+◌, ◌*◌, ◌<◌, ◌≤◌, ◌++◌, ⊤, IfErr, IfOk, IsTrue, OnOk, length, take};
+ghost use Rattle.std.specs.Prelude.{◌≡◌, ◌+◌, ◌*◌, ◌<◌, ◌≤◌, ◌++◌, ⊤, IfErr, IfOk, IfSome, IsTrue, OnOk, length, take};
 ghost use Rattle.std.specs.List.{All};
+ghost use Rattle.sampletime.specs.TimeCode.{day};
 ghost use Rattle.sound_terms.specs.Blocks.{block_count, block_frames};
 ghost use Rattle.sound_terms.specs.Media.{IsPieceOf};
 ghost use Rattle.shelf.specs.Frame.{OnlyReads};
@@ -12,7 +13,7 @@ use crate::RenderFault;
 use blockcut::Stretch;
 use blockmachine::Machine;
 use pcm::pack;
-use renderplan::{Instruction, Plan};
+use renderplan::{Instruction, Plan, SourceFrame};
 use shelf::{DeviceFault, Shelf};
 use std::alloc::Global;
 use std::marker::Model;
@@ -137,6 +138,20 @@ impl<'a> Blocks<'a> {
         let last = stretch.behind - 1;
         (last - stretch.first) as usize * BLOCK_LENGTH
             + self.plan.frames_of(u64::from(last)) as usize
+    }
+
+    /// Where the first block of a stretch in which something sounds begins in its file; `None` where all are silent.
+    pub fn source_of(&self, stretch: &Stretch) -> Option<SourceFrame>
+        requires { stretch.now.behind ≤ block_count self.now.planned.range }
+        ensures in_day { IfSome result (λ source. source.frame < day) }
+    {
+        for k in stretch.first as u64..stretch.behind as u64 {
+            let source = self.plan.source_of(k);
+            if source.is_some() {
+                return source;
+            }
+        }
+        None
     }
 
     /// Sums block k and writes its samples over `bytes`, which has room for just these. A file that can't be read

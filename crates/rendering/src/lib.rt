@@ -6,10 +6,12 @@ mod fault;
 mod jobs;
 mod layout;
 mod options;
+mod order;
 mod span;
 mod work;
 
 pub use fault::RenderFault;
+pub use job_terms::Order;
 pub use options::Options;
 pub use sound_terms::Depth;
 pub use work::{Rendered, Rendering};

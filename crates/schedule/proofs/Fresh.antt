@@ -1,5 +1,6 @@
 -- Events from a fresh board on.
-use Rattle.std.proofs.Common.{◌≡◌, ◌<◌, ℕ, Bool, true, false, Option, None, Some, List, ap, length, replicate, subst, sym, take}
+use Rattle.std.proofs.Common.{◌≡◌, ◌+◌, ◌<◌, ℕ, Bool, true, false, Option, None, Some, List, ap, length, refl, replicate, subst, sym, take}
+use Rattle.std.specs.Prelude.{IfSome}
 use Rattle.std.proofs.lemmas.List.{length-replicate}
 use Rattle.work_terms.specs.Disk.{Files}
 use Rattle.job_terms.specs.declared.BoardEvent.{BoardEvent}
@@ -8,10 +9,11 @@ use Rattle.job_terms.specs.Board.{Board, fresh_job, is_finished}
 use Rattle.job_terms.specs.Workers.{End, Jobs}
 use Rattle.job_terms.specs.declared.Progress.{Progress}
 use Rattle.schedule.specs.Events.{IsTold, RanSome, RunsEvents, fresh_board}
-use Rattle.schedule.specs.Filled.{AreFilled, AreParts}
+use Rattle.schedule.specs.Filled.{AreApart, AreFilled, AreParts, IsGood}
 use Rattle.schedule.specs.Marking.{done_of}
 use Rattle.schedule.specs.Run.{state_of}
 use Rattle.schedule.proofs.Filling.{filled-whole}
+use Rattle.schedule.proofs.Laws.{laws-kept}
 use Rattle.schedule.proofs.Rests.{finished-done}
 use Rattle.schedule.proofs.Rounds.{leads-good}
 use Rattle.schedule.proofs.Starting.{filled-fresh, none-done}
@@ -29,12 +31,14 @@ filled-as-fresh jobs whole board laid fresh filled =
 -- what events did from laid out files on
 pub events-laid : (marks : Bool) (jobs : Jobs) (whole : List ℕ → List ℕ) (board : Board) (events : List BoardEvent)
     (laid written : Files) (shelf_old bench_old shelf_new bench_new : ℕ) (told : Option Progress) (ended : Option End)
-    → board.jobs ≡ replicate jobs.count fresh_job → AreParts jobs whole → AreFilled jobs whole (λ _. false) laid
+    → IfSome told (λ progress. progress.idle + progress.out + progress.done ≡ jobs.count)
+    → board.jobs ≡ replicate jobs.count fresh_job → AreParts jobs whole → AreApart jobs
+    → AreFilled jobs whole (λ _. false) laid
     → RanSome marks jobs events (state_of board laid 0 shelf_old bench_old None) (IsTold events told) written
     shelf_new bench_new ended
     → RunsEvents marks jobs whole board.order events shelf_old bench_old shelf_new bench_new written told ended
-events-laid marks jobs whole board events laid written shelf_old bench_old shelf_new bench_new told ended fresh parts
-    filled some =
+events-laid marks jobs whole board events laid written shelf_old bench_old shelf_new bench_new told ended all fresh
+    parts apart filled some =
     let start : RanSome marks jobs events (state_of (fresh_board jobs.count board.order) laid 0 shelf_old bench_old
     None)
     (IsTold events told) written shelf_new bench_new ended =
@@ -42,19 +46,23 @@ events-laid marks jobs whole board events laid written shelf_old bench_old shelf
     (state_of (record { jobs = js; order = board.order }) laid 0 shelf_old bench_old None) (IsTold events told)
     written shelf_new
     bench_new ended) fresh some in
+    let old = state_of (fresh_board jobs.count board.order) laid 0 shelf_old bench_old None in
+    let new = state_of start.board written start.stale shelf_new bench_new ended in
+    let good : IsGood jobs whole old = record {
+      board = length-replicate jobs.count fresh_job;
+      filled = filled-fresh jobs whole (done_of (fresh_board jobs.count board.order)) laid
+          (none-done jobs.count board.order) filled;
+    } in
     record {
       parts = parts;
+      apart = apart;
       laid = laid;
       laid_out = filled;
       ran = start;
-      filled = (leads-good marks jobs whole (take start.count events)
-          (state_of (fresh_board jobs.count board.order) laid 0 shelf_old bench_old None)
-          (state_of start.board written start.stale shelf_new bench_new ended) start.hands parts start.run
-          (record {
-            board = length-replicate jobs.count fresh_job;
-            filled = filled-fresh jobs whole (done_of (fresh_board jobs.count board.order)) laid
-                (none-done jobs.count board.order) filled;
-          })).filled;
+      filled = (leads-good marks jobs whole (take start.count events) old new start.hands parts start.run good).filled;
+      laws = laws-kept marks jobs whole events (take start.count events) old new start.hands parts apart good refl
+          start.run;
+      all_jobs = all;
     }
 
 -- where all jobs are done each output is whole

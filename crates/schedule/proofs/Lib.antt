@@ -3,7 +3,9 @@ mod Fresh
 mod Filling
 pub mod Firsts
 mod Keeps
+mod Laws
 mod Marked
+mod Orders
 mod Rests
 mod Rights
 mod Rounds

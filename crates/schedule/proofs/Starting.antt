@@ -12,11 +12,12 @@ use Rattle.schedule.specs.Rounds.{RunsInRounds}
 use Rattle.schedule.specs.Run.{Leads, state_of}
 use Rattle.schedule.specs.declared.fault.JobFault.{JobFault}
 use Rattle.schedule.specs.declared.fault.JobFault.TheVariants as fault
+use Rattle.schedule.proofs.Laws.{laws-kept}
 use Rattle.schedule.specs.Marking.{done_of}
 use Rattle.workboard.specs.Indexed.{IsOrder}
 use Rattle.work_terms.specs.Disk.{Files}
 use Rattle.job_terms.specs.Workers.{BoardRun, End, GivenUp, MarkFailed, Hand, Jobs, Nothing, rounds}
-use Rattle.schedule.specs.Filled.{AreFilled, AreParts}
+use Rattle.schedule.specs.Filled.{AreApart, AreFilled, AreParts}
 
 -- each job of a fresh board is open
 pub open-fresh : (count : ℕ) (order : List ℕ) (k : ℕ) → k < count → job_at (fresh_board count order) k ≡ fresh_job
@@ -74,29 +75,41 @@ filled-fresh jobs whole done files fresh filled = record {
 pub rounds-from : (X : Type 0) (r : Result X JobFault) (marks : Bool) (jobs : Jobs) (whole : List ℕ → List ℕ)
     (old new : Board) (laid written : Files)
     (shelf_old bench_old shelf_new bench_new : ℕ) → old.jobs ≡ replicate jobs.count fresh_job → AreParts jobs whole
-    → AreFilled jobs whole (λ _. false) laid
+    → AreApart jobs → AreFilled jobs whole (λ _. false) laid
     → ((n : ℕ) × (m : ℕ) × (hand : Hand) × (m ≤ 3) × (OnOk r (m ≡ 0)) × Leads (λ world next. BoardRun marks jobs world
     (rounds n ++ take m (rounds 1)) next)
     (state_of old laid 0 shelf_old bench_old None) (λ _. Nothing) (state_of new written 0 shelf_new bench_new
     (ended_of r)) (only hand))
     → OnOk r ((k : ℕ) → k < jobs.count → done_of new k ≡ true)
-    → RunsInRounds marks jobs whole shelf_old bench_old shelf_new bench_new written (ended_of r)
-rounds-from X r marks jobs whole old new laid written shelf_old bench_old shelf_new bench_new fresh parts filled
-    (n, m, hand, few, full, run) all = record {
+    → RunsInRounds marks jobs whole old.order shelf_old bench_old shelf_new bench_new written (ended_of r)
+rounds-from X r marks jobs whole old new laid written shelf_old bench_old shelf_new bench_new fresh parts apart
+    filled (n, m, hand, few, full, run) all =
+    let start = state_of (fresh_board jobs.count old.order) laid 0 shelf_old bench_old None in
+    let last = state_of new written 0 shelf_new bench_new (ended_of r) in
+    let ran : Leads (λ world next. BoardRun marks jobs world (rounds n ++ take m (rounds 1)) next) start (λ _. Nothing)
+    last (only hand) =
+    subst (λ (js : List Job). Leads (λ world next. BoardRun marks jobs world (rounds n ++ take m (rounds 1)) next)
+    (state_of (record { jobs = js; order = old.order }) laid 0 shelf_old bench_old None) (λ _. Nothing) last (only hand))
+    fresh run in
+    record {
       parts = parts;
       laid = laid;
+      apart = apart;
       filled = filled;
-      order = old.order;
       board = new;
       hands = only hand;
       full = n;
       more = m;
       few = few;
       in_full = λ e. on-none r (m ≡ 0) full e;
-      run = subst (λ (js : List Job). Leads (λ world next. BoardRun marks jobs world (rounds n ++ take m (rounds 1)) next)
-          (state_of (record { jobs = js; order = old.order }) laid 0 shelf_old bench_old None) (λ _. Nothing)
-          (state_of new written 0 shelf_new bench_new (ended_of r)) (only hand)) fresh run;
+      run = ran;
       all = λ e. on-none r ((k : ℕ) → k < jobs.count → done_of new k ≡ true) all e;
+      laws = laws-kept marks jobs whole (rounds n ++ take m (rounds 1)) (rounds n ++ take m (rounds 1)) start last
+          (only hand) parts apart (record {
+            board = length-replicate jobs.count fresh_job;
+            filled = filled-fresh jobs whole (done_of (fresh_board jobs.count old.order)) laid
+                (none-done jobs.count old.order) filled;
+          }) refl ran;
     }
   where
     apart-end : (end : End) → Some end ≡ None → ⊥

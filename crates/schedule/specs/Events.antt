@@ -1,11 +1,12 @@
 -- The jobs of a work as events of any workers do them.
-use Rattle.std.specs.Prelude.{◌≡◌, ◌≤◌, ℕ, ⊤, Bool, false, Option, None, Some, List, Result, Ok, Err, length, replicate, take}
+use Rattle.std.specs.Prelude.{◌≡◌, ◌+◌, ◌≤◌, ℕ, IfSome, ⊤, Bool, false, Option, None, Some, List, Result, Ok, Err, length, replicate, take}
 use Rattle.work_terms.specs.Disk.{Files}
 use Rattle.job_terms.specs.declared.BoardEvent.{BoardEvent}
 use Rattle.job_terms.specs.declared.Progress.{Progress}
 use Rattle.job_terms.specs.Board.{Board, done_count, fresh_job, idle_count, is_finished, out_count}
 use Rattle.job_terms.specs.Workers.{BoardRun, End, GivenUp, Hand, Jobs, MarkFailed, Nothing, State}
-use Rattle.schedule.specs.Filled.{AreFilled, AreParts}
+use Rattle.schedule.specs.Filled.{AreApart, AreFilled, AreParts}
+use Rattle.schedule.specs.Laws.{KeepsLaws}
 use Rattle.schedule.specs.Marking.{done_of}
 use Rattle.schedule.specs.Run.{Leads, state_of}
 use Rattle.schedule.specs.declared.fault.RunFault.{RunFault}
@@ -63,13 +64,18 @@ IsTold events None count board stale = ⊤
 IsTold events (Some told) count board stale = HasCome events told count board stale
 
 -- From files that are laid out, in which no job is done, the first of these events led to these files and counts of
--- failures. Each byte of an output that no unfinished job has is right.
+-- failures. Each byte of an output that no unfinished job has is right, and what was done stays so. Idle, out and done
+-- jobs are all jobs.
 pub record RunsEvents (marks : Bool) (jobs : Jobs) (whole : List ℕ → List ℕ) (order : List ℕ)
     (events : List BoardEvent) (shelf_old bench_old shelf_new bench_new : ℕ) (written : Files)
     (told : Option Progress) (ended : Option End) : Type 0 where
   pub parts : AreParts jobs whole
+  pub apart : AreApart jobs
   pub laid : Files
   pub laid_out : AreFilled jobs whole (λ _. false) laid
   pub ran : RanSome marks jobs events (state_of (fresh_board jobs.count order) laid 0 shelf_old bench_old None)
       (IsTold events told) written shelf_new bench_new ended
   pub filled : AreFilled jobs whole (done_of ran.board) written
+  pub laws : KeepsLaws marks jobs events (state_of (fresh_board jobs.count order) laid 0 shelf_old bench_old None)
+      (state_of ran.board written ran.stale shelf_new bench_new ended)
+  pub all_jobs : IfSome told (λ progress. progress.idle + progress.out + progress.done ≡ jobs.count)

@@ -3,6 +3,7 @@ pub mod Ends
 pub mod Events
 pub mod Filled
 pub mod Held
+pub mod Laws
 pub mod Marking
 pub mod Placed
 pub mod Run

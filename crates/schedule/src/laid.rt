@@ -4,7 +4,7 @@ ghost use Rattle.job_terms.specs.Board.{fresh_job};
 ghost use Rattle.job_terms.specs.Workers.{jobs_over};
 ghost use Rattle.schedule.specs.Events as spec;
 ghost use Rattle.schedule.specs.Events.{EndsIn, RunsEvents};
-ghost use Rattle.schedule.specs.Filled.{AreFilled, AreParts};
+ghost use Rattle.schedule.specs.Filled.{AreApart, AreFilled, AreParts};
 ghost use Rattle.schedule.specs.Marking.{IsNoOutput};
 ghost use Rattle.schedule.specs.declared.fault.RunFault.TheVariants as run_fault;
 
@@ -44,6 +44,7 @@ pub fn run_laid<J: JobMaker, S: Shelf, B: Bench>(
     requires { board.old.jobs ≡ replicate (J.work maker.old).count fresh_job }
     ensures events { IsTrue (S.honest shelf.old) → IsTrue (B.honest bench.old) → (whole : List ℕ → List ℕ)
         → AreParts (jobs_over (J.work maker.old) (S.stored shelf.old)) whole
+        → AreApart (jobs_over (J.work maker.old) (S.stored shelf.old))
         → AreFilled (jobs_over (J.work maker.old) (S.stored shelf.old)) whole (λ _. false) (B.stored bench.old)
         → EndsIn result (RunsEvents (J.marks maker.old) (jobs_over (J.work maker.old) (S.stored shelf.old)) whole
         board.old.order events.now (S.failures shelf.old) (B.failures bench.old) (S.failures shelf.new)

@@ -5,7 +5,7 @@ ghost use Rattle.job_terms.specs.Board.{fresh_job};
 ghost use Rattle.job_terms.specs.Workers.{Nothing, jobs_over};
 ghost use Rattle.schedule.specs.Ends.{ended_of};
 ghost use Rattle.schedule.specs.Events as spec;
-ghost use Rattle.schedule.specs.Filled.{AreFilled, AreParts};
+ghost use Rattle.schedule.specs.Filled.{AreApart, AreFilled, AreParts};
 ghost use Rattle.schedule.specs.Marking.{IsNoOutput};
 ghost use Rattle.schedule.specs.Rounds.{RunsInRounds};
 ghost use Rattle.schedule.specs.Run.{HasRoom};
@@ -46,7 +46,8 @@ pub fn fresh_board<J: JobMaker>(
     order: Vec<u32>,
 ) -> Result<Board, BoardFault>
     requires { IsOrder (J.work maker.now).count order.items }
-    ensures { IfOk result (λ board. board ≡ spec.fresh_board (J.work maker.now).count order.items) }
+    ensures board { IfOk result (λ board. board ≡ spec.fresh_board (J.work maker.now).count order.items) }
+    ensures order { IfOk result (λ board. IsOrder (J.work maker.now).count board.order) }
 {
     Board::new(alloc, maker.count(), order)
 }
@@ -59,6 +60,7 @@ pub fn fresh_start<J: JobMaker>(
 ) -> Result<Start, BoardFault>
     requires { IsOrder (J.work maker.now).count order.items }
     ensures board { IfOk result (λ start. start.board ≡ spec.fresh_board (J.work maker.now).count order.items) }
+    ensures order { IfOk result (λ start. IsOrder (J.work maker.now).count start.board.order) }
     ensures empty { IfOk result (λ start. start.worker.hand ≡ Nothing) }
     ensures room { IfOk result (λ start. HasRoom (J.work maker.now) start.worker.room) }
 {
@@ -82,9 +84,10 @@ pub fn from_start<J: JobMaker, S: Shelf, B: Bench, W: Watch>(
     requires room { HasRoom (J.work maker.old) start.old.worker.room }
     ensures rounds { IsTrue (S.honest shelf.old) → IsTrue (B.honest bench.old) → (whole : List ℕ → List ℕ)
         → AreParts (jobs_over (J.work maker.old) (S.stored shelf.old)) whole
+        → AreApart (jobs_over (J.work maker.old) (S.stored shelf.old))
         → AreFilled (jobs_over (J.work maker.old) (S.stored shelf.old)) whole (λ _. false) (B.stored bench.old)
         → RunsInRounds (J.marks maker.old) (jobs_over (J.work maker.old) (S.stored shelf.old)) whole
-        (S.failures shelf.old) (B.failures bench.old) (S.failures shelf.new) (B.failures bench.new)
+        start.old.board.order (S.failures shelf.old) (B.failures bench.old) (S.failures shelf.new) (B.failures bench.new)
         (B.stored bench.new) (ended_of result) }
     ensures finished { IsTrue (S.honest shelf.old) → IsTrue (B.honest bench.old) → (whole : List ℕ → List ℕ)
         → AreParts (jobs_over (J.work maker.old) (S.stored shelf.old)) whole

@@ -8,6 +8,10 @@ mod consolidations;
 #[cfg(test)]
 mod flat_cut;
 #[cfg(test)]
+mod media_schedules;
+#[cfg(test)]
+mod orders;
+#[cfg(test)]
 mod renderings;
 #[cfg(test)]
 mod schedules;

@@ -3,7 +3,7 @@ ghost use Rattle.std.specs.Prelude.{◌≤◌};
 
 use crate::whole_lists::list;
 use opening::open_project;
-use rendering::{Options, Rendered, Rendering};
+use rendering::{Options, Order, Rendered, Rendering};
 use schedule::JobMaker;
 use shelf::DeviceFault;
 use sound_terms::{Bext, Depth};
@@ -102,6 +102,7 @@ fn rendered(
         to: None,
         channels: Some(channels),
         depth,
+        order: Order::ByTime,
     };
     let mut rendering = Rendering::plan(alloc, &checked, &options)?;
     rendering.lay_out(bench)?;
@@ -215,6 +216,7 @@ fn a_file_is_laid_out_by_few_writes(rt: HostRuntime) -> Result<(), Fail> {
         to: None,
         channels: Some(2),
         depth: Depth::Sixteen,
+        order: Order::ByTime,
     };
     let rendering = Rendering::plan(alloc, &checked, &options)?;
     // it is made, its header is appended, and then its samples in steps of at most 65,536 bytes

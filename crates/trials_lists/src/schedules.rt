@@ -1,6 +1,6 @@
 // Renderings by the events of any number of workers, over files in memory.
 use crate::renderings::{sound, whole};
-use consolidate::{BoardEvent, Depth, Fault, Options, Progress, render, run_schedule};
+use consolidate::{BoardEvent, Depth, Fault, Options, Order, Progress, render, run_schedule};
 use shelf::Unwatched;
 use std::alloc::Global;
 use std::test::Fail;
@@ -18,6 +18,7 @@ const OPTIONS: Options = Options {
     to: None,
     channels: Some(1),
     depth: Depth::TwentyFour,
+    order: Order::ByTime,
 };
 
 /// What the rendering is made of.
@@ -67,17 +68,34 @@ impl Project {
     ) -> Result<Progress, Fault> {
         run_schedule(alloc, self.list.as_bytes(), &OPTIONS, events, shelf, bench)
     }
+
+    /// How often these events call the shelf: so often that a failure behind that isn't met.
+    fn calls(&self, alloc: Global, events: &[BoardEvent]) -> Result<u64, Fail> {
+        for calls in 0..1000 {
+            let mut shelf = self.shelf(alloc, calls, 1000)?;
+            let mut bench = MemoryBench::new(alloc);
+            let result = self.scheduled(alloc, events, &mut shelf, &mut bench);
+            if result.is_ok() && shelf.failures() == 0 {
+                return Ok(calls);
+            }
+        }
+        Err("too many calls".into())
+    }
 }
 
 /// Numbers that look drawn at random, the same in each run.
 #[derive(Drop)]
-struct Draws {
+pub(crate) struct Draws {
     state: u64,
 }
 
 impl Draws {
+    pub(crate) fn new(state: u64) -> Self {
+        Draws { state }
+    }
+
     /// A number below this one.
-    fn below(&mut self, end: u32) -> u32 {
+    pub(crate) fn below(&mut self, end: u32) -> u32 {
         self.state = self
             .state
             .wrapping_mul(6_364_136_223_846_793_005)
@@ -87,7 +105,7 @@ impl Draws {
     }
 
     /// An event of one of 64 workers, or a job taken back.
-    fn event(&mut self) -> BoardEvent {
+    pub(crate) fn event(&mut self) -> BoardEvent {
         let worker = self.below(64);
         match self.below(12) {
             0..=3 => BoardEvent::Give(worker),
@@ -108,7 +126,7 @@ fn put_round(events: &mut Vec<BoardEvent>, worker: u32) -> Result<(), Fail> {
 }
 
 /// Events that finish what is left: each job is taken back, and the worker 99 does it.
-fn put_end(events: &mut Vec<BoardEvent>) -> Result<(), Fail> {
+pub(crate) fn put_end(events: &mut Vec<BoardEvent>) -> Result<(), Fail> {
     for job in 0..JOBS {
         events.push(BoardEvent::Reclaim(job))?;
     }
@@ -164,11 +182,30 @@ fn events_move_jobs(rt: HostRuntime) -> Result<(), Fail> {
 }
 
 #[test]
+fn work_alone_reads_samples(rt: HostRuntime) -> Result<(), Fail> {
+    let alloc = rt.alloc();
+    let project = Project::new(alloc)?;
+    let given = [BoardEvent::Give(1)];
+    let worked = [BoardEvent::Give(1), BoardEvent::Work(1)];
+    let delivered = [
+        BoardEvent::Give(1),
+        BoardEvent::Work(1),
+        BoardEvent::Deliver(1),
+    ];
+    let opened = project.calls(alloc, &[])?;
+    let read = project.calls(alloc, worked.as_slice())?;
+    assert_eq!(rt; project.calls(alloc, given.as_slice())?, opened);
+    assert!(rt; opened < read);
+    assert_eq!(rt; project.calls(alloc, delivered.as_slice())?, read);
+    Ok(())
+}
+
+#[test]
 fn any_schedule_that_ends_gives_the_same_file(rt: HostRuntime) -> Result<(), Fail> {
     let alloc = rt.alloc();
     let project = Project::new(alloc)?;
     let whole = project.rendered(alloc)?;
-    let mut draws = Draws { state: 16 };
+    let mut draws = Draws::new(16);
     for _ in 0..1000 {
         let mut events = Vec::new(alloc);
         for _ in 0..draws.below(60) {
@@ -188,11 +225,22 @@ fn any_schedule_that_ends_gives_the_same_file(rt: HostRuntime) -> Result<(), Fai
 
 /// How a schedule ends whose devices fail.
 #[derive(Clone, Copy, Debug, PartialEq, Eq)]
-enum Ended {
+pub(crate) enum Ended {
     Whole,
     Unfinished,
     GivenUp,
     Stopped,
+}
+
+impl Ended {
+    pub(crate) fn of(answer: &Result<Progress, Fault>) -> Self {
+        match answer {
+            Ok(progress) if progress.finished => Ended::Whole,
+            Ok(_) => Ended::Unfinished,
+            Err(Fault::GivenUp { .. }) => Ended::GivenUp,
+            Err(_) => Ended::Stopped,
+        }
+    }
 }
 
 #[test]
@@ -200,7 +248,7 @@ fn devices_that_fail_leave_right_files(rt: HostRuntime) -> Result<(), Fail> {
     let alloc = rt.alloc();
     let project = Project::new(alloc)?;
     let whole = project.rendered(alloc)?;
-    let mut draws = Draws { state: 17 };
+    let mut draws = Draws::new(17);
     let mut seen = [0u32; 4];
     for _ in 0..1000 {
         let mut events = Vec::new(alloc);
@@ -213,12 +261,7 @@ fn devices_that_fail_leave_right_files(rt: HostRuntime) -> Result<(), Fail> {
         let mut shelf = project.shelf(alloc, from, u64::from(draws.below(4)))?;
         let from = u64::from(draws.below(20));
         let mut bench = MemoryBench::new(alloc).failing(from, u64::from(draws.below(4)));
-        let ended = match project.scheduled(alloc, events.as_slice(), &mut shelf, &mut bench) {
-            Ok(progress) if progress.finished => Ended::Whole,
-            Ok(_) => Ended::Unfinished,
-            Err(Fault::GivenUp { .. }) => Ended::GivenUp,
-            Err(_) => Ended::Stopped,
-        };
+        let ended = Ended::of(&project.scheduled(alloc, events.as_slice(), &mut shelf, &mut bench));
         seen[ended as usize] = seen[ended as usize].saturating_add(1);
         if ended == Ended::Whole {
             let bytes = bench.bytes("render.wav").ok_or("no file")?;

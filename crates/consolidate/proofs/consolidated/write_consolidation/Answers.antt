@@ -1,4 +1,5 @@
 use Rattle.std.proofs.Common.{◌∙◌, IsTrue, None, Some, Err, length, arith, ap, refl, subst, sym}
+use Rattle.std.specs.List.{range_with_len}
 use Rattle.std.specs.Prelude.{codes, false}
 use Rattle.job_terms.specs.Workers.{GivenUp, jobs_over}
 use Rattle.consolidation.specs.Jobs.{whole_of, work_of}
@@ -21,7 +22,8 @@ returns-in-Err-GivenUp-clause-rounds g c honest right leave project binding hand
   media = (g.B.Bench.stored c.from_start.new.bench);
   behind = λ n other. refl;
   run = rounds_between (jobs_over (work_of c.args.consolidation.now) (g.S.Shelf.stored c.args.shelf.now))
-      (whole_of c.args.consolidation.now (g.S.Shelf.stored c.args.shelf.now)) (g.S.Shelf.failures c.args.shelf.now)
+      (whole_of c.args.consolidation.now (g.S.Shelf.stored c.args.shelf.now))
+      (range_with_len 0 (work_of c.args.consolidation.now).count) (g.S.Shelf.failures c.args.shelf.now)
       (g.B.Bench.failures c.args.bench.now) (g.B.Bench.failures c.lay_out.new.bench) (g.S.Shelf.failures
       c.from_start.new.shelf) (g.B.Bench.failures c.from_start.new.bench) (g.B.Bench.failures
       c.from_start.new.bench) (g.B.Bench.stored c.from_start.new.bench) (g.B.Bench.stored
@@ -29,17 +31,19 @@ returns-in-Err-GivenUp-clause-rounds g c honest right leave project binding hand
       (c.in-Ok.ensures.only_writes.cause.left tt) refl refl
       (subst (λ (f : JobFault). RunsInRounds false (jobs_over (work_of c.args.consolidation.now) (g.S.Shelf.stored
       c.args.shelf.now)) (whole_of c.args.consolidation.now (g.S.Shelf.stored c.args.shelf.now))
-      (g.S.Shelf.failures c.args.shelf.now) (g.B.Bench.failures c.lay_out.new.bench) (g.S.Shelf.failures
+      (range_with_len 0 (work_of c.args.consolidation.now).count) (g.S.Shelf.failures c.args.shelf.now)
+      (g.B.Bench.failures c.lay_out.new.bench) (g.S.Shelf.failures
       c.from_start.new.shelf) (g.B.Bench.failures c.from_start.new.bench) (g.B.Bench.stored
       c.from_start.new.bench) (ended_of {X = Unit {0}} (Err f)))
       c.in-Err-GivenUp.field-0-is
-      (lent_rounds c.args.consolidation.now c.pieces-pieces.result (g.S.Shelf.stored c.args.shelf.now)
+      (lent_rounds c.args.consolidation.now c.pieces-pieces.result c.args.start.now.board.order (g.S.Shelf.stored c.args.shelf.now)
       (g.B.Bench.stored c.lay_out.new.bench) (g.B.Bench.stored c.from_start.new.bench) (g.S.Shelf.failures
       c.args.shelf.now) (g.B.Bench.failures c.lay_out.new.bench) (g.S.Shelf.failures c.from_start.new.shelf)
       (g.B.Bench.failures c.from_start.new.bench) (ended_of {X = Unit {0}} (Err c.in-Err-GivenUp.field-0))
-      c.pieces-pieces.ensures.lent (c.in-Err-GivenUp.ensures.rounds honest (subst IsTrue
+      c.pieces-pieces.ensures.lent c.requires.order (c.in-Err-GivenUp.ensures.rounds honest (subst IsTrue
       (sym c.in-Ok.ensures.only_writes.honest_same) right)) (c.pieces-pieces.ensures.parts
-      (g.S.Shelf.stored c.args.shelf.now) there) (c.in-Ok.ensures.filled right
+      (g.S.Shelf.stored c.args.shelf.now) there) (c.pieces-pieces.ensures.apart (g.S.Shelf.stored c.args.shelf.now))
+      (c.in-Ok.ensures.filled right
       (g.S.Shelf.stored c.args.shelf.now) there)));
 }
 
@@ -51,19 +55,21 @@ returns-in-Ok-finish-clause-rounds g c honest right leave project binding handle
   behind = λ n other. c.in-Ok-finish.ensures.only_writes.others (subst IsTrue (sym (c.from_start.ensures.same_bench ∙
       c.in-Ok.ensures.only_writes.honest_same)) right) n other;
   run = rounds_between (jobs_over (work_of c.args.consolidation.now) (g.S.Shelf.stored c.args.shelf.now))
-      (whole_of c.args.consolidation.now (g.S.Shelf.stored c.args.shelf.now)) (g.S.Shelf.failures c.args.shelf.now)
+      (whole_of c.args.consolidation.now (g.S.Shelf.stored c.args.shelf.now))
+      (range_with_len 0 (work_of c.args.consolidation.now).count) (g.S.Shelf.failures c.args.shelf.now)
       (g.B.Bench.failures c.args.bench.now) (g.B.Bench.failures c.lay_out.new.bench) (g.S.Shelf.failures
       c.from_start.new.shelf) (g.B.Bench.failures c.from_start.new.bench) (g.B.Bench.failures
       c.finish.new.bench) (g.B.Bench.stored c.from_start.new.bench) (g.B.Bench.stored
       c.from_start.new.bench) None
       (c.in-Ok.ensures.only_writes.cause.left tt) (c.in-Ok-finish.ensures.only_writes.cause.left tt) refl
-      (lent_rounds c.args.consolidation.now c.pieces-pieces.result (g.S.Shelf.stored c.args.shelf.now)
+      (lent_rounds c.args.consolidation.now c.pieces-pieces.result c.args.start.now.board.order (g.S.Shelf.stored c.args.shelf.now)
       (g.B.Bench.stored c.lay_out.new.bench) (g.B.Bench.stored c.from_start.new.bench) (g.S.Shelf.failures
       c.args.shelf.now) (g.B.Bench.failures c.lay_out.new.bench) (g.S.Shelf.failures c.from_start.new.shelf)
       (g.B.Bench.failures c.from_start.new.bench) None c.pieces-pieces.ensures.lent
-      (c.in-Ok-from_start.ensures.rounds honest (subst IsTrue
+      c.requires.order (c.in-Ok-from_start.ensures.rounds honest (subst IsTrue
       (sym c.in-Ok.ensures.only_writes.honest_same) right)) (c.pieces-pieces.ensures.parts
-      (g.S.Shelf.stored c.args.shelf.now) there) (c.in-Ok.ensures.filled right
+      (g.S.Shelf.stored c.args.shelf.now) there) (c.pieces-pieces.ensures.apart (g.S.Shelf.stored c.args.shelf.now))
+      (c.in-Ok.ensures.filled right
       (g.S.Shelf.stored c.args.shelf.now) there));
 }
 

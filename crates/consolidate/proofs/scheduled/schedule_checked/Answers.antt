@@ -17,6 +17,7 @@ returns-in-Ok-schedule_rendering-clause-ran g c honest right =
     (g.B.Bench.failures c.args.bench.now) (g.S.Shelf.failures c.schedule_rendering.new.shelf)
     (g.B.Bench.failures c.schedule_rendering.new.bench) (g.B.Bench.stored c.schedule_rendering.new.bench)
     (Some c.in-Ok-schedule_rendering.progress) None c.in-Ok.ensures.planned
+    c.in-Ok-fresh_board.ensures.order
     (c.in-Ok-schedule_rendering.ensures.ran honest right checked.project checked.bound values c.in-Ok.ensures.planned)
 
 pub returns-in-Ok-schedule_rendering-clause-finished : goal.returns-in-Ok-schedule_rendering-clause-finished
@@ -42,5 +43,5 @@ returns-in-Err-schedule_rendering-clause-ran g c honest right =
     c.in-Ok-fresh_board.board.order c.args.events.now sources (g.S.Shelf.failures c.args.shelf.now)
     (g.B.Bench.failures c.args.bench.now) (g.S.Shelf.failures c.schedule_rendering.new.shelf)
     (g.B.Bench.failures c.schedule_rendering.new.bench) (g.B.Bench.stored c.schedule_rendering.new.bench) progress
-    ended c.in-Ok.ensures.planned run)
+    ended c.in-Ok.ensures.planned c.in-Ok-fresh_board.ensures.order run)
     (c.in-Err-schedule_rendering.ensures.ran honest right checked.project checked.bound values c.in-Ok.ensures.planned)

@@ -29,7 +29,7 @@ returns-in-Err-Memory-clause-ran g c honest right project binding values of =
     (g.B.Bench.failures c.run_laid.new.bench) (g.B.Bench.stored c.run_laid.new.bench)))
     c.in-Err-Memory.field-0-is (c.in-Err-Memory.ensures.events honest (subst IsTrue
     (sym c.in-Ok.ensures.only_writes.honest_same) right)
-    (λ _. whole_of work sources) (of.parts sources) (c.in-Ok.ensures.filled right sources)))
+    (λ _. whole_of work sources) (of.parts sources) (of.apart sources) (c.in-Ok.ensures.filled right sources)))
 
 pub returns-in-Err-GivenUp-clause-ran : goal.returns-in-Err-GivenUp-clause-ran
 returns-in-Err-GivenUp-clause-ran g c honest right project binding values of =
@@ -48,7 +48,7 @@ returns-in-Err-GivenUp-clause-ran g c honest right project binding values of =
     (g.B.Bench.failures c.run_laid.new.bench) (g.B.Bench.stored c.run_laid.new.bench)))
     c.in-Err-GivenUp.field-0-is (c.in-Err-GivenUp.ensures.events honest (subst IsTrue
     (sym c.in-Ok.ensures.only_writes.honest_same) right)
-    (λ _. whole_of work sources) (of.parts sources) (c.in-Ok.ensures.filled right sources)))
+    (λ _. whole_of work sources) (of.parts sources) (of.apart sources) (c.in-Ok.ensures.filled right sources)))
 
 pub returns-then-not-progress-clause-ran : goal.returns-then-not-progress-clause-ran
 returns-then-not-progress-clause-ran g c honest right project binding values of =
@@ -62,7 +62,7 @@ returns-then-not-progress-clause-ran g c honest right project binding values of 
     (g.B.Bench.stored c.run_laid.new.bench) (Some c.in-Ok-run_laid.progress) None
     (c.in-Ok.ensures.only_writes.cause.left tt) (refl) (refl)
     (c.in-Ok-run_laid.ensures.events honest (subst IsTrue (sym c.in-Ok.ensures.only_writes.honest_same) right)
-    (λ _. whole_of work sources) (of.parts sources) (c.in-Ok.ensures.filled right sources))
+    (λ _. whole_of work sources) (of.parts sources) (of.apart sources) (c.in-Ok.ensures.filled right sources))
 
 pub returns-in-Ok-finish-clause-ran : goal.returns-in-Ok-finish-clause-ran
 returns-in-Ok-finish-clause-ran g c honest right project binding values of =
@@ -77,7 +77,7 @@ returns-in-Ok-finish-clause-ran g c honest right project binding values of =
     (c.in-Ok.ensures.only_writes.cause.left tt) (c.in-Ok-finish.ensures.only_writes.cause.left tt)
     (c.in-Ok-finish.ensures.same)
     (c.in-Ok-run_laid.ensures.events honest (subst IsTrue (sym c.in-Ok.ensures.only_writes.honest_same) right)
-    (λ _. whole_of work sources) (of.parts sources) (c.in-Ok.ensures.filled right sources))
+    (λ _. whole_of work sources) (of.parts sources) (of.apart sources) (c.in-Ok.ensures.filled right sources))
 
 pub returns-in-Err-Mark-clause-stores : goal.returns-in-Err-Mark-clause-stores
 returns-in-Err-Mark-clause-stores g c =

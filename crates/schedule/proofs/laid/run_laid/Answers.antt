@@ -17,18 +17,20 @@ refused (run_fault.GivenUp job) P p = p
 refused run_fault.Mark P p = p
 refused run_fault.Memory P p = p
 
-apart : {stale : ℕ} {fault : RunFault} → Ok stale ≡ Err fault → ⊥
-apart e = cc
+other : {stale : ℕ} {fault : RunFault} → Ok stale ≡ Err fault → ⊥
+other e = cc
 
 pub returns-in-Ok-clause-events : goal.returns-in-Ok-clause-events
-returns-in-Ok-clause-events g c honest right whole parts filled =
+returns-in-Ok-clause-events g c honest right whole parts apart filled =
     let ran = c.in-Ok.ensures.ended honest right in
-    let same : ran.board ≡ c.run.new.board = ran.last.0 (λ failed. absurd (apart failed)) in
+    let same : ran.board ≡ c.run.new.board = ran.last.0 (λ failed. absurd (other failed)) in
     events-laid (g.J.JobMaker.marks c.args.maker.now)
     (jobs_over (g.J.JobMaker.work c.args.maker.now) (g.S.Shelf.stored c.args.shelf.now)) whole c.args.board.now
     c.args.events.now (g.B.Bench.stored c.args.bench.now) (g.B.Bench.stored c.run.new.bench)
     (g.S.Shelf.failures c.args.shelf.now) (g.B.Bench.failures c.args.bench.now) (g.S.Shelf.failures c.run.new.shelf)
-    (g.B.Bench.failures c.run.new.bench) (Some c.progress_of.result) None c.requires parts filled
+    (g.B.Bench.failures c.run.new.bench) (Some c.progress_of.result) None (c.progress_of.ensures.all ∙ c.in-Ok.ensures.same
+    ∙ ap length c.requires ∙ length-replicate (g.J.JobMaker.work c.args.maker.now).count fresh_job) c.requires parts apart
+    filled
     (record {
       count = ran.count;
       few = ran.few;
@@ -40,7 +42,7 @@ returns-in-Ok-clause-events g c honest right whole parts filled =
     })
 
 pub returns-in-Err-clause-events : goal.returns-in-Err-clause-events
-returns-in-Err-clause-events g c honest right whole parts filled =
+returns-in-Err-clause-events g c honest right whole parts apart filled =
     let ran = c.in-Err.ensures.ended honest right in
     refused c.in-Err.fault
     (RunsEvents (g.J.JobMaker.marks c.args.maker.now)
@@ -52,7 +54,8 @@ returns-in-Err-clause-events g c honest right whole parts filled =
     (jobs_over (g.J.JobMaker.work c.args.maker.now) (g.S.Shelf.stored c.args.shelf.now)) whole c.args.board.now
     c.args.events.now (g.B.Bench.stored c.args.bench.now) (g.B.Bench.stored c.run.new.bench)
     (g.S.Shelf.failures c.args.shelf.now) (g.B.Bench.failures c.args.bench.now) (g.S.Shelf.failures c.run.new.shelf)
-    (g.B.Bench.failures c.run.new.bench) None (end_of {X = ℕ} (Err c.in-Err.fault)) c.requires parts filled
+    (g.B.Bench.failures c.run.new.bench) None (end_of {X = ℕ} (Err c.in-Err.fault)) tt c.requires parts apart
+    filled
     (record {
       count = ran.count;
       few = ran.few;

@@ -15,20 +15,20 @@ alone-requires g c = record {
 }
 
 pub returns-in-Ok-clause-rounds : goal.returns-in-Ok-clause-rounds
-returns-in-Ok-clause-rounds g c honest right whole parts filled = rounds-from (Unit {0}) (Ok tt) (g.J.JobMaker.marks
+returns-in-Ok-clause-rounds g c honest right whole parts apart filled = rounds-from (Unit {0}) (Ok tt) (g.J.JobMaker.marks
     c.args.maker.now) (jobs_over (g.J.JobMaker.work c.args.maker.now) (g.S.Shelf.stored c.args.shelf.now)) whole
     c.args.start.now.board c.alone.new.board (g.B.Bench.stored c.args.bench.now) (g.B.Bench.stored c.alone.new.bench)
     (g.S.Shelf.failures c.args.shelf.now) (g.B.Bench.failures c.args.bench.now)
-    (g.S.Shelf.failures c.alone.new.shelf) (g.B.Bench.failures c.alone.new.bench) c.requires.board parts filled
+    (g.S.Shelf.failures c.alone.new.shelf) (g.B.Bench.failures c.alone.new.bench) c.requires.board parts apart filled
     (c.in-Ok.ensures.rounds honest right) c.in-Ok.ensures.done
 
 pub returns-in-Err-clause-rounds : goal.returns-in-Err-clause-rounds
-returns-in-Err-clause-rounds g c honest right whole parts filled = rounds-from (Unit {0}) (Err c.in-Err.fault)
+returns-in-Err-clause-rounds g c honest right whole parts apart filled = rounds-from (Unit {0}) (Err c.in-Err.fault)
     (g.J.JobMaker.marks c.args.maker.now) (jobs_over (g.J.JobMaker.work c.args.maker.now) (g.S.Shelf.stored
     c.args.shelf.now)) whole
     c.args.start.now.board c.alone.new.board (g.B.Bench.stored c.args.bench.now) (g.B.Bench.stored c.alone.new.bench)
     (g.S.Shelf.failures c.args.shelf.now) (g.B.Bench.failures c.args.bench.now)
-    (g.S.Shelf.failures c.alone.new.shelf) (g.B.Bench.failures c.alone.new.bench) c.requires.board parts filled
+    (g.S.Shelf.failures c.alone.new.shelf) (g.B.Bench.failures c.alone.new.bench) c.requires.board parts apart filled
     (c.in-Err.ensures.rounds honest right) tt
 
 pub returns-in-Ok-clause-finished : goal.returns-in-Ok-clause-finished

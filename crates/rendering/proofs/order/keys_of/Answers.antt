@@ -1,0 +1,7 @@
+use Rattle.sound_terms.specs.Blocks.{block_count}
+use Rattle.blockcut.specs.Laws.{cut-inside}
+use Rattle.rendering.proofs.order.keys_of.Goals as goal
+
+pub source_of-requires : goal.source_of-requires
+source_of-requires c = (cut-inside c.args.stretches.now 0 (block_count c.args.blocks.now.planned.range)
+    c.loop-stretch.stretch-index _ c.requires c.loop-stretch-test.true).2
