@@ -4,6 +4,7 @@ pub mod Events
 pub mod Facts
 pub mod Fields
 pub mod Head
+pub mod LeftText
 pub mod Lines
 pub mod OnePart
 pub mod PartsText

@@ -1,5 +1,6 @@
 // One file in memory, whose name is empty, as an output that texts are added to.
 ghost use Rattle.std.specs.Prelude.{◌≡◌, ◌==◌, ◌^◌, ⊤, None, Some, if◌then◌else◌, length, true};
+ghost use Rattle.adlwrite.specs.LeftText.{IsLeftText, left_nothing};
 
 use shelf::{Bench, DeviceFault, ShelfFault};
 
@@ -19,21 +20,26 @@ impl Bench for TextFile {
 
     ghost failed_at = { λ _ _. ⊤ };
 
-    ghost may_leave = { λ _ _. ⊥ };
+    /// It is never synced: a crash may leave any text that is no longer.
+    ghost may_leave = { λ file. IsLeftText file.text.items };
 
     ghost moment = { λ _. 0 };
 
-    ghost left_since = { λ _ _ _. ⊥ };
+    /// It only grows, so a crash now may leave what one before might have left.
+    ghost left_since = { λ file _. IsLeftText file.text.items };
 
     fn create(&mut self, _: &str) -> Result<(), DeviceFault> {
         Err(DeviceFault)
     }
 
     fn append(&mut self, name: &str, bytes: &[u8]) -> Result<(), DeviceFault> {
-        if name.len() != 0 || self.text.extend_from_slice(bytes).is_err() {
+        if name.len() != 0 {
             return Err(DeviceFault);
         }
-        Ok(())
+        match self.text.extend_from_slice(bytes) {
+            Ok(()) => Ok(()),
+            Err(_) => return Err(DeviceFault),
+        }
     }
 
     fn write_at(&mut self, _: &str, _: u64, _: &[u8]) -> Result<(), DeviceFault> {
@@ -56,5 +62,5 @@ impl Bench for TextFile {
 
     ghost only_now = { λ bench c since. since };
 
-    ghost absent = { λ bench name c honest none left. absurd left };
+    ghost absent = { λ bench name c honest none left. left_nothing bench.text.items name c none left };
 }

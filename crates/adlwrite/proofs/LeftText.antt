@@ -1,0 +1,73 @@
+-- What a crash may leave of a text that grew.
+use Rattle.std.proofs.Common.{◌≡◌, ◌≢◌, ℕ, ◌+◌, ◌≤◌, ◌==◌, if◌then◌else◌, min, Some, None, List, [], ◌∷◌, ◌++◌, length, take, drop, Bool, false, refl, sym, ◌∙◌, ap, arith}
+use Rattle.std.proofs.lemmas.Bool.Decides.{nat_tests}
+use Rattle.std.proofs.lemmas.List.{length-append, length-take, take_all, drop_all}
+use Rattle.work_terms.specs.Disk.{Files, Changes, IsTornBehind, HasTornEnd, end_of, IsDurable}
+use Rattle.adlwrite.specs.LeftText.{IsLeftText}
+
+-- this text under the empty name, and no other file
+abbrev pub alone : List ℕ → Files
+alone text [] = Some text
+alone text (first ∷ rest) = None
+
+-- a text no longer than at + n grew from its first `at` bytes
+torn_front : (at n : ℕ) (text : List ℕ) → length text ≤ at + n → HasTornEnd at n (take at text) text
+torn_front at n text few =
+    let front : length (take at text) ≡ min at (length text) = length-take at text in
+    record {
+      before = sym (take_all at (take at text) (omega (arith, front)));
+      after = drop_all (at + n) text few ∙ sym (drop_all (at + n) (take at text) (omega (arith, front)));
+      no_shorter = omega (arith, front);
+      no_longer = omega (arith, few);
+    }
+
+-- what may be left of the text with bytes more follows from what might have been left of the text
+pub grown : (text bytes name : List ℕ) (c : Files) → length name ≡ 0 → IsLeftText (text ++ bytes) c
+    → (d : Files) × IsLeftText text d
+    × Changes (IsTornBehind (end_of (if length name == 0 then Some text else None)) (length bytes)) name d c
+grown text bytes (first ∷ rest) c empty left = absurd (omega (arith, empty))
+grown text bytes [] c empty left =
+    let front : length (take (length text) left.left) ≡ min (length text) (length left.left) =
+    length-take (length text) left.left in (
+      alone (take (length text) left.left),
+      record {
+        left = take (length text) left.left;
+        there = refl;
+        no_longer = omega (arith, front);
+        alone = λ _ _. refl;
+      },
+      record {
+        here = (
+          left.left,
+          left.there,
+          torn_front (length text) (length bytes) left.left
+              (omega (arith, left.no_longer, length-append text bytes)),
+        );
+        others = others;
+      },
+    )
+  where
+    others : (n : List ℕ) → n ≢ [] → c n ≡ alone (take (length text) left.left) n
+    others [] apart = absurd (apart refl)
+    others (first ∷ rest) apart = left.alone first rest
+
+-- under another name nothing is read
+none_there : (text : List ℕ) (first : ℕ) (rest : List ℕ)
+    → (if length (first ∷ rest) == 0 then Some text else None) ≡ None
+none_there text first rest =
+    let named : (length (first ∷ rest) == 0) ≡ false = grind (arith, nat_tests) in
+    ap (λ (empty : Bool). if empty then Some text else None) named
+
+-- no other file is ever there
+pub others_durable : (text name n : List ℕ) → length name ≡ 0 → n ≢ name
+    → IsDurable n (λ m. if length m == 0 then Some text else None) (IsLeftText text)
+others_durable text (first ∷ rest) n empty apart = absurd (omega (arith, empty))
+others_durable text [] [] empty apart = absurd (apart refl)
+others_durable text [] (first ∷ rest) empty apart = λ c left. left.alone first rest ∙ sym (none_there text first rest)
+
+-- and no other file is read
+pub others_same : (old new name n : List ℕ) → length name ≡ 0 → n ≢ name
+    → (if length n == 0 then Some new else None) ≡ (if length n == 0 then Some old else None)
+others_same old new (first ∷ rest) n empty apart = absurd (omega (arith, empty))
+others_same old new [] [] empty apart = absurd (apart refl)
+others_same old new [] (first ∷ rest) empty apart = none_there new first rest ∙ sym (none_there old first rest)

@@ -1,0 +1,6 @@
+mod Found
+mod Moments
+mod NewMarks
+mod Ranges
+mod Torn
+mod Unstarted

@@ -1,0 +1,123 @@
+-- What a crash may leave of marks that are made.
+use Rattle.std.proofs.Common.{◌≡◌, ◌∙◌, ℕ, ◌<◌, Bool, true, false, ◌==◌, Option, Some, None, List, [], ◌∷◌, ◌++◌, length, take, get_or, replicate, sym, ap, subst, inl, inr, refl, arith}
+use Rattle.std.proofs.lemmas.List.{get_or-take}
+use Rattle.std.proofs.lemmas.Bool.Decides.{nat_tests}
+use Rattle.work_terms.specs.Disk.{ChangesOnly, Files, HasTornEnd, HasTornRange, IsBeside, IsPending, IsTorn, IsTornBehind, end_of}
+use Rattle.markfile.specs.declared.run.RunId.{RunId}
+use Rattle.markfile.specs.Format.{fresh_marks, head_of, marks_name}
+use Rattle.markfile.specs.Started.{IsAfter, LeavesStart, LeavesUnstarted, NoneStarted, is_started}
+
+some_same : (a b : List ℕ) → Some a ≡ Some b → a ≡ b
+some_same a b e = cc
+
+none_some : (a : List ℕ) → None ≡ Some a → ⊥
+none_some a e = cc
+
+apart : true ≡ false → ⊥
+apart h = cc
+
+-- ---- marks that aren't started
+
+pub short : (bytes : List ℕ) → length bytes < 44 → is_started (Some bytes) ≡ false
+short bytes few = grind (arith, nat_tests)
+
+pub shut : (bytes : List ℕ) → get_or bytes 0 0 ≡ 0 → is_started (Some bytes) ≡ false
+shut bytes gate = grind (arith, nat_tests)
+
+pub pending : (old new : Option (List ℕ)) → is_started old ≡ false → IsPending old new → is_started new ≡ false
+pending old new none (inl same) = ap is_started same ∙ none
+pending old new none (inr (inl gone)) = ap is_started gone
+pending old new none (inr (inr empty)) = ap is_started empty
+
+-- a torn append of a file that is there
+torn_end : (at n : ℕ) (file : List ℕ) (old new : Option (List ℕ)) → old ≡ Some file → IsTornBehind at n old new
+    → (bytes : List ℕ) × (new ≡ Some bytes) × HasTornEnd at n file bytes
+torn_end at n file None new e t = absurd (none_some file e)
+torn_end at n file (Some x) new e t = (t.0, t.1, subst (λ f. HasTornEnd at n f t.0) (some_same x file e) t.2)
+
+-- behind nothing too little comes
+pub first_append : (stored old new : Option (List ℕ)) (n : ℕ) → stored ≡ Some [] → old ≡ Some [] → n < 44
+    → IsTornBehind (end_of stored) n old new → is_started new ≡ false
+first_append stored old new n is_empty was few t =
+    let torn = torn_end (end_of stored) n [] old new was t in
+    let at : end_of stored ≡ 0 = ap end_of is_empty in
+    let long = torn.2.no_longer in
+    ap is_started torn.1 ∙ short torn.0 (omega (arith, long, at, few))
+
+-- and behind a gate that is shut it stays so
+pub next_append : (stored old new : Option (List ℕ)) (n : ℕ) → stored ≡ Some (0 ∷ []) → old ≡ Some (0 ∷ [])
+    → IsTornBehind (end_of stored) n old new → is_started new ≡ false
+next_append stored old new n gate was t =
+    let torn = torn_end (end_of stored) n (0 ∷ []) old new was t in
+    let at : end_of stored ≡ 1 = ap end_of gate in
+    let front : take 1 torn.0 ≡ take 1 (0 ∷ []) = subst (λ k. take k torn.0 ≡ take k (0 ∷ [])) at torn.2.before in
+    ap is_started torn.1
+    ∙ shut torn.0 (sym (get_or-take 1 torn.0 0 0 (omega arith)) ∙ ap (λ bytes. get_or bytes 0 0) front)
+
+-- ---- every other file
+
+pub beside : (o : Files → Type 0) (step : Option (List ℕ) → Option (List ℕ) → Type 0) (c : Files) → IsAfter o step c
+    → IsBeside o marks_name c
+beside o step c (d, before, change) = (d, before, others)
+  where
+    others : ChangesOnly (marks_name ∷ []) d c
+    others n away = change.others n (λ e. away (0, omega arith, sym e))
+
+pub beside_again : (o mid : Files → Type 0) → ((c : Files) → mid c → IsBeside o marks_name c)
+    → (c : Files) → IsBeside mid marks_name c → IsBeside o marks_name c
+beside_again o mid back c (d, middle, change) = let first = back d middle in
+    (first.0, first.1, λ n away. change n away ∙ first.2 n away)
+
+-- ---- the steps of a start
+
+pub created : (o : Files → Type 0) → NoneStarted o → (c : Files) → IsAfter o IsPending c → LeavesUnstarted o c
+created o none c after = record {
+  beside = beside o IsPending c after;
+  unstarted = pending (after.0 marks_name) (c marks_name) (none after.0 after.1) after.2.here;
+}
+
+-- what is added to marks that aren't started, by the file that it is added to
+pub added : (o mid : Files → Type 0) (step : Option (List ℕ) → Option (List ℕ) → Type 0) (marks : List ℕ)
+    → ((c : Files) → mid c → LeavesUnstarted o c) → ((c : Files) → mid c → c marks_name ≡ Some marks)
+    → ((old new : Option (List ℕ)) → old ≡ Some marks → step old new → is_started new ≡ false)
+    → (c : Files) → IsAfter mid step c → LeavesUnstarted o c
+added o mid step marks before lasts still c after = record {
+  beside = beside_again o mid (λ d left. (before d left).beside) c (beside mid step c after);
+  unstarted = still (after.0 marks_name) (c marks_name) (lasts after.0 after.1) after.2.here;
+}
+
+pub as_start : (run : RunId) (o : Files → Type 0) (c : Files) → LeavesUnstarted o c → LeavesStart run o c
+as_start run o c left = record {
+  beside = left.beside;
+  fresh = λ started. absurd (apart (sym started ∙ left.unstarted));
+}
+
+-- a torn write of the first byte
+torn_gate : (rest bytes : List ℕ) → HasTornRange 0 1 (0 ∷ rest) bytes → is_started (Some bytes) ≡ true
+    → bytes ≡ 1 ∷ rest
+torn_gate rest [] torn started = absurd (apart (sym started))
+torn_gate rest (gate ∷ behind) torn started = opened gate (go (gate == 1) refl started)
+  where
+    same : behind ≡ rest
+    same = torn.after
+
+    go : (b : Bool) → (gate == 1) ≡ b → is_started (Some (gate ∷ behind)) ≡ true → gate ≡ 1
+    go b e on = grind (arith, nat_tests)
+
+    opened : (g : ℕ) → g ≡ 1 → g ∷ behind ≡ 1 ∷ rest
+    opened g e = cc
+
+pub opened : (run : RunId) (rest : List ℕ) (o mid : Files → Type 0) → rest ≡ head_of run ++ replicate run.blocks 0
+    → ((c : Files) → mid c → LeavesUnstarted o c) → ((c : Files) → mid c → c marks_name ≡ Some (0 ∷ rest))
+    → (c : Files) → IsAfter mid (IsTorn 0 1) c → LeavesStart run o c
+opened run rest o mid whole before lasts c after = record {
+  beside = beside_again o mid (λ d left. (before d left).beside) c (beside mid (IsTorn 0 1) c after);
+  fresh = go (after.0 marks_name) (c marks_name) (lasts after.0 after.1) after.2.here;
+} where
+  go : (old new : Option (List ℕ)) → old ≡ Some (0 ∷ rest) → IsTorn 0 1 old new → is_started new ≡ true
+      → new ≡ Some (fresh_marks run)
+  go None new e t started = absurd (none_some (0 ∷ rest) e)
+  go (Some x) new e t started =
+      let torn = subst (λ f. HasTornRange 0 1 f t.0) (some_same x (0 ∷ rest) e) t.2 in
+      let is = torn_gate rest t.0 torn (sym (ap is_started t.1) ∙ started) in
+      t.1 ∙ ap (λ bytes. Some bytes) (is ∙ ap (λ bytes. 1 ∷ bytes) whole)

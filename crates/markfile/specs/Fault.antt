@@ -1,0 +1,34 @@
+-- The numbers of the faults of marks, and the files at which a device failed.
+use Rattle.std.specs.Prelude.{◌≡◌, ◌≢◌, ℕ, List, Result}
+use Rattle.work_terms.specs.Disk as disk
+use Rattle.shelf.specs.declared.bench.Bench.{Ghosts}
+use Rattle.shelf.specs.Frame as frame
+use Rattle.markfile.specs.Format.{marks_name, sound_name}
+use Rattle.markfile.specs.declared.fault.MarksFault.{MarksFault}
+use Rattle.markfile.specs.declared.fault.MarksFault.TheVariants.{Sound, Marks, OtherRun, BadMarks, Memory}
+
+-- the number of the refusal
+abbrev pub number_of : MarksFault → ℕ
+number_of Sound = 62
+number_of Marks = 62
+number_of OtherRun = 67
+number_of BadMarks = 68
+number_of Memory = 69
+
+-- the file at which the device failed, where it did
+abbrev pub name_of : MarksFault → List ℕ
+name_of Sound = sound_name
+name_of Marks = marks_name
+name_of OtherRun = marks_name
+name_of BadMarks = marks_name
+name_of Memory = marks_name
+
+-- a call that writes nothing: 62 alone tells that the device failed, at the file that the fault names
+abbrev pub ReadsMarks : {B X : Type 0} → Ghosts B → B → B → Result X MarksFault → Type 0
+ReadsMarks bench old new result = disk.ReadsTo bench.stored bench.honest bench.failures bench.failed_at old new result
+    (λ fault. number_of fault ≡ 62) (λ fault failed. failed (name_of fault))
+
+-- a call that writes the marks alone
+abbrev pub WritesMarks : {B X : Type 0} → Ghosts B → B → B → Result X MarksFault → Type 0
+WritesMarks bench old new result = frame.OnlyWrites bench (λ n. n ≢ marks_name) old new result
+    (λ fault. number_of fault ≡ 62) (λ fault failed. failed (name_of fault))

@@ -1,0 +1,12 @@
+-- What is rendered, as numbers.
+use Rattle.sound_terms.specs.Depth.{bits_of}
+use Rattle.sound_terms.specs.Render.{Range}
+use Rattle.markfile.specs.declared.run.RunRange.{RunRange}
+
+abbrev pub range_of : RunRange → Range
+range_of range = record {
+  from = range.from;
+  to = range.to;
+  channels = range.channels;
+  depth = bits_of range.depth;
+}

@@ -1,0 +1,25 @@
+//! The marks of a rendering: a file beside the sound that tells which of its blocks stand on the disk, so that a
+//! rendering that was stopped goes on where it was.
+#![tactic(auto)]
+
+mod fault;
+mod fresh;
+mod front;
+mod opening;
+mod run;
+mod setting;
+mod settled;
+mod starting;
+mod synced;
+
+pub use fault::MarksFault;
+pub use opening::{Marks, open_marks};
+pub use run::{RunId, RunRange};
+pub use setting::{MOST_AT_ONCE, mark};
+pub use starting::start;
+
+/// The name of the file that is rendered.
+pub const SOUND: &str = "render.wav";
+
+/// The name of the marks.
+pub const MARKS: &str = "render.marks";

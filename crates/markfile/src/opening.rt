@@ -1,0 +1,107 @@
+// Marks that a run left.
+ghost use Rattle.std.specs.Prelude.{◌≡◌, ◌+◌, ◌==◌, ◌≢◌, ◌≤◌, IsTrue, IfErr, IfOk, OnOk, IfSome, ℕ, List, Some, drop, length, map};
+ghost use Rattle.work_terms.specs.Disk.{Files, IsUntouched};
+ghost use Rattle.markfile.specs.Fault.{ReadsMarks, number_of};
+ghost use Rattle.markfile.specs.Format.{marks_name};
+ghost use Rattle.markfile.specs.Opened.{Answers, AreFound, AreSettled, marks_in, opened_of};
+
+use crate::front::{FRONT, OPEN, front_fault, read_front};
+use crate::settled::{Sizes, settle_both};
+use crate::{MARKS, MarksFault, RunId};
+use shelf::Bench;
+use std::alloc::{AllocError, Global};
+
+/// Which blocks of a rendering stand on the disk, one for each.
+#[derive(Debug, Drop)]
+pub struct Marks {
+    pub marked: Vec<bool>,
+}
+
+/// Which of these bytes are marks.
+fn marks_among(alloc: Global, bytes: &[u8]) -> Result<Vec<bool>, AllocError>
+    ensures { IfOk result (λ marked. marked.items ≡ map (λ byte. byte == 1) bytes.now) }
+{
+    bytes.iter().map(|byte| *byte == 1).collect(alloc)
+}
+
+/// Reads so many marks, which have to be all.
+fn read_marked<B: Bench>(alloc: Global, bench: &mut B, blocks: u32) -> Result<Marks, MarksFault>
+    ensures marked { IsTrue (B.honest bench.old) → (marks : List ℕ) → B.stored bench.old marks_name ≡ Some marks
+        → length marks ≡ 44 + blocks
+        → IfOk result (λ read. read.marked.items ≡ map (λ byte. byte == 1) (drop 44 marks)) }
+    ensures count { IfOk result (λ read. length read.marked.items ≡ blocks) }
+    ensures due { IfErr result (λ fault. (fault ≢ MarksFault.BadMarks) × (fault ≢ MarksFault.OtherRun)) }
+    ensures untouched { IsUntouched B.stored B.may_leave B.moment B.left_since bench.old bench.new }
+    ensures only_reads { ReadsMarks B.Bench bench.old bench.new result }
+{
+    let Ok(mut bytes) = vec![in alloc; 0; blocks as usize] else {
+        return Err(MarksFault::Memory);
+    };
+    match bench.read_at(MARKS, FRONT as u64, bytes.as_mut_slice()) {
+        Ok(()) => {}
+        Err(_) => return Err(MarksFault::Marks),
+    }
+    match marks_among(alloc, bytes.as_slice()) {
+        Ok(marked) => return Ok(Marks { marked }),
+        Err(_) => return Err(MarksFault::Memory),
+    }
+}
+
+/// Reads marks of so many bytes, a front at least. `None` where their gate is shut.
+fn read_marks<B: Bench>(
+    alloc: Global,
+    bench: &mut B,
+    run: &RunId,
+    size: u64,
+    sound: Option<u64>,
+) -> Result<Option<Marks>, MarksFault>
+    ensures found { IsTrue (B.honest bench.old) → (marks : List ℕ) → B.stored bench.old marks_name ≡ Some marks
+        → length marks ≡ size → 44 ≤ size → Answers result (marks_in run.now sound marks) }
+    ensures each { IfOk result (λ found. IfSome found (λ marks. length marks.marked.items ≡ run.now.blocks)) }
+    ensures untouched { IsUntouched B.stored B.may_leave B.moment B.left_since bench.old bench.new }
+    ensures only_reads { ReadsMarks B.Bench bench.old bench.new result }
+{
+    let front = match read_front(bench) {
+        Ok(front) => front,
+        Err(fault) => return Err(fault),
+    };
+    if front[0] != OPEN {
+        return Ok(None);
+    }
+    if let Some(fault) = front_fault(run, &front, size, sound) {
+        return Err(fault);
+    }
+    match read_marked(alloc, bench, run.blocks) {
+        Ok(marks) => return Ok(Some(marks)),
+        Err(fault) => return Err(fault),
+    }
+}
+
+/// Opens the marks that a run of these words left, once the rendered file and the marks are synced where they are
+/// there, so that nothing of them is pending. `None` where the marks aren't started: they aren't there, are shorter
+/// than their front, or have a gate that isn't open. Else `BadMarks` where they are no marks, `OtherRun` where they
+/// belong to another run, `BadMarks` where they tell another count of blocks, have another length, or the rendered
+/// file isn't there or has another length. Nothing is written.
+pub fn open_marks<B: Bench>(
+    alloc: Global,
+    bench: &mut B,
+    run: &RunId,
+) -> Result<Option<Marks>, MarksFault>
+    ensures found { IsTrue (B.honest bench.old) → Answers result (opened_of run.now (B.stored bench.old)) }
+    ensures each { IfOk result (λ found. IfSome found (λ marks. length marks.marked.items ≡ run.now.blocks)) }
+    ensures whole { IsTrue (B.honest bench.old) → IfOk result (λ found. IfSome found (λ marks.
+        AreFound run.now (B.stored bench.old) marks.marked.items)) }
+    ensures settled { IsTrue (B.honest bench.old) → OnOk result ((c : Files) → B.may_leave bench.new c
+        → AreSettled (B.stored bench.new) c) }
+    ensures untouched { IsUntouched B.stored B.may_leave B.moment B.left_since bench.old bench.new }
+    ensures only_reads { ReadsMarks B.Bench bench.old bench.new result }
+{
+    let sizes = match settle_both(bench) {
+        Ok(sizes) => sizes,
+        Err(fault) => return Err(fault),
+    };
+    match sizes.marks {
+        Some(size) if size >= FRONT as u64 => read_marks(alloc, bench, run, size, sizes.sound),
+        _ => Ok(None),
+    }
+}

@@ -1,0 +1,80 @@
+// The marks of a new run.
+ghost use Rattle.std.specs.Prelude.{◌≡◌, ◌≢◌, ◌∷◌, [], IsTrue, IsErrOf, OnOk, ⊤};
+ghost use Rattle.work_terms.specs.Disk.{Files, LeavesOnly};
+ghost use Rattle.shelf.specs.Frame.{OnlyWrites};
+ghost use Rattle.markfile.specs.Fault.{WritesMarks};
+ghost use Rattle.markfile.specs.Format.{AreFresh, fresh_marks, marks_name};
+ghost use Rattle.markfile.specs.Started.{Holds, LeavesStart, LeavesUnstarted, NoneStarted};
+
+use crate::fresh::behind_gate;
+use crate::front::{OPEN, SHUT};
+use crate::synced::{append_synced, create_synced, write_synced};
+use crate::{MarksFault, RunId};
+use shelf::{Bench, DeviceFault};
+use std::alloc::Global;
+
+/// Makes the file with a gate that is shut.
+fn shut<B: Bench>(bench: &mut B) -> Result<(), DeviceFault>
+    ensures made { IsTrue (B.honest bench.old) → OnOk result (Holds B.Bench (0 ∷ []) bench.new) }
+    ensures any_moment { IsTrue (B.honest bench.old) → NoneStarted (B.may_leave bench.old)
+        → LeavesOnly B.moment B.left_since bench.old bench.new (LeavesUnstarted (B.may_leave bench.old)) }
+    ensures crash { IsTrue (B.honest bench.old) → NoneStarted (B.may_leave bench.old)
+        → (c : Files) → B.may_leave bench.new c → LeavesUnstarted (B.may_leave bench.old) c }
+    ensures only_writes { OnlyWrites B.Bench (λ n. n ≢ marks_name) bench.old bench.new result (λ _. ⊤)
+        (λ _ failed. failed marks_name) }
+{
+    match create_synced(bench) {
+        Ok(()) => {}
+        Err(fault) => return Err(fault),
+    }
+    match append_synced(bench, &[SHUT]) {
+        Ok(()) => return Ok(()),
+        Err(fault) => return Err(fault),
+    }
+}
+
+/// Makes the file with a gate that is shut, and these bytes behind it.
+fn lay<B: Bench>(bench: &mut B, rest: &[u8]) -> Result<(), DeviceFault>
+    ensures made { IsTrue (B.honest bench.old) → OnOk result (Holds B.Bench (0 ∷ rest.now) bench.new) }
+    ensures any_moment { IsTrue (B.honest bench.old) → NoneStarted (B.may_leave bench.old)
+        → LeavesOnly B.moment B.left_since bench.old bench.new (LeavesUnstarted (B.may_leave bench.old)) }
+    ensures crash { IsTrue (B.honest bench.old) → NoneStarted (B.may_leave bench.old)
+        → (c : Files) → B.may_leave bench.new c → LeavesUnstarted (B.may_leave bench.old) c }
+    ensures only_writes { OnlyWrites B.Bench (λ n. n ≢ marks_name) bench.old bench.new result (λ _. ⊤)
+        (λ _ failed. failed marks_name) }
+{
+    match shut(bench) {
+        Ok(()) => {}
+        Err(fault) => return Err(fault),
+    }
+    match append_synced(bench, rest) {
+        Ok(()) => return Ok(()),
+        Err(fault) => return Err(fault),
+    }
+}
+
+/// Makes the marks of a new run, none of them set. The gate is opened last, once all that stands behind it is on the
+/// disk, so a crash leaves marks that aren't started or whole ones, where those that stood there before weren't
+/// started. After a fault no block is marked.
+pub fn start<B: Bench>(alloc: Global, bench: &mut B, run: &RunId) -> Result<(), MarksFault>
+    ensures started { IsTrue (B.honest bench.old) → OnOk result (Holds B.Bench (fresh_marks run.now) bench.new) }
+    ensures any_moment { IsTrue (B.honest bench.old) → NoneStarted (B.may_leave bench.old)
+        → LeavesOnly B.moment B.left_since bench.old bench.new (LeavesStart run.now (B.may_leave bench.old)) }
+    ensures crash { IsTrue (B.honest bench.old) → NoneStarted (B.may_leave bench.old)
+        → (c : Files) → B.may_leave bench.new c → LeavesStart run.now (B.may_leave bench.old) c }
+    ensures memory { IsErrOf result MarksFault.Memory → bench.new ≡ bench.old }
+    ensures only_writes { WritesMarks B.Bench bench.old bench.new result }
+    ensures fresh { AreFresh run.now (fresh_marks run.now) }
+{
+    let Ok(rest) = behind_gate(alloc, run) else {
+        return Err(MarksFault::Memory);
+    };
+    match lay(bench, rest.as_slice()) {
+        Ok(()) => {}
+        Err(_) => return Err(MarksFault::Marks),
+    }
+    match write_synced(bench, 0, &[OPEN]) {
+        Ok(()) => return Ok(()),
+        Err(_) => return Err(MarksFault::Marks),
+    }
+}
