@@ -1,13 +1,19 @@
 """Parts of a rendering that are made side by side and joined: the bytes of a single rendering."""
 
 import os
+import shlex
 import shutil
+import signal
+import socket
 import subprocess
+import time
+from contextlib import contextmanager
 from pathlib import Path
+from typing import Callable
 
 import model
 from random_projects import Dice
-from harness import LIST, MEDIA, Mismatch, Scene, Skipped, Suite, same, same_bytes
+from harness import LIST, MEDIA, OUT, Mismatch, Scene, Skipped, Suite, same, same_bytes
 
 MAKEFILE = Path(__file__).resolve().parent.parent / "examples" / "many_machines" / "Makefile"
 FIRST_SEED, PROJECTS = 1000, 6
@@ -15,13 +21,22 @@ PARTS = (1, 2, 3, 5, 7, 4)
 TIMEOUT = 60
 
 
-def make(scene: Scene, *words: str, **settings) -> subprocess.CompletedProcess:
-    """Runs the makefile over the scene's list; settings are its variables."""
-    if not shutil.which("make"):
-        raise Skipped("make isn't installed (Debian package make)")
+def need(**packages: str) -> None:
+    for program, package in packages.items():
+        if not shutil.which(program):
+            raise Skipped(f"{program} isn't installed (Debian package {package})")
+
+
+def make_words(scene: Scene, **settings) -> list:
+    """The words of make over the scene's list; settings are the makefile's variables."""
+    need(make="make")
     told = {"LIST": LIST, "MEDIA": MEDIA, "WORK": "work", "ADLCONS": scene.program, **settings}
+    return ["make", "-f", str(MAKEFILE), *(f"{name}={value}" for name, value in told.items())]
+
+
+def make(scene: Scene, *words: str, **settings) -> subprocess.CompletedProcess:
     return subprocess.run(
-        ["make", "-j4", "-f", MAKEFILE, *words, *(f"{name}={value}" for name, value in told.items())],
+        [*make_words(scene, **settings), "-j4", *words],
         cwd=scene.folder, capture_output=True, timeout=TIMEOUT, env={"PATH": os.environ["PATH"]})
 
 
@@ -107,8 +122,134 @@ def refused(scene: Scene) -> None:
         raise Mismatch("make over no list leaves a joined file")
 
 
+def spread_by_parallel(scene: Scene) -> None:
+    """GNU parallel makes the parts, and make joins them and renders none again."""
+    need(parallel="parallel")
+    text, media, settings = prepared(scene)
+    settings["PARTS"] = 8
+    parts = [f"work/parts/P{number:04d}.wav" for number in range(1, 9)]
+    done = subprocess.run(
+        ["parallel", "--will-cite", "-j4", shlex.join(make_words(scene, **settings)), ":::", *parts],
+        cwd=scene.folder, capture_output=True, timeout=TIMEOUT)
+    same("how parallel ends", (done.returncode, [part for part in parts if (scene.folder / part).exists()]), (0, parts))
+    before = [(scene.folder / part).stat().st_mtime_ns for part in parts]
+    expect_joined(scene, text, media, settings)
+    same("the times of the parts", [(scene.folder / part).stat().st_mtime_ns for part in parts], before)
+
+
+SLURM = """ClusterName=test
+SlurmctldHost={host}(127.0.0.1)
+SlurmctldPort={port}
+SlurmdPort={next_port}
+AuthType=auth/munge
+AuthInfo=socket={folder}/munge.sock
+SlurmUser=root
+SlurmdUser=root
+StateSaveLocation={folder}/state
+SlurmdSpoolDir={folder}/spool
+SlurmctldPidFile={folder}/control.pid
+SlurmdPidFile={folder}/node.pid
+SlurmctldLogFile={folder}/control.log
+SlurmdLogFile={folder}/node.log
+ProctrackType=proctrack/linuxproc
+TaskPlugin=task/none
+SelectType=select/cons_tres
+SelectTypeParameters=CR_Core
+ReturnToService=2
+MpiDefault=none
+JobAcctGatherType=jobacct_gather/none
+KillWait=1
+NodeName={host} NodeAddr=127.0.0.1 CPUs={processors} State=UNKNOWN
+PartitionName=all Nodes={host} Default=YES State=UP
+"""
+
+
+def wait_for(what: str, is_so: Callable[[], bool]) -> None:
+    for _ in range(TIMEOUT * 10):
+        if is_so():
+            return
+        time.sleep(0.1)
+    raise Mismatch(f"{what} isn't so after {TIMEOUT} seconds")
+
+
+@contextmanager
+def slurm(folder: Path):
+    """A Slurm of one node in a folder of its own, which ends with the test: its commands' environment."""
+    need(sbatch="slurm-wlm", slurmctld="slurm-wlm", slurmd="slurm-wlm", munged="munge")
+    if os.geteuid() != 0:
+        raise Skipped("a Slurm of the test's own wants root")
+    for place in (folder, *folder.parents[:-1]):
+        place.chmod(place.stat().st_mode | 0o055)
+    for name in ("state", "spool"):
+        (folder / name).mkdir()
+    key = folder / "munge.key"
+    key.write_bytes(os.urandom(1024))
+    key.chmod(0o400)
+    host = socket.gethostname().split(".")[0]
+    with socket.create_server(("127.0.0.1", 0)) as free:
+        port = free.getsockname()[1]
+    settings = folder / "slurm.conf"
+    settings.write_text(SLURM.format(
+        host=host, folder=folder, port=port, next_port=port + 1, processors=os.cpu_count()))
+    environment = {**os.environ, "SLURM_CONF": str(settings)}
+    pids = [folder / f"{name}.pid" for name in ("munge", "control", "node")]
+    try:
+        subprocess.run(
+            ["munged", "--force", f"--key-file={key}", f"--socket={folder}/munge.sock", f"--pid-file={pids[0]}",
+             f"--log-file={folder}/munge.log", f"--seed-file={folder}/seed"],
+            check=True, capture_output=True, timeout=TIMEOUT)
+        for daemon in ("slurmctld", "slurmd"):
+            subprocess.run([daemon, "-f", settings], env=environment, check=True, capture_output=True, timeout=TIMEOUT)
+        wait_for("that the node is idle", lambda: b"idle" in subprocess.run(
+            ["sinfo", "--noheader"], env=environment, capture_output=True, timeout=TIMEOUT).stdout)
+        yield environment
+    finally:
+        for pid in reversed(pids):
+            if pid.exists():
+                os.kill(int(pid.read_text()), signal.SIGTERM)
+
+
+def spread_by_slurm(scene: Scene) -> None:
+    """A job array makes the parts; one that is broken off leaves no part, and is made by a later job."""
+    text, media, settings = prepared(scene)
+    settings["PARTS"] = 8
+    command = shlex.join(make_words(scene, **settings)) + " $(printf work/parts/P%04d.wav $SLURM_ARRAY_TASK_ID)"
+    parts = scene.folder / "work" / "parts"
+    fifo = scene.folder / "fifo.adl"
+    os.mkfifo(fifo)
+    state = scene.folder / "slurm"
+    state.mkdir()
+    with slurm(state) as environment:
+        def batch(*words: str) -> str:
+            done = subprocess.run(
+                ["sbatch", "--parsable", "-o", "job.out", *words], cwd=scene.folder, env=environment, check=True,
+                capture_output=True, timeout=TIMEOUT)
+            return done.stdout.decode().strip()
+
+        def are_gone() -> bool:
+            return not subprocess.run(
+                ["squeue", "--noheader"], env=environment, capture_output=True, timeout=TIMEOUT).stdout
+
+        batch("--wait", "--array=1-3,5-8", "--wrap", command)
+        # The program waits for its list, which never comes, until its job is cancelled.
+        broken = batch("--wrap", f"exec {shlex.quote(str(scene.program))} render {fifo.name} {MEDIA} {OUT}")
+        wait_for("that the job runs", lambda: b" R " in subprocess.run(
+            ["squeue", "--noheader", "-j", broken], env=environment, capture_output=True, timeout=TIMEOUT).stdout)
+        subprocess.run(["scancel", broken], env=environment, check=True, capture_output=True, timeout=TIMEOUT)
+        wait_for("that no job is left", are_gone)
+        same("the parts", sorted(path.name for path in parts.iterdir()),
+             [f"P{number:04d}.wav" for number in (1, 2, 3, 5, 6, 7, 8)])
+        batch("--wait", "--array=4", "--wrap", command)
+    same("all parts", len(list(parts.iterdir())), 8)
+    before = {path.name: path.stat().st_mtime_ns for path in parts.iterdir()}
+    expect_joined(scene, text, media, settings)
+    same("the times of the parts", {path.name: path.stat().st_mtime_ns for path in parts.iterdir()}, before)
+
+
 def run(suite: Suite) -> None:
     for seed in range(FIRST_SEED, FIRST_SEED + PROJECTS):
         suite.case(f"random project {seed} in parts", joined(seed))
     suite.case("parts that are there already", begun_again)
     suite.case("parts that can't be made", refused)
+    suite.case("parts that GNU parallel makes", spread_by_parallel)
+    suite.case("parts that Slurm makes", spread_by_slurm)

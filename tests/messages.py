@@ -113,6 +113,31 @@ def gone_meanwhile(scene: Scene) -> None:
         scene.empty_out()
 
 
+def changed_source(scene: Scene) -> None:
+    """A source that is written to or taken away meanwhile is told before the line; the status stays."""
+    entries = [model.entry_line(1, 1, MIDNIGHT, MIDNIGHT, model.time_text(4)),
+               model.entry_line(2, 1, MIDNIGHT, model.time_text(400_000_000), model.time_text(400_000_004))]
+    scene.put(model.list_text([model.source_line(1, "A.wav", MIDNIGHT)], entries))
+    source, path = scene.folder / MEDIA / "A.wav", scene.folder / OUT / "render.wav"
+    told = b"the source A.wav changed while the command ran: run it again\n"
+    for meddle, wanted in (
+        (lambda: os.utime(source, (1, 1)), told), (lambda: source.write_bytes(wave()), told), (source.unlink, told),
+        (lambda: None, b""),
+    ):
+        source.write_bytes(wave())
+        with subprocess.Popen(
+                [scene.program, "render", LIST, MEDIA, OUT, "--depth", "16"], cwd=scene.folder,
+                stdout=subprocess.PIPE, stderr=subprocess.PIPE) as process:
+            end = time.monotonic() + TIMEOUT
+            while not path.exists() and time.monotonic() < end:
+                time.sleep(0.001)
+            meddle()
+            output, error = process.communicate(timeout=TIMEOUT)
+        line = b"rendered 400000004 frames 1 channels\n"
+        same("what is told of a source", Outcome(process.returncode, output, error), Outcome(0, line, wanted))
+        scene.empty_out()
+
+
 def current_folder(scene: Scene) -> None:
     """An empty name of the media is the current folder, which can be read."""
     scene.put(FIRST_LIST)
@@ -141,6 +166,7 @@ def words_that_fail(scene: Scene) -> None:
     same("a word in Latin-1", got, Outcome(2, b"", b"error: word 3 isn't UTF-8: M%E9dia\n"))
     for option, value, said in (
         ("--depth", "24bit", b"a depth is 16, 24 or 32"), ("--channels", "65", b"there are 1 to 64 channels"),
+        ("--order", "name", b"an order is time or source"),
     ):
         got = scene.run("render", LIST, MEDIA, OUT, option, value)
         same(f"status and standard output of {option}", (got.status, got.output), (2, b""))
@@ -274,4 +300,5 @@ def run(suite: Suite) -> None:
     suite.case("said without words", where_to_go_on)
     suite.case("what isn't honoured", passed_over)
     suite.case("much that isn't honoured", many_passed_over)
+    suite.case("a source that changed meanwhile", changed_source)
     suite.case("further lines at fault", further_lines)

@@ -22,7 +22,7 @@ use crate::also::tell_further;
 use crate::chosen::{BadTime, options_of, tell_bad_time};
 use crate::meter::Meter;
 use crate::refusal::put_fault;
-use crate::report::{tell_done, tell_meanings};
+use crate::report::{tell_changed, tell_done, tell_meanings};
 use adlread::rate_of;
 use clap::Error;
 use commandline::Request;
@@ -120,7 +120,9 @@ fn answer_check<S: Shelf + Reasons, O: Console, E: Console>(
         accepted_lines O.Console out.old out.new result }
     ensures statuses { result ≤ 1 }
 {
-    match check_project(alloc, list, shelf) {
+    let outcome = check_project(alloc, list, shelf);
+    tell_changed(alloc, shelf, err);
+    match outcome {
         Ok(accepted) => {
             let words = Counts {
                 before: "accepted ",
@@ -166,6 +168,7 @@ fn answer_render<S: Shelf + Reasons, B: Bench + Reasons, O: Console, E: Console,
 {
     let outcome = render(alloc, list, options, shelf, bench, meter);
     meter.clear();
+    tell_changed(alloc, shelf, err);
     match outcome {
         Ok(rendered) => {
             let words = Counts {
@@ -207,6 +210,7 @@ fn answer_consolidate<S: Shelf + Reasons, B: Bench + Reasons, O: Console, E: Con
 {
     let outcome = consolidate(alloc, list, handle, passes, shelf, bench, meter);
     meter.clear();
+    tell_changed(alloc, shelf, err);
     match outcome {
         Ok(written) => {
             let words = Counts {

@@ -4,8 +4,10 @@ ghost use Rattle.console.specs.Lines.{counts_text, notices_text};
 ghost use Rattle.console.specs.Printing.{Prints};
 
 use console::{Console, Counts, put_counts, put_notices};
-use explanations::{NOTICES, PassedWords};
+use explanations::{ChangedSources, NOTICES, PassedWords};
 use list_terms::Notice;
+use std::alloc::Global;
+use stores::Reasons;
 
 /// Prints the notices and the line of a command that is done.
 pub fn tell_done<C: Console>(
@@ -33,4 +35,11 @@ pub fn tell_meanings<E: Console>(notices: &[Notice], list: &[u8], err: &mut E) {
         }
     }
     err.print(PassedWords(list));
+}
+
+/// Tells which sources were changed or taken away since they were opened.
+pub fn tell_changed<S: Reasons, E: Console>(alloc: Global, shelf: &S, err: &mut E) {
+    if let Ok(names) = shelf.changed(alloc) {
+        err.print(ChangedSources(names.as_slice()));
+    }
 }

@@ -1,6 +1,7 @@
 //! What numbers mean, and what is told beside the lines of the output: texts of which no clause speaks.
 #![tactic(auto)]
 
+mod changed;
 mod column;
 mod explanation;
 mod hints;
@@ -11,6 +12,7 @@ mod passed_over;
 mod remedies;
 mod saved;
 
+pub use changed::ChangedSources;
 pub use explanation::{Explanation, Shown, further_meaning};
 pub use meanings::{Explained, NoSuchNumber, meanings_of};
 pub use notices::{ExplainedNotices, NOTICES, NoSuchNotice, NoticeMeaning, notice_meanings_of};

@@ -5,6 +5,7 @@ mod handle;
 mod name;
 mod open_files;
 mod sources;
+mod state;
 
 pub use bench::FolderBench;
 pub use open_files::Overwrite;

@@ -5,10 +5,12 @@ ghost use Rattle.stores.specs.Folder.{folder_named};
 ghost use Rattle.stores.specs.declared.folder.open_files.TheConstants.{OPEN_FILES};
 
 use super::handle::Handle;
-use super::name::require_file_name;
+use super::name::{is_file_name, require_file_name};
+use super::state::State;
 use lru::LruCache;
 use std::alloc::{AllocError, Global};
-use std::fs::{File, Files, OpenFile, OpenOptions};
+use std::collections::BTreeMap;
+use std::fs::{File, Files, Metadata, OpenFile, OpenOptions};
 use std::io::{Error, ErrorKind};
 use std::num::NonZeroUsize;
 use std::os::unix::fs::FileExt;
@@ -48,6 +50,8 @@ where
     folder: String,
     access: Access,
     handles: LruCache<String, Handle<R::File>>,
+    /// How each source was when it was first opened.
+    first_states: BTreeMap<String, State>,
     /// The open folder of outputs, for its syncs. It is a handle in reserve too, for the first output.
     open_folder: Option<R::File>,
     /// Files were created since the folder was synced.
@@ -77,6 +81,7 @@ where
             folder: String::from_str(alloc, folder)?,
             access,
             handles: LruCache::new(alloc, NonZeroUsize::new(OPEN_FILES).unwrap())?,
+            first_states: BTreeMap::new(alloc),
             open_folder,
             has_new_names: false,
             is_made: false,
@@ -269,8 +274,40 @@ where
         if !found.is_file() {
             return Err(Error::from(ErrorKind::InvalidInput));
         }
+        if !may_write {
+            self.note_state(name, &found)?;
+        }
         let file = self.open(File::options().read(true).write(may_write), &path)?;
         Ok(Some(Handle::new(file, found.len())))
+    }
+
+    /// Notes how a source is, where it wasn't opened before.
+    fn note_state(&mut self, name: &str, found: &Metadata) -> Result<(), AllocError> {
+        if !self.first_states.contains_key(name) {
+            let name = String::from_str(self.alloc, name)?;
+            self.first_states.insert(name, State::of(found))?;
+        }
+        Ok(())
+    }
+
+    /// The names of the sources that aren't as they were when they were first opened, or are gone; in their order.
+    pub fn changed(&self) -> Result<Vec<&str>, AllocError> {
+        let mut changed = Vec::new(self.alloc);
+        for (name, first) in &self.first_states {
+            if self.state_now(name) != Some(*first) {
+                changed.push(name.as_str())?;
+            }
+        }
+        Ok(changed)
+    }
+
+    /// How the file of this name is now; `None` where that can't be told.
+    fn state_now(&self, name: &str) -> Option<State> {
+        if !is_file_name(name) {
+            return None;
+        }
+        let found = fs::metadata(&self.files, &self.path_of(name).ok()?).ok()?;
+        Some(State::of(&found))
     }
 
     /// The path of the file of this name. It lies right inside the folder.

@@ -84,6 +84,10 @@ where
             has_file: true,
         })
     }
+
+    fn changed(&self, _: Global) -> Result<Vec<&str>, AllocError> {
+        self.files.changed()
+    }
 }
 
 impl<R: Files + Drop> Shelf for FolderShelf<R>

@@ -1,0 +1,127 @@
+"""Each system call on a file of a project fails once, and three times in a row: strace answers EIO in its place."""
+
+import re
+import shutil
+import subprocess
+from pathlib import Path
+from typing import NamedTuple
+
+import model
+from harness import LIST, MEDIA, OUT, Mismatch, Outcome, Scene, Skipped, Suite, same, same_files
+from tables import wave
+
+FRAMES = 9_000
+SOURCES = ("A.wav", "B.wav")
+TIMEOUT = 60
+# Calls that ask a device for something. `close` comes behind a sync, and `lseek` asks no device.
+CALLS = "openat,read,pread64,write,pwrite64,fstat,newfstatat,statx,fsync,fdatasync,ftruncate,fallocate,getdents64"
+REFUSED = re.compile(rb"refused (20|21|22|52|62|66)((?: at index \d+)?(?: at job \d+)?)(?: file ([^\n]*)| at file ([^\n]*))?\n")
+
+
+class Call(NamedTuple):
+    """The call of this number among those of this name, and the project's file that it is on."""
+
+    name: str
+    number: int
+    file: str
+
+
+def put_project(scene: Scene) -> None:
+    """Two sources, and three cuts with fades in three blocks."""
+    spans = ((1, 0, 5_000), (2, 4_000, 9_000), (1, 9_000, 10_000))
+    lines = [
+        model.entry_line(number, index, b"00.00.00.00/0000", model.time_text(start), model.time_text(end))
+        for number, (index, start, end) in enumerate(spans, 1)
+    ]
+    sources = [model.source_line(number, name, b"00.00.00.00/0000") for number, name in ((1, "A.wav"), (2, "B.wav"))]
+    samples = {name: [(place * step) % 20_000 - 10_000 for place in range(FRAMES)]
+               for name, step in (("A.wav", 7), ("B.wav", 11))}
+    scene.put(model.list_text(sources, lines), {name: wave(values) for name, values in samples.items()})
+
+
+def traced(scene: Scene, command: str, *options: str) -> Outcome:
+    """The command under strace, which writes its trace beside the list."""
+    words = ["strace", "-y", "-qq", "-o", scene.folder / "trace", "-e", f"trace={CALLS}", *options, scene.program]
+    done = subprocess.run(
+        [*words, command, LIST, MEDIA, OUT], cwd=scene.folder, capture_output=True, timeout=TIMEOUT)
+    return Outcome(done.returncode, done.stdout, done.stderr)
+
+
+def file_of(line: str, folder: Path) -> str:
+    """The project's file that a call is on, from the folder of the list on; nothing where it is on none."""
+    asked = line.rpartition(") = ")[0]
+    by_handle = re.search(rf"<{re.escape(str(folder))}/([^>]*)>", asked)
+    by_name = re.search(r'"([^"]*)"', asked) if line.startswith(("openat", "newfstatat", "statx")) else None
+    names = [found[1] for found in (by_handle, by_name) if found and found[1] not in ("", ".")]
+    return "" if any(name.startswith("/") for name in names) else "/".join(names)
+
+
+def calls_in(trace: str, folder: Path) -> list:
+    counts: dict = {}
+    calls = []
+    for line in trace.splitlines():
+        name = line.partition("(")[0]
+        counts[name] = counts.get(name, 0) + 1
+        file = file_of(line, folder)
+        if file.split("/")[0] in (LIST, MEDIA, OUT):
+            calls.append(Call(name, counts[name], file))
+    return calls
+
+
+def refusals_of(call: Call) -> set:
+    """The numbers and names of the refusals that may come where a call fails."""
+    folder, _, file = call.file.partition("/")
+    if folder == LIST:
+        return {(21, LIST)}
+    if folder == MEDIA:
+        # 52 names its file on standard error alone
+        return {(52, ""), *((number, name) for name in ([file] if file else SOURCES) for number in (21, 22))}
+    return {(62, file)} if file else {(20, OUT), (62, "render.wav"), (62, "M00001.wav"), (62, "consolidated.adl")}
+
+
+def check_failed(got: Outcome, failed: list, times: int, written: dict, whole: tuple) -> None:
+    """It is done all the same, with the same files, or refused for this file, with no list beside unfinished media."""
+    if got.status == 0:
+        same("what is printed", got.output, whole[0])
+        same_files(written, whole[1])
+        return
+    told = REFUSED.fullmatch(got.output)
+    if got.status != 1 or not told:
+        raise Mismatch(f"status {got.status}, {got.output!r} and {got.error!r}")
+    number, name = int(told[1]), (told[3] or told[4] or b"").decode()
+    wanted = set().union(*map(refusals_of, failed), {(66, "")} if times == 3 else set())
+    if (number, name) not in wanted:
+        raise Mismatch(f"refused {number} for {name!r}, where one of {sorted(wanted)} was expected")
+    if number in (20, 21, 52):
+        same("what stands in the output", sorted(written), [])
+    if name != "consolidated.adl":
+        same("whether a list is there", "consolidated.adl" in written, False)
+
+
+def each_call(command: str, times: int):
+    def body(scene: Scene) -> None:
+        if not shutil.which("strace"):
+            raise Skipped("strace isn't installed (Debian package strace)")
+        put_project(scene)
+        done = traced(scene, command)
+        same("the status of the unbroken command", done.status, 0)
+        whole = (done.output, scene.files())
+        calls = calls_in((scene.folder / "trace").read_text(), scene.folder)
+        if len(calls) < 20:
+            raise Mismatch(f"only {len(calls)} calls on files of the project: {calls}")
+        for call in calls:
+            scene.empty_out()
+            last = call.number + times - 1
+            got = traced(scene, command, "-e", f"inject={call.name}:error=EIO:when={call.number}..{last}")
+            failed = [other for other in calls if other.name == call.name and call.number <= other.number <= last]
+            try:
+                check_failed(got, failed, times, scene.files(), whole)
+            except Mismatch as fault:
+                raise Mismatch(f"{call.name} {call.number} on {call.file} failed: {fault}") from fault
+    return body
+
+
+def run(suite: Suite) -> None:
+    for command in model.WRITING:
+        suite.case(f"each call of {command} fails once", each_call(command, 1))
+        suite.case(f"each call of {command} fails three times in a row", each_call(command, 3))

@@ -1,0 +1,100 @@
+"""The Debian package that sh package makes: its bytes, what lintian says of it, and the program as it is unpacked."""
+
+import os
+import shutil
+import subprocess
+import sys
+from pathlib import Path
+
+from harness import Scene, Skipped, Suite, same, same_bytes
+
+TOP = Path(__file__).resolve().parent.parent
+TIMEOUT = 120
+# What a distribution asks of its own packages, and not of this one.
+FOREIGN = ("initial-upload-closes-no-bugs", "bad-distribution-in-changes-file", "maintainer-also-in-uploaders")
+
+
+def need(*programs: str) -> None:
+    for program in programs:
+        if not shutil.which(program):
+            raise Skipped(f"{program} isn't installed")
+
+
+def packed(scene: Scene, folder: str, **environment: str) -> Path:
+    """The package that is made in a folder of the scene."""
+    need("dpkg-deb", "strip")
+    into = scene.folder / folder
+    into.mkdir()
+    done = subprocess.run(
+        ["sh", TOP / "package", into], env={**os.environ, "ADLCONS": str(scene.program), **environment}, check=True,
+        capture_output=True, timeout=TIMEOUT)
+    package = Path(done.stdout.decode().strip())
+    same("the files that are made", list(into.iterdir()), [package])
+    return package
+
+
+def unpacked(scene: Scene) -> Path:
+    tree = scene.folder / "tree"
+    subprocess.run(["dpkg-deb", "-x", packed(scene, "made"), tree], check=True, timeout=TIMEOUT)
+    return tree
+
+
+def same_twice(scene: Scene) -> None:
+    """Made twice, in other folders and with another mask of modes, it is the same bytes."""
+    first = packed(scene, "first")
+    mask = os.umask(0o077)
+    try:
+        second = packed(scene, "second", TMPDIR=str(scene.folder), TZ="Asia/Tokyo", LC_ALL="C")
+    finally:
+        os.umask(mask)
+    same("its name", second.name, first.name)
+    same_bytes("the package", second.read_bytes(), first.read_bytes())
+
+
+def without_errors(scene: Scene) -> None:
+    need("lintian")
+    done = subprocess.run(
+        ["lintian", "--allow-root", "--fail-on", "error", "--suppress-tags", ",".join(FOREIGN), packed(scene, "made")],
+        capture_output=True, timeout=TIMEOUT)
+    same("what lintian says", (done.returncode, [line for line in done.stdout.decode().splitlines() if line[:2] == "E:"]),
+         (0, []))
+
+
+def shows_example(scene: Scene) -> None:
+    """The program of the unpacked tree, which knows nothing of the kit, renders the dialogue as its page says."""
+    program = unpacked(scene) / "usr/bin/adlcons"
+    examples = scene.folder / "examples"
+    shutil.copytree(TOP / "examples", examples, ignore=shutil.ignore_patterns("media"))
+    subprocess.run([sys.executable, examples / "make_media"], check=True, timeout=TIMEOUT)
+    (examples / "sound").mkdir()
+    done = subprocess.run(
+        [program, "render", "dialogue/dialogue.adl", "dialogue/media", "sound"], cwd=examples, env={},
+        capture_output=True, timeout=TIMEOUT)
+    same("what it prints", (done.returncode, done.stdout), (0, b"rendered 115200 frames 2 channels\n"))
+    same("its size", (examples / "sound/render.wav").stat().st_size, 691890)
+
+
+def pages_and_words(scene: Scene) -> None:
+    """The manual page and the completion are there, where the system looks for them."""
+    need("man", "gzip")
+    tree = unpacked(scene)
+    done = subprocess.run(
+        ["man", "--warnings", "-l", tree / "usr/share/man/man1/adlcons.1.gz"], capture_output=True, timeout=TIMEOUT)
+    same("what man warns of", (done.returncode, done.stderr), (0, b""))
+    same_bytes("the completion", (tree / "usr/share/bash-completion/completions/adlcons").read_bytes(),
+               (TOP / "share/adlcons.bash").read_bytes())
+
+
+def tells_its_version(scene: Scene) -> None:
+    package = packed(scene, "made")
+    field = subprocess.run(
+        ["dpkg-deb", "-f", package, "Version"], check=True, capture_output=True, timeout=TIMEOUT).stdout.decode()
+    same("its version", f"adlcons {field}", scene.run("--version").output.decode())
+
+
+def run(suite: Suite) -> None:
+    suite.case("made twice, a package is the same bytes", same_twice)
+    suite.case("lintian finds no error", without_errors)
+    suite.case("the unpacked program shows an example", shows_example)
+    suite.case("the unpacked page and completion", pages_and_words)
+    suite.case("a package tells the program's version", tells_its_version)
