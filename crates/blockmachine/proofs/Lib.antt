@@ -7,4 +7,5 @@ pub mod Full
 pub mod Lanes
 pub mod Played
 pub mod Ran
+pub mod Slopes
 pub mod Filled

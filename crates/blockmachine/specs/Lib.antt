@@ -1,4 +1,5 @@
 pub mod Alone
 pub mod Fault
 pub mod Playing
+pub mod Slopes
 pub mod Sums

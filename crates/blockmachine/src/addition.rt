@@ -9,9 +9,9 @@ ghost use Rattle.pcm.specs.Samples.{FitsDepth};
 ghost use Rattle.blockmachine.specs.Sums.{HasAdded, HasAddedTo, HasGrown, HasPlayed, IsWithin};
 
 use crate::frames::Played;
-use crate::slope::{Fade, Slope};
+use crate::slope::Slope;
 use sound_terms::{Depth, Shape};
-use soundlaw::widen;
+use soundlaw::{Gain, widen};
 use std::simd::prelude::*;
 
 /// A sum and a share more. What is small can't leave 64 bits.
@@ -94,33 +94,33 @@ fn add_flat(samples: &[i32], depth: Depth, is_small: bool, sums: &mut [i64])
 
 /// Adds the shares of samples to as many sums.
 #[inline(always)]
-fn add_shares(fade: Fade, samples: &[i32], depth: Depth, is_small: bool, sums: &mut [i64])
+fn add_shares(gain: Gain, samples: &[i32], depth: Depth, is_small: bool, sums: &mut [i64])
     requires each { length samples.now ≡ length sums.old }
     requires fit { All (FitsDepth (bits_of depth)) samples.now }
     requires small { IsTrue is_small → All (IsWithin 32766) sums.old }
-    ensures added { HasAdded (fade.num, fade.den) (bits_of depth) samples.now sums.old sums.new }
+    ensures added { HasAdded (gain.num, gain.den) (bits_of depth) samples.now sums.old sums.new }
     ensures grown { HasGrown sums.old sums.new }
 {
     for (i, sum) in sums.iter_mut().enumerate() {
         let sample = full_sample(samples, i, depth);
-        let share = fade.share(sample);
+        let share = gain.share(sample);
         *sum = added(*sum, share, is_small);
     }
 }
 
 /// Adds the shares of the samples of a frame.
 #[inline(always)]
-fn add_row(fade: Fade, samples: &[i32], depth: Depth, is_small: bool, sums: &mut [i64])
+fn add_row(gain: Gain, samples: &[i32], depth: Depth, is_small: bool, sums: &mut [i64])
     requires each { length samples.now ≡ length sums.old }
     requires fit { All (FitsDepth (bits_of depth)) samples.now }
     requires small { IsTrue is_small → All (IsWithin 32766) sums.old }
-    ensures added { HasAdded (fade.num, fade.den) (bits_of depth) samples.now sums.old sums.new }
+    ensures added { HasAdded (gain.num, gain.den) (bits_of depth) samples.now sums.old sums.new }
     ensures grown { HasGrown sums.old sums.new }
 {
-    if fade.num == 1 && fade.den == 1 {
+    if gain.num == 1 && gain.den == 1 {
         add_flat(samples, depth, is_small, sums)
     } else {
-        add_shares(fade, samples, depth, is_small, sums)
+        add_shares(gain, samples, depth, is_small, sums)
     }
 }
 
@@ -145,18 +145,14 @@ fn add_rows(
         (record { channels = channels; values = sums.new }) }
 {
     let stretch = played.stretch;
-    let slope = Slope::of(played.shape);
+    let mut slope = Slope::of(played.shape);
     for i in 0..stretch.length {
         let from = i as usize * played.frames.channels + (stretch.first as usize - 1);
         let to = (stretch.at as usize + i as usize) * channels + (stretch.dest as usize - 1);
         let samples = &played.frames.samples[from..from + width];
-        add_row(
-            slope.at(i),
-            samples,
-            depth,
-            is_small,
-            &mut sums[to..to + width],
-        );
+        let gain = slope.gain();
+        add_row(gain, samples, depth, is_small, &mut sums[to..to + width]);
+        slope = slope.next();
     }
 }
 

@@ -1,3 +1,4 @@
 pub mod Shares
 pub mod Crossfade
-pub mod Guesses
+pub mod Floors
+pub mod Parts

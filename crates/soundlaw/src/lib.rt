@@ -8,7 +8,12 @@ ghost use Rattle.sound_terms.specs.Mix.{full_scale, quantized, share_of};
 ghost use Rattle.pcm.specs.Samples.{FitsDepth};
 ghost use Rattle.soundlaw.specs.Crossfade.{IsCrossfadeExact};
 
+mod gain;
+mod rise;
+
+pub use gain::Gain;
 use pcm::Depth;
+pub use rise::Rise;
 
 /// A sample of this depth at full scale: from -2^47 to 2^47.
 pub fn widen(x: i32, depth: Depth) -> i64
@@ -68,33 +73,6 @@ pub fn contribution(v: i64, num: u64, den: u64) -> i64
     } else {
         negated(share, is_exact)
     }
-}
-
-/// The same share, whatever the guess, and soon where the guess is right: no division is needed then.
-pub fn contribution_near(v: i64, num: u64, den: u64, guess: i64) -> i64
-    requires low { neg_ℤ (pos (2 ^ 47)) ≤ℤ v }
-    requires high { v ≤ℤ pos (2 ^ 47) }
-    requires fraction { num ≤ den }
-    requires some { 0 < den }
-    requires in_day { den ≤ day }
-    ensures share { result ≡ share_of v (num, den) }
-    ensures within { (neg_ℤ (pos (2 ^ 47)) ≤ℤ result) × (result ≤ℤ pos (2 ^ 47)) }
-{
-    let rest = product(v, num as u32) - product(guess, den as u32);
-    if 0 <= rest && rest < i128::from(den as u32) {
-        guess
-    } else {
-        contribution(v, num, den)
-    }
-}
-
-/// A product that is exact.
-#[inline(always)]
-fn product(value: i64, factor: u32) -> i128
-    ensures is { result ≡ value *ℤ pos factor }
-    ensures within { (neg_ℤ (pos (2 ^ 95)) ≤ℤ result) × (result ≤ℤ pos (2 ^ 95)) }
-{
-    i128::from(value) * i128::from(factor)
 }
 
 /// A sum of samples at full scale as a sample of this depth: rounded to the nearest, halves up, and clipped to the

@@ -1,12 +1,12 @@
-use Rattle.std.proofs.Common.{◌≡◌, ◌<◌, ◌≤◌, ℕ, ◌+◌, ◌-◌, ◌*◌, inl, inr, drop, length, take, arith, refl, sym, ap, ◌∙◌, subst, length-take, length-drop}
+use Rattle.std.proofs.Common.{◌≡◌, ◌<◌, ◌≤◌, ℕ, ◌+◌, ◌-◌, ◌*◌, inl, inr, drop, length, take, arith, refl, sym, ap, ◌∙◌, subst, rules, length-take, length-drop}
 use Rattle.std.specs.Prelude.{ℤ, pos}
-use Rattle.sound_terms.specs.declared.piece.Shape.{Shape}
 use Rattle.sound_terms.specs.Depth.{bits_of}
-use Rattle.sound_terms.specs.Groups.{IsRamp, fraction_of}
+use Rattle.sound_terms.specs.Groups.{fraction_of}
 use Rattle.sound_terms.specs.Blocks.{sums_with}
 use Rattle.blockmachine.specs.Sums.{AreSums, IsWithin}
 use Rattle.blockmachine.proofs.Added.{IsRun, no_sample, run_fits, run_more, ramp_shorter}
 use Rattle.blockmachine.proofs.Bounds.{part_grown, within_more}
+use Rattle.blockmachine.proofs.Slopes.{slope_fraction, slope_less, slope_next, slope_room}
 use Rattle.blockmachine.proofs.Places.{get_or-part, kept_elsewhere}
 use Rattle.facts.specs.Parts.{length-put_mid}
 use Rattle.blockmachine.proofs.addition.add_rows.Goals as goal
@@ -35,14 +35,20 @@ loop-i-preserved c =
     let fit : a + k ≤ length old =
     omega (arith, run_fits stretch source channels i 1 k inside piece short, room) in
     let whole : length new ≡ k = c.add_row.auto.sums ∙ omega (arith, length-take {A = ℤ}, length-drop {A = ℤ}, fit) in
-    let fade = c.at.result in
-    let fraction : fraction_of played.shape i ≡ (fade.num, fade.den) =
-    sym (c.at.ensures ∙ ap (λ (s : Shape). fraction_of s i) c.of-slope.ensures) in
+    let slope = c.loop-i.slope in
+    let rise = slope.rise in
+    let next = c.next-slope.ensures in
+    let gain = c.gain-gain.result in
+    let fraction : fraction_of played.shape i ≡ (gain.num, gain.den) =
+    sym (c.gain-gain.ensures
+    ∙ slope_fraction played.shape i slope.falls rise.num rise.den rise.by c.loop-i.invariant.slope) in
     record {
+      slope = slope_next played.shape i slope.falls _ rise.num rise.den rise.by _ _ _ c.loop-i.invariant.slope
+          next.falls next.num next.den next.by;
       same_length = length-put_mid a k old new fit whole ∙ same;
       played = λ reading plays before are.
           run_more reading stretch played.shape before source channels (bits_of c.args.depth)
-          played.frames.samples.now inside played.source plays i 1 k (fade.num, fade.den) samples old new piece short
+          played.frames.samples.now inside played.source plays i 1 k (gain.num, gain.den) samples old new piece short
           room whole (λ n below. get_or-part f m n played.frames.samples.now (pos 0) (omega (arith, wide, below)))
           (λ j low high. let here : j ≡ i = omega arith in
           ap (λ n. fraction_of played.shape n) here ∙ fraction)
@@ -64,6 +70,7 @@ loop-i-preserved c =
 
 pub loop-i-init : goal.loop-i-init
 loop-i-init c = record {
+  slope = c.of-slope.ensures;
   same_length = refl;
   played = λ reading plays before are i channel near low high.
       are i channel near low high
@@ -72,11 +79,26 @@ loop-i-init c = record {
   grown = λ m small i d below. within_more m (m + 1) _ (omega arith) (small i d below);
 }
 
-pub at-requires : goal.at-requires
-at-requires c =
+pub of-slope-requires : goal.of-slope-requires
+of-slope-requires c =
     let played = c.args.played.now in
-    subst (λ (s : Shape). IsRamp s (c.loop-i.i + 1)) (sym c.of-slope.ensures)
-    (ramp_shorter played.shape played.stretch.length (c.loop-i.i + 1) (omega arith) played.ramp)
+    ramp_shorter played.shape played.stretch.length 1 c.requires.inside.some played.ramp
+
+pub gain-gain-requires : goal.gain-gain-requires
+gain-gain-requires c =
+    let played = c.args.played.now in
+    let i = c.loop-i.i in
+    let rise = c.loop-i.slope.rise in
+    slope_less played.shape i c.loop-i.slope.falls rise.num rise.den rise.by c.loop-i.invariant.slope
+    (ramp_shorter played.shape played.stretch.length (i + 1) (omega arith) played.ramp)
+
+pub next-slope-requires : goal.next-slope-requires
+next-slope-requires c =
+    let played = c.args.played.now in
+    let i = c.loop-i.i in
+    let rise = c.loop-i.slope.rise in
+    slope_room played.shape i c.loop-i.slope.falls rise.num rise.den rise.by c.loop-i.invariant.slope
+    (ramp_shorter played.shape played.stretch.length (i + 1) (omega arith) played.ramp)
 
 pub add_row-requires-clause-small : goal.add_row-requires-clause-small
 add_row-requires-clause-small c = λ yes j d below.
@@ -100,6 +122,20 @@ add_row-requires-clause-small c = λ yes j d below.
     let near : j < k = omega (arith, below, length-take k (drop a old)) in
     subst (IsWithin 32766) (sym (get_or-part a k j old d near ∙ c.loop-i.invariant.behind (a + j) d (omega arith)))
     (c.requires.small yes (a + j) d (omega (arith, same, fit, near)))
+
+pub slice_bounds-add_row-end : goal.slice_bounds-add_row-end
+slice_bounds-add_row-end c =
+    let stretch = c.args.played.now.stretch in
+    let channels = c.args.channels in
+    let inside = c.requires.inside in
+    let a = (stretch.at + c.loop-i.i) * channels + (stretch.dest - 1) in
+    let piece : IsRun 1 stretch.width c.args.played.now.frames.channels channels c.args.width =
+    inl (refl, c.requires.width) in
+    let fits = run_fits stretch c.args.played.now.frames.channels channels c.loop-i.i 1 c.args.width inside piece
+    (omega arith) in
+    let fit : a + c.args.width ≤ length c.loop-i.sums =
+    omega (arith, fits, c.loop-i.invariant.same_length, c.requires.room) in
+    search (rules, fit)
 
 pub returns-clause-played : goal.returns-clause-played
 returns-clause-played c = λ reading plays before are.

@@ -4,11 +4,13 @@ use Rattle.sound_terms.specs.Depth.{bits_of}
 use Rattle.sound_terms.specs.Mix.{Reading}
 use Rattle.sound_terms.specs.Blocks.{sums_with}
 use Rattle.blockmachine.specs.Playing.{Plays}
+use Rattle.blockmachine.specs.Slopes.{IsAt}
 use Rattle.blockmachine.specs.Sums.{AreSums, HasGrown}
 use Rattle.blockmachine.proofs.addition.add_rows.Given as goal
 
 abbrev pub invariant-loop-i : goal.invariant-loop-i
 invariant-loop-i l = record {
+  slope : IsAt l.played.shape l.i l.slope.falls l.slope.rise.num l.slope.rise.den l.slope.rise.by;
   same_length : length l.sums ≡ length l.fn.sums;
   played : (reading : Reading)
       → Plays reading l.played.stretch l.played.frames.channels (bits_of l.depth) l.played.frames.samples.now

@@ -1,29 +1,13 @@
--- A guess of a share that leaves less than the denominator.
-use Rattle.std.proofs.Common.{◌≡◌, ◌≢◌, ℕ, suc, ◌*◌, ◌/◌, ◌%◌, ◌^◌, ◌<◌, ◌≤◌, Bool, true, false, refl, ap, ◌∙◌, arith}
+-- Quotients that are rounded down, by what they leave.
+use Rattle.std.proofs.Common.{◌≡◌, ◌≢◌, ℕ, suc, ◌*◌, ◌/◌, ◌%◌, ◌<◌, ◌≤◌, Bool, true, false, refl, ap, ◌∙◌, arith}
 use Rattle.std.specs.Prelude.{ℤ, pos, negsuc, neg_ℤ, ◌+ℤ◌, ◌-ℤ◌, ◌*ℤ◌, ◌≤ℤ◌, ◌<ℤ◌, ◌==◌}
 use Rattle.std.specs.Int.{int_div_euclid}
 use Rattle.std.proofs.lemmas.Bool.{eq-eqb}
 use Rattle.std.proofs.lemmas.Int.{ints}
-use Rattle.std.proofs.Math.Nat.{div-le_of_le-mul, mul-le-mul, mul-le-mul_left}
-use Rattle.std.proofs.Math.IntN.{negsuc-*ℤ-pos, pos-*ℤ-pos}
-use mir.Syntax.{w64}
-use mir.Val.{SFits}
+use Rattle.std.proofs.Math.Nat.{div-le_of_le-mul, mul-le-mul_left}
 use Rattle.sound_terms.specs.Mix.{share_of}
 use Rattle.soundlaw.proofs.Crossfade.{floor_whole}
 use Rattle.soundlaw.proofs.Shares.{rounded_is_smaller, share_down, share_up}
-
-pub product_within : (v : ℤ) (n : ℕ) → SFits w64 v → n < 2 ^ 32
-    → (neg_ℤ (pos (2 ^ 95)) ≤ℤ (v *ℤ pos n)) × ((v *ℤ pos n) ≤ℤ pos (2 ^ 95))
-product_within (pos m) n fits small =
-    let wide : m ≤ 2 ^ 63 = omega (arith, ints, fits) in
-    let few : n ≤ 2 ^ 32 = omega arith in
-    let most : m * n ≤ 2 ^ 63 * 2 ^ 32 = mul-le-mul wide few in
-    rw (pos-*ℤ-pos m n) (omega (arith, ints, most), omega (arith, ints, most))
-product_within (negsuc m) n fits small =
-    let wide : suc m ≤ 2 ^ 63 = omega (arith, ints, fits) in
-    let few : n ≤ 2 ^ 32 = omega arith in
-    let most : suc m * n ≤ 2 ^ 63 * 2 ^ 32 = mul-le-mul wide few in
-    rw (negsuc-*ℤ-pos m n) (omega (arith, ints, most), omega (arith, ints, most))
 
 -- what is left of a product by a floor, and no less, is from 0 up to the divisor
 pub floor_by : (z q r : ℤ) (den : ℕ) → r ≡ z -ℤ (q *ℤ pos den) → pos 0 ≤ℤ r → r <ℤ pos den

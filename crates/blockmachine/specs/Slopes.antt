@@ -1,0 +1,15 @@
+-- The fractions of a shape, by what rises with each frame.
+use Rattle.std.specs.Prelude.{◌≡◌, ℕ, ◌+◌, ◌-◌, Bool, true, false}
+use Rattle.sound_terms.specs.declared.piece.Shape.{Shape}
+use Rattle.sound_terms.specs.declared.piece.Shape.TheVariants.{Flat, Rise, Fall}
+
+-- the fraction that rises, or what it leaves of one
+abbrev pub fraction_at : (falls : Bool) → (num den : ℕ) → ℕ × ℕ
+fraction_at true num den = (den - num, den)
+fraction_at false num den = (num, den)
+
+-- at frame i of a shape it is this fraction, and grows by so much
+abbrev pub IsAt : Shape → ℕ → (falls : Bool) → (num den by : ℕ) → Type 0
+IsAt Flat i falls num den by = (falls ≡ false) × (num ≡ 1) × (den ≡ 1) × (by ≡ 0)
+IsAt (Rise offset whole) i falls num den by = (falls ≡ false) × (num ≡ offset + i) × (den ≡ whole) × (by ≡ 1)
+IsAt (Fall offset whole) i falls num den by = (falls ≡ true) × (num ≡ offset + i) × (den ≡ whole) × (by ≡ 1)
