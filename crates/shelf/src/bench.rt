@@ -104,6 +104,9 @@ pub trait Bench {
     ghost counts_now: { (bench : Self) (t : ℕ) (c : Files) → t ≤ moment bench → may_leave bench c
         → left_since bench t c };
 
+    /// What is read is one of the outcomes.
+    ghost reads_now: { (bench : Self) → IsTrue (honest bench) → may_leave bench (stored bench) };
+
     /// Since this moment there is no other.
     ghost only_now: { (bench : Self) (c : Files) → left_since bench (moment bench) c → may_leave bench c };
 

@@ -1,2 +1,5 @@
+pub mod Changed
+pub mod Copied
 pub mod Named
 pub mod Padded
+pub mod Replayed

@@ -1,5 +1,5 @@
 -- Stores in a folder as their callers see them.
-use Rattle.std.specs.Prelude.{ℕ, List, [], ◌∷◌, codes}
+use Rattle.std.specs.Prelude.{◌≡◌, ℕ, Bool, true, false, List, [], ◌∷◌, codes}
 use Rattle.stores.specs.declared.folder.open_files.Access.{Access}
 use Rattle.stores.specs.declared.folder.open_files.Access.TheVariants.{Read, Write}
 use Rattle.stores.specs.declared.folder.open_files.Overwrite.{Overwrite}
@@ -25,3 +25,7 @@ folder_named (first ∷ rest) = first ∷ rest
 abbrev pub overwrite_of : Access → Overwrite
 overwrite_of Read = Never
 overwrite_of (Write overwrite) = overwrite
+
+-- a store in a folder isn't honest
+pub not_honest : false ≡ true → ⊥
+not_honest e = cc

@@ -1,15 +1,11 @@
 -- Stores in memory as their callers see them.
-use Rattle.std.specs.Prelude.{◌≡◌, ℕ, ◌+◌, ◌-◌, ◌<◌, ◌⊎◌, Bool, ◌&&◌, ◌==◌, nat_lt, if◌then◌else◌, Option, Some, None, List, option_map}
-use Rattle.std.specs.BTreeMap.{get_by_text}
-use Rattle.work_terms.specs.Disk.{Files, end_of}
+use Rattle.std.specs.Prelude.{ℕ, ◌-◌, Bool, ◌&&◌, ◌==◌, nat_lt, if◌then◌else◌}
+use Rattle.work_terms.specs.Disk.{Files}
 use Rattle.stores.specs.declared.memory.device.Device.{Device}
-use Rattle.stores.specs.declared.memory.files.NamedFiles.{NamedFiles}
 use Rattle.stores.specs.declared.memory.sources.MemoryShelf.{MemoryShelf}
 use Rattle.stores.specs.declared.memory.bench.MemoryBench.{MemoryBench}
-
--- the bytes of each file
-abbrev pub files_of : NamedFiles → Files
-files_of named name = option_map (λ bytes. bytes.items) (get_by_text named.files name)
+use Rattle.stores.specs.Files.{files_of}
+use Rattle.stores.specs.History.{History, history_by, read_of}
 
 -- how many calls go on as before, and how many behind those fail
 abbrev pub stretch_of : Device → ℕ × ℕ
@@ -35,9 +31,13 @@ shelf_failures shelf = shelf.device.failures
 abbrev pub shelf_stretch : MemoryShelf → ℕ × ℕ
 shelf_stretch shelf = stretch_of shelf.device
 
+-- the calls of a bench
+abbrev pub bench_history : MemoryBench → History
+bench_history bench = history_by (files_of bench.record.start) bench.record.calls.items
+
 -- the bytes of each file of a bench
 abbrev pub bench_files : MemoryBench → Files
-bench_files bench = files_of bench.files
+bench_files bench = read_of (bench_history bench)
 
 -- how often a bench has failed
 abbrev pub bench_failures : MemoryBench → ℕ
@@ -47,10 +47,6 @@ bench_failures bench = bench.device.failures
 abbrev pub bench_stretch : MemoryBench → ℕ × ℕ
 bench_stretch bench = stretch_of bench.device
 
--- a range of n bytes from `at` on doesn't lie inside the file
-abbrev pub IsOutside : Option (List ℕ) → ℕ → ℕ → Type 0
-IsOutside file at n = (file ≡ None) ⊎ (end_of file < at + n)
-
--- the file has these bytes now
-abbrev pub IsPut : List ℕ → Option (List ℕ) → Option (List ℕ) → Type 0
-IsPut bytes old new = new ≡ Some bytes
+-- how many bytes the first call that fails writes
+abbrev pub bench_part : MemoryBench → ℕ
+bench_part bench = bench.part

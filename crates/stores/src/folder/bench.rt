@@ -1,6 +1,6 @@
 // Outputs in a folder.
 ghost use Rattle.std.specs.Prelude.{◌≡◌, false, None, IfOk, ⊤};
-ghost use Rattle.stores.specs.Folder.{folder_named};
+ghost use Rattle.stores.specs.Folder.{folder_named, not_honest};
 
 use super::failures::Failures;
 use super::open_files::{Access, OpenFiles, Overwrite};
@@ -102,6 +102,8 @@ where
     ghost left_since = { λ _ _ _. ⊥ };
 
     ghost counts_now = { λ _ _ _ _ left. left };
+
+    ghost reads_now = { λ _ honest. not_honest honest };
 
     ghost only_now = { λ _ _ left. left };
 

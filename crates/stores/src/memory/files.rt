@@ -1,8 +1,10 @@
 // Files by name, each with its bytes.
-ghost use Rattle.std.specs.Prelude.{◌≡◌, ◌+◌, ◌<◌, ◌++◌, take, drop, ℕ, None, List, length, OnOk, OnErr, IfSome, IfNone, ◌≤◌, option_copied, option_map};
-ghost use Rattle.work_terms.specs.Disk.{Changes, IsRange, IsWritten, IsAppended};
-ghost use Rattle.stores.specs.Memory.{IsPut, IsOutside, files_of};
+ghost use Rattle.std.specs.Prelude.{◌≡◌, ◌+◌, ◌<◌, ℕ, false, IsTrue, None, List, length, IfOk, OnOk, OnErr, IfSome, IfNone, IsSomeAnd, ◌≤◌, option_copied, option_map, string_bytes};
+ghost use Rattle.work_terms.specs.Disk.{Changes, IsRange};
+ghost use Rattle.stores.specs.Files.{IsMade, IsOutside, IsPut, files_of};
+ghost use Rattle.stores.specs.History.{done, has_place, left_of, note_of, or_else, placed, spoilt_by, with_bytes};
 
+use super::call::{Call, Kind};
 use shelf::DeviceFault;
 use std::alloc::{AllocError, Global};
 use std::collections::BTreeMap;
@@ -48,28 +50,130 @@ impl NamedFiles {
         Ok(())
     }
 
-    /// Adds the bytes at the end of the file. It fails where there is no file, or no memory.
-    pub fn append(&mut self, name: &str, bytes: &[u8]) -> Result<(), DeviceFault>
-        ensures appended { OnOk result (Changes (IsAppended bytes.now) name.now (files_of self.old)
-            (files_of self.new)) }
-        ensures unchanged { OnErr result ((n : List ℕ) → files_of self.new n ≡ files_of self.old n) }
+    /// Whether so many bytes from `at` on lie inside a file that is there.
+    pub fn has_range(&self, name: &str, at: u64, count: usize) -> bool
+        ensures { IsTrue result → IsSomeAnd (files_of self.now name.now) (λ file. at + count ≤ length file) }
     {
-        let file = self.files.get_mut(name).ok_or(DeviceFault)?;
-        file.extend_from_slice(bytes).map_err(|_| DeviceFault)?;
-        Ok(())
+        match self.get(name) {
+            None => false,
+            Some(file) => place_of(at, count, file.len()).is_some(),
+        }
     }
 
-    /// Writes the bytes over those from `at` on. It fails where they don't lie inside a file.
-    pub fn write_at(&mut self, name: &str, at: u64, bytes: &[u8]) -> Result<(), DeviceFault>
-        ensures written { OnOk result (Changes (IsWritten at bytes.now) name.now (files_of self.old)
-            (files_of self.new)) }
+    /// Writes the bytes, of `count` that were to be written, at their place, where a file is there that has one.
+    pub fn place(
+        &mut self,
+        name: &str,
+        kind: Kind,
+        at: u64,
+        count: usize,
+        bytes: &[u8],
+    ) -> Result<(), AllocError>
+        requires { length bytes.now ≤ count }
+        ensures placed { OnOk result (Changes (IsMade (option_map (with_bytes kind at count bytes.now))) name.now
+            (files_of self.old) (files_of self.new)) }
         ensures unchanged { OnErr result ((n : List ℕ) → files_of self.new n ≡ files_of self.old n) }
-        ensures outside { OnErr result (IsOutside (files_of self.old name.now) at (length bytes.now)) }
     {
-        let file = self.files.get_mut(name).ok_or(DeviceFault)?;
-        let at = place_of(at, bytes.len(), file.len()).ok_or(DeviceFault)?;
-        write_over(file, at, bytes);
-        Ok(())
+        let Some(file) = self.files.get_mut(name) else {
+            return Ok(());
+        };
+        match place_in(file, kind, at, count, bytes) {
+            Ok(()) => return Ok(()),
+            Err(fault) => return Err(fault),
+        }
+    }
+
+    /// Does what a call did.
+    pub fn apply(&mut self, call: &Call) -> Result<(), AllocError>
+        ensures done { OnOk result (Changes (IsMade (done (note_of call.now))) (string_bytes call.now.name)
+            (files_of self.old) (files_of self.new)) }
+        ensures unchanged { OnErr result ((n : List ℕ) → files_of self.new n ≡ files_of self.old n) }
+    {
+        let name = call.name.as_str();
+        match call.kind {
+            Kind::Create => if call.part == 0 {
+                Ok(())
+            } else {
+                self.put(name, &[])
+            },
+            Kind::Append => self.place(
+                name,
+                Kind::Append,
+                call.at,
+                call.bytes.len(),
+                call.written(),
+            ),
+            Kind::Write => self.place(name, Kind::Write, call.at, call.bytes.len(), call.written()),
+            Kind::Sync => Ok(()),
+        }
+    }
+
+    /// Does what a crash leaves of a call, where the files were read as `read` before it.
+    pub fn lose(
+        &mut self,
+        read: &NamedFiles,
+        call: &Call,
+        kept: u64,
+        fill: u8,
+    ) -> Result<(), AllocError>
+        ensures left { OnOk result (Changes (IsMade (left_of kept fill (note_of call.now)
+            (files_of read.now (string_bytes call.now.name)))) (string_bytes call.now.name)
+            (files_of self.old) (files_of self.new)) }
+    {
+        let name = call.name.as_str();
+        match call.kind {
+            Kind::Create => if kept == 0 || call.part == 0 {
+                Ok(())
+            } else {
+                self.put(name, &[])
+            },
+            Kind::Append => {
+                let bytes = spoilt(self.alloc, call.written(), kept, fill)?;
+                self.place(
+                    name,
+                    Kind::Append,
+                    call.at,
+                    call.bytes.len(),
+                    bytes.as_slice(),
+                )
+            }
+            Kind::Write => {
+                let bytes = spoilt(self.alloc, call.written(), kept, fill)?;
+                self.place(
+                    name,
+                    Kind::Write,
+                    call.at,
+                    call.bytes.len(),
+                    bytes.as_slice(),
+                )
+            }
+            Kind::Sync => self.put_again(read, name),
+        }
+    }
+
+    /// Puts the bytes that another file of the name has, where it is there.
+    fn put_again(&mut self, read: &NamedFiles, name: &str) -> Result<(), AllocError>
+        ensures put { OnOk result (Changes (IsMade (or_else (files_of read.now name.now))) name.now
+            (files_of self.old) (files_of self.new)) }
+    {
+        let Some(bytes) = read.get(name) else {
+            return Ok(());
+        };
+        match self.put(name, bytes) {
+            Ok(()) => return Ok(()),
+            Err(fault) => return Err(fault),
+        }
+    }
+
+    /// The same files once more.
+    pub fn copied(&self) -> Result<NamedFiles, AllocError>
+        ensures { IfOk result (λ copy. (name : List ℕ) → files_of copy name ≡ files_of self.now name) }
+    {
+        let files = self.files.clone()?;
+        Ok(NamedFiles {
+            alloc: self.alloc,
+            files,
+        })
     }
 
     /// Fills the buffer from `at` on. It fails where that doesn't lie inside a file.
@@ -94,10 +198,69 @@ fn place_of(at: u64, count: usize, file_length: usize) -> Option<usize>
     if end <= file_length { Some(at) } else { None }
 }
 
+/// The place as an index, where so many bytes have one in a file of this length.
+fn place_for(kind: Kind, at: u64, count: usize, length: usize) -> Option<usize>
+    ensures place { IfSome result (λ place. (place ≡ at) × IsTrue (has_place kind at count length)) }
+    ensures none { IfNone result (has_place kind at count length ≡ false) }
+{
+    let at = usize::try_from(at).ok()?;
+    let count = match kind {
+        Kind::Create => return None,
+        Kind::Append => 0,
+        Kind::Write => count,
+        Kind::Sync => return None,
+    };
+    if at <= length && count <= length - at {
+        Some(at)
+    } else {
+        None
+    }
+}
+
+/// Writes the bytes at their place, where the file has one.
+fn place_in(
+    file: &mut Vec<u8>,
+    kind: Kind,
+    at: u64,
+    count: usize,
+    bytes: &[u8],
+) -> Result<(), AllocError>
+    requires { length bytes.now ≤ count }
+    ensures placed { OnOk result (file.new.items ≡ with_bytes kind at count bytes.now file.old.items) }
+    ensures unchanged { OnErr result (file.new.items ≡ file.old.items) }
+{
+    match place_for(kind, at, count, file.len()) {
+        None => Ok(()),
+        Some(place) => write_over(file, place, bytes),
+    }
+}
+
+/// Writes the bytes over those from `at` on, and behind the end where they reach further.
+fn write_over(file: &mut Vec<u8>, at: usize, bytes: &[u8]) -> Result<(), AllocError>
+    requires { at ≤ length file.old.items }
+    ensures placed { OnOk result (file.new.items ≡ placed at bytes.now file.old.items) }
+    ensures unchanged { OnErr result (file.new.items ≡ file.old.items) }
+{
+    let over = (file.len() - at).min(bytes.len());
+    file.extend_from_slice(&bytes[over..])?;
+    copy_over(file.as_mut_slice(), at, &bytes[..over]);
+    Ok(())
+}
+
 /// Writes the bytes over those from `at` on.
-fn write_over(file: &mut [u8], at: usize, bytes: &[u8])
+fn copy_over(file: &mut [u8], at: usize, bytes: &[u8])
     requires { at + length bytes.now ≤ length file.old }
-    ensures { file.new ≡ take at file.old ++ (bytes.now ++ drop (at + length bytes.now) file.old) }
+    ensures { file.new ≡ placed at bytes.now file.old }
 {
     file[at..at + bytes.len()].copy_from_slice(bytes);
+}
+
+/// The bytes as written up to the first `kept`, and `fill` from there on.
+fn spoilt(alloc: Global, bytes: &[u8], kept: u64, fill: u8) -> Result<Vec<u8>, AllocError>
+    ensures { IfOk result (λ spoilt. spoilt.items ≡ spoilt_by kept fill bytes.now) }
+{
+    let kept = (kept as usize).min(bytes.len());
+    let mut spoilt = bytes[..kept].to_vec(alloc)?;
+    spoilt.resize(bytes.len(), fill)?;
+    Ok(spoilt)
 }

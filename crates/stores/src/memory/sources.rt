@@ -1,7 +1,8 @@
 // Sources in memory.
 ghost use Rattle.std.specs.Prelude.{◌≡◌, ℕ, true, None, List, IfOk, ⊤};
 ghost use Rattle.work_terms.specs.Disk.{Changes};
-ghost use Rattle.stores.specs.Memory.{IsPut, shelf_files, shelf_failures, shelf_stretch};
+ghost use Rattle.stores.specs.Files.{IsPut};
+ghost use Rattle.stores.specs.Memory.{shelf_files, shelf_failures, shelf_stretch};
 
 use super::device::Device;
 use super::files::NamedFiles;

@@ -1,5 +1,5 @@
 use Rattle.std.proofs.Common.{rules}
-use Rattle.stores.specs.Memory.{IsPut}
+use Rattle.stores.specs.Files.{IsPut}
 use Rattle.stores.proofs.Named.{changes}
 use Rattle.stores.proofs.memory.files.NamedFiles.put.Goals as goal
 
