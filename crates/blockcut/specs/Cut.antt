@@ -11,9 +11,9 @@ IsCut from (s ∷ stretches) to = (s.first ≡ from) × (s.first < s.behind) × 
 abbrev pub IsFresh : Stretch → Type 0
 IsFresh s = s.done ≡ false
 
--- what isn't done is at most so many blocks
+-- it has at most so many blocks
 abbrev pub IsShort : ℕ → Stretch → Type 0
-IsShort most s = s.done ≡ false → s.behind - s.first ≤ most
+IsShort most s = s.behind - s.first ≤ most
 
 -- the stretch of this number, counted from 0, where each but the last has so many blocks
 abbrev pub even_stretch : (most to : ℕ) → ℕ → Stretch

@@ -15,7 +15,9 @@ const AT_ONCE: u32 = 4_194_304;
 /// How many blocks of so many bytes are done at once.
 pub fn blocks_at_once(blocks: u32, block_size: u32) -> u32
     requires { 0 < block_size }
-    ensures { result ≡ blocks_at_once blocks block_size }
+    ensures value { result ≡ blocks_at_once blocks block_size }
+    ensures some { 1 ≤ result }
+    ensures few { 4096 ≤ block_size → result ≤ 1024 }
 {
     if blocks <= FEW {
         return 1;
@@ -48,7 +50,7 @@ pub fn fresh_stretches(alloc: Global, blocks: u32, most: u32) -> Result<Vec<Stre
 /// Whether a stretch that began at `first` ends before the block `here`, which is marked so.
 fn ends_here(first: u32, here: u32, done: bool, mark: bool, most: u32) -> bool
     ensures some { result ≡ true → first < here }
-    ensures goes_on { result ≡ false → first < here → (mark ≡ done) × (done ≡ false → here - first < most) }
+    ensures goes_on { result ≡ false → first < here → (mark ≡ done) × (here - first < most) }
 {
     if first >= here {
         return false;
@@ -56,11 +58,11 @@ fn ends_here(first: u32, here: u32, done: bool, mark: bool, most: u32) -> bool
     if mark != done {
         return true;
     }
-    !done && here - first >= most
+    here - first >= most
 }
 
-/// The blocks by their marks: each stretch of marked ones as long as it goes, which is done, and between them at most so
-/// many unmarked ones.
+/// The blocks by their marks: stretches of marked ones, which are done, and of unmarked ones, each of at most so many
+/// blocks.
 pub fn stretches_of(alloc: Global, marked: &[bool], most: u32) -> Result<Vec<Stretch>, AllocError>
     requires some { 1 ≤ most }
     requires few { length marked.now < 2 ^ 32 }

@@ -1,6 +1,8 @@
 -- A rendering planned for a project is the one that was asked for.
-use Rattle.std.proofs.Common.{◌≡◌, ℕ, List, ap, ◌∙◌, arith}
+use Rattle.std.proofs.Common.{◌≡◌, ℕ, false, List, length, ap, inl, inr, ◌∙◌, arith}
 use Rattle.std.specs.Prelude.{ℤ}
+use Rattle.std.proofs.lemmas.Bool.{cases_lt}
+use Rattle.std.proofs.lemmas.List.{get_or_past}
 use Rattle.sound_terms.specs.Blocks.{block_count}
 use Rattle.sound_terms.specs.Groups.{sum_of}
 use Rattle.sound_terms.specs.Render.{Range, rendering_of}
@@ -10,9 +12,10 @@ use Rattle.list_terms.specs.Accepted.{OptionValues, range_of}
 use Rattle.list_terms.specs.Binding.{Binding}
 use Rattle.list_terms.specs.Heard.{project_mix, reading_by, reading_of}
 use Rattle.list_terms.specs.Project.{ListProject}
+use Rattle.blockcut.specs.declared.stretch.Stretch.{Stretch}
 use Rattle.blockcut.specs.Laws.{cut-covers}
 use Rattle.rendering.specs.Planned.{IsPlanFor, IsRenderingOf}
-use Rattle.rendering.specs.Work.{IsRenderWork, RenderWork, heard, no_stretch, whole_of}
+use Rattle.rendering.specs.Work.{AreAtOnce, IsRenderWork, RenderWork, done_before, heard, no_stretch, whole_of}
 use Rattle.rendering.proofs.Frames.{rendering_same}
 use Rattle.rendering.proofs.Parts.{are_apart, are_parts}
 
@@ -28,6 +31,12 @@ whole_asked project binding values work sources is =
     ∙ ap (λ (sounds : List SoundFacts). rendering_of range (sum_of (reading_by sources sounds) pieces)) is.sounds
     ∙ rendering_same range played mix (is.mixes sources)
 
+none_done : (work : RenderWork) → AreAtOnce work.planned.range work.stretches → (k : ℕ) → done_before work k ≡ false
+none_done work even k = elim (cases_lt k (length work.stretches)) [
+  | inl below ↦ ap (λ (s : Stretch). s.done) (even k no_stretch below)
+  | inr past ↦ ap (λ (s : Stretch). s.done) (get_or_past work.stretches k no_stretch past)
+]
+
 pub asked : (project : ListProject) (binding : Binding) (values : OptionValues) (work : RenderWork)
     → IsPlanFor project binding values work → IsRenderWork work → IsRenderingOf project binding values work
 asked project binding values work is whole =
@@ -39,6 +48,7 @@ asked project binding values work is whole =
       cut = whole.cut;
       even = is.even;
       some = omega (arith, first.there);
+      fresh = none_done work is.even;
       parts = λ sources. are_parts work sources whole;
       apart = λ sources. are_apart work sources whole;
       whole = λ sources. whole_asked project binding values work sources is;

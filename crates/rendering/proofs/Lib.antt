@@ -1,4 +1,7 @@
 mod Asked
+mod Beside
+mod BlockMarks
+mod Resuming
 mod Chosen
 mod Frames
 mod Parts

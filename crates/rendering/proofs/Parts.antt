@@ -67,7 +67,7 @@ in_file range mix s some inside =
 
 -- ---- all stretches
 
-stretch_inside : (work : RenderWork) (k : ℕ) → IsRenderWork work → k < length work.stretches
+pub stretch_inside : (work : RenderWork) (k : ℕ) → IsRenderWork work → k < length work.stretches
     → ((stretch_at work.stretches k).first < (stretch_at work.stretches k).behind)
     × ((stretch_at work.stretches k).behind ≤ block_count work.planned.range)
 stretch_inside work k is below =
@@ -135,7 +135,7 @@ zero_at (suc n) zero = refl
 zero_at (suc n) (suc i) = zero_at n i
 
 -- the byte lies before the end of the block's stretch
-before_end : (j b behind all wide : ℕ) → j < b * (4096 * wide) + 4096 * wide → b < behind → j < all * wide
+pub before_end : (j b behind all wide : ℕ) → j < b * (4096 * wide) + 4096 * wide → b < behind → j < all * wide
     → j < min (behind * 4096) all * wide
 before_end j b behind all wide in_block before in_all = elim (cases_lt (behind * 4096) all) [
   | inl less ↦ let end : min (behind * 4096) all ≡ behind * 4096 = omega (arith, less) in
@@ -154,10 +154,10 @@ block_there j b count all wide begun in_all enough = elim (cases_lt b count) [
       absurd (omega (arith, begun, in_all, more, far))
 ]
 
-frames_counted : (n first wide : ℕ) → n * wide + first * (4096 * wide) ≡ (n + first * 4096) * wide
+pub frames_counted : (n first wide : ℕ) → n * wide + first * (4096 * wide) ≡ (n + first * 4096) * wide
 frames_counted n first wide = omega arith
 
-bytes_product : (n channels wide : ℕ) → n * (channels * wide) ≡ n * channels * wide
+pub bytes_product : (n channels wide : ℕ) → n * (channels * wide) ≡ n * channels * wide
 bytes_product n channels wide = omega arith
 
 -- each byte of the samples is in a job

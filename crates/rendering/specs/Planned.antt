@@ -1,5 +1,5 @@
 -- That a rendering is the one that was asked for.
-use Rattle.std.specs.Prelude.{◌≡◌, ℕ, ◌<◌, ℤ, List}
+use Rattle.std.specs.Prelude.{◌≡◌, ℕ, ◌<◌, ℤ, false, List}
 use Rattle.sound_terms.specs.declared.piece.Piece.{Piece}
 use Rattle.sound_terms.specs.Groups.{sum_of}
 use Rattle.sound_terms.specs.Render.{ReadsBack, rendering_of}
@@ -12,7 +12,7 @@ use Rattle.job_terms.specs.Workers.{jobs_over}
 use Rattle.schedule.specs.Filled.{AreApart, AreParts}
 use Rattle.blockcut.specs.Cut.{IsCut}
 use Rattle.sound_terms.specs.Blocks.{block_count}
-use Rattle.rendering.specs.Work.{AreAtOnce, RenderWork, whole_of, work_of}
+use Rattle.rendering.specs.Work.{AreAtOnce, RenderWork, done_before, whole_of, work_of}
 
 -- the pieces sound like the bound project, over any files
 abbrev pub MixAs : ListProject → Binding → List Piece → Type 0
@@ -38,6 +38,7 @@ pub record IsRenderingOf (project : ListProject) (binding : Binding) (values : O
   pub cut : IsCut 0 work.stretches (block_count work.planned.range)
   pub even : AreAtOnce work.planned.range work.stretches
   pub some : 0 < (work_of work).count
+  pub fresh : (k : ℕ) → done_before work k ≡ false
   pub parts : (sources : Files) → AreParts (jobs_over (work_of work) sources) (λ _. whole_of work sources)
   pub apart : (sources : Files) → AreApart (jobs_over (work_of work) sources)
   pub whole : (sources : Files) → whole_of work sources

@@ -1,5 +1,5 @@
 -- A rendering as jobs: stretches of its blocks, each a place of the rendered file.
-use Rattle.std.specs.Prelude.{ℕ, ◌+◌, ◌-◌, ◌*◌, ◌/◌, ℤ, List, length, slice_index_or, codes, false}
+use Rattle.std.specs.Prelude.{ℕ, ◌+◌, ◌-◌, ◌*◌, ◌/◌, ℤ, Bool, List, length, slice_index_or, codes, false}
 use Rattle.std.specs.List.{All}
 use Rattle.sound_terms.specs.Blocks.{block_count, block_length}
 use Rattle.sound_terms.specs.Groups.{sum_of}
@@ -13,7 +13,7 @@ use Rattle.renderplan.specs.Planned.{IsPlan, Planned}
 use Rattle.wavwrite.specs.Info.{Fits}
 use Rattle.job_terms.specs.Workers.{JobsBy}
 use Rattle.blockcut.specs.declared.stretch.Stretch.{Stretch}
-use Rattle.blockcut.specs.Cut.{AreEven, IsCut, blocks_at_once}
+use Rattle.blockcut.specs.Cut.{AreEven, IsCut, IsShort, blocks_at_once}
 use Rattle.rendering.specs.Written.{bytes_of_blocks, frames_before}
 
 -- a plan over opened files
@@ -32,10 +32,11 @@ pub record RenderWork : Type 0 where
   pub sounds : List SoundFacts
   pub stretches : List Stretch
 
--- all its blocks, of a file that fits
+-- all its blocks, not too many in one stretch, of a file that fits
 pub record IsRenderWork (work : RenderWork) : Type 0 where
   pub planned : IsPlan work.planned
   pub cut : IsCut 0 work.stretches (block_count work.planned.range)
+  pub short : All (IsShort 1024) work.stretches
   pub fits : Fits (render_info work.planned.range)
 
 -- what the plan's pieces sound like over these sources
@@ -68,6 +69,10 @@ AreAtOnce range stretches =
 -- where a stretch begins in the rendered file
 abbrev pub place_of : Range → Stretch → ℕ
 place_of range s = length (header_of (render_info range)) + s.first * bytes_for range block_length
+
+-- the jobs whose blocks were marked before
+abbrev pub done_before : RenderWork → ℕ → Bool
+done_before work k = (stretch_at work.stretches k).done
 
 -- the bytes of each stretch, its blocks' one after the other, at their place in the rendered file
 abbrev pub work_of : RenderWork → JobsBy

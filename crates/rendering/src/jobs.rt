@@ -45,8 +45,8 @@ impl<'a> JobMaker for Rendering<'a> {
         let block = self.blocks.length_of(BLOCK_LENGTH) as u64;
         let at = self.head.len() as u64 + u64::from(first) * block;
         match bench.write_at(RENDERED, at, bytes) {
-            Ok(()) => Ok(()),
-            Err(_) => Err(PlaceFault::Write),
+            Ok(()) => return Ok(()),
+            Err(_) => return Err(PlaceFault::Write),
         }
     }
 }

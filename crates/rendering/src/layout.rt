@@ -1,7 +1,7 @@
 // The rendered file at its full length, before its samples stand in it.
 ghost use Rattle.std.specs.Prelude.{◌≡◌, ◌≢◌, ◌++◌, ⊤, codes, false, IsTrue, List, OnOk, Some, ℕ};
 ghost use Rattle.sound_terms.specs.Waves.{zeros};
-ghost use Rattle.work_terms.specs.Disk.{Files, IsDurable};
+ghost use Rattle.work_terms.specs.Disk.{Files, IsDurable, LeavesOthers};
 ghost use Rattle.shelf.specs.Frame.{OnlyWrites};
 ghost use Rattle.job_terms.specs.Workers.{jobs_over};
 ghost use Rattle.schedule.specs.Filled.{AreFilled};
@@ -19,13 +19,17 @@ fn append_zeros<B: Bench>(bench: &mut B, count: u64) -> Result<(), DeviceFault>
     ensures appended { IsTrue (B.honest bench.old) → (file : List ℕ)
         → B.stored bench.old (codes "render.wav") ≡ Some file
         → OnOk result (B.stored bench.new (codes "render.wav") ≡ Some (file ++ zeros count)) }
+    ensures beside { LeavesOthers B.may_leave B.moment B.left_since (codes "render.wav") bench.old bench.new }
     ensures only_writes { WritesRendering B.Bench bench.old bench.new result (λ _. ⊤) }
 {
     let block = [0; 65536];
     let mut left = count;
     while left > 0 {
         let more = left.min(65536);
-        bench.append(RENDERED, &block[..more as usize])?;
+        match bench.append(RENDERED, &block[..more as usize]) {
+            Ok(()) => {}
+            Err(fault) => return Err(fault),
+        }
         left -= more;
     }
     Ok(())
@@ -35,11 +39,21 @@ fn append_zeros<B: Bench>(bench: &mut B, count: u64) -> Result<(), DeviceFault>
 fn begin<B: Bench>(bench: &mut B, head: &[u8], count: u64) -> Result<(), DeviceFault>
     ensures begun { IsTrue (B.honest bench.old)
         → OnOk result (B.stored bench.new (codes "render.wav") ≡ Some (head.now ++ zeros count)) }
+    ensures beside { LeavesOthers B.may_leave B.moment B.left_since (codes "render.wav") bench.old bench.new }
     ensures only_writes { WritesRendering B.Bench bench.old bench.new result (λ _. ⊤) }
 {
-    bench.create(RENDERED)?;
-    bench.append(RENDERED, head)?;
-    append_zeros(bench, count)
+    match bench.create(RENDERED) {
+        Ok(()) => {}
+        Err(fault) => return Err(fault),
+    }
+    match bench.append(RENDERED, head) {
+        Ok(()) => {}
+        Err(fault) => return Err(fault),
+    }
+    match append_zeros(bench, count) {
+        Ok(()) => return Ok(()),
+        Err(fault) => return Err(fault),
+    }
 }
 
 impl<'a> Rendering<'a> {
@@ -49,6 +63,7 @@ impl<'a> Rendering<'a> {
         ensures filled { IsTrue (B.honest bench.old) → (sources : Files) → OnOk result (AreFilled
             (jobs_over (work_of self.now) sources) (λ _. whole_of self.now sources) (λ _. false)
             (B.stored bench.new)) }
+        ensures beside { LeavesOthers B.may_leave B.moment B.left_since (codes "render.wav") bench.old bench.new }
         ensures only_writes { WritesRendering B.Bench bench.old bench.new result (λ _. ⊤) }
     {
         let size = self.blocks.length_of(self.rendered.frames as usize) as u64;
@@ -60,6 +75,7 @@ impl<'a> Rendering<'a> {
         ensures durable { IsTrue (B.honest bench.old)
             → OnOk result (IsDurable (codes "render.wav") (B.stored bench.new) (B.may_leave bench.new)) }
         ensures same { B.stored bench.new ≡ B.stored bench.old }
+        ensures beside { LeavesOthers B.may_leave B.moment B.left_since (codes "render.wav") bench.old bench.new }
         ensures only_writes { WritesRendering B.Bench bench.old bench.new result (λ _. ⊤) }
     {
         bench.sync(RENDERED)

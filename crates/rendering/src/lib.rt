@@ -5,6 +5,7 @@ mod blocks;
 mod fault;
 mod jobs;
 mod layout;
+mod marked;
 mod options;
 mod order;
 mod span;
@@ -12,6 +13,7 @@ mod work;
 
 pub use fault::RenderFault;
 pub use job_terms::Order;
+pub use marked::MarkedRendering;
 pub use options::Options;
 pub use sound_terms::Depth;
 pub use work::{Rendered, Rendering};

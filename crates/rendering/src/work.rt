@@ -10,7 +10,7 @@ ghost use Rattle.list_terms.specs.Accepted as accepted;
 ghost use Rattle.list_terms.specs.Heard.{sounds_of};
 ghost use Rattle.renderplan.specs.Planned.{range_of};
 ghost use Rattle.wavwrite.specs.Info.{Fits};
-ghost use Rattle.blockcut.specs.Cut.{IsCut};
+ghost use Rattle.blockcut.specs.Cut.{IsCut, IsShort};
 ghost use Rattle.rendering.specs.Fault.{ComesFirst, refusal_of};
 ghost use Rattle.rendering.specs.Planned.{IsPlanFor, IsRenderingOf, MixAs};
 ghost use Rattle.rendering.specs.Rendering.{HasRange, HaveChannels, render_fault, values_of};
@@ -21,6 +21,7 @@ use crate::blocks::{BLOCK_LENGTH, Blocks};
 use crate::span::{Span, span_of};
 use crate::{Options, RenderFault};
 use blockcut::{Stretch, blocks_at_once, fresh_stretches};
+use markfile::RunRange;
 use projectcheck::{Checked, from_checked};
 use renderplan::Plan;
 use sampletime::SampleTime;
@@ -48,12 +49,14 @@ pub struct Rendering<'a> {
     pub(crate) rendered: Rendered,
     pub(crate) head: Vec<u8>,
     pub(crate) stretches: Vec<Stretch>,
+    pub(crate) range: RunRange,
 }
 
 impl<'a> Model for Rendering<'a> {
     ghost use Rattle.std.specs.Prelude.{◌≡◌};
     ghost use Rattle.sound_terms.specs.Render.{render_info};
     ghost use Rattle.sound_terms.specs.Waves.{header_of};
+    ghost use Rattle.markfile.specs.Range as marks;
     ghost use Rattle.rendering.specs.Rendering.{HasRange};
     ghost use Rattle.rendering.specs.Work.{IsRenderWork, RenderWork};
 
@@ -71,7 +74,8 @@ impl<'a> Model for Rendering<'a> {
       stretches = r.stretches.items;
     })
         × HasRange r.rendered r.blocks.planned.range
-        × (r.head.items ≡ header_of (render_info r.blocks.planned.range)) };
+        × (r.head.items ≡ header_of (render_info r.blocks.planned.range))
+        × (marks.range_of r.range ≡ r.blocks.planned.range) };
 }
 
 /// The plan of a span of a project. `Intervals`, `EmptyRange` or `Memory` where there is none.
@@ -127,6 +131,7 @@ fn head_of(alloc: Global, info: &SoundInfoRef) -> Result<Vec<u8>, AllocError>
 fn stretches_of(alloc: Global, blocks: &Blocks) -> Result<Vec<Stretch>, RenderFault>
     ensures cut { IfOk result (λ stretches. IsCut 0 stretches.items (block_count blocks.now.planned.range)) }
     ensures even { IfOk result (λ stretches. AreAtOnce blocks.now.planned.range stretches.items) }
+    ensures short { IfOk result (λ stretches. All (IsShort 1024) stretches.items) }
     ensures only_memory { IfErr result (λ fault. fault ≡ Memory) }
 {
     let count = blocks.count();
@@ -162,6 +167,12 @@ fn prepared<'a>(
         rendered,
         head,
         stretches,
+        range: RunRange {
+            from: span.from,
+            to: span.to,
+            channels: span.channels,
+            depth: options.depth,
+        },
     })
 }
 

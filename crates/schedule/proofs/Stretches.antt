@@ -1,8 +1,8 @@
 -- A stretch's bytes and marks on the disk: torn, and then written.
-use Rattle.std.proofs.Common.{◌≡◌, ◌≢◌, ◌∙◌, ℕ, ◌+◌, ◌-◌, ◌<◌, ◌≤◌, Bool, true, false, cond, ◌==◌, Option, Some, None, List, length, length-take, take, get_or, sym, ap, subst, inl, inr, arith}
+use Rattle.std.proofs.Common.{◌≡◌, ◌≢◌, ◌∙◌, ℕ, ◌+◌, ◌-◌, ◌<◌, ◌≤◌, Bool, true, false, cond, ◌==◌, Option, Some, None, List, ◌++◌, length, length-append, length-drop, length-take, take, drop, get_or, refl, sym, ap, subst, inl, inr, arith}
 use Rattle.std.proofs.lemmas.Bool.{cases_lt}
 use Rattle.std.proofs.lemmas.Bool.Decides.{eqb_tells}
-use Rattle.std.proofs.lemmas.List.{ext_get_or, get_or-take, get_or-drop}
+use Rattle.std.proofs.lemmas.List.{append_assoc, drop_at, ext_get_or, get_or-take, get_or-drop, take_at}
 use Rattle.work_terms.specs.Disk.{Files, Changes, HasTornRange, IsTorn, IsWritten}
 use Rattle.schedule.specs.Marking.{HoldsIn, IsFixed, IsMarkFile, IsRunning, Leaves, Marking, is_marked, with_done}
 use Rattle.schedule.specs.Placed.{IsStretchOf, IsTornFrom}
@@ -46,6 +46,27 @@ torn-file at n f (Some x) new e t = record {
   size = t.2.same_length ∙ ap length (some-inj x f e);
   same = λ i out. torn-at at n x t.0 t.2 i out ∙ ap (λ y. get_or y i 0) (some-inj x f e);
 }
+
+-- what is written is one of the ways in which it may be torn
+pub written-torn : (at : ℕ) (bytes : List ℕ) (old new : Option (List ℕ)) → IsWritten at bytes old new → IsTorn at
+    (length bytes) old new
+written-torn at bytes None new w = absurd (none-some w.file w.there)
+written-torn at bytes (Some f) new w =
+    let e : w.file ≡ f = sym (some-inj f w.file w.there) in
+    let inside : at + length bytes ≤ length f = subst (λ x. at + length bytes ≤ length x) e w.inside in
+    let end = drop (at + length bytes) f in
+    let front : length (take at f) ≡ at = omega (arith, inside, length-take {A = ℕ}) in (
+      take at f ++ (bytes ++ end),
+      w.written ∙ ap (λ x. Some (take at x ++ (bytes ++ drop (at + length bytes) x))) e,
+      record {
+        before = take_at (take at f) (bytes ++ end) at front;
+        after = ap (drop (at + length bytes)) (sym (append_assoc (take at f) bytes end))
+            ∙ drop_at (take at f ++ bytes) end (at + length bytes)
+            (length-append (take at f) bytes ∙ omega (arith, front));
+        same_length = length-append (take at f) (bytes ++ end)
+            ∙ omega (arith, front, inside, length-append bytes end, length-drop (at + length bytes) f);
+      },
+    )
 
 -- ---- the output
 
@@ -210,30 +231,80 @@ module _ (m : Marking) (done : ℕ → Bool) (job at mark_at : ℕ) (name bytes 
       wave = marks-wave c t (is_marked r.now) (λ b out. r.beside b (outside b out));
     }
 
-    pub marks-run : (end : Files) (o2 : Files → Type 0) → Changes (IsWritten mark_at ones) marks_name mid end → o2 end
+    -- the marks once they are written
+    abbrev set-marks : List ℕ
+    set-marks = take mark_at run.marks ++ (ones ++ drop (mark_at + length ones) run.marks)
+
+    set-inside : mark_at + length ones ≤ length run.marks
+    set-inside = omega (arith, s.mark_last, s.inside, run.ours.size)
+
+    set-torn : IsTorn mark_at (length ones) (Some run.marks) (Some set-marks)
+    set-torn = written-torn mark_at ones (Some run.marks) (Some set-marks)
+        (record { file = run.marks; there = refl; inside = set-inside; written = refl })
+
+    set-beside : IsMarkedBeside m mark_at (length ones) run.marks (Some set-marks)
+    set-beside = marks-torn m mark_at (length ones) run.marks (Some run.marks) (Some set-marks)
+        (omega (arith, s.mark_first)) refl run.ours set-torn
+
+    set-file : IsTornFile mark_at (length ones) run.marks (Some set-marks)
+    set-file = torn-file mark_at (length ones) run.marks (Some run.marks) (Some set-marks) refl set-torn
+
+    set-is : set-marks ≡ set-file.bytes
+    set-is = some-inj set-marks set-file.bytes set-file.there
+
+    torn-marks : (c : Files) → IsTornFrom o1 marks_name mark_at (length ones) c
+        → IsTornFile mark_at (length ones) run.marks (c m.marks)
+    torn-marks c (d, before, step) = torn-file mark_at (length ones) run.marks (d m.marks) (c m.marks)
+        (sound-torn d (torn d before)).0
+        (subst (λ n. IsTorn mark_at (length ones) (d n) (c n)) s.marks_is step.here)
+
+    -- each crash leaves just these
+    last-marks : (end : Files) → IsWritten mark_at ones (mid marks_name) (end marks_name) → (c : Files)
+        → IsTornFrom o1 marks_name mark_at (length ones) c → c marks_name ≡ end marks_name → c m.marks ≡ Some set-marks
+    last-marks end w c t durable = go (torn-marks c t)
+      where
+        go : IsTornFile mark_at (length ones) run.marks (c m.marks) → c m.marks ≡ Some set-marks
+        go f = f.there ∙ ap (λ x. Some x) (ext_get_or 0 f.bytes set-marks
+            (f.size ∙ sym (ap (λ (x : List ℕ). length x) set-is ∙ set-file.size)) (λ i lt. each i))
+          where
+            written : f.bytes ≡ take mark_at w.file ++ (ones ++ drop (mark_at + length ones) w.file)
+            written = some-inj f.bytes _ (sym f.there ∙ ap c (sym s.marks_is) ∙ durable ∙ w.written)
+
+            elsewhere-same : (i : ℕ) → (mark_at ≤ i → i < mark_at + length ones → ⊥) → get_or f.bytes i 0 ≡ get_or
+                set-marks i 0
+            elsewhere-same i out = f.same i out ∙ sym (ap (λ x. get_or x i 0) set-is ∙ set-file.same i out)
+
+            each : (i : ℕ) → get_or f.bytes i 0 ≡ get_or set-marks i 0
+            each i = elim (cases_lt i mark_at) [
+              | inl lt ↦ elsewhere-same i (λ from to. omega (arith, lt, from))
+              | inr from ↦ elim (cases_lt i (mark_at + length ones)) [
+                | inl to ↦ ap (λ x. get_or x i 0) written ∙ written-in w.file ones mark_at i w.inside from to
+                    ∙ sym (written-in run.marks ones mark_at i set-inside from to)
+                | inr past ↦ elsewhere-same i (λ _ to. omega (arith, past, to))
+              ]
+            ]
+
+    pub marks-run : (end : Files) (o2 : Files → Type 0) → Changes (IsWritten mark_at ones) marks_name mid end
         → ((c : Files) → o2 c → IsTornFrom o1 marks_name mark_at (length ones) c) → ((c : Files) → o2 c → c marks_name
         ≡ end marks_name)
         → IsRunning m (with_done done job) o2
-    marks-run end o2 marked read torn2 durable2 = go (beside-of end (torn2 end read)) marked.here
+    marks-run end o2 marked torn2 durable2 = record {
+      marks = set-beside.now;
+      ours = set-beside.ours;
+      tell = λ j b lt from to. elim (eqb_tells j job) [
+        | inl e ↦ set-one b (subst (λ x. m.from x ≤ b) e.1 from) (subst (λ x. b < m.behind x) e.1 to) ∙ sym
+            (ap (λ t. cond t true (done j)) e.0)
+        | inr e ↦ set-beside.beside b (outside b (elsewhere j b lt e.1 from to)) ∙ run.tell j b lt from to ∙ sym
+            (ap (λ t. cond t true (done j)) e.0)
+      ];
+      kept = λ c h. last-marks end marked.here c (torn2 c h) (durable2 c h) ∙ set-beside.there;
+      wave = λ c h. marks-wave c (torn2 c h) (is_marked set-beside.now)
+          (λ b out. set-beside.beside b (outside b out));
+    }
       where
-        go : IsMarkedBeside m mark_at (length ones) run.marks (end m.marks) → IsWritten mark_at ones (mid marks_name)
-            (end marks_name) → IsRunning m (with_done done job) o2
-        go r w = record {
-          marks = r.now;
-          ours = r.ours;
-          tell = λ j b lt from to. elim (eqb_tells j job) [
-            | inl e ↦ set-one b (subst (λ x. m.from x ≤ b) e.1 from) (subst (λ x. b < m.behind x) e.1 to) ∙ sym
-                (ap (λ t. cond t true (done j)) e.0)
-            | inr e ↦ r.beside b (outside b (elsewhere j b lt e.1 from to)) ∙ run.tell j b lt from to ∙ sym
-                (ap (λ t. cond t true (done j)) e.0)
-          ];
-          kept = λ c h. subst (λ n. c n ≡ end n) s.marks_is (durable2 c h) ∙ r.there;
-          wave = λ c h. marks-wave c (torn2 c h) (is_marked r.now) (λ b out. r.beside b (outside b out));
-        }
-          where
-            set-one : (b : ℕ) → m.from job ≤ b → b < m.behind job → is_marked r.now b ≡ true
-            set-one b from to = ap {B = Bool} (λ k. k == 1)
-                (ap (λ x. get_or x (44 + b) 0) (some-inj r.now _ (sym r.there ∙ ap end (sym s.marks_is) ∙ w.written))
-                ∙ written-in w.file ones mark_at (44 + b) w.inside (omega (arith, s.mark_first, from))
-                (omega (arith, s.mark_last, to))
-                ∙ s.set (44 + b - mark_at) (omega (arith, s.mark_first, s.mark_last, from, to)))
+        set-one : (b : ℕ) → m.from job ≤ b → b < m.behind job → is_marked set-beside.now b ≡ true
+        set-one b from to = ap {B = Bool} (λ k. k == 1)
+            (ap (λ x. get_or x (44 + b) 0) (sym (some-inj set-marks set-beside.now set-beside.there))
+            ∙ written-in run.marks ones mark_at (44 + b) set-inside (omega (arith, s.mark_first, from))
+            (omega (arith, s.mark_last, to))
+            ∙ s.set (44 + b - mark_at) (omega (arith, s.mark_first, s.mark_last, from, to)))

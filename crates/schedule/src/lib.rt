@@ -23,5 +23,5 @@ pub use placing::place_marked;
 pub use resting::resting_board;
 pub use running::run;
 pub use single::{alone, most_bytes};
-pub use start::{Start, fresh_board, fresh_start, from_start, in_turn};
+pub use start::{Start, fresh_board, fresh_start, from_start, in_turn, resting_start};
 pub use worker::Worker;

@@ -1,8 +1,8 @@
 // A stretch of blocks that is written and marked.
-ghost use Rattle.std.specs.Prelude.{◌≡◌, ◌<◌, ◌+◌, ℕ, Bool, false, IsTrue, OnOk, Some, length};
-ghost use Rattle.work_terms.specs.Disk.{Changes, Files, IsDurable, IsWritten, LeavesOnly};
+ghost use Rattle.std.specs.Prelude.{◌≡◌, ◌≢◌, ◌<◌, ◌+◌, ℕ, Bool, false, IsTrue, IsOk, IsErr, IsErrOf, List, OnErr, OnOk, Some, length};
+ghost use Rattle.work_terms.specs.Disk.{Changes, Files, HasCause, IsDurable, IsTorn, IsWritten, LeavesOnly};
 ghost use Rattle.schedule.specs.Marking.{GoesOn, IsRunning, Leaves, Marking};
-ghost use Rattle.schedule.specs.Placed.{IsStretchOf, IsTornFrom};
+ghost use Rattle.schedule.specs.Placed.{HasPlaced, IsStretchOf, IsTornFrom};
 
 use crate::PlaceFault;
 use shelf::{Bench, DeviceFault};
@@ -22,7 +22,11 @@ fn write_synced<B: Bench>(
         (length bytes.now) c }
     ensures moments { LeavesOnly B.moment B.left_since bench.old bench.new
         (IsTornFrom (B.may_leave bench.old) name.now at (length bytes.now)) }
+    ensures unsure { IsTrue (B.honest bench.old) → OnErr result (Changes (IsTorn at (length bytes.now)) name.now
+        (B.stored bench.old) (B.stored bench.new)) }
     ensures honest { B.honest bench.new ≡ B.honest bench.old }
+    ensures cause { HasCause (B.failures bench.old) (B.failures bench.new) (IsOk result) (IsErr result) }
+    ensures failed { IsErr result → B.failed_at bench.new name.now }
 {
     match bench.write_at(name, at, bytes) {
         Ok(()) => {}
@@ -46,12 +50,19 @@ pub fn place_marked<B: Bench>(
 ) -> Result<(), PlaceFault>
     ensures goes_on { IsTrue (B.honest bench.old) → (m : Marking) (done : ℕ → Bool) (job : ℕ)
         → IsStretchOf m job name.now at bytes.now marks.now mark_at ones.now → done job ≡ false
-        → IsRunning m done (B.may_leave bench.old) → B.may_leave bench.new (B.stored bench.new)
+        → IsRunning m done (B.may_leave bench.old)
         → GoesOn (Some m) done job (B.may_leave bench.new) result }
     ensures any_moment { IsTrue (B.honest bench.old) → (m : Marking) (done : ℕ → Bool) (job : ℕ)
         → IsStretchOf m job name.now at bytes.now marks.now mark_at ones.now → done job ≡ false
         → IsRunning m done (B.may_leave bench.old)
         → LeavesOnly B.moment B.left_since bench.old bench.new (Leaves m done) }
+    ensures placed { IsTrue (B.honest bench.old) → name.now ≢ marks.now
+        → HasPlaced at bytes.now (B.stored bench.old name.now) (B.stored bench.new name.now) result }
+    ensures others { IsTrue (B.honest bench.old) → (n : List ℕ) → n ≢ name.now → n ≢ marks.now
+        → B.stored bench.new n ≡ B.stored bench.old n }
+    ensures honest { B.honest bench.new ≡ B.honest bench.old }
+    ensures cause { HasCause (B.failures bench.old) (B.failures bench.new) (IsOk result) (IsErr result) }
+    ensures failed { IsErrOf result PlaceFault.Mark → B.failed_at bench.new marks.now }
 {
     match write_synced(bench, name, at, bytes) {
         Ok(()) => {}

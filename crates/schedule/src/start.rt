@@ -1,17 +1,19 @@
 // What one worker alone begins with.
-ghost use Rattle.std.specs.Prelude.{◌≡◌, ◌<◌, ◌≤◌, ℕ, false, Some, List, IfOk, IsErrOf, IsTrue, OnOk, replicate};
+ghost use Rattle.std.specs.Prelude.{◌≡◌, ◌<◌, ◌≤◌, ℕ, false, Some, List, IfOk, IsErrOf, IsTrue, OnOk, length, replicate, slice_index_or};
 ghost use Rattle.std.specs.List.{range_with_len};
 ghost use Rattle.job_terms.specs.Board.{fresh_job};
 ghost use Rattle.job_terms.specs.Workers.{Nothing, jobs_over};
+ghost use Rattle.schedule.specs.Alone.{AtRest};
 ghost use Rattle.schedule.specs.Ends.{ended_of};
 ghost use Rattle.schedule.specs.Events as spec;
 ghost use Rattle.schedule.specs.Filled.{AreApart, AreFilled, AreParts};
-ghost use Rattle.schedule.specs.Marking.{IsNoOutput};
+ghost use Rattle.schedule.specs.Marking.{IsNoOutput, done_of};
 ghost use Rattle.schedule.specs.Rounds.{RunsInRounds};
 ghost use Rattle.schedule.specs.Run.{HasRoom};
 ghost use Rattle.schedule.specs.declared.fault.JobFault.TheVariants as fault;
 ghost use Rattle.workboard.specs.Indexed.{IsOrder};
 
+use crate::resting::resting_board;
 use crate::single::{alone, most_bytes};
 use crate::{JobFault, JobMaker, Worker};
 use shelf::{Bench, Shelf, Watch};
@@ -65,6 +67,30 @@ pub fn fresh_start<J: JobMaker>(
     ensures room { IfOk result (λ start. HasRoom (J.work maker.now) start.worker.room) }
 {
     let board = fresh_board(alloc, maker, order)?;
+    match Worker::with_room(alloc, most_bytes(maker)) {
+        Ok(worker) => Ok(Start { board, worker }),
+        Err(_) => Err(BoardFault::Memory),
+    }
+}
+
+/// The jobs of a work, of which these are done already, to be handed out in this order. It takes all memory that the
+/// loop over the others needs.
+pub fn resting_start<J: JobMaker>(
+    alloc: Global,
+    maker: &J,
+    order: Vec<u32>,
+    done: &[bool],
+) -> Result<Start, BoardFault>
+    requires all { length done.now ≡ (J.work maker.now).count }
+    requires order { IsOrder (J.work maker.now).count order.items }
+    ensures jobs { IfOk result (λ start. length start.board.jobs ≡ (J.work maker.now).count) }
+    ensures rest { IfOk result (λ start. AtRest start.board) }
+    ensures done { IfOk result (λ start. (k : ℕ) → k < (J.work maker.now).count
+        → done_of start.board k ≡ slice_index_or done.now k false) }
+    ensures empty { IfOk result (λ start. start.worker.hand ≡ Nothing) }
+    ensures room { IfOk result (λ start. HasRoom (J.work maker.now) start.worker.room) }
+{
+    let board = resting_board(alloc, order, done)?;
     match Worker::with_room(alloc, most_bytes(maker)) {
         Ok(worker) => Ok(Start { board, worker }),
         Err(_) => Err(BoardFault::Memory),

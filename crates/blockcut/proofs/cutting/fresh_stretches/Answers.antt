@@ -29,5 +29,5 @@ loop-first-preserved c =
           c.loop-first-test.true goes));
       fresh = subst (λ (ss : List Stretch). All IsFresh ss) (sym items) (all-push IsFresh before s is.fresh refl);
       short = subst (λ (ss : List Stretch). All (IsShort c.args.most) ss) (sym items)
-          (all-push (IsShort c.args.most) before s is.short (λ _. omega (arith, ends, far)));
+          (all-push (IsShort c.args.most) before s is.short (omega (arith, ends, far)));
     }

@@ -1,4 +1,4 @@
-use Rattle.std.proofs.Common.{◌≡◌, ◌<◌, ◌-◌, ◌++◌, ℕ, Bool, List, [], ◌∷◌, false, inl, inr, get_or, length, refl, sym, ap, subst, ◌∙◌, arith}
+use Rattle.std.proofs.Common.{◌≡◌, ◌++◌, ℕ, Bool, List, [], ◌∷◌, false, inl, inr, get_or, length, refl, sym, ap, subst, ◌∙◌, arith}
 use Rattle.std.specs.List.{All}
 use Rattle.std.proofs.lemmas.Bool.{cases_lt}
 use Rattle.blockcut.specs.declared.stretch.Stretch.{Stretch}
@@ -31,7 +31,7 @@ loop-i-preserved c =
                 (all-push (IsShort most) before s is.short is.room);
             same = λ b from to.
                 let at : b ≡ here = omega (arith, from, to, w.first-is) in ap mark_at at ∙ sym w.done-is;
-            room = λ _. omega (arith, w.first-is, c.requires.some);
+            room = omega (arith, w.first-is, c.requires.some);
           }
       | else-ends_here w ↦
           let goes = w.if-ends_here.ensures.goes_on refl in
@@ -46,11 +46,8 @@ loop-i-preserved c =
                   ∙ sym (goes (omega (arith, from, less, w.first-is))).0 ∙ sym w.done-is
               | inr past ↦ let at : b ≡ here = omega (arith, past, to) in ap mark_at at ∙ sym w.done-is
             ];
-            room = λ off. elim (cases_lt c.loop-i.first here) [
-              | inl less ↦
-                  let few : here - c.loop-i.first < most =
-                  (goes less).1 (sym (goes less).0 ∙ sym w.done-is ∙ off) in
-                  omega (arith, w.first-is, few)
+            room = elim (cases_lt c.loop-i.first here) [
+              | inl less ↦ omega (arith, w.first-is, (goes less).1)
               | inr past ↦ omega (arith, past, w.first-is, c.requires.some)
             ];
           }

@@ -10,5 +10,5 @@ invariant-loop-i l = record {
   uniform : All (IsUniform l.marked) l.stretches.items;
   short : All (IsShort l.most) l.stretches.items;
   same : (b : ℕ) → l.first ≤ b → b < l.i → get_or l.marked b false ≡ l.done;
-  room : l.done ≡ false → l.i - l.first ≤ l.most;
+  room : l.i - l.first ≤ l.most;
 }

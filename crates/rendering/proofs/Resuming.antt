@@ -1,0 +1,260 @@
+-- A rendering that begins with its marks, goes on with those it finds, and ends.
+use Rattle.std.proofs.Common.{◌≡◌, ◌≢◌, ◌∙◌, ℕ, zero, suc, ◌<◌, ◌≤◌, Bool, true, false, cond, Option, Some, None, Ok, List, [], ◌∷◌, length, take, get_or, refl, sym, ap, subst, inl, inr, arith}
+use Rattle.std.specs.Prelude.{Contains, option_map}
+use Rattle.std.specs.List.{All}
+use Rattle.std.proofs.lemmas.Bool.Decides.{nat_tests}
+use Rattle.std.proofs.lemmas.List.{ext_get_or, get_or-take}
+use Rattle.sound_terms.specs.Blocks.{block_count}
+use Rattle.sound_terms.specs.Sounds.{SoundFacts}
+use Rattle.renderplan.specs.Planned.{Planned}
+use Rattle.work_terms.specs.Disk.{Files, IsBeside, IsDurable}
+use Rattle.job_terms.specs.Workers.{jobs_over}
+use Rattle.blockcut.specs.Cut.{IsUniform}
+use Rattle.blockcut.specs.Laws.{cut-covers}
+use Rattle.markfile.specs.declared.fault.MarksFault.{MarksFault}
+use Rattle.markfile.specs.declared.run.RunId.{RunId}
+use Rattle.markfile.specs.Format.{AreFresh, fresh_marks, head_of, marks_name, sound_name}
+use Rattle.markfile.specs.Opened.{AreFound, AreSettled, IsSettledAs, front_fault, opened_by, opened_of, told}
+use Rattle.markfile.specs.Started.{LeavesStart, NoneStarted, is_started}
+use Rattle.schedule.specs.Filled.{AreFilled, IsFilled}
+use Rattle.schedule.specs.Marking.{HoldsIn, IsRunning, Leaves, Marking, is_marked}
+use Rattle.rendering.specs.Marked.{IsAllMarked, IsLeftByRun, IsResumable, IsRunOf, MarkedWork, file_length, marking_of}
+use Rattle.rendering.specs.Work.{IsRenderWork, RenderWork, done_before, no_stretch, whole_of, work_of}
+use Rattle.rendering.proofs.BlockMarks.{job_block, names_apart}
+use Rattle.rendering.proofs.Parts.{stretch_inside}
+
+some_same : (a b : List ℕ) → Some a ≡ Some b → a ≡ b
+some_same a b e = cc
+
+pub apart : true ≡ false → ⊥
+apart h = cc
+
+-- another file than those that change
+pub stays_beside : (outcomes : Files → Type 0) (name other : List ℕ) (c : Files) → other ≢ name
+    → IsBeside outcomes name c → (d : Files) × outcomes d × (c other ≡ d other)
+stays_beside outcomes name other c ne (d, was, change) = (d, was, change other away)
+  where
+    away : ¬ Contains (name ∷ []) other
+    away (zero, lt, e) = ne (sym e)
+    away (suc i, lt, e) = omega (arith, lt)
+
+-- marks that aren't started stay so while another file is written
+pub beside_unstarted : (old : Files → Type 0) (c : Files) → NoneStarted old → IsBeside old sound_name c
+    → is_started (c marks_name) ≡ false
+beside_unstarted old c none beside =
+    let d = stays_beside old sound_name marks_name c (λ e. names_apart (sym e)) beside in
+    ap is_started d.2 ∙ none d.0 d.1
+
+-- outputs whose one file is the same
+pub filled_as : (work : RenderWork) (sources old new : Files) → old sound_name ≡ new sound_name
+    → AreFilled (jobs_over (work_of work) sources) (λ _. whole_of work sources) (λ _. false) old
+    → AreFilled (jobs_over (work_of work) sources) (λ _. whole_of work sources) (λ _. false) new
+filled_as work sources old new same filled = record {
+  each = λ j below. subst (λ (file : Option (List ℕ)). IsFilled (jobs_over (work_of work) sources) sound_name
+      (whole_of work sources) (λ _. false) file) same (filled.each j below);
+}
+
+-- ---- whole marks are started
+
+started_by : (marks rest : List ℕ) → take 44 marks ≡ 1 ∷ rest → 44 ≤ length marks → is_started (Some marks) ≡ true
+started_by marks rest front long =
+    let gate : get_or marks 0 0 ≡ 1 = sym (get_or-take 44 marks 0 0 (omega arith)) ∙ ap (λ x. get_or x 0 0) front in
+    grind (arith, nat_tests, gate, long)
+
+told_some : (marks : List ℕ) (fault : Option MarksFault) → told marks fault ≡ Ok None → ⊥
+told_some marks None e = cc
+told_some marks (Some fault) e = cc
+
+not_started : (b : Bool) (marks : List ℕ) (fault : Option MarksFault) → cond b (told marks fault) (Ok None) ≡ Ok None
+    → b ≡ false
+not_started true marks fault e = absurd (told_some marks fault e)
+not_started false marks fault e = refl
+
+-- where none are found, a crash leaves none that are started
+pub none_started : (run : RunId) (files c : Files) → opened_of run files ≡ Ok None → AreSettled files c
+    → is_started (c marks_name) ≡ false
+none_started run files c due settled = go (files marks_name) due settled.marks
+  where
+    go : (marks : Option (List ℕ)) → opened_by run (option_map length (files sound_name)) marks ≡ Ok None
+        → IsSettledAs marks (c marks_name) → is_started (c marks_name) ≡ false
+    go None e (inl gone) = ap is_started gone
+    go None e (inr empty) = ap is_started empty
+    go (Some marks) e left = ap is_started left ∙ not_started (is_started (Some marks)) marks
+        (front_fault run (take 44 marks) (length marks) (option_map length (files sound_name))) e
+
+-- ---- a rendering
+
+module _ (marked : MarkedWork) (sources : Files) (is : IsRenderWork marked.work) (run : IsRunOf marked.work marked.run)
+  where
+    abbrev m : Marking
+    m = marking_of marked sources
+
+    -- where no block stands yet, only what is outside the blocks counts
+    pub laid_holds : (files : Files) (marks : ℕ → Bool) → ((b : ℕ) → marks b ≡ false)
+        → AreFilled (jobs_over (work_of marked.work) sources) (λ _. whole_of marked.work sources) (λ _. false) files
+        → HoldsIn m marks (files sound_name)
+    laid_holds files marks none filled =
+        let some = is.planned.some in
+        let first = cut-covers marked.work.stretches 0 (block_count marked.work.planned.range) 0 no_stretch is.cut
+        (omega arith) (omega (arith, some)) in
+        let file = filled.each 0 (omega (arith, first.there)) in
+        record {
+          bytes = file.bytes;
+          there = file.there;
+          holds = record {
+            size = file.size;
+            same = λ i fixed. file.same i (λ k below name from to.
+                let block = job_block marked sources is run k i below from to in
+                sym (none block.0) ∙ fixed block.0 block.1 block.4 block.5);
+          };
+        }
+
+    module _ (files : Files)
+        (filled : AreFilled (jobs_over (work_of marked.work) sources) (λ _. whole_of marked.work sources) (λ _. false)
+        files) (fresh : AreFresh marked.run (fresh_marks marked.run)) where
+      sound_left : (c : Files) → c sound_name ≡ files sound_name
+          → HoldsIn m (is_marked (fresh_marks marked.run)) (c sound_name)
+      sound_left c same = subst (HoldsIn m (is_marked (fresh_marks marked.run))) (sym same)
+          (laid_holds files (is_marked (fresh_marks marked.run)) fresh.unmarked filled)
+
+      -- the marks are made
+      pub starts_running : (o : Files → Type 0) → IsDurable sound_name files o
+          → ((c : Files) → o c → c marks_name ≡ Some (fresh_marks marked.run))
+          → ((k : ℕ) → done_before marked.work k ≡ false) → IsRunning m (done_before marked.work) o
+      starts_running o durable lasts none = record {
+        marks = fresh_marks marked.run;
+        ours = record { front = fresh.ours.front; size = fresh.ours.size };
+        tell = λ job b lt from to. fresh.unmarked b ∙ sym (none job);
+        kept = lasts;
+        wave = λ c left. sound_left c (durable c left);
+      }
+
+      -- or are being made
+      pub starts_resumable : (mid : Files → Type 0) → IsDurable sound_name files mid → (c : Files)
+          → LeavesStart marked.run mid c → IsResumable m c
+      starts_resumable mid durable c left started = let d = stays_beside mid marks_name sound_name c names_apart
+          left.beside in record {
+            marks = fresh_marks marked.run;
+            there = left.fresh started;
+            ours = record { front = fresh.ours.front; size = fresh.ours.size };
+            sound = sound_left c (d.2 ∙ durable d.0 d.1);
+          }
+
+    -- nothing is started
+    pub none_resumable : (c : Files) → is_started (c marks_name) ≡ false → IsResumable m c
+    none_resumable c none started = absurd (apart (sym started ∙ none))
+
+    -- all jobs are done
+    pub ends_whole : (done : ℕ → Bool) (o : Files → Type 0) → IsRunning m done o
+        → ((k : ℕ) → k < length marked.work.stretches → done k ≡ true) → (c : Files) → o c
+        → c sound_name ≡ Some (whole_of marked.work sources)
+    ends_whole done o runs all c left =
+        let sound = runs.wave c left in
+        sound.there ∙ ap (λ x. Some x) (ext_get_or 0 sound.bytes (whole_of marked.work sources) sound.holds.size
+        (λ i lt. sound.holds.same i (λ b few from to. each b few)))
+      where
+        each : (b : ℕ) → b < marked.run.blocks → is_marked runs.marks b ≡ true
+        each b lt =
+            let inside = cut-covers marked.work.stretches 0 (block_count marked.work.planned.range) b no_stretch is.cut
+            (omega arith) (omega (arith, lt, run.blocks)) in
+            runs.tell inside.place b inside.there inside.behind_first inside.before_end ∙ all inside.place inside.there
+
+    -- and their marks set
+    pub ends_marked : (done : ℕ → Bool) (o : Files → Type 0) → IsRunning m done o
+        → ((k : ℕ) → k < length marked.work.stretches → done k ≡ true) → (c : Files) → o c
+        → IsAllMarked marked.run (c marks_name)
+    ends_marked done o runs all c left = record {
+      marks = runs.marks;
+      there = runs.kept c left;
+      ours = record { front = runs.ours.front; size = runs.ours.size };
+      all = λ b lt.
+          let inside = cut-covers marked.work.stretches 0 (block_count marked.work.planned.range) b no_stretch is.cut
+          (omega arith) (omega (arith, lt, run.blocks)) in
+          runs.tell inside.place b inside.there inside.behind_first inside.before_end ∙ all inside.place inside.there;
+    }
+
+-- ---- one board for another
+
+-- the same jobs are done
+pub running_as : (m : Marking) (done now : ℕ → Bool) (o : Files → Type 0) → ((k : ℕ) → k < m.jobs → now k ≡ done k)
+    → IsRunning m done o → IsRunning m now o
+running_as m done now o same runs = record {
+  marks = runs.marks;
+  ours = runs.ours;
+  tell = λ job b lt from to. runs.tell job b lt from to ∙ sym (same job lt);
+  kept = runs.kept;
+  wave = runs.wave;
+}
+
+pub leaves_as : (m : Marking) (done now : ℕ → Bool) (c : Files) → ((k : ℕ) → k < m.jobs → now k ≡ done k)
+    → Leaves m done c → Leaves m now c
+leaves_as m done now c same left = record {
+  marks = left.marks;
+  there = left.there;
+  ours = left.ours;
+  still = λ job b lt from to on. left.still job b lt from to (sym (same job lt) ∙ on);
+  wave = left.wave;
+}
+
+pub leaves_true : (m : Marking) (done : ℕ → Bool) (c : Files) → Leaves m done c → IsResumable m c
+leaves_true m done c left started = record {
+  marks = left.marks;
+  there = left.there;
+  ours = left.ours;
+  sound = left.wave;
+}
+
+-- ---- marks that are found
+
+module _ (was is : RenderWork) (marks_run : RunId) (sources : Files) (whole : IsRenderWork is) (run : IsRunOf is marks_run)
+    (same_plan : is.planned ≡ was.planned) (same_sounds : is.sounds ≡ was.sounds) where
+  abbrev before : Marking
+  before = marking_of (record { work = was; run = marks_run }) sources
+
+  abbrev now : Marking
+  now = marking_of (record { work = is; run = marks_run }) sources
+
+  abbrev by_parts : Planned → List SoundFacts → Marking
+  by_parts planned sounds = marking_of (record {
+    work = record { planned = planned; sounds = sounds; stretches = is.stretches };
+    run = marks_run;
+  }) sources
+
+  holds_now : (marks : ℕ → Bool) (file : Option (List ℕ)) → HoldsIn before marks file → HoldsIn now marks file
+  holds_now marks file h = subst (λ (x : List SoundFacts). HoldsIn (by_parts is.planned x) marks file) (sym same_sounds)
+      (subst (λ (x : Planned). HoldsIn (by_parts x was.sounds) marks file) (sym same_plan) first)
+    where
+      first : HoldsIn (by_parts was.planned was.sounds) marks file
+      first = record {
+        bytes = h.bytes;
+        there = h.there;
+        holds = record { size = h.holds.size; same = h.holds.same };
+      }
+
+  pub goes_on_running : (old new : Files → Type 0) (files : Files) (told : List Bool) → AreFound marks_run files told
+      → IsLeftByRun before old → ((c : Files) → new c → old c) → ((c : Files) → new c → AreSettled files c)
+      → All (IsUniform told) is.stretches → IsRunning now (done_before is) new
+  goes_on_running old new files told found left back settled uniform = record {
+    marks = found.marks;
+    ours = record { front = found.ours.front; size = found.ours.size };
+    tell = λ job b lt from to.
+        let inside = stretch_inside is job whole lt in
+        sym (found.each b (omega (arith, to, inside.1, run.blocks))) ∙ uniform job no_stretch lt b from to;
+    kept = kept;
+    wave = λ c at.
+        let true_marks = left c (back c at) (ap is_started (kept c at)
+        ∙ started_by found.marks (head_of marks_run) found.ours.front (omega (arith, found.ours.size))) in
+        holds_now (is_marked found.marks) (c sound_name) (subst (λ x. HoldsIn before (is_marked x) (c sound_name))
+        (some_same true_marks.marks found.marks (sym true_marks.there ∙ kept c at)) true_marks.sound);
+  }
+    where
+      kept : (c : Files) → new c → c marks_name ≡ Some found.marks
+      kept c at = subst (λ (file : Option (List ℕ)). IsSettledAs file (c marks_name)) found.there (settled c at).marks
+
+-- the run is that of the same plan
+pub same_run : (was is : RenderWork) (marks_run : RunId) → is.planned ≡ was.planned → IsRunOf was marks_run
+    → IsRunOf is marks_run
+same_run was is marks_run same run = record {
+  blocks = run.blocks ∙ ap (λ (p : Planned). block_count p.range) (sym same);
+  size = run.size ∙ ap (λ (p : Planned). file_length p.range) (sym same);
+}

@@ -1,0 +1,40 @@
+use Rattle.std.proofs.Common.{Bool, List, Option, sym, subst}
+use Rattle.std.specs.Prelude.{IfSome}
+use Rattle.std.specs.List.{All}
+use Rattle.blockcut.specs.Cut.{IsUniform}
+use Rattle.markfile.specs.declared.opening.Marks.{Marks}
+use Rattle.work_terms.specs.Disk.{Files}
+use Rattle.markfile.specs.Opened.{AreFound, AreSettled}
+use Rattle.rendering.specs.Marked.{IsLeftByRun, MarkedWork, marking_of}
+use Rattle.rendering.proofs.Resuming.{goes_on_running, same_run}
+use Rattle.rendering.proofs.marked.MarkedRendering.open.Goals as goal
+
+pub invariant_of-self : goal.invariant_of-self
+invariant_of-self g c =
+    let cut = c.in-Ok-cut_by.ensures in
+    (cut.whole, same_run c.self.inside.rendering c.cut_by.new.self c.self.inside.run cut.planned c.self.invariant.1)
+
+pub invariant_of-self-in-Err-cut_by : goal.invariant_of-self-in-Err-cut_by
+invariant_of-self-in-Err-cut_by g c =
+    let cut = c.in-Err-cut_by.ensures in
+    (cut.whole, same_run c.self.inside.rendering c.cut_by.new.self c.self.inside.run cut.planned c.self.invariant.1)
+
+pub returns-in-Ok-cut_by-clause-running : goal.returns-in-Ok-cut_by-clause-running
+returns-in-Ok-cut_by-clause-running g c honest sources left =
+    let cut = c.in-Ok-cut_by.ensures in
+    let files = g.B.Bench.stored c.args.bench.now in
+    let told = c.in-Some.marks.marked.items in
+    let found : AreFound c.self.inside.run files told =
+    subst (λ (f : Option Marks). IfSome f (λ marks. AreFound c.self.inside.run files marks.marked.items)) c.in-Some.is
+    (c.in-Ok.ensures.whole honest) in
+    let was_left =
+    subst (λ (x : MarkedWork). IsLeftByRun (marking_of x sources) (g.B.Bench.may_leave c.args.bench.now))
+    (sym c.self.view_is) left in
+    let uniform = subst (λ (x : List Bool). All (IsUniform x) c.cut_by.new.self.stretches) c.as_slice.ensures.value
+    cut.uniform in
+    let settled = subst (λ (f : Files). (x : Files) → g.B.Bench.may_leave c.open_marks.new.bench x → AreSettled f x)
+    c.in-Ok.ensures.only_reads.same (c.in-Ok.ensures.settled honest) in
+    goes_on_running c.self.inside.rendering c.cut_by.new.self c.self.inside.run sources cut.whole
+    (same_run c.self.inside.rendering c.cut_by.new.self c.self.inside.run cut.planned c.self.invariant.1) cut.planned
+    cut.sounds (g.B.Bench.may_leave c.args.bench.now) (g.B.Bench.may_leave c.open_marks.new.bench) files told found
+    was_left c.in-Ok.ensures.untouched.crash settled uniform

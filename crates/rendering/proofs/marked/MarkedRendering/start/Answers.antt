@@ -1,0 +1,109 @@
+use Rattle.std.proofs.Common.{◌≡◌, ◌∙◌, ℕ, IsTrue, false, sym, subst}
+use Rattle.work_terms.specs.Disk.{IsBeside, LeavesOnly}
+use Rattle.job_terms.specs.Workers.{jobs_over}
+use Rattle.markfile.specs.Format.{sound_name}
+use Rattle.markfile.specs.Started.{LeavesStart, NoneStarted}
+use Rattle.schedule.specs.Filled.{AreFilled}
+use Rattle.schedule.specs.Marking.{IsRunning}
+use Rattle.rendering.specs.Marked.{IsResumable, MarkedWork, marking_of}
+use Rattle.rendering.specs.Work.{done_before, whole_of, work_of}
+use Rattle.rendering.proofs.Beside.{joined, weaker}
+use Rattle.rendering.proofs.BlockMarks.{names_apart}
+use Rattle.rendering.proofs.Resuming.{apart, beside_unstarted, filled_as, starts_resumable, starts_running}
+use Rattle.rendering.proofs.marked.MarkedRendering.start.Goals as goal
+
+pub returns-in-Ok-start-clause-running : goal.returns-in-Ok-start-clause-running
+returns-in-Ok-start-clause-running g c honest sources =
+    let still : IsTrue (g.B.Bench.honest c.lay_out_synced.new.bench) =
+    subst IsTrue (sym c.in-Ok.ensures.only_writes.honest_same) honest in
+    let lasts = c.in-Ok-start.ensures.started still in
+    let files = g.B.Bench.stored c.lay_out_synced.new.bench in
+    let same = c.in-Ok-start.ensures.only_writes.others still sound_name names_apart in
+    let durable = c.in-Ok-start.ensures.only_writes.durable still sound_name names_apart (c.in-Ok.ensures.durable honest) in
+    subst (λ (x : MarkedWork). ((k : ℕ) → done_before x.work k ≡ false) → IsRunning (marking_of x sources)
+    (done_before x.work) (g.B.Bench.may_leave c.start.new.bench)) c.self.view_is
+    (starts_running _ sources c.self.invariant.0 c.self.invariant.1 files (c.in-Ok.ensures.filled honest sources)
+    c.in-Ok-start.ensures.fresh (g.B.Bench.may_leave c.start.new.bench) (λ x left. durable x left ∙ same) lasts.lasts)
+
+pub returns-in-Ok-start-clause-filled : goal.returns-in-Ok-start-clause-filled
+returns-in-Ok-start-clause-filled g c honest sources =
+    let still : IsTrue (g.B.Bench.honest c.lay_out_synced.new.bench) =
+    subst IsTrue (sym c.in-Ok.ensures.only_writes.honest_same) honest in
+    let same = c.in-Ok-start.ensures.only_writes.others still sound_name names_apart in
+    subst (λ (x : MarkedWork). AreFilled (jobs_over (work_of x.work) sources) (λ _. whole_of x.work sources)
+    (λ _. false) (g.B.Bench.stored c.start.new.bench)) c.self.view_is
+    (filled_as c.self.inside.rendering sources _ _ (sym same) (c.in-Ok.ensures.filled honest sources))
+
+pub returns-in-Ok-start-clause-any_moment : goal.returns-in-Ok-start-clause-any_moment
+returns-in-Ok-start-clause-any_moment g c honest none sources =
+    let still : IsTrue (g.B.Bench.honest c.lay_out_synced.new.bench) =
+    subst IsTrue (sym c.in-Ok.ensures.only_writes.honest_same) honest in
+    let old = g.B.Bench.may_leave c.args.bench.now in
+    let mid = g.B.Bench.may_leave c.lay_out_synced.new.bench in
+    let files = g.B.Bench.stored c.lay_out_synced.new.bench in
+    let beside = c.in-Ok.ensures.beside in
+    let none_mid : NoneStarted mid = λ x left. beside_unstarted old x none (beside.now x left) in
+    subst (λ (x : MarkedWork). LeavesOnly g.B.Bench.moment g.B.Bench.left_since c.args.bench.now c.start.new.bench
+    (IsResumable (marking_of x sources))) c.self.view_is
+    (joined g.B.Bench.moment g.B.Bench.left_since c.args.bench.now c.lay_out_synced.new.bench c.start.new.bench
+    (IsResumable (marking_of (record { work = c.self.inside.rendering; run = c.self.inside.run }) sources))
+    (LeavesStart c.self.inside.run mid)
+    (starts_resumable (record { work = c.self.inside.rendering; run = c.self.inside.run }) sources c.self.invariant.0
+    c.self.invariant.1 files (c.in-Ok.ensures.filled honest sources) c.in-Ok-start.ensures.fresh mid
+    (c.in-Ok.ensures.durable honest))
+    (weaker g.B.Bench.moment g.B.Bench.left_since c.args.bench.now c.lay_out_synced.new.bench
+    (IsBeside old sound_name)
+    (IsResumable (marking_of (record { work = c.self.inside.rendering; run = c.self.inside.run }) sources))
+    (λ x is started. absurd (apart (sym started ∙ beside_unstarted old x none is))) beside.moments)
+    (c.in-Ok-start.ensures.any_moment still none_mid))
+
+pub returns-in-Ok-start-clause-left : goal.returns-in-Ok-start-clause-left
+returns-in-Ok-start-clause-left g c honest none sources x left =
+    let still : IsTrue (g.B.Bench.honest c.lay_out_synced.new.bench) =
+    subst IsTrue (sym c.in-Ok.ensures.only_writes.honest_same) honest in
+    let old = g.B.Bench.may_leave c.args.bench.now in
+    let mid = g.B.Bench.may_leave c.lay_out_synced.new.bench in
+    let files = g.B.Bench.stored c.lay_out_synced.new.bench in
+    let beside = c.in-Ok.ensures.beside in
+    let none_mid : NoneStarted mid = λ y at. beside_unstarted old y none (beside.now y at) in
+    subst (λ (y : MarkedWork). IsResumable (marking_of y sources) x) c.self.view_is
+    (starts_resumable (record { work = c.self.inside.rendering; run = c.self.inside.run }) sources c.self.invariant.0
+    c.self.invariant.1 files (c.in-Ok.ensures.filled honest sources) c.in-Ok-start.ensures.fresh mid
+    (c.in-Ok.ensures.durable honest) x (c.in-Ok-start.ensures.crash still none_mid x left))
+
+pub returns-in-Err-start-clause-any_moment : goal.returns-in-Err-start-clause-any_moment
+returns-in-Err-start-clause-any_moment g c honest none sources =
+    let still : IsTrue (g.B.Bench.honest c.lay_out_synced.new.bench) =
+    subst IsTrue (sym c.in-Ok.ensures.only_writes.honest_same) honest in
+    let old = g.B.Bench.may_leave c.args.bench.now in
+    let mid = g.B.Bench.may_leave c.lay_out_synced.new.bench in
+    let files = g.B.Bench.stored c.lay_out_synced.new.bench in
+    let beside = c.in-Ok.ensures.beside in
+    let none_mid : NoneStarted mid = λ x left. beside_unstarted old x none (beside.now x left) in
+    subst (λ (x : MarkedWork). LeavesOnly g.B.Bench.moment g.B.Bench.left_since c.args.bench.now c.start.new.bench
+    (IsResumable (marking_of x sources))) c.self.view_is
+    (joined g.B.Bench.moment g.B.Bench.left_since c.args.bench.now c.lay_out_synced.new.bench c.start.new.bench
+    (IsResumable (marking_of (record { work = c.self.inside.rendering; run = c.self.inside.run }) sources))
+    (LeavesStart c.self.inside.run mid)
+    (starts_resumable (record { work = c.self.inside.rendering; run = c.self.inside.run }) sources c.self.invariant.0
+    c.self.invariant.1 files (c.in-Ok.ensures.filled honest sources) c.in-Err-start.ensures.fresh mid
+    (c.in-Ok.ensures.durable honest))
+    (weaker g.B.Bench.moment g.B.Bench.left_since c.args.bench.now c.lay_out_synced.new.bench
+    (IsBeside old sound_name)
+    (IsResumable (marking_of (record { work = c.self.inside.rendering; run = c.self.inside.run }) sources))
+    (λ x is started. absurd (apart (sym started ∙ beside_unstarted old x none is))) beside.moments)
+    (c.in-Err-start.ensures.any_moment still none_mid))
+
+pub returns-in-Err-start-clause-left : goal.returns-in-Err-start-clause-left
+returns-in-Err-start-clause-left g c honest none sources x left =
+    let still : IsTrue (g.B.Bench.honest c.lay_out_synced.new.bench) =
+    subst IsTrue (sym c.in-Ok.ensures.only_writes.honest_same) honest in
+    let old = g.B.Bench.may_leave c.args.bench.now in
+    let mid = g.B.Bench.may_leave c.lay_out_synced.new.bench in
+    let files = g.B.Bench.stored c.lay_out_synced.new.bench in
+    let beside = c.in-Ok.ensures.beside in
+    let none_mid : NoneStarted mid = λ y at. beside_unstarted old y none (beside.now y at) in
+    subst (λ (y : MarkedWork). IsResumable (marking_of y sources) x) c.self.view_is
+    (starts_resumable (record { work = c.self.inside.rendering; run = c.self.inside.run }) sources c.self.invariant.0
+    c.self.invariant.1 files (c.in-Ok.ensures.filled honest sources) c.in-Err-start.ensures.fresh mid
+    (c.in-Ok.ensures.durable honest) x (c.in-Err-start.ensures.crash still none_mid x left))
