@@ -22,7 +22,7 @@ use Rattle.adlread.specs.Spells.{AreBlocks, BlankBlock, Block, NoBlocks, Section
 use Rattle.adlread.proofs.FieldLaws.{ok_same}
 use Rattle.adlread.proofs.Fits.{Continues, EventsFit, Fits, IndexFits, IsCounted, IsSound, begun, section_walked}
 use Rattle.adlread.proofs.LineLaws.{lines_are_cut}
-use Rattle.adlread.proofs.SettingLines.{both_read, settings_read}
+use Rattle.adlread.proofs.SettingLines.{rates_read, settings_read}
 use Rattle.adlread.proofs.Stages.{outside_of, read_all, read_from-all, read_inside, read_last, read_step}
 
 not_empty : (byte : ℕ) (text : List ℕ) → (length (byte ∷ text) == 0) ≡ false
@@ -224,8 +224,8 @@ module _ (rate : ℕ) where
   read_at text p same_rate h =
       let sound : IsSound rate p = record {
         few = h.header.few;
-        settings = settings_read rate h.header.settings.cut h.header.settings.each;
-        rates = both_read rate (lines_of_section p.header.sequence) h.header.rates;
+        settings = settings_read rate h.header.settings;
+        rates = rates_read rate h.header.rates;
         indexes = h.index.distinct;
         entries = h.events.distinct;
         same_rate = same_rate;

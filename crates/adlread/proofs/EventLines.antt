@@ -1,6 +1,6 @@
 -- The lines of an event list are read as the entries that they spell, and as no others.
 use Rattle.std.proofs.Common.{◌≡◌, ℕ, Bool, true, false, List, [], ◌∷◌, ◌++◌, length, Option, None, Some, Result, Ok, Err, IsTrue, refl, ap, sym, subst, ◌∙◌, append_assoc, arith}
-use Rattle.std.specs.Prelude.{codes, if◌then◌else◌, ◌==◌, map, unwrap_or, ⊤}
+use Rattle.std.specs.Prelude.{codes, if◌then◌else◌, ◌==◌, map, ⊤}
 use Rattle.std.specs.List.{list_any}
 use Rattle.facts.specs.Distinct.{moved, not_taken}
 use Rattle.facts.specs.Tests.{and_both, and_left, and_right}
@@ -9,18 +9,19 @@ use Rattle.list_terms.specs.declared.OpenEntry.{OpenEntry}
 use Rattle.list_terms.specs.declared.Section.TheVariants as section
 use Rattle.list_terms.specs.declared.TextFault.{TextFault}
 use Rattle.list_terms.specs.declared.TextFault.TheVariants.{DuplicateNumber, RepeatedFade, SectionMismatch, Unplaced, Unsupported}
-use Rattle.list_terms.specs.Steps.{◌>>=◌, err_map, ok_map}
-use Rattle.list_terms.specs.Tokens.{Cut, TokenText, all_tokens, token_at}
-use Rattle.list_terms.specs.Fields.{end_line, is_keyword, is_zero, number_field}
-use Rattle.list_terms.specs.EntryLines.{entry_with, event_fields, fade_fields, remark, told_fall, told_rise, with_fall, with_rise}
-use Rattle.list_terms.specs.Text.{Context, Entries, LocatedFault, all_events, at_entry, at_line, at_open, entry_line, entry_of, further_line, in_event_list, in_section, is_tag, with_event}
+use Rattle.list_terms.specs.Steps.{err_map, ok_map}
+use Rattle.list_terms.specs.Tokens.{Cut, TokenText, token_at}
+use Rattle.list_terms.specs.Fields.{is_keyword, is_zero}
+use Rattle.list_terms.specs.Forms.{Done, Number, Refused, Then, Unless, any, mapped, reads, value_at}
+use Rattle.list_terms.specs.EntryLines.{entry_with, event_fields, fade_fields, remark, with_fall, with_rise}
+use Rattle.list_terms.specs.Text as list
+use Rattle.list_terms.specs.Text.{Context, Entries, LocatedFault, all_events, at_entry, at_line, at_open, entry_of, further_line, in_event_list, in_section, is_tag, with_event}
 use Rattle.list_terms.specs.WholeProject.{AreDistinct, entry_numbers, is_event}
 use Rattle.adlread.specs.CutLines.{CutsTo, HasTokens, NumberedLine}
-use Rattle.adlread.specs.LineGrammar.{IsLineOf, SpelledEntry, SpellsEntry, SpellsFade, is_remark, is_zero_gain}
-use Rattle.adlread.specs.Spells.{EntriesEnd, FallLine, FirstEntry, GainLine, HasFades, NextEntry, NoEntries, RemarkBehind, RemarkLine, RiseLine, SpellsBehind, SpellsEntries}
+use Rattle.adlread.specs.LineGrammar.{IsLineOf, SpellsLine, entry_line, fade_line, is_remark, is_zero_gain}
+use Rattle.adlread.specs.Spells.{EntriesEnd, FallLine, FirstEntry, GainLine, NextEntry, NoEntries, RemarkBehind, RemarkLine, RiseLine, SpelledEntry, SpellsBehind, SpellsEntries, faded, with_fades}
 use Rattle.adlread.proofs.CutLaws.{cut_next, cut_none, first_cut, no_cut}
-use Rattle.adlread.proofs.EntryTexts.{IsSpelledEntry, read_entry, read_fade, spelled_entry, spelled_fade, with_fades, without_fades}
-use Rattle.adlread.proofs.FieldLaws.{all_cut, all_tokens_are, chain, end_is, err_map_ok, is_end_of, ok_map_ok, ok_same, unless_ok}
+use Rattle.adlread.proofs.FieldLaws.{all_cut, all_tokens_are, always, chain, ends, err_map_ok, is_end_of, is_named, is_numbered, ok_map_ok, ok_same, reads_all, reads_end, reads_mapped, reads_numbered, refused, spells_named, told_read, unless_ok, unless_read}
 use Rattle.adlread.proofs.Keywords.{other_keyword}
 use Rattle.adlread.proofs.Numbered.{AreDistinct-nil, distinct-changed, distinct-push}
 use Rattle.adlread.proofs.Walk.{walk, walk_step}
@@ -44,12 +45,6 @@ opened_entry event = record { event = event; has_rise = false; has_fall = false 
 abbrev IsFree : Option ℕ → Bool → Type 0
 IsFree None told = ⊤
 IsFree (Some fade) told = told ≡ false
-
--- the entry with the fades that its lines tell
-abbrev faded : OpenEntry → (rise fall : Option ℕ) → Event
-faded entry rise fall =
-    with_fades entry.event (record { length = unwrap_or rise entry.event.rise.length })
-    (record { length = unwrap_or fall entry.event.fall.length })
 
 abbrev pub events_of : List SpelledEntry → List Event
 events_of entries = map (λ entry. entry.event) entries
@@ -88,7 +83,7 @@ record AreTold
   free_fall : IsFree fall entry.has_fall
   last : Entries
   is : next ≡ with_entries c last
-  all_are : all_events last.events last.entry ≡ events ++ faded entry rise fall ∷ events_of entries
+  all_are : all_events last.events last.entry ≡ events ++ faded entry.event rise fall ∷ events_of entries
   separators_are : last.separators ≡ Some separators
   distinct :
       AreDistinct (entry_numbers (events ++ entry.event ∷ []))
@@ -98,9 +93,11 @@ none_told : (fade : Option ℕ) → IsFree fade true → fade ≡ None
 none_told None h = refl
 none_told (Some fade) h = absurd (cc)
 
--- an entry with the fades that its lines tell
-abbrev told_entry : Event × List ℕ → (rise fall : Option ℕ) → SpelledEntry
-told_entry g rise fall = record { event = faded (opened_entry g.0) rise fall; separators = g.1 }
+-- an entry has the number of its line
+number_of :
+    (rate n : ℕ) (line : List ℕ) (g : Event × List ℕ) → reads (event_fields rate n) line ≡ Ok g → g.0.number ≡ n
+number_of rate n line g e =
+    always (λ g. g.0.number ≡ n) (event_fields rate n) line g (λ _ kind index source dest a b c. refl) e
 
 module _ (rate : ℕ) where
   -- ---- one line as it is read
@@ -135,7 +132,7 @@ module _ (rate : ℕ) where
         other_keyword (codes "Rem") (codes "Infade") token refl is,
         other_keyword (codes "Rem") (codes "Outfade") token refl is,
         is,
-        is_end_of f.rest tokens f.cut,
+        reads_end entry f.rest (is_end_of f.rest tokens f.cut),
       ) refl)
 
   gain_read :
@@ -157,43 +154,53 @@ module _ (rate : ℕ) where
         other_keyword (codes "Gain") (codes "Outfade") token refl is,
         other_keyword (codes "Gain") (codes "Rem") token refl is,
         is,
-        all_cut (λ t. is_zero t.content) (length f.rest) f.rest tokens (omega arith) f.cut zeros,
+        reads_all (λ t. is_zero t.content) entry f.rest
+            (all_cut (λ t. is_zero t.content) (length f.rest) f.rest tokens (omega arith) f.cut zeros),
       ) refl)
 
   rise_read :
       (c : Context) (n : ℕ) (text : List ℕ) (fade : ℕ) (events : List Event) (entry : OpenEntry) (separators : List ℕ)
-      → SpellsFade rate (codes "Infade") text fade → entry.has_rise ≡ false
+      → SpellsLine (fade_line rate (codes "Infade")) text fade → entry.has_rise ≡ false
       → in_event_list rate (with_entries c (behind events entry separators)) n text
       ≡ Ok (with_entries c (behind events (with_rise entry fade) separators))
   unfolding further_line entry_with
   rise_read c n text fade events entry separators h free =
-      let f = read_fade rate (codes "Infade") text fade h in
-      further_read c n text f.r f.keyword (behind events entry separators)
+      let f = is_named (codes "Infade") (fade_fields rate) text fade h in
+      further_read c n text f.rest f.keyword (behind events entry separators)
       (behind events (with_rise entry fade) separators) h.cut.untagged f.at
-      (other_keyword (codes "Infade") (codes "Entry") f.keyword refl f.is_fade) (rw (f.is_fade, free, f.fields) refl)
+      (other_keyword (codes "Infade") (codes "Entry") f.keyword refl f.is)
+      (rw (f.is, told_read (with_rise entry) entry.has_rise RepeatedFade (fade_fields rate) f.rest fade free f.says) refl)
 
   fall_read :
       (c : Context) (n : ℕ) (text : List ℕ) (fade : ℕ) (events : List Event) (entry : OpenEntry) (separators : List ℕ)
-      → SpellsFade rate (codes "Outfade") text fade → entry.has_fall ≡ false
+      → SpellsLine (fade_line rate (codes "Outfade")) text fade → entry.has_fall ≡ false
       → in_event_list rate (with_entries c (behind events entry separators)) n text
       ≡ Ok (with_entries c (behind events (with_fall entry fade) separators))
   unfolding further_line entry_with
   fall_read c n text fade events entry separators h free =
-      let f = read_fade rate (codes "Outfade") text fade h in
-      further_read c n text f.r f.keyword (behind events entry separators)
+      let f = is_named (codes "Outfade") (fade_fields rate) text fade h in
+      further_read c n text f.rest f.keyword (behind events entry separators)
       (behind events (with_fall entry fade) separators) h.cut.untagged f.at
-      (other_keyword (codes "Outfade") (codes "Entry") f.keyword refl f.is_fade)
-      (rw (other_keyword (codes "Outfade") (codes "Infade") f.keyword refl f.is_fade, f.is_fade, free, f.fields) refl)
+      (other_keyword (codes "Outfade") (codes "Entry") f.keyword refl f.is)
+      (rw (
+        other_keyword (codes "Outfade") (codes "Infade") f.keyword refl f.is,
+        f.is,
+        told_read (with_fall entry) entry.has_fall RepeatedFade (fade_fields rate) f.rest fade free f.says,
+      ) refl)
 
   entry_read :
-      (c : Context) (n : ℕ) (text : List ℕ) (entry : SpelledEntry) (entries : Entries) → SpellsEntry rate text entry
-      → list_any (λ other. other.number == entry.event.number) (all_events entries.events entries.entry) ≡ false
-      → in_event_list rate (with_entries c entries) n text
-      ≡ Ok (with_entries c (with_event entries (without_fades entry.event) entry.separators))
-  unfolding in_event_list entry_line entry_of
-  entry_read c n text entry entries h free =
-      let f = read_entry rate text entry h in
-      rw (h.cut.untagged, f.at, f.is_entry, f.numbered, free, f.fields) refl
+      (c : Context) (n : ℕ) (text : List ℕ) (g : Event × List ℕ) (entries : Entries)
+      → SpellsLine (entry_line rate) text g
+      → list_any (λ other. other.number == g.0.number) (all_events entries.events entries.entry) ≡ false
+      → in_event_list rate (with_entries c entries) n text ≡ Ok (with_entries c (with_event entries g.0 g.1))
+  unfolding in_event_list list.entry_line entry_of
+  entry_read c n text g entries h free =
+      let l = is_named (codes "Entry") (Then Number (event_fields rate)) text g h in
+      let f = is_numbered (event_fields rate) l.rest g l.says in
+      let new : list_any (λ other. other.number == f.number) (all_events entries.events entries.entry) ≡ false =
+      subst (λ m. list_any (λ other. other.number == m) (all_events entries.events entries.entry) ≡ false)
+      (number_of rate f.number f.rest g f.says) free in
+      rw (h.cut.untagged, l.at, l.is, f.numbered, new, f.says) refl
 
   -- a remark before the first entry
   first_remark_read :
@@ -205,7 +212,7 @@ module _ (rate : ℕ) where
       let f = first_cut h.cut in
       further_read c n text f.rest token nothing nothing h.untagged f.at
       (other_keyword (codes "Rem") (codes "Entry") token refl is)
-      (rw (is, is_end_of f.rest tokens f.cut) refl)
+      (rw (is, reads_end {A = Unit {0}} (tt {0}) f.rest (is_end_of f.rest tokens f.cut)) refl)
 
   -- ---- all lines, as they are read
 
@@ -229,17 +236,13 @@ module _ (rate : ℕ) where
     separators_are = r.separators_are;
   }
 
-  same_event : (entry : SpelledEntry) (rise fall : Option ℕ) → HasFades entry.event rise fall
-      → faded (opened_entry (without_fades entry.event)) rise fall ≡ entry.event
-  same_event entry rise fall h = rw (← h.rise_is, ← h.fall_is) refl
-
   read_behind :
       {lines : List NumberedLine} {rise fall : Option ℕ} {entries : List SpelledEntry}
       → SpellsBehind rate lines rise fall entries
       → (c : Context) (events : List Event) (entry : OpenEntry) (separators : List ℕ) → IsFree rise entry.has_rise
       → IsFree fall entry.has_fall
-      → AreDistinct (entry_numbers (events ++ faded entry rise fall ∷ events_of entries))
-      → AreRead lines c (behind events entry separators) (events ++ faded entry rise fall ∷ events_of entries)
+      → AreDistinct (entry_numbers (events ++ faded entry.event rise fall ∷ events_of entries))
+      → AreRead lines c (behind events entry separators) (events ++ faded entry.event rise fall ∷ events_of entries)
       (Some separators)
   read_behind EntriesEnd c events entry separators r f distinct =
       record { last = behind events entry separators; walked = refl; all_are = refl; separators_are = refl }
@@ -259,22 +262,16 @@ module _ (rate : ℕ) where
       one_more line lines c (behind events entry separators) (behind events (with_fall entry fade) separators) _ _
       (fall_read c line.number line.text fade events entry separators h f)
       (read_behind others c events (with_fall entry fade) separators r tt distinct)
-  read_behind (NextEntry line next {lines} {rise} {fall} {entries} h fades others) c events entry separators r f
-      distinct =
+  read_behind (NextEntry line g {lines} {rise} {fall} {entries} h others) c events entry separators r f distinct =
       let front = events ++ entry.event ∷ [] in
-      let new = opened_entry (without_fades next.event) in
-      let same = same_event next rise fall fades in
-      let all : front ++ faded new rise fall ∷ events_of entries
-      ≡ events ++ entry.event ∷ next.event ∷ events_of entries =
-      ap (λ e. front ++ e ∷ events_of entries) same
-      ∙ append_assoc events (entry.event ∷ []) (next.event ∷ events_of entries) in
-      let free = not_taken (λ e. e.number) front next.event (events_of entries)
-      (moved (λ e. e.number) events entry.event (next.event ∷ events_of entries) distinct) in
-      let later = read_behind others c front new separators (is_free rise) (is_free fall)
-      (subst (λ es. AreDistinct (entry_numbers es)) (sym all) distinct) in
-      one_more line lines c (behind events entry separators) (behind front new separators) _ _
-      (entry_read c line.number line.text next (behind events entry separators) h free)
-      (subst (λ es. AreRead lines c (behind front new separators) es (Some separators)) all later)
+      let whole = append_assoc events (entry.event ∷ []) (faded g.0 rise fall ∷ events_of entries) in
+      let free = not_taken (λ e. e.number) front (faded g.0 rise fall) (events_of entries)
+      (moved (λ e. e.number) events entry.event (faded g.0 rise fall ∷ events_of entries) distinct) in
+      let later = read_behind others c front (opened_entry g.0) separators (is_free rise) (is_free fall)
+      (subst (λ es. AreDistinct (entry_numbers es)) (sym whole) distinct) in
+      one_more line lines c (behind events entry separators) (behind front (opened_entry g.0) separators) _ _
+      (entry_read c line.number line.text g (behind events entry separators) h free)
+      (subst (λ es. AreRead lines c (behind front (opened_entry g.0) separators) es (Some separators)) whole later)
 
   pub read_entries :
       {lines : List NumberedLine} {entries : List SpelledEntry} → SpellsEntries rate lines entries
@@ -284,65 +281,62 @@ module _ (rate : ℕ) where
   read_entries (RemarkLine line {lines} {entries} h others) c distinct =
       one_more line lines c nothing nothing _ _ (first_remark_read c line.number line.text h.tokens h.cut h.passes)
       (read_entries others c distinct)
-  read_entries (FirstEntry line first {lines} {rise} {fall} {entries} h fades others) c distinct =
-      let new = opened_entry (without_fades first.event) in
-      let all : faded new rise fall ∷ events_of entries ≡ first.event ∷ events_of entries =
-      ap (λ e. e ∷ events_of entries) (same_event first rise fall fades) in
-      let later = read_behind others c [] new first.separators (is_free rise) (is_free fall)
-      (subst (λ es. AreDistinct (entry_numbers es)) (sym all) distinct) in
-      one_more line lines c nothing (behind [] new first.separators) _ _
-      (entry_read c line.number line.text first nothing h refl)
-      (subst (λ es. AreRead lines c (behind [] new first.separators) es (Some first.separators)) all later)
+  read_entries (FirstEntry line g {lines} {rise} {fall} {entries} h others) c distinct =
+      one_more line lines c nothing (behind [] (opened_entry g.0) g.1) _ _
+      (entry_read c line.number line.text g nothing h refl)
+      (read_behind others c [] (opened_entry g.0) g.1 (is_free rise) (is_free fall) distinct)
 
   -- what a line behind an entry says of it
   data IsFurther (text : List ℕ) (entry : OpenEntry) : OpenEntry → Type 0 where
     Remark : IsLineOf is_remark text → IsFurther text entry entry
     Gain : IsLineOf is_zero_gain text → IsFurther text entry entry
-    Rise : (fade : ℕ) → SpellsFade rate (codes "Infade") text fade → entry.has_rise ≡ false
+    Rise : (fade : ℕ) → SpellsLine (fade_line rate (codes "Infade")) text fade → entry.has_rise ≡ false
         → IsFurther text entry (with_rise entry fade)
-    Fall : (fade : ℕ) → SpellsFade rate (codes "Outfade") text fade → entry.has_fall ≡ false
+    Fall : (fade : ℕ) → SpellsLine (fade_line rate (codes "Outfade")) text fade → entry.has_fall ≡ false
         → IsFurther text entry (with_fall entry fade)
 
-  rise_is :
-      (text rest : List ℕ) (token : TokenText) (entry new : OpenEntry) → is_tag text ≡ false
-      → token_at text ≡ Ok (Some (token, rest))
-      → is_keyword (codes "Infade") token ≡ true → told_rise rate entry rest ≡ Ok new → IsFurther text entry new
-  rise_is text rest token entry new untagged at is e =
-      let free = unless_ok entry.has_rise RepeatedFade _ new e in
-      let f = chain (fade_fields rate rest) (λ length. Ok (with_rise entry length)) new free.1 in
-      let s = spelled_fade rate (codes "Infade") text rest token f.value untagged at is f.is in
-      rw (← ok_same _ _ f.others) (Rise f.value s free.0)
+  -- a fade that is told: it wasn't told before, and its line spells it
+  record IsFade (name text : List ℕ) (told : Bool) (with : ℕ → OpenEntry) (new : OpenEntry) : Type 0 where
+    fade : ℕ
+    spells : SpellsLine (fade_line rate name) text fade
+    free : told ≡ false
+    same : with fade ≡ new
 
-  fall_is :
-      (text rest : List ℕ) (token : TokenText) (entry new : OpenEntry) → is_tag text ≡ false
-      → token_at text ≡ Ok (Some (token, rest))
-      → is_keyword (codes "Outfade") token ≡ true → told_fall rate entry rest ≡ Ok new → IsFurther text entry new
-  fall_is text rest token entry new untagged at is e =
-      let free = unless_ok entry.has_fall RepeatedFade _ new e in
-      let f = chain (fade_fields rate rest) (λ length. Ok (with_fall entry length)) new free.1 in
-      let s = spelled_fade rate (codes "Outfade") text rest token f.value untagged at is f.is in
-      rw (← ok_same _ _ f.others) (Fall f.value s free.0)
+  fade_is :
+      (name text rest : List ℕ) (token : TokenText) (told : Bool) (with : ℕ → OpenEntry) (new : OpenEntry)
+      → is_tag text ≡ false → token_at text ≡ Ok (Some (token, rest)) → is_keyword name token ≡ true
+      → reads (Unless told RepeatedFade (mapped with (fade_fields rate))) rest ≡ Ok new → IsFade name text told with new
+  fade_is name text rest token told with new untagged at is e =
+      let free = unless_read told RepeatedFade (mapped with (fade_fields rate)) rest new e in
+      let f = ok_map_ok with (reads (fade_fields rate) rest) new (sym (reads_mapped with (fade_fields rate) rest) ∙ free.1) in
+      record {
+        fade = f.value;
+        spells = spells_named name (fade_fields rate) text f.value untagged
+            (record { keyword = token; rest = rest; at = at; is = is; says = f.is });
+        free = free.0;
+        same = f.same;
+      }
 
   remark_is :
       (text rest : List ℕ) (token : TokenText) (entry new : OpenEntry) → is_tag text ≡ false
       → token_at text ≡ Ok (Some (token, rest))
-      → is_keyword (codes "Rem") token ≡ true → (end_line rest >>= (λ _. Ok entry)) ≡ Ok new → IsFurther text entry new
+      → is_keyword (codes "Rem") token ≡ true → reads (Done any entry) rest ≡ Ok new → IsFurther text entry new
   remark_is text rest token entry new untagged at is e =
-      let f = chain (end_line rest) (λ _. Ok entry) new e in
-      let further = end_is rest f.is in
-      rw (← ok_same _ _ f.others)
+      let f = ends any entry new rest e in
+      let further = all_tokens_are any (length rest) rest (omega arith) f.0 in
+      rw (← f.1)
       (Remark (line_of text rest token further.tokens is_remark untagged at further.cut is))
 
   gain_is :
       (text rest : List ℕ) (token : TokenText) (entry new : OpenEntry) → is_tag text ≡ false
       → token_at text ≡ Ok (Some (token, rest))
       → is_keyword (codes "Gain") token ≡ true
-      → (all_tokens (λ t. is_zero t.content) (length rest) rest >>= (λ _. Ok entry)) ≡ Ok new
+      → reads (Done (λ t. is_zero t.content) entry) rest ≡ Ok new
       → IsFurther text entry new
   gain_is text rest token entry new untagged at is e =
-      let f = chain (all_tokens (λ t. is_zero t.content) (length rest) rest) (λ _. Ok entry) new e in
-      let further = all_tokens_are (λ t. is_zero t.content) (length rest) rest (omega arith) f.is in
-      rw (← ok_same _ _ f.others)
+      let f = ends (λ t. is_zero t.content) entry new rest e in
+      let further = all_tokens_are (λ t. is_zero t.content) (length rest) rest (omega arith) f.0 in
+      rw (← f.1)
       (Gain (line_of text rest token further.tokens is_zero_gain untagged at further.cut
       (and_both (is_keyword (codes "Gain") token) _ is further.all)))
 
@@ -352,63 +346,68 @@ module _ (rate : ℕ) where
       → (rise : Bool) → is_keyword (codes "Infade") token ≡ rise → (fall : Bool)
       → is_keyword (codes "Outfade") token ≡ fall
       → (rem : Bool) → is_keyword (codes "Rem") token ≡ rem → (gain : Bool) → is_keyword (codes "Gain") token ≡ gain
-      → entry_with rate entry token rest ≡ Ok new → IsFurther text entry new
+      → reads (entry_with rate entry token) rest ≡ Ok new → IsFurther text entry new
   unfolding entry_with
   entry_with_is text rest token entry new t at true a fall b rem c gain d e =
-      rise_is text rest token entry new t at a (rw a at e)
+      let f = fade_is (codes "Infade") text rest token entry.has_rise (with_rise entry) new t at a (rw a at e) in
+      rw (← f.same) (Rise f.fade f.spells f.free)
   entry_with_is text rest token entry new t at false a true b rem c gain d e =
-      fall_is text rest token entry new t at b (rw (a, b) at e)
+      let f = fade_is (codes "Outfade") text rest token entry.has_fall (with_fall entry) new t at b (rw (a, b) at e) in
+      rw (← f.same) (Fall f.fade f.spells f.free)
   entry_with_is text rest token entry new t at false a false b true c gain d e =
       remark_is text rest token entry new t at c (rw (a, b, c) at e)
   entry_with_is text rest token entry new t at false a false b false c true d e =
       gain_is text rest token entry new t at d (rw (a, b, c, d) at e)
   entry_with_is text rest token entry new t at false a false b false c false d e =
-      absurd (let no : ◌≡◌ {A = Result OpenEntry TextFault} (Err Unsupported) (Ok new) = rw (a, b, c, d) at e in cc)
+      absurd (refused Unsupported rest new (rw (a, b, c, d) at e))
 
   -- an entry, and the list with it
   record IsEntry (text : List ℕ) (c next : Context) (entries : Entries) : Type 0 where
-    number : ℕ
     g : Event × List ℕ
-    spelled : IsSpelledEntry rate text number g
+    spelled : SpellsLine (entry_line rate) text g
     free : list_any (λ other. other.number == g.0.number) (all_events entries.events entries.entry) ≡ false
     is : with_entries c (with_event entries g.0 g.1) ≡ next
 
   entry_of_is :
       (entries new : Entries) (n : ℕ) (rest : List ℕ) → entry_of rate entries n rest ≡ Ok new
-      → (g : Event × List ℕ) × ((event_fields rate n rest ≡ Ok g) × ((with_event entries g.0 g.1 ≡ new)
+      → (g : Event × List ℕ) × ((reads (event_fields rate n) rest ≡ Ok g) × ((with_event entries g.0 g.1 ≡ new)
       × (list_any (λ other. other.number == n) (all_events entries.events entries.entry) ≡ false)))
   unfolding entry_of
   entry_of_is entries new n rest e =
       let free = unless_ok (list_any (λ other. other.number == n) (all_events entries.events entries.entry))
       DuplicateNumber _ new e in
-      let f = chain (event_fields rate n rest) (λ g. Ok (with_event entries g.0 g.1)) new free.1 in
+      let f = chain (reads (event_fields rate n) rest) (λ g. Ok (with_event entries g.0 g.1)) new free.1 in
       (f.value, (f.is, (ok_same _ _ f.others, free.0)))
 
   entry_line_is :
       (c next : Context) (n : ℕ) (text rest : List ℕ) (token : TokenText) (entries : Entries) → is_tag text ≡ false
       → token_at text ≡ Ok (Some (token, rest)) → is_keyword (codes "Entry") token ≡ true
-      → entry_line rate (with_entries c entries) n rest ≡ Ok next → IsEntry text c next entries
-  unfolding entry_line
+      → list.entry_line rate (with_entries c entries) n rest ≡ Ok next → IsEntry text c next entries
+  unfolding list.entry_line
   entry_line_is c next n text rest token entries untagged at is e =
-      let a = chain (err_map (at_line n) (number_field rest)) _ next e in
-      let numbered = err_map_ok (at_line n) (number_field rest) a.value a.is in
+      let a = chain (err_map (at_line n) (value_at Number rest)) _ next e in
+      let numbered = err_map_ok (at_line n) (value_at Number rest) a.value a.is in
       let b = ok_map_ok (with_entries c) (entry_of rate entries a.value.0 a.value.1) next
       (err_map_ok (at_entry n a.value.0) _ next a.others) in
       by_fields a.value numbered b.value b.same (entry_of_is entries b.value a.value.0 a.value.1 b.is) where
         by_fields :
-            (numbered : ℕ × List ℕ) → number_field rest ≡ Ok numbered → (new : Entries) → with_entries c new ≡ next
-            → (g : Event × List ℕ) × ((event_fields rate numbered.0 numbered.1 ≡ Ok g) × ((with_event entries g.0 g.1 ≡ new)
+            (numbered : ℕ × List ℕ) → value_at Number rest ≡ Ok numbered → (new : Entries) → with_entries c new ≡ next
+            → (g : Event × List ℕ) × ((reads (event_fields rate numbered.0) numbered.1 ≡ Ok g) × ((with_event entries g.0 g.1 ≡ new)
             × (list_any (λ other. other.number == numbered.0) (all_events entries.events entries.entry) ≡ false)))
             → IsEntry text c next entries
         by_fields numbered f new same (g, (fields, (made, free))) =
-            let s = spelled_entry rate text rest numbered.1 token numbered.0 g untagged at is f fields in
             record {
-              number = numbered.0;
               g = g;
-              spelled = s;
+              spelled = spells_named (codes "Entry") (Then Number (event_fields rate)) text g untagged (record {
+                keyword = token;
+                rest = rest;
+                at = at;
+                is = is;
+                says = reads_numbered (event_fields rate) rest numbered.1 numbered.0 g f fields;
+              });
               free =
                   subst (λ m. list_any (λ other. other.number == m) (all_events entries.events entries.entry) ≡ false)
-                  s.number free;
+                  (sym (number_of rate numbered.0 numbered.1 g fields)) free;
               is = ap (with_entries c) made ∙ same;
             }
 
@@ -418,7 +417,7 @@ module _ (rate : ℕ) where
     Further :
         (new : OpenEntry) → IsFurther text entry new
         → IsBehindLine c text events entry separators (with_entries c (behind events new separators))
-    Another : (n : ℕ) (g : Event × List ℕ) → IsSpelledEntry rate text n g
+    Another : (g : Event × List ℕ) → SpellsLine (entry_line rate) text g
         → list_any (λ other. other.number == g.0.number) (events ++ entry.event ∷ []) ≡ false
         → IsBehindLine c text events entry separators
         (with_entries c (behind (events ++ entry.event ∷ []) (opened_entry g.0) separators))
@@ -433,7 +432,7 @@ module _ (rate : ℕ) where
   unfolding further_line
   further_is c next n text rest token events entry separators untagged at e =
       let a = ok_map_ok (with_entries c) _ next (err_map_ok (at_open n (Some entry)) _ next e) in
-      let b = ok_map_ok (λ new. behind events new separators) (entry_with rate entry token rest) a.value a.is in
+      let b = ok_map_ok (λ new. behind events new separators) (reads (entry_with rate entry token) rest) a.value a.is in
       let f = entry_with_is text rest token entry b.value untagged at (is_keyword (codes "Infade") token) refl
       (is_keyword (codes "Outfade") token) refl
       (is_keyword (codes "Rem") token) refl (is_keyword (codes "Gain") token) refl b.is in
@@ -460,20 +459,20 @@ module _ (rate : ℕ) where
       by_test (is_keyword (codes "Entry") token) refl (rw (t, f) at e) where
         by_test :
             (is : Bool) → is_keyword (codes "Entry") token ≡ is
-            → (if is_keyword (codes "Entry") token then entry_line rate
+            → (if is_keyword (codes "Entry") token then list.entry_line rate
             (with_entries c (behind events entry separators)) n rest
             else err_map (at_open n (Some entry))
             (ok_map (with_entries c) (further_line rate (behind events entry separators) token rest))) ≡ Ok next
             → IsBehindLine c text events entry separators next
         by_test true is o =
             let l = entry_line_is c next n text rest token (behind events entry separators) t f is (rw is at o) in
-            rw (← l.is) (Another l.number l.g l.spelled l.free)
+            rw (← l.is) (Another l.g l.spelled l.free)
         by_test false other o = further_is c next n text rest token events entry separators t f (rw other at o)
 
   -- what a line says before the first entry
   data IsFrontLine (c : Context) (text : List ℕ) : Context → Type 0 where
     Before : IsLineOf is_remark text → IsFrontLine c text (with_entries c nothing)
-    First : (n : ℕ) (g : Event × List ℕ) → IsSpelledEntry rate text n g
+    First : (g : Event × List ℕ) → SpellsLine (entry_line rate) text g
         → IsFrontLine c text (with_entries c (behind [] (opened_entry g.0) g.1))
 
   front_remark_is :
@@ -484,16 +483,20 @@ module _ (rate : ℕ) where
       → IsFrontLine c text next
   unfolding further_line remark
   front_remark_is c next n text rest token untagged at true is e =
-      let o : err_map (at_open n None) (ok_map (with_entries c) (ok_map (λ _. nothing) (end_line rest))) ≡ Ok next =
+      let o : err_map (at_open n None) (ok_map (with_entries c) (ok_map (λ _. nothing) (reads (Done any tt) rest))) ≡ Ok next =
       rw is at e in
-      let a = ok_map_ok (with_entries c) (ok_map (λ _. nothing) (end_line rest)) next
+      let a = ok_map_ok (with_entries c) (ok_map (λ _. nothing) (reads (Done any tt) rest)) next
       (err_map_ok (at_open n None) _ next o) in
-      let b = ok_map_ok (λ _. nothing) (end_line rest) a.value a.is in
-      let further = end_is rest b.is in
+      let b = ok_map_ok (λ _. nothing) (reads (Done any tt) rest) a.value a.is in
+      let further = all_tokens_are any (length rest) rest (omega arith) (ends any tt b.value rest b.is).0 in
       rw (← a.same, ← b.same)
       (Before (line_of text rest token further.tokens is_remark untagged at further.cut is))
   front_remark_is c next n text rest token untagged at false is e =
-      absurd (let no : ◌≡◌ {A = Result Context LocatedFault} (Err (at_open n None Unplaced)) (Ok next) = rw is at e in cc)
+      let o : err_map (at_open n None) (ok_map (with_entries c)
+      (ok_map (λ _. nothing) (reads {A = Unit {0}} (Refused Unplaced) rest))) ≡ Ok next = rw is at e in
+      let a = ok_map_ok (with_entries c) _ next (err_map_ok (at_open n None) _ next o) in
+      let b = ok_map_ok (λ _. nothing) (reads {A = Unit {0}} (Refused Unplaced) rest) a.value a.is in
+      absurd (refused Unplaced rest b.value b.is)
 
   front_line_is :
       (c next : Context) (n : ℕ) (text : List ℕ) → (tag : Bool) → is_tag text ≡ tag
@@ -513,12 +516,12 @@ module _ (rate : ℕ) where
       by_test (is_keyword (codes "Entry") token) refl (rw (t, f) at e) where
         by_test :
             (is : Bool) → is_keyword (codes "Entry") token ≡ is
-            → (if is_keyword (codes "Entry") token then entry_line rate (with_entries c nothing) n rest
+            → (if is_keyword (codes "Entry") token then list.entry_line rate (with_entries c nothing) n rest
             else err_map (at_open n None) (ok_map (with_entries c) (further_line rate nothing token rest))) ≡ Ok next
             → IsFrontLine c text next
         by_test true is o =
             let l = entry_line_is c next n text rest token nothing t f is (rw is at o) in
-            rw (← l.is) (First l.number l.g l.spelled)
+            rw (← l.is) (First l.g l.spelled)
         by_test false other o =
             front_remark_is c next n text rest token t f (is_keyword (codes "Rem") token) refl (rw other at o)
 
@@ -545,7 +548,7 @@ module _ (rate : ℕ) where
           last = r.last;
           is = r.is;
           all_are =
-              r.all_are ∙ ap (λ rise. events ++ faded (with_rise entry fade) rise r.fall ∷ events_of r.entries) none;
+              r.all_are ∙ ap (λ rise. events ++ faded (with_rise entry fade).event rise r.fall ∷ events_of r.entries) none;
           separators_are = r.separators_are;
           distinct =
               λ d. r.distinct
@@ -564,7 +567,7 @@ module _ (rate : ℕ) where
           last = r.last;
           is = r.is;
           all_are =
-              r.all_are ∙ ap (λ fall. events ++ faded (with_fall entry fade) r.rise fall ∷ events_of r.entries) none;
+              r.all_are ∙ ap (λ fall. events ++ faded (with_fall entry fade).event r.rise fall ∷ events_of r.entries) none;
           separators_are = r.separators_are;
           distinct =
               λ d. r.distinct
@@ -572,20 +575,6 @@ module _ (rate : ℕ) where
         },
         FallLine line fade h (subst (λ fall. SpellsBehind rate lines r.rise fall r.entries) none spells),
       )
-
-  told_fades :
-      (g : Event × List ℕ) (rise fall : Option ℕ) → g.0 ≡ without_fades g.0
-      → HasFades (faded (opened_entry g.0) rise fall) rise fall
-  told_fades g rise fall plain = record {
-    rise_is = ap (λ (e : Event). unwrap_or rise e.rise.length) plain;
-    fall_is = ap (λ (e : Event). unwrap_or fall e.fall.length) plain;
-  }
-
-  told_spelled :
-      (text : List ℕ) (n : ℕ) (g : Event × List ℕ) (rise fall : Option ℕ) → IsSpelledEntry rate text n g
-      → SpellsEntry rate text (told_entry g rise fall)
-  told_spelled text n g rise fall s =
-      s.spells (record { length = unwrap_or rise g.0.rise.length }) (record { length = unwrap_or fall g.0.fall.length })
 
   with_line_behind :
       (line : NumberedLine) (lines : List NumberedLine) (c : Context) (events : List Event) (entry : OpenEntry)
@@ -596,26 +585,25 @@ module _ (rate : ℕ) where
       → AreSpelledBehind (line ∷ lines) c events entry separators next
   with_line_behind line lines c events entry separators middle next (Further new f) others =
       with_further line lines c events entry new separators next f (others events new refl)
-  with_line_behind line lines c events entry separators middle next (Another n g s free) others =
+  with_line_behind line lines c events entry separators middle next (Another g s free) others =
       let front = events ++ entry.event ∷ [] in
       let told = others front (opened_entry g.0) refl in
       let r = told.0 in (
         record {
           rise = None;
           fall = None;
-          entries = told_entry g r.rise r.fall ∷ r.entries;
+          entries = with_fades g r.rise r.fall ∷ r.entries;
           free_rise = tt;
           free_fall = tt;
           last = r.last;
           is = r.is;
           all_are =
               r.all_are ∙ append_assoc events (entry.event ∷ [])
-              (faded (opened_entry g.0) r.rise r.fall ∷ events_of r.entries);
+              (faded g.0 r.rise r.fall ∷ events_of r.entries);
           separators_are = r.separators_are;
           distinct = λ d. r.distinct (distinct-push (λ e. e.number) is_event front g.0 g.0.number d free refl);
         },
-        NextEntry line (told_entry g r.rise r.fall) (told_spelled line.text n g r.rise r.fall s)
-            (told_fades g r.rise r.fall s.plain) told.1,
+        NextEntry line g s told.1,
       )
 
   behind_is_read :
@@ -674,13 +662,12 @@ module _ (rate : ℕ) where
         separators_are = r.separators_are;
         distinct = r.distinct;
       }
-  with_front_line line lines c middle next (First n g s) e others =
+  with_front_line line lines c middle next (First g s) e others =
       let told = behind_is_read lines c [] (opened_entry g.0) g.1 next e in
       let r = told.0 in
       record {
-        entries = told_entry g r.rise r.fall ∷ r.entries;
-        spells = FirstEntry line (told_entry g r.rise r.fall) (told_spelled line.text n g r.rise r.fall s)
-            (told_fades g r.rise r.fall s.plain) told.1;
+        entries = with_fades g r.rise r.fall ∷ r.entries;
+        spells = FirstEntry line g s told.1;
         last = r.last;
         is = r.is;
         all_are = r.all_are;

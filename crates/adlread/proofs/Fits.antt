@@ -15,8 +15,7 @@ use Rattle.list_terms.specs.HeaderLaws.{IsKept, lines_at, project_kept, put_line
 use Rattle.list_terms.specs.Text.{Context, Entries, HeaderRead, all_events, in_section, in_unsupported, is_opened, no_entry, with_lines, with_section}
 use Rattle.list_terms.specs.WholeProject.{AreDistinct, both_rates, entry_numbers, index_numbers, is_system_line, line_count, lines_of_section, no_rates, told_rates}
 use Rattle.adlread.specs.CutLines.{NumberedLine, is_empty, texts}
-use Rattle.adlread.specs.LineGrammar.{SpelledEntry}
-use Rattle.adlread.specs.Spells.{Block, IsPassedOver, SectionText, SpellsEntries, SpellsSources, Titled, kept, notice, notices_of_block, one_or_none, section_rank, sections, separators_of}
+use Rattle.adlread.specs.Spells.{Block, IsPassedOver, SectionText, SpellsEntries, SpellsSources, Titled, kept, notice, notices_of_block, one_or_none, section_rank, sections, separators_of, SpelledEntry}
 use Rattle.adlread.proofs.EventLines.{events_of, first_separators, read_entries, with_entries}
 use Rattle.adlread.proofs.FieldLaws.{ok_same}
 use Rattle.adlread.proofs.KeptLines.{keep_all-put, read_header, with_header}

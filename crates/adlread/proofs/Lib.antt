@@ -1,6 +1,5 @@
 pub mod Blocks
 pub mod CutLaws
-pub mod EntryTexts
 pub mod EventLines
 pub mod FieldLaws
 pub mod Finished

@@ -11,7 +11,8 @@ use Rattle.list_terms.specs.declared.Stage.{Stage}
 use Rattle.list_terms.specs.declared.Stage.TheVariants as stage
 use Rattle.list_terms.specs.declared.TextFault.{TextFault}
 use Rattle.list_terms.specs.EntryLines.{entry_with, event_fields, remark}
-use Rattle.list_terms.specs.Fields.{end_line, is_keyword, number_field}
+use Rattle.list_terms.specs.Fields.{end_line, is_keyword}
+use Rattle.list_terms.specs.Forms.{Number, reads, value_at}
 use Rattle.list_terms.specs.Steps.{◌>>=◌, ok_map, err_map}
 use Rattle.list_terms.specs.Text.{Context, Entries, LocatedFault, all_events, at_entry, at_index, at_line, at_open, before_list, dropped_line, entry_line, entry_of, further_line, in_event_list, in_header, in_section, in_source_index, in_unsupported, index_line, is_end, is_list_begin, is_opened, is_tag, keep, kept_line, nothing_read, opened, opened_name, outside, rates_with, section_of, source_with, with_event, with_line, with_notice, with_section, with_text}
 use Rattle.list_terms.specs.Tokens.{Cut, TokenText, token_at, trimmed}
@@ -72,8 +73,8 @@ module _ (rate : ℕ) where
     index_line_so_far : (rest : List ℕ) → list_all is_line_byte rest ≡ true → IfOk (index_line rate c n rest) (IsSoFar rate)
     unfolding index_line
     index_line_so_far rest h =
-        if_then (err_map (at_line n) (number_field rest)) _ (λ f. list_all is_line_byte f.1 ≡ true) (IsSoFar rate)
-        (if_same (number_field rest) (at_line n) (λ f. list_all is_line_byte f.1 ≡ true) (number_rest rest h))
+        if_then (err_map (at_line n) (value_at Number rest)) _ (λ f. list_all is_line_byte f.1 ≡ true) (IsSoFar rate)
+        (if_same (value_at Number rest) (at_line n) (λ f. list_all is_line_byte f.1 ≡ true) (number_rest rest h))
         (λ f l. if_mapped (source_with rate c.sources f.0 f.1) _ (at_index n f.0)
         (λ new. IsTrue (list_all has_whole_texts new)) (IsSoFar rate)
         (sources_have_texts rate c.sources f.0 f.1 is.texts l)
@@ -120,7 +121,7 @@ module _ (rate : ℕ) where
     entry_line_so_far : (rest : List ℕ) → IfOk (entry_line rate c n rest) (IsSoFar rate)
     unfolding entry_line entry_of
     entry_line_so_far rest =
-        if_bind (err_map (at_line n) (number_field rest)) _ (IsSoFar rate)
+        if_bind (err_map (at_line n) (value_at Number rest)) _ (IsSoFar rate)
         (λ f. by_test f.0 f.1 (list_any (λ other. other.number == f.0) (all_events c.entries.events c.entries.entry))
         refl) where
           by_test :
@@ -129,7 +130,7 @@ module _ (rate : ℕ) where
               → IfOk (err_map (at_entry n number) (ok_map (λ entries. record c { entries = entries })
               (entry_of rate c.entries number line))) (IsSoFar rate)
           by_test number line true e = rw e tt
-          by_test number line false e = rw e (by_event (event_fields rate number line)) where
+          by_test number line false e = rw e (by_event (reads (event_fields rate number) line)) where
             by_event :
                 (event : Result (Event × List ℕ) TextFault)
                 → IfOk (err_map (at_entry n number) (ok_map (λ entries. record c { entries = entries })
@@ -163,15 +164,15 @@ module _ (rate : ℕ) where
       by_new (Err f) = tt
 
       further : Option OpenEntry → Result Entries TextFault
-      further None = ok_map (λ _. c.entries) (remark token rest)
-      further (Some entry) = ok_map (λ new. record c.entries { entry = Some new }) (entry_with rate entry token rest)
+      further None = ok_map (λ _. c.entries) (reads (remark token) rest)
+      further (Some entry) = ok_map (λ new. record c.entries { entry = Some new }) (reads (entry_with rate entry token) rest)
 
       by_entry :
           (entry : Option OpenEntry)
           → IfOk (err_map (at_open n c.entries.entry)
           (ok_map (λ entries. record c { entries = entries }) (further entry))) (IsSoFar rate)
-      by_entry None = by_remark (remark token rest)
-      by_entry (Some entry) = by_new (entry_with rate entry token rest)
+      by_entry None = by_remark (reads (remark token) rest)
+      by_entry (Some entry) = by_new (reads (entry_with rate entry token) rest)
 
     event_list_so_far : IfOk (in_event_list rate c n text) (IsSoFar rate)
     unfolding in_event_list

@@ -1,6 +1,6 @@
 -- A line of the source index is read as the source that its tokens spell, and as no other.
-use Rattle.std.proofs.Common.{◌≡◌, ℕ, Bool, true, false, List, [], ◌∷◌, ◌++◌, Option, None, Some, Result, Ok, Err, IsTrue, refl, ap, sym, subst, ◌∙◌, append_assoc}
-use Rattle.std.specs.Prelude.{is_some, codes, if◌then◌else◌, ◌==◌, not}
+use Rattle.std.proofs.Common.{◌≡◌, ℕ, Bool, true, false, List, [], ◌∷◌, ◌++◌, Option, None, Some, Result, Ok, Err, refl, ap, sym, subst, ◌∙◌, append_assoc}
+use Rattle.std.specs.Prelude.{codes, if◌then◌else◌, ◌==◌, not}
 use Rattle.std.specs.List.{list_any}
 use Rattle.std.proofs.lemmas.List.{append-nil}
 use Rattle.std.proofs.lemmas.Bool.{not-true}
@@ -8,144 +8,31 @@ use Rattle.facts.specs.Distinct.{moved, not_taken}
 use Rattle.list_terms.specs.declared.Notice.{Notice}
 use Rattle.list_terms.specs.declared.Section.TheVariants as section
 use Rattle.list_terms.specs.declared.TextFault.{TextFault}
-use Rattle.list_terms.specs.declared.TextFault.TheVariants.{BadUrl, DuplicateNumber, SectionMismatch}
-use Rattle.list_terms.specs.Names.{place_of_url}
+use Rattle.list_terms.specs.declared.TextFault.TheVariants.{DuplicateNumber, SectionMismatch}
 use Rattle.list_terms.specs.Project.{Source}
 use Rattle.list_terms.specs.Steps.{err_map}
-use Rattle.list_terms.specs.Tokens.{Cut, TokenText, token_at, token_text}
-use Rattle.list_terms.specs.Fields.{checked_field, end_line, field, is_keyword, number_field, optional_time_field}
-use Rattle.list_terms.specs.EntryLines.{source_fields, uid_field, url_field}
+use Rattle.list_terms.specs.Tokens.{Cut, TokenText, token_at}
+use Rattle.list_terms.specs.Fields.{end_line, is_keyword}
+use Rattle.list_terms.specs.Forms.{Number, Then, reads, value_at}
+use Rattle.list_terms.specs.EntryLines.{source_fields}
 use Rattle.list_terms.specs.Text.{Context, LocatedFault, at_index, at_line, dropped_line, in_source_index, index_line, is_tag, source_with, untagged, with_notice}
 use Rattle.list_terms.specs.Text.{in_section}
 use Rattle.list_terms.specs.WholeProject.{AreDistinct, index_numbers, is_source}
 use Rattle.adlread.specs.CutLines.{HasTokens, NumberedLine}
 use Rattle.adlread.specs.Spells.{BlankLine, DroppedLine, SourceLine, SourcesEnd, SpellsSources}
-use Rattle.adlread.specs.LineGrammar.{IsLineOf, SpellsSource, is_no_source}
+use Rattle.adlread.specs.LineGrammar.{IsLineOf, SpellsLine, is_no_source, source_line}
 use Rattle.adlread.proofs.CutLaws.{cut_next, cut_none, first_cut, no_cut}
 use Rattle.adlread.proofs.Numbered.{distinct-push}
 use Rattle.adlread.proofs.Walk.{walk, walk_step}
-use Rattle.adlread.proofs.FieldLaws.{IsField, IsImage, at_field, chain, checked_is, err_map_ok, ok_map_ok, end_is, field_at, if_ok, ok_same, unless_ok, is_checked, is_end_of, is_number, number_is, optional_time_told, told_optional_time}
+use Rattle.adlread.proofs.FieldLaws.{IsImage, always, chain, end_is, err_map_ok, is_end_of, is_named, is_numbered, ok_map_ok, ok_same, reads_numbered, spells_named, unless_ok}
 
-url_is : (line : List ℕ) (g : List ℕ × List ℕ) → url_field line ≡ Ok g
-    → IsField line g.1 (λ t. (t.content ≡ g.0) × IsTrue (is_some (place_of_url g.0)))
-unfolding url_field
-url_is line g e =
-    let c = chain (field line)
-    (λ f. if is_some (place_of_url f.0.content) then Ok (f.0.content, f.1) else Err BadUrl) g e in
-    let passed = if_ok (is_some (place_of_url c.value.0.content)) (c.value.0.content, c.value.1) BadUrl g c.others in
-    rw (← passed.1) (record { token = c.value.0; at = field_at line c.value c.is; is = (refl, passed.0) })
-
-is_url :
-    (line rest : List ℕ) (token : TokenText) → token_at line ≡ Ok (Some (token, rest))
-    → is_some (place_of_url token.content) ≡ true
-    → url_field line ≡ Ok (token.content, rest)
-unfolding url_field
-is_url line rest token e h = rw (at_field line (token, rest) e, h) refl
-
-uid_is : (line : List ℕ) (g : List ℕ × List ℕ) → uid_field line ≡ Ok g → IsField line g.1 (λ t. token_text t ≡ g.0)
-uid_is line g e =
-    let c = chain (field line) _ g e in
-    let same : (token_text c.value.0, c.value.1) ≡ g = ok_same _ _ c.others in
-    rw (← same) (record { token = c.value.0; at = field_at line c.value c.is; is = refl })
+-- a source has the number of its line
+number_of :
+    (rate n : ℕ) (line : List ℕ) (source : Source) → reads (source_fields rate n) line ≡ Ok source → source.number ≡ n
+number_of rate n line source e =
+    always (λ s. s.number ≡ n) (source_fields rate n) line source (λ _ url uid start length. refl) e
 
 module _ (rate : ℕ) where
-  -- ---- one source
-
-  pub record IsSpelledSource (text : List ℕ) (n : ℕ) (source : Source) : Type 0 where
-    pub spells : SpellsSource rate text source
-    pub number : n ≡ source.number
-
-  spelled_source :
-      (text r s : List ℕ) (index : TokenText) (n : ℕ) (source : Source) → is_tag text ≡ false
-      → token_at text ≡ Ok (Some (index, r))
-      → is_keyword (codes "Index") index ≡ true → number_field r ≡ Ok (n, s) → source_fields rate n s ≡ Ok source
-      → IsSpelledSource text n source
-  unfolding source_fields
-  spelled_source text r s index n source untagged at is_index numbered e =
-      let number = number_is r (n, s) numbered in
-      let f = chain (checked_field (is_keyword (codes "F")) s) _ source e in
-      let file = checked_is (is_keyword (codes "F")) s f.value f.is in
-      let u = chain (url_field f.value) _ source f.others in
-      let url = url_is f.value u.value u.is in
-      let i = chain (uid_field u.value.1) _ source u.others in
-      let uid = uid_is u.value.1 i.value i.is in
-      let b = chain (optional_time_field rate i.value.1) _ source i.others in
-      let start = optional_time_told rate i.value.1 b.value b.is in
-      let l = chain (optional_time_field rate b.value.1) _ source b.others in
-      let length = optional_time_told rate b.value.1 l.value l.is in
-      let d = chain (end_line l.value.1) _ source l.others in
-      let further = end_is l.value.1 d.is in
-      let same : record { number = n; url = u.value.0; uid = i.value.0; start = b.value.0; length = l.value.0 }
-      ≡ source = ok_same _ _ d.others in
-      rw (← same) (record {
-        spells = record {
-          index = index;
-          number = number.token;
-          file = file.token;
-          url = url.token;
-          uid = uid.token;
-          start = start.token;
-          length = length.token;
-          further = further.tokens;
-          cut = record {
-            untagged = untagged;
-            cut =
-                cut_next text r index _ at (cut_next r s number.token _ number.at (cut_next s f.value file.token _ file.at
-                (cut_next f.value u.value.1 url.token _ url.at (cut_next u.value.1 i.value.1 uid.token _ uid.at
-                (cut_next i.value.1 b.value.1 start.token _ start.at
-                (cut_next b.value.1 l.value.1 length.token _ length.at further.cut))))));
-          };
-          is_index = is_index;
-          number_is = number.is;
-          is_file = file.is;
-          url_is = url.is.0;
-          names_file = url.is.1;
-          uid_is = uid.is;
-          start_is = start.is;
-          length_is = length.is;
-        };
-        number = refl;
-      })
-
-  -- the line is read as this source
-  record IsReadSource (text : List ℕ) (source : Source) : Type 0 where
-    index : TokenText
-    r : List ℕ
-    s : List ℕ
-    at : token_at text ≡ Ok (Some (index, r))
-    is_index : is_keyword (codes "Index") index ≡ true
-    numbered : number_field r ≡ Ok (source.number, s)
-    fields : source_fields rate source.number s ≡ Ok source
-
-  read_source : (text : List ℕ) (source : Source) → SpellsSource rate text source → IsReadSource text source
-  unfolding source_fields
-  read_source text source h =
-      let a = first_cut h.cut.cut in
-      let b = first_cut a.cut in
-      let c = first_cut b.cut in
-      let d = first_cut c.cut in
-      let e = first_cut d.cut in
-      let f = first_cut e.cut in
-      let g = first_cut f.cut in
-      record {
-        index = h.index;
-        r = a.rest;
-        s = b.rest;
-        at = a.at;
-        is_index = h.is_index;
-        numbered = is_number a.rest b.rest h.number source.number b.at h.number_is;
-        fields = rw (
-          is_checked (is_keyword (codes "F")) b.rest c.rest h.file c.at h.is_file,
-          is_url c.rest d.rest h.url d.at (subst (λ url. is_some (place_of_url url) ≡ true) (sym h.url_is) h.names_file),
-          at_field d.rest (h.uid, e.rest) e.at,
-          told_optional_time rate e.rest f.rest h.start source.start f.at h.start_is,
-          told_optional_time rate f.rest g.rest h.length source.length g.at h.length_is,
-          is_end_of g.rest h.further g.cut,
-          h.url_is,
-          h.uid_is,
-        ) refl;
-      }
-
   -- ---- one line, as it is read
 
   module _ (c : Context) (n : ℕ) (text : List ℕ) where
@@ -153,13 +40,18 @@ module _ (rate : ℕ) where
     unfolding in_source_index
     blank_source_line h = rw (h.untagged, no_cut h.cut) refl
 
-    source_line :
-        (source : Source) → SpellsSource rate text source → list_any (λ other. other.number == source.number) c.sources ≡ false
+    source_line_read :
+        (source : Source) → SpellsLine (source_line rate) text source
+        → list_any (λ other. other.number == source.number) c.sources ≡ false
         → in_source_index rate c n text ≡ Ok (record c { sources = c.sources ++ source ∷ [] })
     unfolding in_source_index index_line source_with
-    source_line source h free =
-        let f = read_source text source h in
-        rw (h.cut.untagged, f.at, f.is_index, f.numbered, free, f.fields) refl
+    source_line_read source h free =
+        let l = is_named (codes "Index") (Then Number (source_fields rate)) text source h in
+        let f = is_numbered (source_fields rate) l.rest source l.says in
+        let new : list_any (λ other. other.number == f.number) c.sources ≡ false =
+        subst (λ m. list_any (λ other. other.number == m) c.sources ≡ false)
+        (number_of rate f.number f.rest source f.says) free in
+        rw (h.cut.untagged, l.at, l.is, f.numbered, new, f.says) refl
 
     dropped_source_line :
         (tokens : List TokenText) → HasTokens text tokens → is_no_source tokens ≡ true
@@ -174,18 +66,19 @@ module _ (rate : ℕ) where
   data IsSourceLine (c : Context) (n : ℕ) (text : List ℕ) : Context → Type 0 where
     Blank : HasTokens text [] → IsSourceLine c n text c
     Told :
-        (source : Source) → SpellsSource rate text source → list_any (λ other. other.number == source.number) c.sources ≡ false
+        (source : Source) → SpellsLine (source_line rate) text source
+        → list_any (λ other. other.number == source.number) c.sources ≡ false
         → IsSourceLine c n text (record c { sources = c.sources ++ source ∷ [] })
     Dropped : IsLineOf is_no_source text → IsSourceLine c n text (with_notice c 2 n)
 
   source_with_is :
       (sources new : List Source) (n : ℕ) (rest : List ℕ) → source_with rate sources n rest ≡ Ok new
-      → IsImage (λ source. sources ++ source ∷ []) (source_fields rate n rest) new ×
+      → IsImage (λ source. sources ++ source ∷ []) (reads (source_fields rate n) rest) new ×
       (list_any (λ other. other.number == n) sources ≡ false)
   unfolding source_with
   source_with_is sources new n rest e =
       let free = unless_ok (list_any (λ other. other.number == n) sources) DuplicateNumber _ new e in
-      let f = chain (source_fields rate n rest) _ new free.1 in
+      let f = chain (reads (source_fields rate n) rest) _ new free.1 in
       (record { value = f.value; is = f.is; same = ok_same _ _ f.others }, free.0)
 
   -- a line of the source index that was read as a source
@@ -193,15 +86,15 @@ module _ (rate : ℕ) where
     number : ℕ
     behind : List ℕ
     source : Source
-    numbered : number_field rest ≡ Ok (number, behind)
-    fields : source_fields rate number behind ≡ Ok source
+    numbered : value_at Number rest ≡ Ok (number, behind)
+    fields : reads (source_fields rate number) behind ≡ Ok source
     free : list_any (λ other. other.number == number) c.sources ≡ false
     is : record c { sources = c.sources ++ source ∷ [] } ≡ next
 
   with_source : (c next : Context) (n : ℕ) (rest : List ℕ) → index_line rate c n rest ≡ Ok next → IsIndexLine c next rest
   unfolding index_line
   with_source c next n rest e =
-      let a = chain (err_map (at_line n) (number_field rest)) _ next e in
+      let a = chain (err_map (at_line n) (value_at Number rest)) _ next e in
       let b = ok_map_ok _ (source_with rate c.sources a.value.0 a.value.1) next
       (err_map_ok (at_index n a.value.0) _ next a.others) in
       let d = source_with_is c.sources b.value a.value.0 a.value.1 b.is in
@@ -209,7 +102,7 @@ module _ (rate : ℕ) where
         number = a.value.0;
         behind = a.value.1;
         source = d.0.value;
-        numbered = err_map_ok (at_line n) (number_field rest) a.value a.is;
+        numbered = err_map_ok (at_line n) (value_at Number rest) a.value a.is;
         fields = d.0.is;
         free = d.1;
         is = rw d.0.same b.same;
@@ -221,9 +114,16 @@ module _ (rate : ℕ) where
       → is_keyword (codes "Index") index ≡ true → index_line rate c n rest ≡ Ok next → IsSourceLine c n text next
   index_line_is c next n text rest index untagged at is e =
       let l = with_source c next n rest e in
-      let h = spelled_source text rest l.behind index l.number l.source untagged at is l.numbered l.fields in
-      rw (← l.is) (Told l.source h.spells
-      (subst (λ m. list_any (λ other. other.number == m) c.sources ≡ false) h.number l.free))
+      let h = spells_named (codes "Index") (Then Number (source_fields rate)) text l.source untagged (record {
+        keyword = index;
+        rest = rest;
+        at = at;
+        is = is;
+        says = reads_numbered (source_fields rate) rest l.behind l.number l.source l.numbered l.fields;
+      }) in
+      rw (← l.is) (Told l.source h
+      (subst (λ m. list_any (λ other. other.number == m) c.sources ≡ false)
+      (sym (number_of rate l.number l.behind l.source l.fields)) l.free))
 
   dropped_line_is :
       (c next : Context) (n : ℕ) (text rest : List ℕ) (token : TokenText) → is_tag text ≡ false
@@ -286,7 +186,7 @@ module _ (rate : ℕ) where
   read_sources (SourceLine line source {lines} {sources} {dropped} h others) c distinct =
       let next = record c { sources = c.sources ++ source ∷ [] } in
       let free = not_taken (λ s. s.number) c.sources source sources distinct in
-      walk_step rate section.SourceIndex c next line lines (source_line c line.number line.text source h free)
+      walk_step rate section.SourceIndex c next line lines (source_line_read c line.number line.text source h free)
       ∙ read_sources others next (moved (λ s. s.number) c.sources source sources distinct)
       ∙ ap (λ all. Ok (record c { sources = all; notices = c.notices ++ dropped }))
       (append_assoc c.sources (source ∷ []) sources)

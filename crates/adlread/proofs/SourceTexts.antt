@@ -1,6 +1,6 @@
 -- The texts of a source that a line says: its URL can be quoted, and its identifier is one token.
-use Rattle.std.proofs.Common.{◌≡◌, ℕ, Bool, true, false, List, [], ◌∷◌, ◌++◌, Option, None, Some, Result, Ok, Err, IfOk, IsTrue, refl, ap, sym, ◌∙◌, arith}
-use Rattle.std.specs.Prelude.{codes, is_some, ok_or, if◌then◌else◌, ◌==◌, ◌&&◌}
+use Rattle.std.proofs.Common.{◌≡◌, ℕ, length, Bool, true, false, List, [], ◌∷◌, ◌++◌, Result, Ok, Err, IfOk, IsTrue, refl, ap, sym, ◌∙◌, arith}
+use Rattle.std.specs.Prelude.{codes, is_some, if◌then◌else◌, ◌==◌, ◌&&◌}
 use Rattle.std.specs.List.{list_all, list_any}
 use Rattle.std.proofs.lemmas.Bool.Decides.{nat_tests}
 use Rattle.std.proofs.lemmas.List.{append-nil}
@@ -8,17 +8,19 @@ use Rattle.std.proofs.lemmas.Slice.Eq.{bytes_eq-Decides}
 use Rattle.facts.specs.Lists.{all_push}
 use Rattle.facts.specs.Tests.{and_both, and_left, and_right}
 use Rattle.list_terms.specs.declared.TextFault.{TextFault}
-use Rattle.list_terms.specs.declared.TextFault.TheVariants.{BadUrl, DuplicateNumber, MissingField, Unsupported}
+use Rattle.list_terms.specs.declared.TextFault.TheVariants.{BadUrl, DuplicateNumber}
 use Rattle.list_terms.specs.declared.TokenKind.{TokenKind}
 use Rattle.list_terms.specs.declared.TokenKind.TheVariants.{Quoted, Keyword, Word}
-use Rattle.list_terms.specs.EntryLines.{source_fields, uid_field, url_field}
-use Rattle.list_terms.specs.Fields.{checked_field, end_line, field, is_keyword, number_field, number_up_to, optional_time_field}
+use Rattle.list_terms.specs.EntryLines.{source_fields}
+use Rattle.list_terms.specs.FormLaws.{found}
+use Rattle.list_terms.specs.Forms.{Field, Identifier, MayTime, Number, Url, Value, any, keyword, reads, value_at, value_of}
 use Rattle.list_terms.specs.Names.{place_of_url}
 use Rattle.list_terms.specs.Project.{Source}
+use Rattle.list_terms.specs.StepLaws.{chain, if_ok, ok_same}
 use Rattle.list_terms.specs.Steps.{◌>>=◌, ok_map, err_map}
 use Rattle.list_terms.specs.Text.{source_with}
-use Rattle.list_terms.specs.Tokens.{Cut, TokenText, is_quoted_byte, is_word_byte, token_at, token_text}
-use Rattle.list_terms.specs.TokenLaws.{IsCut, is_content, is_word, token_at-cut, token_at-token_text}
+use Rattle.list_terms.specs.Tokens.{TokenText, all_tokens, is_quoted_byte, is_word_byte, token_at, token_text}
+use Rattle.list_terms.specs.TokenLaws.{is_content, is_word, token_at-cut, token_at-token_text}
 use Rattle.list_terms.specs.WholeProject.{has_whole_texts, is_line_byte, is_one_token, is_quotable}
 
 -- ---- steps that may fail
@@ -52,31 +54,26 @@ if_same (Err e) g Q q = tt
 abbrev pub IsText : List ℕ → Type 0
 IsText text = list_all is_line_byte text ≡ true
 
-field_is_cut : (line : List ℕ) → IsText line → IfOk (field line) (λ f. IsCut is_line_byte f.0 f.1)
-unfolding field
-field_is_cut line h = by_cut (token_at line) refl where
-  by_cut :
-      (cut : Result (Option Cut) TextFault) → token_at line ≡ cut
-      → IfOk (token_at line >>= (λ next. ok_or next MissingField)) (λ f. IsCut is_line_byte f.0 f.1)
-  by_cut (Err fault) e = rw e tt
-  by_cut (Ok None) e = rw e tt
-  by_cut (Ok (Some (token, rest))) e = rw e (token_at-cut is_line_byte line rest token h e)
+-- a field of such a line: its token, and what follows, are such bytes
+record IsInside (f : Field) (next : Value f × List ℕ) : Type 0 where
+  token : TokenText
+  inside : IsText token.content
+  content : is_content token.kind token.content ≡ true
+  is : value_of f token ≡ Ok next.0
+  rest_is : IsText next.1
 
-checked_rest : (test : TokenText → Bool) (line : List ℕ) → IsText line → IfOk (checked_field test line) IsText
-checked_rest test line h =
-    if_then (field line) _ (λ f. IsCut is_line_byte f.0 f.1) IsText (field_is_cut line h)
-    (λ f cut. by_test f cut (test f.0) refl) where
-      by_test :
-          (f : TokenText × List ℕ) → IsCut is_line_byte f.0 f.1 → (passes : Bool) → test f.0 ≡ passes
-          → IfOk (if test f.0 then Ok f.1 else Err Unsupported) IsText
-      by_test f cut true e = rw e cut.behind
-      by_test f cut false e = rw e tt
+inside : (f : Field) (line : List ℕ) → IsText line → (next : Value f × List ℕ) → value_at f line ≡ Ok next → IsInside f next
+inside f line h next e =
+    let x = found f line next e in
+    let cut = token_at-cut is_line_byte line next.1 x.token h x.at in
+    record { token = x.token; inside = cut.inside; content = cut.content; is = x.is; rest_is = cut.behind }
 
-pub number_rest : (line : List ℕ) → IsText line → IfOk (number_field line) (λ f. IsText f.1)
-unfolding number_field
-number_rest line h =
-    if_then (field line) _ (λ f. IsCut is_line_byte f.0 f.1) (λ f. IsText f.1) (field_is_cut line h)
-    (λ f cut. if_bind (ok_or (number_up_to 32767 f.0.content) _) _ (λ g. IsText g.1) (λ n. cut.behind))
+pub number_rest : (line : List ℕ) → IsText line → IfOk (value_at Number line) (λ f. IsText f.1)
+number_rest line h = by_value (value_at Number line) refl where
+  by_value :
+      (r : Result (ℕ × List ℕ) TextFault) → value_at Number line ≡ r → IfOk (value_at Number line) (λ f. IsText f.1)
+  by_value (Ok next) e = rw e (inside Number line h next e).rest_is
+  by_value (Err fault) e = rw e tt
 
 -- ---- the URL and the identifier
 
@@ -121,57 +118,38 @@ text_is_one_token token h =
     ap token_at (sym (append-nil (token_text token))) ∙ token_at-token_text token.kind token.content [] h refl in
     rw again ((bytes_eq-Decides (token_text token) (token_text token)).1 refl)
 
--- a text, and what follows it
-record Read (fine : List ℕ → Bool) (text rest : List ℕ) : Type 0 where
-  text_is : fine text ≡ true
-  rest_is : IsText rest
+url_is_quotable : (next : List ℕ × List ℕ) → IsInside Url next → list_all is_quotable next.0 ≡ true
+url_is_quotable next h =
+    let passed = if_ok (is_some (place_of_url h.token.content)) h.token.content BadUrl next.0 h.is in
+    rw (← passed.1) (both_bytes h.token.content (content_is_quotable h.token.kind h.token.content h.content) h.inside)
 
-abbrev is_uid : List ℕ → Bool
-is_uid uid = list_all is_line_byte uid && is_one_token uid
-
-url_is_quotable : (line : List ℕ) → IsText line → IfOk (url_field line) (λ f. Read (list_all is_quotable) f.0 f.1)
-unfolding url_field
-url_is_quotable line h =
-    if_then (field line) _ (λ f. IsCut is_line_byte f.0 f.1) (λ f. Read (list_all is_quotable) f.0 f.1)
-    (field_is_cut line h)
-    (λ f cut. by_place f cut (is_some (place_of_url f.0.content)) refl) where
-      by_place :
-          (f : TokenText × List ℕ) → IsCut is_line_byte f.0 f.1 → (there : Bool)
-          → is_some (place_of_url f.0.content) ≡ there
-          → IfOk {T = List ℕ × List ℕ} (if is_some (place_of_url f.0.content) then Ok (f.0.content, f.1)
-          else Err BadUrl) (λ g. Read (list_all is_quotable) g.0 g.1)
-      by_place f cut true e =
-          rw e (record {
-            text_is = both_bytes f.0.content (content_is_quotable f.0.kind f.0.content cut.content)
-                cut.inside;
-            rest_is = cut.behind;
-          })
-      by_place f cut false e = rw e tt
-
-uid_is_one_token : (line : List ℕ) → IsText line → IfOk (uid_field line) (λ f. Read is_uid f.0 f.1)
-uid_is_one_token line h =
-    if_then (field line) _ (λ f. IsCut is_line_byte f.0 f.1) (λ f. Read is_uid f.0 f.1) (field_is_cut line h)
-    (λ f cut. record {
-      text_is = and_both (list_all is_line_byte (token_text f.0)) (is_one_token (token_text f.0))
-          (text_is_line f.0.kind f.0.content cut.inside) (text_is_one_token f.0 cut.content);
-      rest_is = cut.behind;
-    })
+uid_is_one_token :
+    (next : List ℕ × List ℕ) → IsInside Identifier next
+    → (list_all is_line_byte next.0 && is_one_token next.0) ≡ true
+uid_is_one_token next h =
+    let same : token_text h.token ≡ next.0 = ok_same _ _ h.is in
+    rw (← same) (and_both (list_all is_line_byte (token_text h.token)) (is_one_token (token_text h.token))
+    (text_is_line h.token.kind h.token.content h.inside) (text_is_one_token h.token h.content))
 
 abbrev HasTexts : Source → Type 0
 HasTexts source = has_whole_texts source ≡ true
 
 module _ (rate : ℕ) where
-  source_has_texts : (number : ℕ) (line : List ℕ) → IsText line → IfOk (source_fields rate number line) HasTexts
-  unfolding source_fields
-  source_has_texts number line h =
-      if_then (checked_field (is_keyword (codes "F")) line) _ IsText HasTexts
-      (checked_rest (is_keyword (codes "F")) line h)
-      (λ rest l. if_then (url_field rest) _ (λ f. Read (list_all is_quotable) f.0 f.1) HasTexts (url_is_quotable rest l)
-      (λ url u. if_then (uid_field url.1) _ (λ f. Read is_uid f.0 f.1) HasTexts (uid_is_one_token url.1 u.rest_is)
-      (λ uid i. if_bind (optional_time_field rate uid.1) _ HasTexts
-      (λ start. if_bind (optional_time_field rate start.1) _ HasTexts
-      (λ length. if_bind (end_line length.1) _ HasTexts
-      (λ end. and_both (list_all is_quotable url.0) (is_uid uid.0) u.text_is i.text_is))))))
+  source_has_texts : (n : ℕ) (line : List ℕ) → IsText line → (source : Source)
+      → reads (source_fields rate n) line ≡ Ok source → HasTexts source
+  unfolding reads
+  source_has_texts n line h source e =
+      let f = chain (value_at (keyword (codes "F")) line) _ source e in
+      let file = inside (keyword (codes "F")) line h f.value f.is in
+      let u = chain (value_at Url f.value.1) _ source f.others in
+      let url = inside Url f.value.1 file.rest_is u.value u.is in
+      let i = chain (value_at Identifier u.value.1) _ source u.others in
+      let uid = inside Identifier u.value.1 url.rest_is i.value i.is in
+      let b = chain (value_at (MayTime rate) i.value.1) _ source i.others in
+      let l = chain (value_at (MayTime rate) b.value.1) _ source b.others in
+      let d = chain (all_tokens any (length l.value.1) l.value.1) _ source l.others in
+      rw (← ok_same _ _ d.others)
+      (and_both (list_all is_quotable u.value.0) _ (url_is_quotable u.value url) (uid_is_one_token i.value uid))
 
   pub sources_have_texts :
       (sources : List Source) (number : ℕ) (text : List ℕ) → IsTrue (list_all has_whole_texts sources) → IsText text
@@ -181,10 +159,14 @@ module _ (rate : ℕ) where
     by_test :
         (taken : Bool) → list_any (λ other. other.number == number) sources ≡ taken
         → IfOk (if list_any (λ other. other.number == number) sources then Err DuplicateNumber
-        else source_fields rate number text >>= (λ source. Ok (sources ++ source ∷ [])))
+        else reads (source_fields rate number) text >>= (λ source. Ok (sources ++ source ∷ [])))
         (λ new. IsTrue (list_all has_whole_texts new))
     by_test true e = rw e tt
-    by_test false e =
-        rw e (if_then (source_fields rate number text) _ HasTexts (λ new. IsTrue (list_all has_whole_texts new))
-        (source_has_texts number text h)
-        (λ source fine. all_push has_whole_texts sources source all fine))
+    by_test false e = rw e (by_source (reads (source_fields rate number) text) refl) where
+      by_source :
+          (r : Result Source TextFault) → reads (source_fields rate number) text ≡ r
+          → IfOk (reads (source_fields rate number) text >>= (λ source. Ok (sources ++ source ∷ [])))
+          (λ new. IsTrue (list_all has_whole_texts new))
+      by_source (Ok source) f =
+          rw f (all_push has_whole_texts sources source all (source_has_texts number text h source f))
+      by_source (Err fault) f = rw f tt

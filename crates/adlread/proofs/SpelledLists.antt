@@ -13,7 +13,7 @@ use Rattle.list_terms.specs.Lines.{lines_of}
 use Rattle.list_terms.specs.Tokens.{trimmed}
 use Rattle.list_terms.specs.RateLaws.{is_rate-rate_of}
 use Rattle.list_terms.specs.Text.{Context, all_events, at_line, before_list, finished, is_behind, is_end, is_list_begin, is_opened, nothing_read, opened, opened_name, outside, project_of, rate_of, read_from, section_of, text_refusal, text_value, with_line}
-use Rattle.list_terms.specs.WholeProject.{AreDistinct, IsHeader, entry_numbers, index_numbers, is_line_byte, lines_of_section}
+use Rattle.list_terms.specs.WholeProject.{AreDistinct, IsHeader, both_rates, entry_numbers, index_numbers, is_line_byte, lines_of_section, no_rates}
 use Rattle.adlread.specs.CutLines.{NumberedLine, is_empty, with_numbers, texts}
 use Rattle.adlread.specs.Spells.{AreBlocks, Blank, BlankBlock, Block, NoBlocks, SectionBlock, SectionText, Spells, SpellsAtRate, Titled, lines_of_block, one_or_none}
 use Rattle.adlread.proofs.Blocks.{before_begin, before_blank, before_line_is, outside_blank, outside_end, outside_line_is, outside_opens, opened_begun}
@@ -24,7 +24,7 @@ use Rattle.adlread.proofs.Finished.{IsHeader-from_so_far, lines_of-lines}
 use Rattle.adlread.proofs.SoFar.{IsSoFar-line, IsSoFar-nothing}
 use Rattle.adlread.specs.SoFar.{IsSoFar}
 use Rattle.adlread.proofs.LineLaws.{has_lines}
-use Rattle.adlread.proofs.SettingLines.{both_are_told, settings_are}
+use Rattle.adlread.proofs.SettingLines.{rates_are, settings_are}
 use Rattle.adlread.proofs.Stages.{outside_of, read_all, read_fault, read_from-all, read_last, read_step, section_is_read, stays_inside}
 use Rattle.adlread.proofs.WalkedSections.{IsFresh, IsWalkedOver, walked_over}
 
@@ -367,7 +367,7 @@ module _ (rate : ℕ) where
             track_list = b.fits.header.track_list;
             few = whole.few;
             settings = settings_are rate (lines_of_section p.header.system) whole.settings;
-            rates = both_are_told rate (lines_of_section p.header.sequence) whole.rates;
+            rates = rates_are rate no_rates both_rates (lines_of_section p.header.sequence) whole.rates;
           };
           index =
               record {

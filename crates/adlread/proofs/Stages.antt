@@ -11,7 +11,8 @@ use Rattle.list_terms.specs.declared.TextFault.{TextFault}
 use Rattle.list_terms.specs.declared.TextFault.TheVariants.{SectionMismatch, Unsupported}
 use Rattle.list_terms.specs.Project.{ListProject}
 use Rattle.list_terms.specs.Steps.{◌>>=◌, err_map, ok_map}
-use Rattle.list_terms.specs.Fields.{is_keyword, number_field}
+use Rattle.list_terms.specs.Fields.{is_keyword}
+use Rattle.list_terms.specs.Forms.{Number, value_at}
 use Rattle.list_terms.specs.Tokens.{Cut, token_at, trimmed}
 use Rattle.list_terms.specs.Text.{Context, Entries, LocatedFault, at_entry, at_line, at_open, entry_line, entry_of, finished, further_line, in_event_list, in_header, in_section, in_unsupported, is_behind, is_end, is_tag, read_from, with_line}
 use Rattle.adlread.specs.CutLines.{NumberedLine, is_empty, with_numbers, texts}
@@ -95,7 +96,7 @@ module _ (rate : ℕ) where
   entry_line_stays : (c next : Context) (n : ℕ) (text : List ℕ) → entry_line rate c n text ≡ Ok next → Stays c next
   unfolding entry_line
   entry_line_stays c next n text e =
-      let a = chain (err_map (at_line n) (number_field text)) _ next e in
+      let a = chain (err_map (at_line n) (value_at Number text)) _ next e in
       let b = ok_map_ok (with_entries c) (entry_of rate c.entries a.value.0 a.value.1) next
       (err_map_ok (at_entry n a.value.0) _ next a.others) in
       entries_stay c next b.value b.same

@@ -20,12 +20,6 @@ pub record HasTokens (line : List ℕ) (tokens : List TokenText) : Type 0 where
   pub untagged : is_tag line ≡ false
   pub cut : CutsTo line tokens
 
--- each of these lines has its tokens
-pub data HaveTokens : List (List ℕ) → List (List TokenText) → Type 0 where
-  NoLines : HaveTokens [] []
-  NextLine : {line : List ℕ} {tokens : List TokenText} {lines : List (List ℕ)} {others : List (List TokenText)}
-      → HasTokens line tokens → HaveTokens lines others → HaveTokens (line ∷ lines) (tokens ∷ others)
-
 -- the text is these parts, each with LF behind it; the last one may lack it, and has a byte then
 pub data HasParts : List ℕ → List (List ℕ) → Type 0 where
   NoPart : HasParts [] []

@@ -8,4 +8,3 @@ pub mod LineGrammar
 pub mod Outline
 pub mod SoFar
 pub mod Spells
-pub mod Views

@@ -1,26 +1,17 @@
--- What lines say by their tokens.
-use Rattle.std.specs.Prelude.{◌≡◌, ℕ, ◌≤◌, ◌++◌, decimal, length, replicate, ◌==◌, ◌&&◌, ◌||◌, not, Bool, true, false, List, [], ◌∷◌, Option, None, Some, if◌then◌else◌, IsTrue, codes, is_some, unwrap_or}
-use Rattle.std.specs.List.{list_all, list_any}
+-- What lines say by their tokens, without a reader.
+use Rattle.std.specs.Prelude.{◌≡◌, ℕ, ◌≤◌, ◌++◌, decimal, length, replicate, ◌&&◌, not, Bool, true, false, List, [], ◌∷◌, Option, None, Some, IsTrue, codes, is_some}
+use Rattle.std.specs.List.{list_all}
 use Rattle.sampletime.specs.TimeCode.{samples_of}
 use Rattle.sound_terms.specs.declared.Channels.{Channels}
 use Rattle.sound_terms.specs.declared.Event.{Event}
+use Rattle.list_terms.specs.declared.Rates.{Rates}
 use Rattle.list_terms.specs.Names.{place_of_url}
 use Rattle.list_terms.specs.Project.{Source}
 use Rattle.list_terms.specs.Tokens.{TokenText, token_text}
 use Rattle.list_terms.specs.Fields.{is_keyword, is_missing, is_zero}
-use Rattle.list_terms.specs.EntryLines.{tells_rate, is_48000, is_cut, is_linear, is_no_offset}
-use Rattle.list_terms.specs.WholeProject.{has_same_widths}
-use Rattle.adlread.specs.CutLines.{HasTokens, HaveTokens}
-
--- the first token is the keyword of this name
-abbrev pub begins : List ℕ → List TokenText → Bool
-begins name [] = false
-begins name (token ∷ tokens) = is_keyword name token
-
--- the first token is there and passes a test
-abbrev pub has_first : (TokenText → Bool) → List TokenText → Bool
-has_first test [] = false
-has_first test (token ∷ tokens) = test token
+use Rattle.list_terms.specs.Forms.{Done, Field, Form, Identifier, May, MayTime, Number, Passes, Refused, Run, Then, Time, Unless, Url, Value, keyword}
+use Rattle.list_terms.specs.EntryLines.{event_fields, fade_fields, sequence_fields, source_fields, system_fields}
+use Rattle.adlread.specs.CutLines.{HasTokens}
 
 -- the first token passes a test, where one is there
 abbrev pub may_have_first : (TokenText → Bool) → List TokenText → Bool
@@ -49,6 +40,60 @@ pub data SpellsChannels : List ℕ → Channels → Type 0 where
       → IsNumber 64 front channels.first → IsNumber 64 back channels.last → channels.first ≤ channels.last
       → SpellsChannels (front ++ (126 ∷ back)) channels
 
+-- the text of this time, with some separators; `_` where there is none
+abbrev pub TellsTime : ℕ → List ℕ → Option ℕ → Type 0
+TellsTime rate text None = IsTrue (is_missing text)
+TellsTime rate text (Some time) = (separators : List ℕ) × (samples_of rate text ≡ Some (time, separators))
+
+-- ---- any form of lines
+
+-- the token says this as such a field
+abbrev pub Tells : (field : Field) → TokenText → Value field → Type 0
+Tells (Passes test fault) token value = IsTrue (test token)
+Tells Number token number = IsNumber 32767 token.content number
+Tells Run token channels = SpellsChannels token.content channels
+Tells (Time rate) token time = samples_of rate token.content ≡ Some time
+Tells (MayTime rate) token time = TellsTime rate token.content time
+Tells Url token url = (token.content ≡ url) × IsTrue (is_some (place_of_url url))
+Tells Identifier token text = token_text token ≡ text
+
+-- The tokens say x in this form: one for each field, which tells its value, and further ones that the form allows. What
+-- forbids a value doesn't hold.
+abbrev pub Spell : {A : Type 0} → Form A → List TokenText → A → Type 0
+Spell (Done test y) tokens x = IsTrue (list_all test tokens) × (y ≡ x)
+Spell (Then field more) [] x = ⊥
+Spell (Then field more) (token ∷ tokens) x =
+    (value : Value field) × (Tells field token value × Spell (more value) tokens x)
+Spell (Unless wrong fault more) tokens x = IsTrue (not wrong) × Spell more tokens x
+Spell (May test fault y) tokens x = IsTrue (may_have_first test tokens) × (y ≡ x)
+Spell (Refused fault) tokens x = ⊥
+
+-- a line of this form behind this keyword
+abbrev pub named : {A : Type 0} → List ℕ → Form A → Form A
+named name form = Then (keyword name) (λ _. form)
+
+-- the line is tokens that say x in this form
+pub record SpellsLine {A : Type 0} (form : Form A) (text : List ℕ) (x : A) : Type 0 where
+  pub tokens : List TokenText
+  pub cut : HasTokens text tokens
+  pub says : Spell form tokens x
+
+-- the tokens of a line say x: there are none, and blank lines say it, or the first one tells the form of the others
+abbrev pub SpellByFirst : {A : Type 0} → A → (TokenText → Form A) → List TokenText → A → Type 0
+SpellByFirst blank form [] x = blank ≡ x
+SpellByFirst blank form (token ∷ tokens) x = Spell (form token) tokens x
+
+pub record SpellsByFirst {A : Type 0} (blank : A) (form : TokenText → Form A) (text : List ℕ) (x : A) : Type 0 where
+  pub tokens : List TokenText
+  pub cut : HasTokens text tokens
+  pub says : SpellByFirst blank form tokens x
+
+-- ---- the source index
+
+-- `(Index)`, a number, and the fields of a source
+abbrev pub source_line : ℕ → Form Source
+source_line rate = named (codes "Index") (Then Number (source_fields rate))
+
 -- a line whose first token isn't `(Index)`
 abbrev pub is_no_source : List TokenText → Bool
 is_no_source [] = false
@@ -56,10 +101,14 @@ is_no_source (token ∷ tokens) = not (is_keyword (codes "Index") token)
 
 -- ---- the event list
 
--- what an `(Entry)` line says: its event, and the separators of the destination in
-pub record SpelledEntry : Type 0 where
-  pub event : Event
-  pub separators : List ℕ
+-- `(Entry)`, a number, and the fields of an entry: its event before its fades are told, and the separators of the
+-- destination in
+abbrev pub entry_line : ℕ → Form (Event × List ℕ)
+entry_line rate = named (codes "Entry") (Then Number (event_fields rate))
+
+-- a fade under this keyword: its length, and its curve
+abbrev pub fade_line : ℕ → List ℕ → Form ℕ
+fade_line rate name = named name (fade_fields rate)
 
 -- nothing, or a remark
 abbrev pub is_remark : List TokenText → Bool
@@ -71,102 +120,18 @@ abbrev pub is_zero_gain : List TokenText → Bool
 is_zero_gain [] = false
 is_zero_gain (token ∷ tokens) = is_keyword (codes "Gain") token && list_all (λ t. is_zero t.content) tokens
 
--- what lines say at a rate of frames
+-- ---- settings
+
 module _ (rate : ℕ) where
-  -- the text of this time, with some separators; `_` where there is none
-  abbrev pub TellsTime : List ℕ → Option ℕ → Type 0
-  TellsTime text None = IsTrue (is_missing text)
-  TellsTime text (Some time) = (separators : List ℕ) × (samples_of rate text ≡ Some (time, separators))
+  -- the lines of SYSTEM: no offset of the sources and no gain
+  pub data AreSettings : List (List ℕ) → Type 0 where
+    NoSetting : AreSettings []
+    Setting : {text : List ℕ} {lines : List (List ℕ)} → SpellsByFirst tt (system_fields rate) text tt
+        → AreSettings lines → AreSettings (text ∷ lines)
 
-  -- ---- the source index
-
-  -- `(Index)` number `(F)` URL identifier time time; further tokens aren't interpreted
-  pub record SpellsSource (text : List ℕ) (source : Source) : Type 0 where
-    pub index : TokenText
-    pub number : TokenText
-    pub file : TokenText
-    pub url : TokenText
-    pub uid : TokenText
-    pub start : TokenText
-    pub length : TokenText
-    pub further : List TokenText
-    pub cut : HasTokens text (index ∷ number ∷ file ∷ url ∷ uid ∷ start ∷ length ∷ further)
-    pub is_index : IsTrue (is_keyword (codes "Index") index)
-    pub number_is : IsNumber 32767 number.content source.number
-    pub is_file : IsTrue (is_keyword (codes "F") file)
-    pub url_is : url.content ≡ source.url
-    pub names_file : IsTrue (is_some (place_of_url source.url))
-    pub uid_is : token_text uid ≡ source.uid
-    pub start_is : TellsTime start.content source.start
-    pub length_is : TellsTime length.content source.length
-
-  -- `(Entry)` number `(Cut) I` index channels channels time time time; further tokens aren't interpreted
-  pub record SpellsEntry (text : List ℕ) (entry : SpelledEntry) : Type 0 where
-    pub keyword : TokenText
-    pub number : TokenText
-    pub edit : TokenText
-    pub kind : TokenText
-    pub index : TokenText
-    pub source : TokenText
-    pub dest : TokenText
-    pub source_in : TokenText
-    pub dest_in : TokenText
-    pub dest_out : TokenText
-    pub further : List TokenText
-    pub cut : HasTokens text
-        (keyword ∷ number ∷ edit ∷ kind ∷ index ∷ source ∷ dest ∷ source_in ∷ dest_in ∷ dest_out ∷ further)
-    pub is_entry : IsTrue (is_keyword (codes "Entry") keyword)
-    pub number_is : IsNumber 32767 number.content entry.event.number
-    pub is_edit : IsTrue (is_keyword (codes "Cut") edit)
-    pub is_kind : IsTrue (is_cut kind)
-    pub index_is : IsNumber 32767 index.content entry.event.index
-    pub source_is : SpellsChannels source.content entry.event.source
-    pub dest_is : SpellsChannels dest.content entry.event.dest
-    pub same_widths : IsTrue (has_same_widths entry.event)
-    pub source_in_is : TellsTime source_in.content (Some entry.event.source_in)
-    pub dest_in_is : samples_of rate dest_in.content ≡ Some (entry.event.dest_in, entry.separators)
-    pub dest_out_is : TellsTime dest_out.content (Some entry.event.dest_out)
-
-  -- a fade under this keyword: its time, and LIN where it is longer than zero
-  pub record SpellsFade (name text : List ℕ) (fade : ℕ) : Type 0 where
-    pub keyword : TokenText
-    pub time : TokenText
-    pub further : List TokenText
-    pub told : Option ℕ
-    pub cut : HasTokens text (keyword ∷ time ∷ further)
-    pub is_fade : IsTrue (is_keyword name keyword)
-    pub time_is : TellsTime time.content told
-    pub fade_is : fade ≡ unwrap_or told 0
-    pub linear : IsTrue (fade == 0 || has_first is_linear further)
-
-  -- ---- settings
-
-  -- no offset of the sources and no gain; other lines of SYSTEM aren't interpreted
-  abbrev pub is_system : List TokenText → Bool
-  is_system [] = true
-  is_system (token ∷ tokens) =
-      if is_keyword (codes "SYS_SRC_OFFSET") token then may_have_first (λ t. is_no_offset rate t.content) tokens
-      else if is_keyword (codes "SYS_GAIN") token then may_have_first (λ t. is_zero t.content) tokens
-      else true
-
-  -- no rate but 48000 samples and this one of frames; other lines of SEQUENCE aren't interpreted
-  abbrev pub is_sequence : List TokenText → Bool
-  is_sequence [] = true
-  is_sequence (token ∷ tokens) =
-      if is_keyword (codes "SEQ_SAMPLE_RATE") token then has_first is_48000 tokens
-      else if is_keyword (codes "SEQ_FRAME_RATE") token then has_first (tells_rate rate) tokens
-      else true
-
-  -- the lines of SYSTEM
-  pub record AreSettings (lines : List (List ℕ)) : Type 0 where
-    pub tokens : List (List TokenText)
-    pub cut : HaveTokens lines tokens
-    pub each : IsTrue (list_all is_system tokens)
-
-  -- the lines of SEQUENCE, which tell both rates
-  pub record TellRates (lines : List (List ℕ)) : Type 0 where
-    pub tokens : List (List TokenText)
-    pub cut : HaveTokens lines tokens
-    pub each : IsTrue (list_all is_sequence tokens)
-    pub sample_rate : IsTrue (list_any (begins (codes "SEQ_SAMPLE_RATE")) tokens)
-    pub frame_rate : IsTrue (list_any (begins (codes "SEQ_FRAME_RATE")) tokens)
+  -- the lines of SEQUENCE, behind such rates as were told before: these are told then
+  pub data TellRates : Rates → List (List ℕ) → Rates → Type 0 where
+    NoRate : {rates : Rates} → TellRates rates [] rates
+    RateLine : {rates next told : Rates} {text : List ℕ} {lines : List (List ℕ)}
+        → SpellsByFirst rates (sequence_fields rate rates) text next → TellRates next lines told
+        → TellRates rates (text ∷ lines) told

@@ -10,9 +10,9 @@ use Rattle.list_terms.specs.declared.Section.TheVariants as section
 use Rattle.list_terms.specs.Project.{Header, Source, ListProject}
 use Rattle.list_terms.specs.Tokens.{trimmed}
 use Rattle.list_terms.specs.Text.{is_end, is_list_begin, opened_name, section_of}
-use Rattle.list_terms.specs.WholeProject.{AreDistinct, entry_numbers, index_numbers, line_count, lines_of_section}
+use Rattle.list_terms.specs.WholeProject.{AreDistinct, both_rates, entry_numbers, index_numbers, line_count, lines_of_section, no_rates}
 use Rattle.adlread.specs.CutLines.{HasLines, HasTokens, NumberedLine, is_empty, with_numbers, texts}
-use Rattle.adlread.specs.LineGrammar.{AreSettings, IsLineOf, SpelledEntry, SpellsEntry, SpellsFade, SpellsSource, TellRates, is_no_source, is_remark, is_zero_gain}
+use Rattle.adlread.specs.LineGrammar.{AreSettings, IsLineOf, SpellsLine, TellRates, entry_line, fade_line, is_no_source, is_remark, is_zero_gain, source_line}
 
 -- ---- the source index and the event list
 
@@ -20,10 +20,21 @@ use Rattle.adlread.specs.LineGrammar.{AreSettings, IsLineOf, SpelledEntry, Spell
 abbrev pub notice : ℕ → NumberedLine → Notice
 notice kind line = record { kind = kind; at = line.number }
 
--- the event has the fades that are told, and none where none is
-pub record HasFades (event : Event) (rise fall : Option ℕ) : Type 0 where
-  pub rise_is : event.rise.length ≡ unwrap_or rise 0
-  pub fall_is : event.fall.length ≡ unwrap_or fall 0
+-- an event, and the separators of its destination in
+pub record SpelledEntry : Type 0 where
+  pub event : Event
+  pub separators : List ℕ
+
+-- the event with the fades that are told
+abbrev pub faded : Event → (rise fall : Option ℕ) → Event
+faded event rise fall = record event {
+  rise = record { length = unwrap_or rise event.rise.length };
+  fall = record { length = unwrap_or fall event.fall.length };
+}
+
+-- what an `(Entry)` line says, with the fades that the lines behind it tell
+abbrev pub with_fades : Event × List ℕ → (rise fall : Option ℕ) → SpelledEntry
+with_fades entry rise fall = record { event = faded entry.0 rise fall; separators = entry.1 }
 
 -- the separators of the first entry's destination in, else the default ones
 abbrev pub separators_of : List SpelledEntry → List ℕ
@@ -121,7 +132,7 @@ module _ (rate : ℕ) where
         → HasTokens line.text [] → SpellsSources lines sources dropped → SpellsSources (line ∷ lines) sources dropped
     SourceLine : (line : NumberedLine) (source : Source)
         {lines : List NumberedLine} {sources : List Source} {dropped : List Notice}
-        → SpellsSource rate line.text source → SpellsSources lines sources dropped
+        → SpellsLine (source_line rate) line.text source → SpellsSources lines sources dropped
         → SpellsSources (line ∷ lines) (source ∷ sources) dropped
     DroppedLine : (line : NumberedLine) {lines : List NumberedLine} {sources : List Source} {dropped : List Notice}
         → IsLineOf is_no_source line.text → SpellsSources lines sources dropped
@@ -140,26 +151,26 @@ module _ (rate : ℕ) where
         → SpellsBehind (line ∷ lines) rise fall entries
     RiseLine : (line : NumberedLine) (fade : ℕ)
         {lines : List NumberedLine} {fall : Option ℕ} {entries : List SpelledEntry}
-        → SpellsFade rate (codes "Infade") line.text fade → SpellsBehind lines None fall entries
+        → SpellsLine (fade_line rate (codes "Infade")) line.text fade → SpellsBehind lines None fall entries
         → SpellsBehind (line ∷ lines) (Some fade) fall entries
     FallLine : (line : NumberedLine) (fade : ℕ)
         {lines : List NumberedLine} {rise : Option ℕ} {entries : List SpelledEntry}
-        → SpellsFade rate (codes "Outfade") line.text fade → SpellsBehind lines rise None entries
+        → SpellsLine (fade_line rate (codes "Outfade")) line.text fade → SpellsBehind lines rise None entries
         → SpellsBehind (line ∷ lines) rise (Some fade) entries
-    NextEntry : (line : NumberedLine) (entry : SpelledEntry)
+    NextEntry : (line : NumberedLine) (entry : Event × List ℕ)
         {lines : List NumberedLine} {rise fall : Option ℕ} {entries : List SpelledEntry}
-        → SpellsEntry rate line.text entry → HasFades entry.event rise fall
-        → SpellsBehind lines rise fall entries → SpellsBehind (line ∷ lines) None None (entry ∷ entries)
+        → SpellsLine (entry_line rate) line.text entry → SpellsBehind lines rise fall entries
+        → SpellsBehind (line ∷ lines) None None (with_fades entry rise fall ∷ entries)
 
   -- remarks, and entries each with the lines behind it
   pub data SpellsEntries : List NumberedLine → List SpelledEntry → Type 0 where
     NoEntries : SpellsEntries [] []
     RemarkLine : (line : NumberedLine) {lines : List NumberedLine} {entries : List SpelledEntry}
         → IsLineOf is_remark line.text → SpellsEntries lines entries → SpellsEntries (line ∷ lines) entries
-    FirstEntry : (line : NumberedLine) (entry : SpelledEntry)
+    FirstEntry : (line : NumberedLine) (entry : Event × List ℕ)
         {lines : List NumberedLine} {rise fall : Option ℕ} {entries : List SpelledEntry}
-        → SpellsEntry rate line.text entry → HasFades entry.event rise fall
-        → SpellsBehind lines rise fall entries → SpellsEntries (line ∷ lines) (entry ∷ entries)
+        → SpellsLine (entry_line rate) line.text entry → SpellsBehind lines rise fall entries
+        → SpellsEntries (line ∷ lines) (with_fades entry rise fall ∷ entries)
 
   -- the sections of the header, each at most once, its lines as they stand; SEQUENCE tells both rates
   pub record SpellsHeader (blocks : List Block) (header : Header) : Type 0 where
@@ -170,7 +181,7 @@ module _ (rate : ℕ) where
     pub track_list : kept section.TrackList blocks ≡ one_or_none header.track_list
     pub few : line_count header ≤ 65535
     pub settings : AreSettings rate (lines_of_section header.system)
-    pub rates : TellRates rate (lines_of_section header.sequence)
+    pub rates : TellRates rate no_rates (lines_of_section header.sequence) both_rates
 
   -- the one source index: sources under numbers of their own
   pub record SpellsIndex (blocks : List Block) (sources : List Source) : Type 0 where

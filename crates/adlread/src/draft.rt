@@ -333,6 +333,19 @@ impl<'a> Draft<'a> {
         self.project(rate)
     }
 
+    /// What a list lacks that ends at this line: a section, or a rate.
+    pub fn missing(&self, line: u64) -> Option<AdlFault> {
+        if !self.has_sections() {
+            return Some(at_line(TextFault::MissingSection, line));
+        }
+        let rates = self.header.rates;
+        if rates.sample_rate && rates.frame_rate {
+            None
+        } else {
+            Some(at_line(TextFault::MissingSequence, line))
+        }
+    }
+
     /// Whether SEQUENCE, SOURCE_INDEX and EVENT_LIST were there.
     fn has_sections(&self) -> bool
         ensures { result ≡ (is_some self.now.header.lines.sequence && self.now.has_index && self.now.has_events) }

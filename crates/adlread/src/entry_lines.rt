@@ -1,7 +1,10 @@
 // What the lines of the source index, of the event list and of the two sections of settings say.
 ghost use Rattle.std.specs.Prelude.{◌≡◌, ◌==◌, ◌≤◌, ◌-◌, IfOk, IsTrue, codes, false, is_some, length, option_map, unwrap_or};
 ghost use Rattle.list_terms.specs.Steps.{ok_map};
-ghost use Rattle.list_terms.specs.Fields.{checked_field, is_missing, is_zero, told_rate};
+ghost use Rattle.list_terms.specs.Fields.{is_missing, is_zero, told_rate};
+ghost use Rattle.list_terms.specs.Forms as form;
+ghost use Rattle.list_terms.specs.Forms.{reads, value_at};
+ghost use Rattle.list_terms.specs.declared.TextFault.TheVariants.{Unsupported, WrongSequence};
 ghost use Rattle.list_terms.specs.EntryLines as spec;
 ghost use Rattle.list_terms.specs.Names.{place_of_url};
 ghost use Rattle.list_terms.specs.WholeProject.{are_channels, is_event, is_number, is_source};
@@ -9,12 +12,11 @@ ghost use Rattle.sampletime.specs.FrameRate.{frames_per_second};
 ghost use Rattle.sampletime.specs.TimeCode.{day};
 ghost use Rattle.adltoken.specs.Views.{token_view};
 ghost use Rattle.adlread.specs.Fault.{Says};
-ghost use Rattle.adlread.specs.Views.{times_of};
 
 use crate::fault::LineFault;
 use crate::fields::{
-    channels_field, end_line, end_with_zeros, field, is_keyword, is_missing, is_zero,
-    keyword_field, number_field, optional_time_field, time_field, told_rate,
+    channels_field, end_line, end_with_zeros, field, identifier_field, is_keyword, is_missing,
+    is_zero, keyword_field, number_field, optional_time_field, time_field, told_rate,
 };
 use adlmodel::{Bytes, Channels, Event, Fade, Source, place_of};
 use adltoken::{TextFault, Token, Tokens, is_same_name, skip_blanks};
@@ -23,32 +25,32 @@ use sampletime::{Rate, SampleTime, Separators, parse_time};
 use std::alloc::Global;
 
 /// Reads `(F)`, URL, identifier, in and length, behind the number of an index.
-#[tactic(auto, unfolding(list_terms::specs::EntryLines::source_fields))]
+#[tactic(auto, unfolding(list_terms::specs::Forms::reads, list_terms::specs::Fields::end_line))]
 pub fn source_fields(
     alloc: Global,
     number: u32,
     tokens: &mut Tokens<'_>,
     rate: Rate,
 ) -> Result<Source, LineFault>
-    ensures fields { Says (λ source. source) result (spec.source_fields (frames_per_second rate) number tokens.old.rest.now) }
+    ensures fields { Says (λ source. source) result (reads (spec.source_fields (frames_per_second rate) number) tokens.old.rest.now) }
     ensures number { IfOk result (λ source. source.number ≡ number) }
     ensures whole { IsTrue (is_number number) → IfOk result (λ source. IsTrue (is_source source)) }
 {
     keyword_field(b"F", tokens)?;
     let url = url_field(alloc, tokens)?;
-    let uid = field(tokens)?;
+    let uid = identifier_field(tokens)?;
     let start = optional_time_field(tokens, rate)?;
     let length = optional_time_field(tokens, rate)?;
     end_line(tokens)?;
     let url = Bytes::from_slice(alloc, url)?;
-    let uid = Bytes::from_slice(alloc, uid.text)?;
+    let uid = Bytes::from_slice(alloc, uid)?;
     Ok(Source::new(number, url, uid, start, length))
 }
 
 /// Reads a URL that names a file.
-#[tactic(auto, unfolding(list_terms::specs::EntryLines::url_field))]
+#[tactic(auto, unfolding(list_terms::specs::Forms::value_at))]
 fn url_field<'a>(alloc: Global, tokens: &mut Tokens<'a>) -> Result<&'a [u8], LineFault>
-    ensures value { Says (λ url. (url.now, tokens.new.rest.now)) result (spec.url_field tokens.old.rest.now) }
+    ensures value { Says (λ url. (url.now, tokens.new.rest.now)) result (value_at form.Url tokens.old.rest.now) }
     ensures place { IfOk result (λ url. IsTrue (is_some (place_of_url url.now))) }
 {
     let token = field(tokens)?;
@@ -62,33 +64,49 @@ fn url_field<'a>(alloc: Global, tokens: &mut Tokens<'a>) -> Result<&'a [u8], Lin
 
 /// Reads `(Cut) I`, index, channels and times, behind the number of an entry: the event, and the separators of its
 /// destination in.
-#[tactic(auto, unfolding(list_terms::specs::EntryLines::event_fields))]
+#[tactic(auto, unfolding(list_terms::specs::Forms::reads, list_terms::specs::Fields::end_line))]
 pub fn event_fields(
     number: u32,
     tokens: &mut Tokens<'_>,
     rate: Rate,
 ) -> Result<(Event, Separators), TextFault>
-    ensures fields { result ≡ spec.event_fields (frames_per_second rate) number tokens.old.rest.now }
+    ensures fields { result ≡ reads (spec.event_fields (frames_per_second rate) number) tokens.old.rest.now }
     ensures number { IfOk result (λ entry. entry.0.number ≡ number) }
     ensures whole { IsTrue (is_number number) → IfOk result (λ entry. IsTrue (is_event entry.0)) }
 {
     keyword_field(b"Cut", tokens)?;
     cut_field(tokens)?;
     let index = number_field(tokens)?;
-    let (source, dest) = channel_fields(tokens)?;
-    let (times, separators) = time_fields(tokens, rate)?;
+    let source = channels_field(tokens)?;
+    let dest = channels_field(tokens)?;
+    if !has_width(source, dest) {
+        return Err(TextFault::BadChannels);
+    }
+    let (source_in, _) = time_field(tokens, rate)?;
+    let (dest_in, separators) = time_field(tokens, rate)?;
+    let (dest_out, _) = time_field(tokens, rate)?;
+    end_line(tokens)?;
     let event = Event {
         number,
         index,
         source,
         dest,
-        source_in: times.source_in,
-        dest_in: times.dest_in,
-        dest_out: times.dest_out,
+        source_in,
+        dest_in,
+        dest_out,
         rise: NO_FADE,
         fall: NO_FADE,
     };
     Ok((event, separators))
+}
+
+/// Whether two runs have as many channels.
+fn has_width(source: Channels, dest: Channels) -> bool
+    requires source { IsTrue (are_channels source) }
+    requires dest { IsTrue (are_channels dest) }
+    ensures { result ≡ spec.has_width source dest }
+{
+    source.last - source.first == dest.last - dest.first
 }
 
 const NO_FADE: Fade = Fade {
@@ -96,8 +114,10 @@ const NO_FADE: Fade = Fade {
 };
 
 /// Reads `I`, the only kind of cut that is supported.
+#[tactic(auto, unfolding(list_terms::specs::Forms::value_at))]
 fn cut_field(tokens: &mut Tokens<'_>) -> Result<(), TextFault>
-    ensures { ok_map (λ _. tokens.new.rest.now) result ≡ checked_field spec.is_cut tokens.old.rest.now }
+    ensures { ok_map (λ _. (tt, tokens.new.rest.now)) result
+        ≡ value_at (form.Passes spec.is_cut Unsupported) tokens.old.rest.now }
 {
     let token = field(tokens)?;
     if token.content == b"I".as_slice() {
@@ -107,55 +127,10 @@ fn cut_field(tokens: &mut Tokens<'_>) -> Result<(), TextFault>
     }
 }
 
-/// Reads the channels of the source, and as many of the destination.
-#[tactic(auto, unfolding(list_terms::specs::EntryLines::channel_fields))]
-fn channel_fields(tokens: &mut Tokens<'_>) -> Result<(Channels, Channels), TextFault>
-    ensures value { ok_map (λ channels. (channels.0, channels.1, tokens.new.rest.now)) result
-        ≡ spec.channel_fields tokens.old.rest.now }
-    ensures source { IfOk result (λ channels. IsTrue (are_channels channels.0)) }
-    ensures dest { IfOk result (λ channels. IsTrue (are_channels channels.1)) }
-    ensures widths { IfOk result (λ channels. channels.0.last - channels.0.first ≡ channels.1.last - channels.1.first) }
-{
-    let source = channels_field(tokens)?;
-    let dest = channels_field(tokens)?;
-    if source.last - source.first == dest.last - dest.first {
-        Ok((source, dest))
-    } else {
-        Err(TextFault::BadChannels)
-    }
-}
-
-/// The three times of an event.
-#[derive(Clone, Copy)]
-pub struct Times {
-    pub source_in: SampleTime,
-    pub dest_in: SampleTime,
-    pub dest_out: SampleTime,
-}
-
-/// Reads the times at the end of a line: the times, and the separators of the destination in.
-#[tactic(auto, unfolding(list_terms::specs::EntryLines::time_fields))]
-fn time_fields(tokens: &mut Tokens<'_>, rate: Rate) -> Result<(Times, Separators), TextFault>
-    ensures value { ok_map (λ times. (times_of times.0, times.1)) result ≡ spec.time_fields (frames_per_second rate) tokens.old.rest.now }
-    ensures in_day { IfOk result (λ times. (times.0.source_in ≤ day) × (times.0.dest_in ≤ day)
-        × (times.0.dest_out ≤ day)) }
-{
-    let (source_in, _) = time_field(tokens, rate)?;
-    let (dest_in, separators) = time_field(tokens, rate)?;
-    let (dest_out, _) = time_field(tokens, rate)?;
-    end_line(tokens)?;
-    let times = Times {
-        source_in,
-        dest_in,
-        dest_out,
-    };
-    Ok((times, separators))
-}
-
 /// Reads the length of a fade, and its curve where it is longer than zero: linear alone.
-#[tactic(auto, unfolding(list_terms::specs::EntryLines::fade_fields))]
+#[tactic(auto, unfolding(list_terms::specs::Forms::reads, list_terms::specs::Fields::end_line))]
 fn fade_fields(tokens: &mut Tokens<'_>, rate: Rate) -> Result<SampleTime, TextFault>
-    ensures value { result ≡ spec.fade_fields (frames_per_second rate) tokens.old.rest.now }
+    ensures value { result ≡ reads (spec.fade_fields (frames_per_second rate)) tokens.old.rest.now }
     ensures in_day { IfOk result (λ length. length ≤ day) }
 {
     let length = optional_time_field(tokens, rate)?.unwrap_or(SampleTime::ZERO);
@@ -167,8 +142,10 @@ fn fade_fields(tokens: &mut Tokens<'_>, rate: Rate) -> Result<SampleTime, TextFa
 }
 
 /// Reads `LIN`, the only curve that is supported.
+#[tactic(auto, unfolding(list_terms::specs::Forms::value_at))]
 fn linear_field(tokens: &mut Tokens<'_>) -> Result<(), TextFault>
-    ensures { ok_map (λ _. tokens.new.rest.now) result ≡ checked_field spec.is_linear tokens.old.rest.now }
+    ensures { ok_map (λ _. (tt, tokens.new.rest.now)) result
+        ≡ value_at (form.Passes spec.is_linear Unsupported) tokens.old.rest.now }
 {
     let token = field(tokens)?;
     if is_same_name(token.content, b"LIN") {
@@ -179,14 +156,15 @@ fn linear_field(tokens: &mut Tokens<'_>) -> Result<(), TextFault>
 }
 
 /// The entry with what a line behind its own says: a fade, a remark, or a gain of zero.
-#[tactic(auto, unfolding(list_terms::specs::EntryLines::entry_with))]
+#[tactic(auto, unfolding(list_terms::specs::EntryLines::entry_with, list_terms::specs::Forms::reads, list_terms::specs::Fields::end_line))]
 pub fn entry_with(
     entry: OpenEntry,
     token: &Token<'_>,
     tokens: &mut Tokens<'_>,
     rate: Rate,
 ) -> Result<OpenEntry, TextFault>
-    ensures value { result ≡ spec.entry_with (frames_per_second rate) entry (token_view token.now) tokens.old.rest.now }
+    ensures value { result
+        ≡ reads (spec.entry_with (frames_per_second rate) entry (token_view token.now)) tokens.old.rest.now }
     ensures number { IfOk result (λ new. new.event.number ≡ entry.event.number) }
     ensures whole { IsTrue (is_event entry.event) → IfOk result (λ new. IsTrue (is_event new.event)) }
 {
@@ -206,8 +184,9 @@ pub fn entry_with(
 }
 
 /// The entry with its fade-in.
+#[tactic(auto, using(list_terms::specs::FormLaws::reads_mapped), unfolding(list_terms::specs::Forms::reads))]
 fn with_rise(entry: OpenEntry, tokens: &mut Tokens<'_>, rate: Rate) -> Result<OpenEntry, TextFault>
-    ensures value { result ≡ spec.told_rise (frames_per_second rate) entry tokens.old.rest.now }
+    ensures value { result ≡ reads (spec.told_rise (frames_per_second rate) entry) tokens.old.rest.now }
     ensures number { IfOk result (λ new. new.event.number ≡ entry.event.number) }
     ensures whole { IsTrue (is_event entry.event) → IfOk result (λ new. IsTrue (is_event new.event)) }
 {
@@ -222,8 +201,9 @@ fn with_rise(entry: OpenEntry, tokens: &mut Tokens<'_>, rate: Rate) -> Result<Op
 }
 
 /// The entry with its fade-out.
+#[tactic(auto, using(list_terms::specs::FormLaws::reads_mapped), unfolding(list_terms::specs::Forms::reads))]
 fn with_fall(entry: OpenEntry, tokens: &mut Tokens<'_>, rate: Rate) -> Result<OpenEntry, TextFault>
-    ensures value { result ≡ spec.told_fall (frames_per_second rate) entry tokens.old.rest.now }
+    ensures value { result ≡ reads (spec.told_fall (frames_per_second rate) entry) tokens.old.rest.now }
     ensures number { IfOk result (λ new. new.event.number ≡ entry.event.number) }
     ensures whole { IsTrue (is_event entry.event) → IfOk result (λ new. IsTrue (is_event new.event)) }
 {
@@ -238,9 +218,9 @@ fn with_fall(entry: OpenEntry, tokens: &mut Tokens<'_>, rate: Rate) -> Result<Op
 }
 
 /// Reads a line before the first entry, which has to be a remark.
-#[tactic(auto, unfolding(list_terms::specs::EntryLines::remark))]
+#[tactic(auto, unfolding(list_terms::specs::EntryLines::remark, list_terms::specs::Forms::reads, list_terms::specs::Fields::end_line))]
 pub fn remark(token: &Token<'_>, tokens: &mut Tokens<'_>) -> Result<(), TextFault>
-    ensures { ok_map (λ _. tt) result ≡ spec.remark (token_view token.now) tokens.old.rest.now }
+    ensures { ok_map (λ _. tt) result ≡ reads (spec.remark (token_view token.now)) tokens.old.rest.now }
 {
     if is_keyword(b"Rem", token) {
         end_line(tokens)
@@ -250,7 +230,7 @@ pub fn remark(token: &Token<'_>, tokens: &mut Tokens<'_>) -> Result<(), TextFaul
 }
 
 /// Which rates SEQUENCE told, with what one more line says. Lines that tell none aren't interpreted.
-#[tactic(auto, unfolding(list_terms::specs::EntryLines::sequence_line))]
+#[tactic(auto, unfolding(list_terms::specs::EntryLines::sequence_line, list_terms::specs::Forms::reads_line, list_terms::specs::Forms::reads, list_terms::specs::Fields::end_line))]
 pub fn sequence_line(rates: Rates, line: &[u8], rate: Rate) -> Result<Rates, TextFault>
     ensures { result ≡ spec.sequence_line (frames_per_second rate) rates line.now }
 {
@@ -265,33 +245,34 @@ pub fn sequence_line(rates: Rates, line: &[u8], rate: Rate) -> Result<Rates, Tex
     } else if is_keyword(b"SEQ_FRAME_RATE", &token) {
         frame_rate_field(&mut tokens, rate)?;
         rates.frame_rate = true;
-    } else {
-        end_line(&mut tokens)?;
     }
+    end_line(&mut tokens)?;
     Ok(rates)
 }
 
 /// Reads `S48000` or `48000`.
-#[tactic(auto, unfolding(list_terms::specs::EntryLines::rate_field))]
+#[tactic(auto, unfolding(list_terms::specs::Forms::value_at))]
 fn sample_rate_field(tokens: &mut Tokens<'_>) -> Result<(), TextFault>
-    ensures { ok_map (λ _. tt) result ≡ spec.rate_field spec.is_48000 tokens.old.rest.now }
+    ensures { ok_map (λ _. (tt, tokens.new.rest.now)) result
+        ≡ value_at (form.Passes spec.is_48000 WrongSequence) tokens.old.rest.now }
 {
     let token = field(tokens)?;
     if is_same_name(token.content, b"S48000") || token.content == b"48000".as_slice() {
-        end_line(tokens)
+        Ok(())
     } else {
         Err(TextFault::WrongSequence)
     }
 }
 
 /// Reads the rate of frames that the list has.
-#[tactic(auto, unfolding(list_terms::specs::EntryLines::rate_field))]
+#[tactic(auto, unfolding(list_terms::specs::Forms::value_at))]
 fn frame_rate_field(tokens: &mut Tokens<'_>, rate: Rate) -> Result<(), TextFault>
-    ensures { ok_map (λ _. tt) result ≡ spec.rate_field (spec.tells_rate (frames_per_second rate)) tokens.old.rest.now }
+    ensures { ok_map (λ _. (tt, tokens.new.rest.now)) result
+        ≡ value_at (form.Passes (spec.tells_rate (frames_per_second rate)) WrongSequence) tokens.old.rest.now }
 {
     let token = field(tokens)?;
     if tells_rate(token.content, rate) {
-        end_line(tokens)
+        Ok(())
     } else {
         Err(TextFault::WrongSequence)
     }
@@ -309,7 +290,7 @@ fn tells_rate(text: &[u8], rate: Rate) -> bool
 }
 
 /// Reads a line of SYSTEM: no offset of the sources and no gain may be told. Other lines aren't interpreted.
-#[tactic(auto, unfolding(list_terms::specs::EntryLines::system_line))]
+#[tactic(auto, unfolding(list_terms::specs::EntryLines::system_line, list_terms::specs::Forms::reads_line, list_terms::specs::Forms::reads, list_terms::specs::Fields::end_line))]
 pub fn system_line(line: &[u8], rate: Rate) -> Result<(), TextFault>
     ensures { ok_map (λ _. tt) result ≡ spec.system_line (frames_per_second rate) line.now }
 {
@@ -327,9 +308,10 @@ pub fn system_line(line: &[u8], rate: Rate) -> Result<(), TextFault>
 }
 
 /// Reads nothing, `_`, or a time of zero.
-#[tactic(auto, unfolding(list_terms::specs::EntryLines::setting))]
+#[tactic(auto, unfolding(list_terms::specs::Forms::reads))]
 fn offset_setting(tokens: &mut Tokens<'_>, rate: Rate) -> Result<(), TextFault>
-    ensures { ok_map (λ _. tt) result ≡ spec.setting (spec.is_no_offset (frames_per_second rate)) tokens.old.rest.now }
+    ensures { ok_map (λ _. tt {0}) result
+        ≡ reads (form.May (λ t. spec.is_no_offset (frames_per_second rate) t.content) Unsupported (tt {0})) tokens.old.rest.now }
 {
     let Some(token) = tokens.next_token()? else {
         return Ok(());
@@ -342,9 +324,10 @@ fn offset_setting(tokens: &mut Tokens<'_>, rate: Rate) -> Result<(), TextFault>
 }
 
 /// Reads nothing, or a zero.
-#[tactic(auto, unfolding(list_terms::specs::EntryLines::setting))]
+#[tactic(auto, unfolding(list_terms::specs::Forms::reads))]
 fn gain_setting(tokens: &mut Tokens<'_>) -> Result<(), TextFault>
-    ensures { ok_map (λ _. tt) result ≡ spec.setting is_zero tokens.old.rest.now }
+    ensures { ok_map (λ _. tt {0}) result
+        ≡ reads (form.May (λ t. is_zero t.content) Unsupported (tt {0})) tokens.old.rest.now }
 {
     let Some(token) = tokens.next_token()? else {
         return Ok(());

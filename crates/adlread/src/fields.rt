@@ -5,6 +5,8 @@ ghost use Rattle.list_terms.specs.Steps.{ok_map};
 ghost use Rattle.list_terms.specs.Names.{behind_byte};
 ghost use Rattle.list_terms.specs.Tokens.{all_tokens, token_text};
 ghost use Rattle.list_terms.specs.Fields as spec;
+ghost use Rattle.list_terms.specs.Forms as form;
+ghost use Rattle.list_terms.specs.Forms.{keyword, value_at};
 ghost use Rattle.list_terms.specs.WholeProject.{are_channels, is_number, is_time_of_day};
 ghost use Rattle.sampletime.specs.FrameRate.{frames_per_second};
 ghost use Rattle.sampletime.specs.TimeCode.{day};
@@ -38,9 +40,9 @@ pub fn field<'a>(tokens: &mut Tokens<'a>) -> Result<Token<'a>, TextFault>
 }
 
 /// The next token, which has to be the keyword of this name.
+#[tactic(auto, unfolding(list_terms::specs::Forms::value_at))]
 pub fn keyword_field(name: &[u8], tokens: &mut Tokens<'_>) -> Result<(), TextFault>
-    ensures { ok_map (λ _. tokens.new.rest.now) result
-        ≡ spec.checked_field (spec.is_keyword name.now) tokens.old.rest.now }
+    ensures { ok_map (λ _. (tt, tokens.new.rest.now)) result ≡ value_at (keyword name.now) tokens.old.rest.now }
 {
     let token = field(tokens)?;
     if is_keyword(name, &token) {
@@ -51,9 +53,9 @@ pub fn keyword_field(name: &[u8], tokens: &mut Tokens<'_>) -> Result<(), TextFau
 }
 
 /// A number from 1 to 32767.
-#[tactic(auto, unfolding(list_terms::specs::Fields::number_field))]
+#[tactic(auto, unfolding(list_terms::specs::Forms::value_at))]
 pub fn number_field(tokens: &mut Tokens<'_>) -> Result<u32, TextFault>
-    ensures exact { ok_map (λ number. (number, tokens.new.rest.now)) result ≡ spec.number_field tokens.old.rest.now }
+    ensures exact { ok_map (λ number. (number, tokens.new.rest.now)) result ≡ value_at form.Number tokens.old.rest.now }
     ensures range { IfOk result (λ number. IsTrue (is_number number)) }
 {
     let token = field(tokens)?;
@@ -61,10 +63,10 @@ pub fn number_field(tokens: &mut Tokens<'_>) -> Result<u32, TextFault>
 }
 
 /// A run of channels.
-#[tactic(auto, unfolding(list_terms::specs::Fields::channels_field))]
+#[tactic(auto, unfolding(list_terms::specs::Forms::value_at))]
 pub fn channels_field(tokens: &mut Tokens<'_>) -> Result<Channels, TextFault>
     ensures exact { ok_map (λ channels. (channels, tokens.new.rest.now)) result
-        ≡ spec.channels_field tokens.old.rest.now }
+        ≡ value_at form.Run tokens.old.rest.now }
     ensures range { IfOk result (λ channels. IsTrue (are_channels channels)) }
 {
     let token = field(tokens)?;
@@ -72,13 +74,13 @@ pub fn channels_field(tokens: &mut Tokens<'_>) -> Result<Channels, TextFault>
 }
 
 /// A time and its separators.
-#[tactic(auto, unfolding(list_terms::specs::Fields::time_field))]
+#[tactic(auto, unfolding(list_terms::specs::Forms::value_at))]
 pub fn time_field(
     tokens: &mut Tokens<'_>,
     rate: Rate,
 ) -> Result<(SampleTime, Separators), TextFault>
-    ensures exact { ok_map (λ time. (time.0, time.1, tokens.new.rest.now)) result
-        ≡ spec.time_field (frames_per_second rate) tokens.old.rest.now }
+    ensures exact { ok_map (λ time. ((time.0, time.1), tokens.new.rest.now)) result
+        ≡ value_at (form.Time (frames_per_second rate)) tokens.old.rest.now }
     ensures in_day { IfOk result (λ time. time.0 ≤ day) }
 {
     let token = field(tokens)?;
@@ -86,13 +88,13 @@ pub fn time_field(
 }
 
 /// A time, or `_` where none is told.
-#[tactic(auto, unfolding(list_terms::specs::Fields::optional_time_field))]
+#[tactic(auto, unfolding(list_terms::specs::Forms::value_at))]
 pub fn optional_time_field(
     tokens: &mut Tokens<'_>,
     rate: Rate,
 ) -> Result<Option<SampleTime>, TextFault>
     ensures exact { ok_map (λ time. (time, tokens.new.rest.now)) result
-        ≡ spec.optional_time_field (frames_per_second rate) tokens.old.rest.now }
+        ≡ value_at (form.MayTime (frames_per_second rate)) tokens.old.rest.now }
     ensures in_day { IfOk result (λ time. IsTrue (is_time_of_day time)) }
 {
     let token = field(tokens)?;
@@ -112,6 +114,15 @@ fn optional_time(text: &[u8], rate: Rate) -> Result<Option<SampleTime>, TextFaul
         Some((time, _)) => Ok(Some(time)),
         None => Err(TextFault::BadTime),
     }
+}
+
+/// An identifier, as it stands.
+#[tactic(auto, unfolding(list_terms::specs::Forms::value_at))]
+pub fn identifier_field<'a>(tokens: &mut Tokens<'a>) -> Result<&'a [u8], TextFault>
+    ensures { ok_map (λ text. (text.now, tokens.new.rest.now)) result ≡ value_at form.Identifier tokens.old.rest.now }
+{
+    let token = field(tokens)?;
+    Ok(token.text)
 }
 
 /// Cuts what is left of a line into tokens.

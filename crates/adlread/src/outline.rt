@@ -15,7 +15,7 @@ use list_terms::{Opened, Section, Stage};
 use sampletime::Rate;
 
 /// The rate of a list that tells none.
-const UNTOLD: Rate = Rate::Frames25;
+pub const UNTOLD: Rate = Rate::Frames25;
 
 /// The rate of frames of a list: the first one that a line of SEQUENCE tells behind `(SEQ_FRAME_RATE)`, 24, 25 or 30.
 ///
@@ -49,7 +49,7 @@ pub struct Outline<'a> {
 
 impl<'a> Outline<'a> {
     /// No line was passed.
-    fn new() -> Self
+    pub fn new() -> Self
         ensures { outline_of result ≡ spec.nothing_passed }
     {
         Outline {
@@ -68,7 +68,7 @@ impl<'a> Outline<'a> {
     }
 
     /// The rate that a line tells, where it stands in SEQUENCE.
-    fn rate_in(&self, line: &[u8]) -> Option<Rate>
+    pub fn rate_in(&self, line: &[u8]) -> Option<Rate>
         ensures { option_map frames_per_second result ≡ spec.rate_in (outline_of self.now) line.now }
     {
         match self.stage {
@@ -85,7 +85,7 @@ impl<'a> Outline<'a> {
 
     /// The outline behind a line; `None` where the line can't stand there.
     #[tactic(auto, unfolding(list_terms::specs::Text::passed))]
-    fn passed(self, line: &'a [u8]) -> Option<Self>
+    pub fn passed(self, line: &'a [u8]) -> Option<Self>
         ensures { option_map outline_of result ≡ spec.passed (outline_of self.entry) line.now }
     {
         match self.stage {

@@ -10,8 +10,8 @@ use Rattle.sampletime.specs.TimeLaws.{samples_of-text_of}
 use Rattle.sound_terms.specs.declared.Channels.{Channels}
 use Rattle.list_terms.specs.declared.TokenKind.TheVariants.{Word}
 use Rattle.list_terms.specs.declared.TextFault.{TextFault}
-use Rattle.list_terms.specs.Fields.{channels_field, field, number_field, optional_time, optional_time_field, time_field}
-use Rattle.list_terms.specs.EntryLines.{uid_field, url_field}
+use Rattle.list_terms.specs.Fields.{field, optional_time}
+use Rattle.list_terms.specs.Forms.{Identifier, MayTime, Number, Run, Time, Url, value_at}
 use Rattle.list_terms.specs.Names.{place_of_url}
 use Rattle.list_terms.specs.Project.{ListProject}
 use Rattle.list_terms.specs.Tokens.{TokenText, Cut, is_quoted_byte, is_word_byte, token_at, token_text}
@@ -28,15 +28,15 @@ field-word text rest h s = rw (token_at-space (text ++ rest), token_at-token_tex
 
 pub number_field-written :
     (n : ℕ) (rest : List ℕ) → IsTrue (is_number n) → stops is_word_byte rest ≡ true
-    → number_field (32 ∷ (number_text n ++ rest)) ≡ Ok (n, rest)
-unfolding number_field
+    → value_at Number (32 ∷ (number_text n ++ rest)) ≡ Ok (n, rest)
+unfolding value_at
 number_field-written n rest h s =
     rw (field-word (number_text n) rest (number_is_a_word n (grind (arith, nat_tests))) s, number_is_read n h)
 
 pub channels_field-written :
     (channels : Channels) (rest : List ℕ) → IsTrue (are_channels channels) → stops is_word_byte rest ≡ true
-    → channels_field (32 ∷ (channels_text channels ++ rest)) ≡ Ok (channels, rest)
-unfolding channels_field
+    → value_at Run (32 ∷ (channels_text channels ++ rest)) ≡ Ok (channels, rest)
+unfolding value_at
 channels_field-written channels rest h s =
     let read = channels_are_read channels h in
     rw (field-word (channels_text channels) rest read.word s, read.value)
@@ -44,8 +44,8 @@ channels_field-written channels rest h s =
 pub time_field-written :
     (rate t : ℕ) (separators rest : List ℕ) → IsTrue (is_rate rate) → t ≤ day → IsTrue (are_separators separators)
     → stops is_word_byte rest ≡ true
-    → time_field rate (32 ∷ (text_of rate t separators ++ rest)) ≡ Ok (t, separators, rest)
-unfolding time_field
+    → value_at (Time rate) (32 ∷ (text_of rate t separators ++ rest)) ≡ Ok ((t, separators), rest)
+unfolding value_at
 time_field-written rate t separators rest known h i s =
     rw (
       field-word (text_of rate t separators) rest (time_is_a_word rate t separators known h i) s,
@@ -78,8 +78,8 @@ pub optional_time_field-written :
     (time : Option ℕ) (project : ListProject) (rest : List ℕ) → IsTrue (is_rate project.rate)
     → IsTrue (are_separators project.separators)
     → IsTrue (is_time_of_day time) → stops is_word_byte rest ≡ true
-    → optional_time_field project.rate (32 ∷ (time_text project time ++ rest)) ≡ Ok (time, rest)
-unfolding optional_time_field
+    → value_at (MayTime project.rate) (32 ∷ (time_text project time ++ rest)) ≡ Ok (time, rest)
+unfolding value_at
 optional_time_field-written time project rest r i h s =
     rw (
       field-word (time_text project time) rest (optional_time_is_a_word time project r i h) s,
@@ -88,8 +88,8 @@ optional_time_field-written time project rest r i h s =
 
 pub url_field-written :
     (url rest : List ℕ) → list_all is_quoted_byte url ≡ true → IsTrue (is_some (place_of_url url))
-    → url_field (32 ∷ 34 ∷ (url ++ (34 ∷ rest))) ≡ Ok (url, rest)
-unfolding url_field field
+    → value_at Url (32 ∷ 34 ∷ (url ++ (34 ∷ rest))) ≡ Ok (url, rest)
+unfolding value_at field
 url_field-written url rest h place =
     rw (token_at-space (34 ∷ (url ++ (34 ∷ rest))), token_at-quoted url rest h, place)
 
@@ -99,8 +99,8 @@ all_pass (b ∷ text) = all_pass text
 
 cut_again :
     (token : TokenText) (rest : List ℕ) → is_content token.kind token.content ≡ true → stops is_word_byte rest ≡ true
-    → uid_field (32 ∷ (token_text token ++ rest)) ≡ Ok (token_text token, rest)
-unfolding field
+    → value_at Identifier (32 ∷ (token_text token ++ rest)) ≡ Ok (token_text token, rest)
+unfolding value_at field
 cut_again token rest h s =
     rw (token_at-space (token_text token ++ rest), token_at-token_text token.kind token.content rest h s)
 
@@ -109,7 +109,7 @@ bytes_eq-same s t h = (bytes_eq-Decides s t).0 h
 
 uid_is_cut :
     (uid rest : List ℕ) (cut : Result (Option Cut) TextFault) → token_at uid ≡ cut → is_one_token uid ≡ true
-    → stops is_word_byte rest ≡ true → uid_field (32 ∷ (uid ++ rest)) ≡ Ok (uid, rest)
+    → stops is_word_byte rest ≡ true → value_at Identifier (32 ∷ (uid ++ rest)) ≡ Ok (uid, rest)
 uid_is_cut uid rest (Err fault) e h s = absurd (not_one (rw e at h)) where
   not_one : false ≡ true → ⊥
   not_one f = cc
@@ -123,5 +123,5 @@ uid_is_cut uid rest (Ok (Some (token, behind))) e h s =
 
 pub uid_field-written :
     (uid rest : List ℕ) → is_one_token uid ≡ true → stops is_word_byte rest ≡ true
-    → uid_field (32 ∷ (uid ++ rest)) ≡ Ok (uid, rest)
+    → value_at Identifier (32 ∷ (uid ++ rest)) ≡ Ok (uid, rest)
 uid_field-written uid rest h s = uid_is_cut uid rest (token_at uid) refl h s

@@ -1,9 +1,8 @@
 -- What a crash may leave of a text that grew.
-use Rattle.std.proofs.Common.{◌≡◌, ◌≢◌, ℕ, ◌+◌, ◌≤◌, ◌==◌, if◌then◌else◌, min, Some, None, List, [], ◌∷◌, ◌++◌, length, take, drop, Bool, false, refl, sym, ◌∙◌, ap, arith}
-use Rattle.std.proofs.lemmas.Bool.Decides.{nat_tests}
+use Rattle.std.proofs.Common.{◌≡◌, ◌≢◌, ℕ, ◌+◌, ◌≤◌, ◌==◌, if◌then◌else◌, min, Some, None, List, [], ◌∷◌, ◌++◌, length, take, drop, refl, sym, ◌∙◌, ap, arith}
 use Rattle.std.proofs.lemmas.List.{length-append, length-take, take_all, drop_all}
 use Rattle.work_terms.specs.Disk.{Files, Changes, IsTornBehind, HasTornEnd, end_of, IsDurable}
-use Rattle.adlwrite.specs.LeftText.{IsLeftText}
+use Rattle.adlwrite.specs.LeftText.{IsLeftText, none_there}
 
 -- this text under the empty name, and no other file
 abbrev pub alone : List ℕ → Files
@@ -50,13 +49,6 @@ grown text bytes [] c empty left =
     others : (n : List ℕ) → n ≢ [] → c n ≡ alone (take (length text) left.left) n
     others [] apart = absurd (apart refl)
     others (first ∷ rest) apart = left.alone first rest
-
--- under another name nothing is read
-none_there : (text : List ℕ) (first : ℕ) (rest : List ℕ)
-    → (if length (first ∷ rest) == 0 then Some text else None) ≡ None
-none_there text first rest =
-    let named : (length (first ∷ rest) == 0) ≡ false = grind (arith, nat_tests) in
-    ap (λ (empty : Bool). if empty then Some text else None) named
 
 -- no other file is ever there
 pub others_durable : (text name n : List ℕ) → length name ≡ 0 → n ≢ name

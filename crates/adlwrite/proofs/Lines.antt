@@ -8,8 +8,11 @@ use Rattle.sampletime.specs.TimeCode.{are_separators, day}
 use Rattle.sound_terms.specs.declared.Event.{Event}
 use Rattle.list_terms.specs.declared.OpenEntry.{OpenEntry}
 use Rattle.list_terms.specs.declared.TokenKind.TheVariants.{Keyword}
-use Rattle.list_terms.specs.EntryLines.{channel_fields, entry_with, event_fields, fade_fields, is_cut, is_linear, source_fields, time_fields, with_fall, with_rise}
-use Rattle.list_terms.specs.Fields.{checked_field, end_line, field, is_keyword, optional_time_field, time_field}
+use Rattle.list_terms.specs.declared.TextFault.TheVariants.{RepeatedFade, Unsupported}
+use Rattle.list_terms.specs.EntryLines.{curve_field, entry_with, event_fields, fade_fields, is_cut, is_linear, source_fields, with_fall, with_rise}
+use Rattle.list_terms.specs.Fields.{field}
+use Rattle.list_terms.specs.FormLaws.{told_read}
+use Rattle.list_terms.specs.Forms.{Done, MayTime, Passes, Then, Time, any, keyword, reads, value_at}
 use Rattle.list_terms.specs.Project.{ListProject, Source}
 use Rattle.list_terms.specs.Tokens.{all_tokens, token_at}
 use Rattle.list_terms.specs.WholeProject.{has_whole_texts, is_source, is_time_of_day}
@@ -20,30 +23,38 @@ use Rattle.adlwrite.proofs.Fields.{channels_field-written, number_field-written,
 -- ---- fields that are always the same
 
 file_is_read :
-    (rest : List ℕ) → checked_field (is_keyword (codes "F")) (codes " (F) \"" ++ rest) ≡ Ok (codes " \"" ++ rest)
-unfolding field token_at
+    (rest : List ℕ) → value_at (keyword (codes "F")) (codes " (F) \"" ++ rest) ≡ Ok (tt, codes " \"" ++ rest)
+unfolding value_at field token_at
 file_is_read rest = refl
 
 cut_keyword_is_read :
-    (rest : List ℕ) → checked_field (is_keyword (codes "Cut")) (codes " (Cut) I " ++ rest) ≡ Ok (codes " I " ++ rest)
-unfolding field token_at
+    (rest : List ℕ) → value_at (keyword (codes "Cut")) (codes " (Cut) I " ++ rest) ≡ Ok (tt, codes " I " ++ rest)
+unfolding value_at field token_at
 cut_keyword_is_read rest = refl
 
-cut_is_read : (rest : List ℕ) → checked_field is_cut (codes " I " ++ rest) ≡ Ok (codes " " ++ rest)
-unfolding field token_at
+cut_is_read : (rest : List ℕ) → value_at (Passes is_cut Unsupported) (codes " I " ++ rest) ≡ Ok (tt, codes " " ++ rest)
+unfolding value_at field token_at
 cut_is_read rest = refl
 
-linear_is_read : checked_field is_linear (codes " LIN _ _ _") ≡ Ok (codes " _ _ _")
-unfolding field token_at
+linear_is_read : value_at (Passes is_linear Unsupported) (codes " LIN _ _ _") ≡ Ok (tt, codes " _ _ _")
+unfolding value_at field token_at
 linear_is_read = refl
 
-curve_ends : end_line (codes " _ _ _") ≡ Ok tt
-unfolding end_line all_tokens token_at
+curve_ends : all_tokens any (length (codes " _ _ _")) (codes " _ _ _") ≡ Ok tt
+unfolding all_tokens token_at
 curve_ends = refl
 
-pub nothing_ends : end_line [] ≡ Ok tt
-unfolding end_line all_tokens token_at
-nothing_ends = refl
+-- a curve stands where a fade is longer than zero
+long_curve :
+    (length : ℕ) → (length == 0) ≡ false
+    → curve_field length ≡ Then (Passes is_linear Unsupported) (λ _. Done any length)
+long_curve length some = rw some refl
+
+curve_is_read :
+    (length : ℕ) → (length == 0) ≡ false → reads (curve_field length) (codes " LIN _ _ _") ≡ Ok length
+unfolding reads
+curve_is_read length some =
+    ap (λ form. reads form (codes " LIN _ _ _")) (long_curve length some) ∙ rw (linear_is_read, curve_ends) refl
 
 -- ---- a source
 
@@ -51,30 +62,30 @@ module _ (project : ListProject) (rate : IsTrue (is_rate project.rate)) (separat
   where
     last_optional_time :
         (time : Option ℕ) → IsTrue (is_time_of_day time)
-        → optional_time_field project.rate (32 ∷ time_text project time) ≡ Ok (time, [])
+        → value_at (MayTime project.rate) (32 ∷ time_text project time) ≡ Ok (time, [])
     last_optional_time time h =
-        ap (λ text. optional_time_field project.rate (32 ∷ text)) (sym (append-nil (time_text project time)))
+        ap (λ text. value_at (MayTime project.rate) (32 ∷ text)) (sym (append-nil (time_text project time)))
         ∙ optional_time_field-written time project [] rate separators h refl
 
-    last_time : (t : ℕ) → t ≤ day → time_field project.rate (32 ∷ time_text project (Some t)) ≡ Ok (t, project.separators, [])
+    last_time : (t : ℕ) → t ≤ day → value_at (Time project.rate) (32 ∷ time_text project (Some t)) ≡ Ok ((t, project.separators), [])
     last_time t h =
-        ap (λ text. time_field project.rate (32 ∷ text)) (sym (append-nil (time_text project (Some t))))
+        ap (λ text. value_at (Time project.rate) (32 ∷ text)) (sym (append-nil (time_text project (Some t))))
         ∙ time_field-written project.rate t project.separators [] rate h separators refl
 
     middle_time :
         (t : ℕ) (rest : List ℕ) → t ≤ day
-        → time_field project.rate (32 ∷ (time_text project (Some t) ++ (32 ∷ rest))) ≡ Ok (t, project.separators, 32 ∷ rest)
+        → value_at (Time project.rate) (32 ∷ (time_text project (Some t) ++ (32 ∷ rest))) ≡ Ok ((t, project.separators), 32 ∷ rest)
     middle_time t rest h =
         time_field-written project.rate t project.separators (32 ∷ rest) rate h separators refl
 
     pub source_fields-written :
         (source : Source) → IsTrue (is_source source) → IsTrue (has_whole_texts source)
-        → source_fields project.rate source.number (codes " (F) \""
+        → reads (source_fields project.rate source.number) (codes " (F) \""
         ++ (source.url ++ (codes "\" "
         ++ (source.uid ++ (codes " "
         ++ (time_text project source.start ++ (codes " " ++ time_text project source.length)))))))
         ≡ Ok source
-    unfolding source_fields
+    unfolding reads all_tokens
     source_fields-written source h k =
         let last = 32 ∷ time_text project source.length in
         let times = 32 ∷ (time_text project source.start ++ last) in
@@ -85,91 +96,63 @@ module _ (project : ListProject) (rate : IsTrue (is_rate project.rate)) (separat
           uid_field-written source.uid times facts.uid refl,
           optional_time_field-written source.start project last rate separators facts.start refl,
           last_optional_time source.length facts.length,
-          nothing_ends,
         )
 
     -- ---- an entry
 
-    channel_fields-written :
-        (event : Event) (rest : List ℕ) → EventFacts event
-        → channel_fields (32 ∷ (channels_text event.source ++ (32 ∷ (channels_text event.dest ++ (32 ∷ rest)))))
-        ≡ Ok (event.source, event.dest, 32 ∷ rest)
-    unfolding channel_fields
-    channel_fields-written event rest facts =
-        rw (
-          channels_field-written event.source (32 ∷ (channels_text event.dest ++ (32 ∷ rest))) facts.source refl,
-          channels_field-written event.dest (32 ∷ rest) facts.dest refl,
-          facts.widths,
-        )
-
-    time_fields-written :
-        (event : Event) → EventFacts event
-        → time_fields project.rate (32 ∷ (time_text project (Some event.source_in)
-        ++ (32 ∷ (time_text project (Some event.dest_in)
-        ++ (32 ∷ time_text project (Some event.dest_out))))))
-        ≡ Ok (
-          record { source_in = event.source_in; dest_in = event.dest_in; dest_out = event.dest_out },
-          project.separators,
-        )
-    unfolding time_fields
-    time_fields-written event facts =
-        let last = time_text project (Some event.dest_out) in
-        rw (
-          middle_time event.source_in (time_text project (Some event.dest_in) ++ (32 ∷ last)) facts.source_in,
-          middle_time event.dest_in last facts.dest_in,
-          last_time event.dest_out facts.dest_out,
-          nothing_ends,
-        )
-
     -- an entry before its fades are told
     pub event_fields-written :
         (event : Event) → EventFacts event
-        → event_fields project.rate event.number (codes " (Cut) I " ++ (number_text event.index
+        → reads (event_fields project.rate event.number) (codes " (Cut) I " ++ (number_text event.index
         ++ (codes " " ++ (channels_text event.source ++ (codes " " ++ (channels_text event.dest
         ++ (codes " " ++ (time_text project (Some event.source_in)
         ++ (codes " " ++ (time_text project (Some event.dest_in)
         ++ (codes " " ++ time_text project (Some event.dest_out))))))))))))
         ≡ Ok (record event { rise = record { length = 0 }; fall = record { length = 0 } }, project.separators)
-    unfolding event_fields
+    unfolding reads all_tokens
     event_fields-written event facts =
-        let times = time_text project (Some event.source_in) ++ (32 ∷ (time_text project (Some event.dest_in)
-        ++ (32 ∷ time_text project (Some event.dest_out)))) in
-        let channels = 32 ∷ (channels_text event.source ++ (32 ∷ (channels_text event.dest ++ (32 ∷ times)))) in
+        let last = time_text project (Some event.dest_out) in
+        let ends = time_text project (Some event.dest_in) ++ (32 ∷ last) in
+        let times = time_text project (Some event.source_in) ++ (32 ∷ ends) in
+        let dest = 32 ∷ (channels_text event.dest ++ (32 ∷ times)) in
+        let channels = 32 ∷ (channels_text event.source ++ dest) in
         rw (
           cut_keyword_is_read (number_text event.index ++ channels),
           cut_is_read (number_text event.index ++ channels),
           number_field-written event.index channels facts.index refl,
-          channel_fields-written event times facts,
-          time_fields-written event facts,
+          channels_field-written event.source dest facts.source refl,
+          channels_field-written event.dest (32 ∷ times) facts.dest refl,
+          facts.widths,
+          middle_time event.source_in ends facts.source_in,
+          middle_time event.dest_in last facts.dest_in,
+          last_time event.dest_out facts.dest_out,
         )
 
     -- ---- a fade
 
     fade_fields-written :
         (length : ℕ) → length ≤ day → (length == 0) ≡ false
-        → fade_fields project.rate (codes " " ++ (time_text project (Some length) ++ codes " LIN _ _ _")) ≡ Ok length
-    unfolding fade_fields
+        → reads (fade_fields project.rate) (codes " " ++ (time_text project (Some length) ++ codes " LIN _ _ _")) ≡ Ok length
+    unfolding reads
     fade_fields-written length h some =
-        rw (
-          optional_time_field-written (Some length) project (codes " LIN _ _ _") rate separators
-              (grind (arith, nat_tests)) refl,
-          some,
-          linear_is_read,
-          curve_ends,
-        )
+        rw (optional_time_field-written (Some length) project (codes " LIN _ _ _") rate separators
+        (grind (arith, nat_tests)) refl)
+        (curve_is_read length some)
 
     pub rise_is_read :
         (entry : OpenEntry) (length : ℕ) → length ≤ day → (length == 0) ≡ false → entry.has_rise ≡ false
-        → entry_with project.rate entry (record { kind = Keyword; content = codes "Infade" })
+        → reads (entry_with project.rate entry (record { kind = Keyword; content = codes "Infade" }))
         (codes " " ++ (time_text project (Some length) ++ codes " LIN _ _ _"))
         ≡ Ok (with_rise entry length)
     unfolding entry_with
-    rise_is_read entry length h some new = rw (new, fade_fields-written length h some)
+    rise_is_read entry length h some new =
+        told_read (with_rise entry) entry.has_rise RepeatedFade (fade_fields project.rate) _ length new (fade_fields-written length h some)
 
     pub fall_is_read :
         (entry : OpenEntry) (length : ℕ) → length ≤ day → (length == 0) ≡ false → entry.has_fall ≡ false
-        → entry_with project.rate entry (record { kind = Keyword; content = codes "Outfade" })
+        → reads (entry_with project.rate entry (record { kind = Keyword; content = codes "Outfade" }))
         (codes " " ++ (time_text project (Some length) ++ codes " LIN _ _ _"))
         ≡ Ok (with_fall entry length)
     unfolding entry_with
-    fall_is_read entry length h some new = rw (new, fade_fields-written length h some)
+    fall_is_read entry length h some new =
+        told_read (with_fall entry) entry.has_fall RepeatedFade (fade_fields project.rate) _ length new (fade_fields-written length h some)

@@ -1,6 +1,7 @@
 -- What a crash may leave of a text that is only added to.
-use Rattle.std.specs.Prelude.{◌≡◌, ℕ, ◌≤◌, ◌==◌, if◌then◌else◌, Option, Some, None, List, [], ◌∷◌, length}
-use Rattle.std.proofs.Common.{inl, sym}
+use Rattle.std.specs.Prelude.{◌≡◌, ℕ, ◌≤◌, Bool, false, ◌==◌, if◌then◌else◌, Option, Some, None, List, [], ◌∷◌, length}
+use Rattle.std.proofs.Common.{refl, ap, inl, sym, arith}
+use Rattle.std.proofs.lemmas.Bool.Decides.{nat_tests}
 use Rattle.std.proofs.lemmas.Option.{none-some}
 use Rattle.work_terms.specs.Disk.{Files, IsEmptyOrAbsent}
 
@@ -10,6 +11,17 @@ pub record IsLeftText (text : List ℕ) (c : Files) : Type 0 where
   pub there : c [] ≡ Some left
   pub no_longer : length left ≤ length text
   pub alone : (first : ℕ) (rest : List ℕ) → c (first ∷ rest) ≡ None
+
+-- under another name nothing is read
+pub none_there : (text : List ℕ) (first : ℕ) (rest : List ℕ)
+    → (if length (first ∷ rest) == 0 then Some text else None) ≡ None
+none_there text first rest =
+    let named : (length (first ∷ rest) == 0) ≡ false = grind (arith, nat_tests) in
+    ap (λ (empty : Bool). if empty then Some text else None) named
+
+-- the text may be left as it is read
+pub left_whole : (text : List ℕ) → IsLeftText text (λ name. if length name == 0 then Some text else None)
+left_whole text = record { left = text; there = refl; no_longer = omega arith; alone = λ first rest. none_there text first rest }
 
 -- where no text is read, none is left
 pub left_nothing : (text name : List ℕ) (c : Files) → (if length name == 0 then Some text else None) ≡ None

@@ -1,6 +1,6 @@
 // One file in memory, whose name is empty, as an output that texts are added to.
 ghost use Rattle.std.specs.Prelude.{◌≡◌, ◌==◌, ◌^◌, ⊤, None, Some, if◌then◌else◌, length, true};
-ghost use Rattle.adlwrite.specs.LeftText.{IsLeftText, left_nothing};
+ghost use Rattle.adlwrite.specs.LeftText.{IsLeftText, left_nothing, left_whole};
 
 use shelf::{Bench, DeviceFault, ShelfFault};
 
@@ -59,6 +59,8 @@ impl Bench for TextFile {
     }
 
     ghost counts_now = { λ bench t c early left. left };
+
+    ghost reads_now = { λ bench honest. left_whole bench.text.items };
 
     ghost only_now = { λ bench c since. since };
 

@@ -1,5 +1,5 @@
 -- The fields of a line, each read by the content of its token.
-use Rattle.std.specs.Prelude.{ℕ, ◌+◌, ◌-◌, ◌*◌, ◌==◌, ◌&&◌, ◌||◌, nat_le, Bool, true, false, List, [], ◌∷◌, length, Option, None, Some, Result, Ok, Err, if◌then◌else◌, bytes_eq, codes, ok_or, unwrap_or}
+use Rattle.std.specs.Prelude.{ℕ, ◌+◌, ◌-◌, ◌*◌, ◌==◌, ◌&&◌, ◌||◌, nat_le, Bool, true, false, List, [], ◌∷◌, length, Option, None, Some, Result, Ok, if◌then◌else◌, bytes_eq, codes, ok_or, unwrap_or}
 use Rattle.std.specs.Str.{str_to_ascii_lowercase}
 use Rattle.std.specs.List.{before_first, fold, list_all}
 use Rattle.sampletime.specs.TimeCode.{is_digit, samples_of}
@@ -7,7 +7,7 @@ use Rattle.sound_terms.specs.declared.Channels.{Channels}
 use Rattle.list_terms.specs.declared.TokenKind.{TokenKind}
 use Rattle.list_terms.specs.declared.TokenKind.TheVariants.{Quoted, Keyword, Word}
 use Rattle.list_terms.specs.declared.TextFault.{TextFault}
-use Rattle.list_terms.specs.declared.TextFault.TheVariants.{BadTime, BadNumber, BadChannels, MissingField, Unsupported}
+use Rattle.list_terms.specs.declared.TextFault.TheVariants.{BadTime, MissingField}
 use Rattle.list_terms.specs.Names.{behind_byte}
 use Rattle.list_terms.specs.Steps.{◌>>=◌}
 use Rattle.list_terms.specs.Tokens.{TokenText, token_at, all_tokens}
@@ -93,42 +93,11 @@ told_rate text =
 unfoldable pub field : List ℕ → Result (TokenText × List ℕ) TextFault
 field line = token_at line >>= (λ next. ok_or next MissingField)
 
-unfoldable pub number_field : List ℕ → Result (ℕ × List ℕ) TextFault
-number_field line = do
-  (token, rest) ← field line
-  number ← ok_or (number_up_to 32767 token.content) BadNumber
-  Ok (number, rest)
-
-unfoldable pub channels_field : List ℕ → Result (Channels × List ℕ) TextFault
-channels_field line = do
-  (token, rest) ← field line
-  channels ← ok_or (channels_of token.content) BadChannels
-  Ok (channels, rest)
-
--- a time at this rate of frames, its separators, and what follows
-unfoldable pub time_field : ℕ → List ℕ → Result (ℕ × List ℕ × List ℕ) TextFault
-time_field rate line = do
-  (token, rest) ← field line
-  time ← ok_or (samples_of rate token.content) BadTime
-  Ok (time.0, time.1, rest)
-
 -- a time, or `_` where none is told
 unfoldable pub optional_time : ℕ → List ℕ → Result (Option ℕ) TextFault
 optional_time rate text = if is_missing text then Ok None else do
   time ← ok_or (samples_of rate text) BadTime
   Ok (Some time.0)
-
-unfoldable pub optional_time_field : ℕ → List ℕ → Result (Option ℕ × List ℕ) TextFault
-optional_time_field rate line = do
-  (token, rest) ← field line
-  time ← optional_time rate token.content
-  Ok (time, rest)
-
--- the next token, which has to pass a test
-abbrev pub checked_field : (TokenText → Bool) → List ℕ → Result (List ℕ) TextFault
-checked_field test line = do
-  (token, rest) ← field line
-  if test token then Ok rest else Err Unsupported
 
 -- what follows is cut into whole tokens
 unfoldable pub end_line : List ℕ → Result (Unit {0}) TextFault

@@ -6,6 +6,8 @@ pub mod EndLaws
 pub mod EntryLines
 pub mod FieldLaws
 pub mod Fields
+pub mod FormLaws
+pub mod Forms
 pub mod HeaderLaws
 pub mod Heard
 pub mod KeywordLaws
@@ -24,6 +26,5 @@ pub mod TextVectors
 pub mod TokenLaws
 pub mod Tokens
 pub mod Vectors
-pub mod WholeLines
 pub mod WholeProject
 pub mod WrittenText

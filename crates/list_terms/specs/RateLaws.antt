@@ -5,6 +5,7 @@ use Rattle.std.proofs.lemmas.Bool.{not-false}
 use Rattle.std.proofs.lemmas.Bool.Decides.{nat_tests}
 use Rattle.facts.specs.Tests.{and_right}
 use Rattle.sampletime.specs.FrameRate.{is_rate}
+use Rattle.list_terms.specs.declared.OpenEntry.{OpenEntry}
 use Rattle.list_terms.specs.declared.Rates.{Rates}
 use Rattle.list_terms.specs.declared.Section.{Section}
 use Rattle.list_terms.specs.declared.Section.TheVariants as section
@@ -12,16 +13,18 @@ use Rattle.list_terms.specs.declared.Stage.{Stage}
 use Rattle.list_terms.specs.declared.Stage.TheVariants as stage
 use Rattle.list_terms.specs.declared.TextFault.{TextFault}
 use Rattle.list_terms.specs.declared.TextFault.TheVariants as fault
-use Rattle.list_terms.specs.EndLaws.{field_at, whole-none, whole-token}
-use Rattle.list_terms.specs.EntryLines.{event_fields, is_48000, rate_field, sequence_line, sequence_of, source_fields, system_line, tells_rate}
-use Rattle.list_terms.specs.Fields.{end_line, field, is_keyword, is_whole_number, number_field, told_rate}
+use Rattle.list_terms.specs.EndLaws.{whole-none, whole-token}
+use Rattle.list_terms.specs.EntryLines.{entry_with, event_fields, is_48000, remark, sequence_fields, sequence_line, source_fields, system_fields, system_line, tells_rate}
+use Rattle.list_terms.specs.Fields.{end_line, is_keyword, is_whole_number, told_rate}
+use Rattle.list_terms.specs.FormLaws.{always, found, line_whole, reads_whole}
+use Rattle.list_terms.specs.Forms as form
+use Rattle.list_terms.specs.Forms.{Done, Number, Then, any, reads, reads_line, value_at}
 use Rattle.list_terms.specs.KeywordLaws.{other_keyword}
 use Rattle.list_terms.specs.Lines.{lines_of}
 use Rattle.list_terms.specs.Project.{ListProject}
 use Rattle.list_terms.specs.StepLaws.{chain, err_map_ok, if_ok, ok_map_ok, ok_same, unless_ok}
 use Rattle.list_terms.specs.Steps.{◌>>=◌, err_map, ok_map}
-use Rattle.list_terms.specs.Text.{Context, LocatedFault, Outline, at_entry, at_index, at_line, at_open, before_list, dropped_line, entry_line, entry_of, finished, further_line, has_opened, in_event_list, in_header, in_section, in_source_index, in_unsupported, index_line, is_behind, is_end, is_in_sequence, is_list_begin, is_opened, is_tag, keep, kept_line, may_stand, nothing_passed, nothing_read, opened, opened_name, opens, outside, passed, passed_before, passed_inside, passed_outside, rate_from, rate_in, rate_of, rate_of_line, rates_with, read_from, section_of, source_with, system_rates, untagged, whole_token, with_line, with_notice, with_opened, with_section, with_text}
-use Rattle.list_terms.specs.WholeLines.{behind_whole, event_whole, number_whole, rate_field_whole, source_whole, system_whole}
+use Rattle.list_terms.specs.Text.{Context, Entries, LocatedFault, Outline, at_entry, at_index, at_line, at_open, before_list, dropped_line, entry_line, entry_of, finished, further_line, has_opened, in_event_list, in_header, in_section, in_source_index, in_unsupported, index_line, is_behind, is_end, is_in_sequence, is_list_begin, is_opened, is_tag, keep, kept_line, may_stand, nothing_passed, nothing_read, opened, opened_name, opens, outside, passed, passed_before, passed_inside, passed_outside, rate_from, rate_in, rate_of, rate_of_line, rates_with, read_from, section_of, source_with, system_rates, untagged, whole_token, with_line, with_notice, with_opened, with_section, with_text}
 use Rattle.list_terms.specs.Tokens.{Cut, TokenText, token_at, trimmed}
 
 -- ---- one line
@@ -113,10 +116,11 @@ module _ (rate : ℕ) where
   system_stands :
       (rates told : Rates) (text : List ℕ) → system_rates rate rates text ≡ Ok told
       → (may_stand section.System text ≡ true) × (rates ≡ told)
+  unfolding system_line reads_line
   system_stands rates told text e =
       let u = untagged_is text (system_line rate text >>= (λ _. Ok rates)) told e in
       let l = chain (system_line rate text) (λ _. Ok rates) told u.1 in
-      (whole_line text u.0 (system_whole rate text (token_at text) refl l.is), ok_same _ _ l.others)
+      (whole_line text u.0 (line_whole tt (system_fields rate) text l.value (token_at text) refl l.is), ok_same _ _ l.others)
 
   -- what a line of SEQUENCE says of the rate: this one, or nothing
   abbrev SaysRate : Rates → Rates → List ℕ → Type 0
@@ -134,18 +138,15 @@ module _ (rate : ℕ) where
     by_told (Some told) f = f ∙ ap Some (same_rate told rate (rw f at h))
 
   -- the rate that is told behind the keyword
-  rate_field_tells :
-      (line : List ℕ) → rate_field (tells_rate rate) line ≡ Ok tt
+  rate_tells :
+      (rates told : Rates) (line : List ℕ)
+      → reads (Then (form.Passes (tells_rate rate) fault.WrongSequence) (λ _. Done any rates)) line ≡ Ok told
       → option_and_then (λ (next : Cut). told_rate next.0.content) (whole_token line) ≡ Some rate
-  unfolding rate_field
-  rate_field_tells line e =
-      let c = chain (field line) (λ f. if tells_rate rate f.0 then end_line f.1 else Err fault.WrongSequence) tt e in
-      rw (field_at line c.value c.is) (tells_is c.value.0.content (by_test c.value.1 (tells_rate rate c.value.0) c.others)) where
-        by_test :
-            (rest : List ℕ) (passes : Bool) → (if passes then end_line rest else Err fault.WrongSequence) ≡ Ok tt
-            → passes ≡ true
-        by_test rest true o = refl
-        by_test rest false o = absurd (cc)
+  unfolding reads
+  rate_tells rates told line e =
+      let c = chain (value_at (form.Passes (tells_rate rate) fault.WrongSequence) line) _ told e in
+      let f = found (form.Passes (tells_rate rate) fault.WrongSequence) line c.value c.is in
+      rw f.at (tells_is f.token.content (if_ok (tells_rate rate f.token) tt fault.WrongSequence c.value.0 f.is).0)
 
   -- a line of SEQUENCE that was read
   record IsSequenceLine (rates told : Rates) (text : List ℕ) : Type 0 where
@@ -155,7 +156,7 @@ module _ (rate : ℕ) where
   sequence_says :
       (rates told : Rates) (text : List ℕ) → (found : Result (Option Cut) TextFault) → token_at text ≡ found
       → sequence_line rate rates text ≡ Ok told → IsSequenceLine rates told text
-  unfolding sequence_line rate_of_line
+  unfolding sequence_line reads_line rate_of_line
   sequence_says rates told text (Err fault) f e =
       absurd (let no : ◌≡◌ {A = Result Rates TextFault} (Err fault) (Ok told) = rw f at e in cc)
   sequence_says rates told text (Ok None) f e =
@@ -169,27 +170,27 @@ module _ (rate : ℕ) where
       (rw f at e) where
         by_keyword :
             (sample : Bool) → is_keyword (codes "SEQ_SAMPLE_RATE") token ≡ sample → (frame : Bool)
-            → is_keyword (codes "SEQ_FRAME_RATE") token ≡ frame → sequence_of rate rates token rest ≡ Ok told
+            → is_keyword (codes "SEQ_FRAME_RATE") token ≡ frame → reads (sequence_fields rate rates token) rest ≡ Ok told
             → IsSequenceLine rates told text
         by_keyword true s frame g o =
-            let a = chain (rate_field is_48000 rest) (λ _. Ok (record rates { sample_rate = true })) told (rw s at o) in
             let other = other_keyword (codes "SEQ_SAMPLE_RATE") (codes "SEQ_FRAME_RATE") token refl s in
+            let sample = Then (form.Passes is_48000 fault.WrongSequence) (λ _. Done any (record rates { sample_rate = true })) in
+            let same = always (λ (r : Rates). r.frame_rate ≡ rates.frame_rate) sample rest told (λ _. refl) (rw s at o) in
             record {
-              whole = whole-token text rest token f (rate_field_whole is_48000 rest a.is);
-              says = inr (rw (f, other) refl, ap (λ (r : Rates). r.frame_rate) (sym (ok_same _ _ a.others)));
+              whole = whole-token text rest token f (reads_whole (sequence_fields rate rates token) rest told o);
+              says = inr (rw (f, other) refl, same);
             }
         by_keyword false s true g o =
-            let a = chain (rate_field (tells_rate rate) rest) (λ _. Ok (record rates { frame_rate = true })) told
-            (rw (s, g) at o) in
             record {
-              whole = whole-token text rest token f (rate_field_whole (tells_rate rate) rest a.is);
-              says = inl (rw (f, g) (rate_field_tells rest a.is));
+              whole = whole-token text rest token f (reads_whole (sequence_fields rate rates token) rest told o);
+              says = inl (rw (f, g) (rate_tells (record rates { frame_rate = true }) told rest (rw (s, g) at o)));
             }
         by_keyword false s false g o =
-            let a = chain (end_line rest) (λ _. Ok rates) told (rw (s, g) at o) in
+            let same = always (λ (r : Rates). r.frame_rate ≡ rates.frame_rate) (Done any rates) rest told refl
+            (rw (s, g) at o) in
             record {
-              whole = whole-token text rest token f a.is;
-              says = inr (rw (f, g) refl, ap (λ (r : Rates). r.frame_rate) (sym (ok_same _ _ a.others)));
+              whole = whole-token text rest token f (reads_whole (sequence_fields rate rates token) rest told o);
+              says = inr (rw (f, g) refl, same);
             }
 
   index_line_stands :
@@ -198,14 +199,15 @@ module _ (rate : ℕ) where
       → Stands section.SourceIndex c next text
   unfolding index_line source_with
   index_line_stands c next n text rest token t f e =
-      let a = chain (err_map (at_line n) (number_field rest)) _ next e in
+      let a = chain (err_map (at_line n) (value_at Number rest)) _ next e in
       let b = ok_map_ok _ _ next (err_map_ok (at_index n a.value.0) _ next a.others) in
       let u = unless_ok _ fault.DuplicateNumber _ b.value b.is in
-      let s = chain (source_fields rate a.value.0 a.value.1) _ b.value u.1 in
-      let numbered = err_map_ok (at_line n) (number_field rest) a.value a.is in
-      let fields = source_whole rate a.value.0 a.value.1 s.value s.is in
+      let s = chain (reads (source_fields rate a.value.0) a.value.1) _ b.value u.1 in
+      let numbered = err_map_ok (at_line n) (value_at Number rest) a.value a.is in
+      let number = found Number rest a.value numbered in
+      let fields = reads_whole (source_fields rate a.value.0) a.value.1 s.value s.is in
       record {
-        may = whole_line text t (whole-token text rest token f (number_whole rest a.value numbered fields));
+        may = whole_line text t (whole-token text rest token f (whole-token rest a.value.1 number.token number.at fields));
         same = ap outline_of (sym b.same);
         told = ap has_rate (sym b.same);
       }
@@ -247,17 +249,28 @@ module _ (rate : ℕ) where
       → Stands section.EventList c next text
   unfolding entry_line entry_of
   entry_line_stands c next n text rest token t f e =
-      let a = chain (err_map (at_line n) (number_field rest)) _ next e in
+      let a = chain (err_map (at_line n) (value_at Number rest)) _ next e in
       let b = ok_map_ok _ _ next (err_map_ok (at_entry n a.value.0) _ next a.others) in
       let u = unless_ok _ fault.DuplicateNumber _ b.value b.is in
-      let s = chain (event_fields rate a.value.0 a.value.1) _ b.value u.1 in
-      let numbered = err_map_ok (at_line n) (number_field rest) a.value a.is in
-      let fields = event_whole rate a.value.0 a.value.1 s.value s.is in
+      let s = chain (reads (event_fields rate a.value.0) a.value.1) _ b.value u.1 in
+      let numbered = err_map_ok (at_line n) (value_at Number rest) a.value a.is in
+      let number = found Number rest a.value numbered in
+      let fields = reads_whole (event_fields rate a.value.0) a.value.1 s.value s.is in
       record {
-        may = whole_line text t (whole-token text rest token f (number_whole rest a.value numbered fields));
+        may = whole_line text t (whole-token text rest token f (whole-token rest a.value.1 number.token number.at fields));
         same = ap outline_of (sym b.same);
         told = ap has_rate (sym b.same);
       }
+
+  behind_whole :
+      (entries new : Entries) (token : TokenText) (line : List ℕ) → (entry : Option OpenEntry) → entries.entry ≡ entry
+      → further_line rate entries token line ≡ Ok new → end_line line ≡ Ok tt
+  unfolding further_line
+  behind_whole entries new token line None is e =
+      let a = ok_map_ok _ (reads (remark token) line) new (rw is at e) in reads_whole (remark token) line a.value a.is
+  behind_whole entries new token line (Some entry) is e =
+      let a = ok_map_ok _ (reads (entry_with rate entry token) line) new (rw is at e) in
+      reads_whole (entry_with rate entry token) line a.value a.is
 
   event_line_stands :
       (c next : Context) (n : ℕ) (text : List ℕ) → (tag : Bool) → is_tag text ≡ tag
@@ -285,7 +298,7 @@ module _ (rate : ℕ) where
         by_test false other o =
             let a = ok_map_ok (λ entries. record c { entries = entries }) (further_line rate c.entries token rest) next
             (err_map_ok (at_open n c.entries.entry) _ next (rw other at o)) in
-            let behind = behind_whole rate c.entries a.value token rest c.entries.entry refl a.is in
+            let behind = behind_whole c.entries a.value token rest c.entries.entry refl a.is in
             record { may = whole_line text t (whole-token text rest token f behind); same = ap outline_of (sym a.same); told = ap has_rate (sym a.same) }
 
   unsupported_stands :

@@ -20,7 +20,8 @@ use Rattle.list_terms.specs.Names.{begins_with}
 use Rattle.list_terms.specs.Steps.{◌>>=◌, ok_map, err_map}
 use Rattle.list_terms.specs.Lines.{lines_of}
 use Rattle.list_terms.specs.Tokens.{TokenText, token_at, trimmed, behind_blanks}
-use Rattle.list_terms.specs.Fields.{is_same_name, is_keyword, number_field, end_line, told_rate}
+use Rattle.list_terms.specs.Fields.{is_same_name, is_keyword, end_line, told_rate}
+use Rattle.list_terms.specs.Forms.{Number, reads, value_at}
 use Rattle.list_terms.specs.declared.OpenEntry.{OpenEntry}
 use Rattle.list_terms.specs.declared.Rates.{Rates}
 use Rattle.list_terms.specs.EntryLines.{source_fields, event_fields, entry_with, remark, sequence_line, system_line}
@@ -265,11 +266,11 @@ in_header rate c line text section = err_map (at_line line)
 unfoldable pub source_with : ℕ → List Source → ℕ → List ℕ → Result (List Source) TextFault
 source_with rate sources number text =
     if list_any (λ other. other.number == number) sources then Err fault.DuplicateNumber
-    else source_fields rate number text >>= (λ source. Ok (sources ++ source ∷ []))
+    else reads (source_fields rate number) text >>= (λ source. Ok (sources ++ source ∷ []))
 
 -- an `(Index)` line, behind this keyword
 unfoldable pub index_line : ℕ → Context → ℕ → List ℕ → Result Context LocatedFault
-index_line rate c line text = err_map (at_line line) (number_field text) >>= (λ (number, rest).
+index_line rate c line text = err_map (at_line line) (value_at Number text) >>= (λ (number, rest).
     err_map (at_index line number) (ok_map (λ sources. record c { sources = sources })
     (source_with rate c.sources number rest)))
 
@@ -306,11 +307,11 @@ unfoldable pub entry_of : ℕ → Entries → ℕ → List ℕ → Result Entrie
 entry_of rate entries number text =
     if list_any (λ other. other.number == number) (all_events entries.events entries.entry)
     then Err fault.DuplicateNumber
-    else event_fields rate number text >>= (λ (event, separators). Ok (with_event entries event separators))
+    else reads (event_fields rate number) text >>= (λ (event, separators). Ok (with_event entries event separators))
 
 -- an `(Entry)` line, behind this keyword
 unfoldable pub entry_line : ℕ → Context → ℕ → List ℕ → Result Context LocatedFault
-entry_line rate c line text = err_map (at_line line) (number_field text) >>= (λ (number, rest).
+entry_line rate c line text = err_map (at_line line) (value_at Number text) >>= (λ (number, rest).
     err_map (at_entry line number) (ok_map (λ entries. record c { entries = entries })
     (entry_of rate c.entries number rest)))
 
@@ -318,8 +319,8 @@ entry_line rate c line text = err_map (at_line line) (number_field text) >>= (λ
 unfoldable pub further_line : ℕ → Entries → TokenText → List ℕ → Result Entries TextFault
 further_line rate entries token text = of_entry entries.entry where
   of_entry : Option OpenEntry → Result Entries TextFault
-  of_entry None = ok_map (λ _. entries) (remark token text)
-  of_entry (Some entry) = ok_map (λ new. record entries { entry = Some new }) (entry_with rate entry token text)
+  of_entry None = ok_map (λ _. entries) (reads (remark token) text)
+  of_entry (Some entry) = ok_map (λ new. record entries { entry = Some new }) (reads (entry_with rate entry token) text)
 
 -- where a line of the event list stands that isn't an `(Entry)` line
 abbrev pub location_in : ℕ → Option OpenEntry → Location

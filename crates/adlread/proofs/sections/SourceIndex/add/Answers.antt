@@ -1,7 +1,6 @@
-use Rattle.std.proofs.Common.{◌≡◌, ◌∙◌, IsTrue, false, sym}
+use Rattle.std.proofs.Common.{◌≡◌, ◌∙◌, false, sym}
 use Rattle.std.specs.Prelude.{◌==◌}
 use Rattle.std.specs.List.{list_any}
-use Rattle.list_terms.specs.WholeProject.{is_source}
 use Rattle.adlread.proofs.Numbered.{AreSources-pushed}
 use Rattle.adlread.proofs.sections.SourceIndex.add.Goals as goal
 

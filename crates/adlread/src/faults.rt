@@ -1,0 +1,145 @@
+// The faults of the text of a list, one after another.
+ghost use Rattle.std.specs.Prelude.{◌≡◌};
+
+use crate::draft::Draft;
+use crate::fault::AdlFault;
+use crate::fields::is_keyword;
+use crate::header::is_tag;
+use crate::outline::{Outline, UNTOLD, rate_of};
+use adltoken::{Lines, Tokens};
+use list_terms::{Location, TextFault};
+use sampletime::Rate;
+use std::alloc::{AllocError, Global};
+
+/// The faults of the text of a list, in one reading of it: the first one is that of [`crate::read`], and each further
+/// one is the first that is left where the lines told before it are emptied, and with the line of an entry those of the
+/// entry; behind the first one times are read at the rate that the list has without its lines at fault. They end behind
+/// a fault of a section, of a header or of a rate, since what stands behind that can't be told.
+#[derive(Drop)]
+pub struct Faults<'a> {
+    draft: Draft<'a>,
+    lines: Lines<'a>,
+    rate: Rate,
+    /// The rate of frames behind the first fault.
+    further_rate: Rate,
+    /// The lines that are read belong to an entry whose own line is at fault.
+    is_in_faulty_entry: bool,
+    is_over: bool,
+}
+
+impl<'a> Faults<'a> {
+    /// The faults of this text.
+    pub fn new(alloc: Global, text: &'a [u8]) -> Result<Self, AllocError> {
+        Ok(Faults {
+            draft: Draft::new(alloc)?,
+            lines: Lines::new(text),
+            rate: rate_of(text),
+            further_rate: rate_beside_faults(text),
+            is_in_faulty_entry: false,
+            is_over: false,
+        })
+    }
+
+    /// The next fault; `None` behind the last one, and where no memory was left.
+    pub fn next_fault(&mut self, alloc: Global) -> Option<AdlFault> {
+        if self.is_over {
+            return None;
+        }
+        'lines: while let Some(line) = self.lines.next_line() {
+            let fault = self.fault_of(alloc, line);
+            if fault.is_some() || self.is_over {
+                return self.told(fault, line);
+            }
+        }
+        self.is_over = true;
+        Some(AdlFault::Text {
+            fault: TextFault::SectionMismatch,
+            location: Location::Line {
+                line: self.lines.number().max(1),
+            },
+        })
+    }
+
+    /// Reads a line, unless it belongs to an entry at fault. With `</ADL>` the list is over, and what it lacks is told.
+    fn fault_of(&mut self, alloc: Global, line: &'a [u8]) -> Option<AdlFault>
+        ensures { self.new.lines ≡ self.old.lines }
+    {
+        let is_left_out = self.is_in_faulty_entry && !is_tag(line) && !opens_entry(line);
+        self.is_in_faulty_entry = is_left_out;
+        if is_left_out {
+            return None;
+        }
+        let number = self.lines.number();
+        if let Err(fault) = self.draft.add(alloc, line, number, self.rate) {
+            return Some(fault);
+        }
+        if !self.draft.is_behind() {
+            return None;
+        }
+        self.is_over = true;
+        self.draft.missing(number)
+    }
+
+    /// A fault that this line has, if it has one. What stands behind it can be told where it is a fault of a line of its
+    /// own.
+    fn told(&mut self, fault: Option<AdlFault>, line: &[u8]) -> Option<AdlFault> {
+        let fault = fault?;
+        self.rate = self.further_rate;
+        if is_of_its_own(fault) {
+            self.is_in_faulty_entry = opens_entry(line);
+        } else {
+            self.is_over = true;
+        }
+        match fault {
+            AdlFault::Memory => None,
+            AdlFault::Text { .. } => Some(fault),
+        }
+    }
+}
+
+/// The rate of frames of a list of which lines may be at fault: as [`crate::rate_of`] says it of the list without them.
+fn rate_beside_faults(text: &[u8]) -> Rate {
+    let mut outline = Outline::new();
+    let mut lines = Lines::new(text);
+    'lines: while let Some(line) = lines.next_line() {
+        if let Some(rate) = outline.rate_in(line) {
+            return rate;
+        }
+        if let Some(next) = outline.passed(line) {
+            outline = next;
+        }
+    }
+    UNTOLD
+}
+
+/// Whether what stands behind the line at fault can be told without that line.
+fn is_of_its_own(fault: AdlFault) -> bool {
+    let AdlFault::Text { fault, location } = fault else {
+        return false;
+    };
+    match location {
+        Location::Entry { .. } | Location::Index { .. } => is_of_a_line(fault),
+        Location::Line { .. } => fault == TextFault::Unsupported,
+    }
+}
+
+/// Whether the fault is one of a line alone, and not of its section.
+fn is_of_a_line(fault: TextFault) -> bool {
+    match fault {
+        TextFault::SectionMismatch
+        | TextFault::MissingSection
+        | TextFault::RepeatedSection
+        | TextFault::MissingSequence
+        | TextFault::WrongSequence
+        | TextFault::TooMany => false,
+        _ => true,
+    }
+}
+
+/// Whether the line is that of an entry.
+fn opens_entry(line: &[u8]) -> bool {
+    match Tokens::new(line).next_token() {
+        Ok(Some(token)) => is_keyword(b"Entry", &token),
+        _ => false,
+    }
+}
