@@ -8,6 +8,7 @@ mod opened;
 mod remade;
 mod rendered;
 mod scheduled;
+mod schedules;
 
 pub use checking::check_project;
 pub use consolidated::{Written, consolidate};
@@ -16,7 +17,6 @@ pub use fault::{Fault, OutputFile};
 pub use job_terms::{BoardEvent, Progress};
 pub use list_terms::Notice;
 pub use opening::Accepted;
-pub use remade::schedule_media;
 pub use rendered::{Rendered, render};
 pub use rendering::{Depth, Options, Order};
-pub use scheduled::run_schedule;
+pub use schedules::{Work, run_schedule};

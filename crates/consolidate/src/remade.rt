@@ -148,13 +148,7 @@ fn schedule_consolidation<S: Shelf, B: Bench>(
     }
 }
 
-/// Consolidates a list as `consolidate` does, but by these events of any number of workers, one after the other, as
-/// `run_schedule` renders one. It tells how far the jobs are then. Whatever the events, the place of each job that is done
-/// has its source's bytes; where all are done, the media and the list over them are those of `consolidate`, and durable.
-/// A list that was there before stays until then.
-///
-/// Its refusals before the first write are those of `consolidate`. A worker takes memory as it comes (60), and behind the
-/// first write 66 and 62 come as from `consolidate`.
+/// Consolidates a list by these events.
 pub fn schedule_media<S: Shelf, B: Bench>(
     alloc: Global,
     list: &[u8],

@@ -118,14 +118,8 @@ fn schedule_checked<S: Shelf, B: Bench>(
     }
 }
 
-/// Renders a list as `render` does, but by these events of any number of workers, one after the other: a worker is given
-/// a job, makes its bytes, delivers them, fails, or is lost with what it holds, and a job that is out is taken back. It
-/// tells how far the jobs are then. Whatever the events, the place of each job that is done has its bytes; where all
-/// are done, the file is that of `render`, and made durable.
-///
-/// Its refusals before the first write are those of `render`. A worker takes memory as it comes (60), and behind the
-/// first write 66 and 62 come as from `render`. A chosen number of channels has to be 1 to 64.
-pub fn run_schedule<S: Shelf, B: Bench>(
+/// Renders a list by these events.
+pub fn schedule_render<S: Shelf, B: Bench>(
     alloc: Global,
     list: &[u8],
     options: &Options,

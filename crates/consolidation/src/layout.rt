@@ -19,6 +19,14 @@ use shelf::Bench;
 const LONGEST_HEADER: usize = 66_226;
 
 impl<'a> Consolidation<'a> {
+    /// The name of the medium of the run at this place.
+    fn medium_name(&self, place: usize) -> &str
+        requires { place < length self.now.runs }
+        ensures { result.now ≡ media_name (place + 1) }
+    {
+        self.names[place].as_str()
+    }
+
     /// Lays out the medium of the run at this place. Its header is made in `room`.
     fn lay_out_medium<B: Bench>(
         &self,
@@ -37,7 +45,8 @@ impl<'a> Consolidation<'a> {
         let sound = &self.sounds[run.file as usize];
         let base = self.homes[run.file as usize].base;
         let info = info_of(sound, base, run);
-        match lay_out(bench, self.names[place].as_str(), &info, room) {
+        let name = self.medium_name(place);
+        match lay_out(bench, name, &info, room) {
             Ok(()) => Ok(()),
             Err(_) => Err(WriteFault::Medium {
                 number: place as u32 + 1,

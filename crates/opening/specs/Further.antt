@@ -97,9 +97,9 @@ AreOfEntries project files told faults =
     (binding : Binding) × (binding_of project files ≡ Ok binding)
     × (map refusal_of faults ≡ faults_beside binding told project.events)
 
--- the first 20 of all these faults are told, and how many more there are
-abbrev pub IsCut : List Fault → Further → Type 0
-IsCut all further = (further.faults.items ≡ take 20 all) × (further.more ≡ length all - 20)
+-- the first of all these faults are told, so many at most, and how many more there are
+abbrev pub IsCut : (most : ℕ) → List Fault → Further → Type 0
+IsCut most all further = (further.faults.items ≡ take most all) × (further.more ≡ length all - most)
 
 -- all further faults of the text, the files or the entries, by the first of them
 abbrev pub AreAll : List ℕ → Files → Fault → List Fault → Type 0
@@ -109,8 +109,8 @@ AreAll text files (fault.Media source first) all =
     OfText text (λ project. AreOfFiles project files source.number all)
 AreAll text files (fault.Entry first) all = OfText text (λ project. AreOfEntries project files first.entry all)
 
-abbrev pub AreFurther : List ℕ → Files → Fault → Further → Type 0
-AreFurther text files first further = (all : List Fault) × AreAll text files first all × IsCut all further
+abbrev pub AreFurther : (most : ℕ) → List ℕ → Files → Fault → Further → Type 0
+AreFurther most text files first further = (all : List Fault) × AreAll text files first all × IsCut most all further
 
 -- a store was only read: its files and its honesty are as they were, and no failure is forgotten
 pub record WasRead {S : Type 0} (shelf : source.Ghosts S) (old new : S) : Type 0 where

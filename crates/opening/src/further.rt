@@ -17,10 +17,8 @@ use sourceindex::bind;
 use std::alloc::{AllocError, Global};
 use thiserror::Error;
 
-/// How many further faults are told.
-const MOST: usize = 20;
-
-/// The further faults of a list: at most 20, in the order in which they would be told, and how many more there are.
+/// The further faults of a list: so many at most, in the order in which they would be told, and how many more there
+/// are.
 #[derive(Debug, Drop)]
 pub struct Further {
     pub faults: Vec<Fault>,
@@ -39,33 +37,35 @@ impl From<AllocError> for Untold {
 }
 
 impl Further {
-    /// The first of all these faults, and how many more there are.
-    fn of(all: Vec<Fault>) -> Further
-        ensures cut { IsCut all.items result }
-        ensures few { length result.faults.items ≤ 20 }
+    /// The first of all these faults, at most so many, and how many more there are.
+    fn of(all: Vec<Fault>, most: usize) -> Further
+        ensures cut { IsCut most all.items result }
+        ensures few { length result.faults.items ≤ most }
     {
-        let more = all.len().saturating_sub(MOST);
+        let more = all.len().saturating_sub(most);
         let mut faults = all;
-        faults.truncate(MOST);
+        faults.truncate(most);
         Further { faults, more }
     }
 }
 
-/// What else is at fault in a list that is refused over these sources, by its first fault. Behind a fault of the text
-/// there is nothing. Behind that of a file, the files that later used indexes name are opened, each by itself and once.
+/// What else is at fault in a list that is refused over these sources, by its first fault: so many faults at most, and
+/// how many more there are. Behind a fault of the text there is nothing. Behind that of a file, the files that later used indexes name are opened, each by itself and once.
 /// Beside that of an entry, each other entry is looked at by itself.
 pub fn further_faults<S: Shelf>(
     alloc: Global,
     list: &[u8],
     shelf: &mut S,
     first: &Fault,
+    most: usize,
 ) -> Result<Further, Untold>
-    ensures further { IsTrue (S.honest shelf.old) → IfOk result (AreFurther list.now (S.stored shelf.old) first.now) }
-    ensures few { IfOk result (λ further. length further.faults.items ≤ 20) }
+    ensures further { IsTrue (S.honest shelf.old)
+        → IfOk result (AreFurther most list.now (S.stored shelf.old) first.now) }
+    ensures few { IfOk result (λ further. length further.faults.items ≤ most) }
     ensures only_read { WasRead S.Shelf shelf.old shelf.new }
 {
     let all = all_faults(alloc, list, shelf, first)?;
-    Ok(Further::of(all))
+    Ok(Further::of(all, most))
 }
 
 /// All further faults behind the first one.

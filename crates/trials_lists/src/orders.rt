@@ -2,8 +2,9 @@
 ghost use Rattle.rendering.specs.Rendering.{HaveChannels};
 
 use crate::renderings::head;
+use crate::schedules::round;
 use crate::whole_lists::list;
-use consolidate::{BoardEvent, Depth, Options, Order, render, run_schedule};
+use consolidate::{Depth, Options, Order, Work, render, run_schedule};
 use sampletime::SampleTime;
 use shelf::Unwatched;
 use std::alloc::Global;
@@ -48,11 +49,7 @@ fn ones(alloc: Global) -> Result<MemoryShelf, Fail> {
 fn one_round_does_the_first_job_of_the_order(rt: HostRuntime) -> Result<(), Fail> {
     let alloc = rt.alloc();
     let header = head(alloc, 1, Depth::Sixteen, 8_192)?;
-    let round = [
-        BoardEvent::Give(1),
-        BoardEvent::Work(1),
-        BoardEvent::Deliver(1),
-    ];
+    let events = round(1);
     for (entries, order, block) in [
         (ENTRIES, Order::ByTime, 0),
         (ENTRIES, Order::BySource, 1),
@@ -61,15 +58,9 @@ fn one_round_does_the_first_job_of_the_order(rt: HostRuntime) -> Result<(), Fail
         let text = list(alloc, SOURCE, entries)?;
         let mut shelf = ones(alloc)?;
         let mut bench = MemoryBench::new(alloc);
-        let options = by(order);
-        let progress = run_schedule(
-            alloc,
-            text.as_bytes(),
-            &options,
-            round.as_slice(),
-            &mut shelf,
-            &mut bench,
-        )?;
+        let work = Work::Rendering { options: by(order) };
+        let text = text.as_bytes();
+        let progress = run_schedule(alloc, work, text, events.as_slice(), &mut shelf, &mut bench)?;
         assert_eq!(rt; (progress.idle, progress.done), (1, 1));
         let file = bench.bytes("render.wav").ok_or("no file")?;
         let samples = file.get(header.len()..).ok_or("no samples")?;

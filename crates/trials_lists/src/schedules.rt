@@ -1,8 +1,11 @@
-// Renderings by the events of any number of workers, over files in memory.
+// Renderings and consolidations by the events of any number of workers, over files in memory.
 use crate::renderings::{sound, whole};
-use consolidate::{BoardEvent, Depth, Fault, Options, Order, Progress, render, run_schedule};
+use consolidate::{
+    BoardEvent, Depth, Fault, Options, Order, Progress, Work, consolidate, render, run_schedule,
+};
 use shelf::Unwatched;
 use std::alloc::Global;
+use std::process::Abort;
 use std::test::Fail;
 use stores::{MemoryBench, MemoryShelf};
 
@@ -21,52 +24,87 @@ const OPTIONS: Options = Options {
     order: Order::ByTime,
 };
 
-/// What the rendering is made of.
+/// All files that these works write.
+const OUTPUTS: [&str; 5] = [
+    "render.wav",
+    "M00001.wav",
+    "M00002.wav",
+    "M00003.wav",
+    "consolidated.adl",
+];
+
+/// What is made of a list.
+#[derive(Clone, Copy, Debug, PartialEq, Eq)]
+pub(crate) enum Kind {
+    Rendering,
+    Consolidation,
+}
+
+/// A list over `A.wav`, and what is made of it: a consolidation has no handles and no passes.
 #[derive(Drop)]
-struct Project {
+pub(crate) struct Project {
     list: String,
     file: Vec<u8>,
+    kind: Kind,
 }
 
 impl Project {
-    fn new(alloc: Global) -> Result<Self, Fail> {
-        Ok(Project {
-            list: whole(alloc, "1", END)?,
-            file: sound(alloc, 1, FRAMES)?,
-        })
+    /// Over a file of so many frames of one channel.
+    pub(crate) fn new(alloc: Global, list: String, frames: u64, kind: Kind) -> Result<Self, Fail> {
+        let file = sound(alloc, 1, frames)?;
+        Ok(Project { list, file, kind })
+    }
+
+    /// The rendering of three jobs.
+    fn rendering(alloc: Global) -> Result<Self, Fail> {
+        let list = whole(alloc, "1", END)?;
+        Project::new(alloc, list, FRAMES, Kind::Rendering)
     }
 
     /// The sources, of whose calls so many fail behind so many.
-    fn shelf(&self, alloc: Global, from: u64, count: u64) -> Result<MemoryShelf, Fail> {
+    pub(crate) fn shelf(&self, alloc: Global, from: u64, count: u64) -> Result<MemoryShelf, Fail> {
         let shelf = MemoryShelf::new(alloc).with_file("A.wav", self.file.as_slice())?;
         Ok(shelf.failing(from, count))
     }
 
-    /// The bytes that `render` writes.
-    fn rendered(&self, alloc: Global) -> Result<Vec<u8>, Fail> {
+    /// What `render` or `consolidate` writes.
+    fn alone(&self, alloc: Global) -> Result<MemoryBench, Fail> {
+        let list = self.list.as_bytes();
         let mut shelf = self.shelf(alloc, 0, 0)?;
         let mut bench = MemoryBench::new(alloc);
-        render(
-            alloc,
-            self.list.as_bytes(),
-            &OPTIONS,
-            &mut shelf,
-            &mut bench,
-            &mut Unwatched,
-        )?;
-        let bytes = bench.bytes("render.wav").ok_or("no file")?;
-        Ok(Vec::from_slice(alloc, bytes)?)
+        let mut watch = Unwatched;
+        match self.kind {
+            Kind::Rendering => {
+                render(alloc, list, &OPTIONS, &mut shelf, &mut bench, &mut watch)?;
+            }
+            Kind::Consolidation => {
+                let passes = Vec::new(alloc);
+                consolidate(alloc, list, 0, passes, &mut shelf, &mut bench, &mut watch)?;
+            }
+        }
+        Ok(bench)
     }
 
-    /// Renders by these events.
-    fn scheduled(
+    /// Does the work by these events.
+    pub(crate) fn scheduled(
         &self,
         alloc: Global,
         events: &[BoardEvent],
         shelf: &mut MemoryShelf,
         bench: &mut MemoryBench,
     ) -> Result<Progress, Fault> {
-        run_schedule(alloc, self.list.as_bytes(), &OPTIONS, events, shelf, bench)
+        let list = self.list.as_bytes();
+        match self.kind {
+            Kind::Rendering => {
+                let work = Work::Rendering { options: OPTIONS };
+                run_schedule(alloc, work, list, events, shelf, bench)
+            }
+            Kind::Consolidation => {
+                let passes = Vec::new(alloc);
+                let work = Work::Consolidation { handle: 0, passes };
+                run_schedule(alloc, work, list, events, shelf, bench)
+            }
+        }
     }
 
     /// How often these events call the shelf: so often that a failure behind that isn't met.
@@ -83,19 +121,26 @@ impl Project {
     }
 }
 
+/// Whether two benches hold the same files.
+fn are_same(bench: &MemoryBench, other: &MemoryBench) -> bool {
+    OUTPUTS
+        .iter()
+        .all(|name| bench.bytes(name) == other.bytes(name))
+}
+
 /// Numbers that look drawn at random, the same in each run.
 #[derive(Drop)]
-pub(crate) struct Draws {
+struct Draws {
     state: u64,
 }
 
 impl Draws {
-    pub(crate) fn new(state: u64) -> Self {
+    fn new(state: u64) -> Self {
         Draws { state }
     }
 
     /// A number below this one.
-    pub(crate) fn below(&mut self, end: u32) -> u32 {
+    fn below(&mut self, end: u32) -> u32 {
         self.state = self
             .state
             .wrapping_mul(6_364_136_223_846_793_005)
@@ -105,7 +150,7 @@ impl Draws {
     }
 
     /// An event of one of 64 workers, or a job taken back.
-    pub(crate) fn event(&mut self) -> BoardEvent {
+    fn event(&mut self) -> BoardEvent {
         let worker = self.below(64);
         match self.below(12) {
             0..=3 => BoardEvent::Give(worker),
@@ -118,28 +163,111 @@ impl Draws {
 }
 
 /// One worker's round: it is given a job, makes its bytes and delivers them.
-fn put_round(events: &mut Vec<BoardEvent>, worker: u32) -> Result<(), Fail> {
-    events.push(BoardEvent::Give(worker))?;
-    events.push(BoardEvent::Work(worker))?;
-    events.push(BoardEvent::Deliver(worker))?;
-    Ok(())
+pub(crate) fn round(worker: u32) -> [BoardEvent; 3] {
+    [
+        BoardEvent::Give(worker),
+        BoardEvent::Work(worker),
+        BoardEvent::Deliver(worker),
+    ]
 }
 
 /// Events that finish what is left: each job is taken back, and the worker 99 does it.
-pub(crate) fn put_end(events: &mut Vec<BoardEvent>) -> Result<(), Fail> {
+fn put_end(events: &mut Vec<BoardEvent>) -> Result<(), Fail> {
     for job in 0..JOBS {
         events.push(BoardEvent::Reclaim(job))?;
     }
     for _ in 0..JOBS {
-        put_round(events, 99)?;
+        events.extend_from_slice(&round(99))?;
     }
+    Ok(())
+}
+
+/// Fewer events than `most`, drawn at random, and behind them so many times those that finish what is left.
+fn drawn(alloc: Global, draws: &mut Draws, most: u32, ends: u32) -> Result<Vec<BoardEvent>, Fail> {
+    let mut events = Vec::new(alloc);
+    for _ in 0..draws.below(most) {
+        events.push(draws.event())?;
+    }
+    for _ in 0..ends {
+        put_end(&mut events)?;
+    }
+    Ok(events)
+}
+
+/// A thousand schedules of three jobs, each of which ends with the files of one worker alone.
+pub(crate) fn assert_same_files(
+    rt: &impl Abort,
+    alloc: Global,
+    project: &Project,
+    seed: u64,
+) -> Result<(), Fail> {
+    let alone = project.alone(alloc)?;
+    let mut draws = Draws::new(seed);
+    for _ in 0..1000 {
+        let events = drawn(alloc, &mut draws, 60, 1)?;
+        let mut shelf = project.shelf(alloc, 0, 0)?;
+        let mut bench = MemoryBench::new(alloc);
+        let progress = project.scheduled(alloc, events.as_slice(), &mut shelf, &mut bench)?;
+        assert!(rt; progress.finished);
+        assert_eq!(rt; progress.done, JOBS);
+        assert!(rt; are_same(&bench, &alone));
+    }
+    Ok(())
+}
+
+/// How a schedule ends whose devices fail.
+#[derive(Clone, Copy, Debug, PartialEq, Eq)]
+enum Ended {
+    Whole,
+    Unfinished,
+    GivenUp,
+    Stopped,
+}
+
+impl Ended {
+    fn of(answer: &Result<Progress, Fault>) -> Self {
+        match answer {
+            Ok(progress) if progress.finished => Ended::Whole,
+            Ok(_) => Ended::Unfinished,
+            Err(Fault::GivenUp { .. }) => Ended::GivenUp,
+            Err(_) => Ended::Stopped,
+        }
+    }
+}
+
+/// A thousand schedules of three jobs over devices that fail: where all jobs are done, the files are those of one
+/// worker alone. The bench fails behind fewer calls than `writes`.
+pub(crate) fn assert_right_files(
+    rt: &impl Abort,
+    alloc: Global,
+    project: &Project,
+    seed: u64,
+    writes: u32,
+) -> Result<(), Fail> {
+    let alone = project.alone(alloc)?;
+    let mut draws = Draws::new(seed);
+    let mut seen = [0u32; 4];
+    for _ in 0..1000 {
+        let events = drawn(alloc, &mut draws, 40, 2)?;
+        let from = u64::from(draws.below(40));
+        let mut shelf = project.shelf(alloc, from, u64::from(draws.below(4)))?;
+        let from = u64::from(draws.below(writes));
+        let mut bench = MemoryBench::new(alloc).failing(from, u64::from(draws.below(4)));
+        let ended = Ended::of(&project.scheduled(alloc, events.as_slice(), &mut shelf, &mut bench));
+        seen[ended as usize] = seen[ended as usize].saturating_add(1);
+        assert!(rt; ended != Ended::Whole || are_same(&bench, &alone));
+    }
+    // most end whole, and each other end is met
+    assert!(rt; seen[0] > 200, "{seen:?}");
+    assert!(rt; seen[2] > 0, "{seen:?}");
+    assert!(rt; seen[3] > 0, "{seen:?}");
     Ok(())
 }
 
 #[test]
 fn events_move_jobs(rt: HostRuntime) -> Result<(), Fail> {
     let alloc = rt.alloc();
-    let project = Project::new(alloc)?;
+    let project = Project::rendering(alloc)?;
     let given = [BoardEvent::Give(1), BoardEvent::Lose(1)];
     let back = [
         BoardEvent::Give(1),
@@ -152,11 +280,7 @@ fn events_move_jobs(rt: HostRuntime) -> Result<(), Fail> {
         BoardEvent::Reclaim(0),
         BoardEvent::Deliver(1),
     ];
-    let one = [
-        BoardEvent::Give(7),
-        BoardEvent::Work(7),
-        BoardEvent::Deliver(7),
-    ];
+    let one = round(7);
     let nothing = [BoardEvent::Deliver(1), BoardEvent::Reclaim(3)];
     for (events, idle, out, done, late) in [
         ([].as_slice(), 3, 0, 0, 0),
@@ -184,14 +308,10 @@ fn events_move_jobs(rt: HostRuntime) -> Result<(), Fail> {
 #[test]
 fn work_alone_reads_samples(rt: HostRuntime) -> Result<(), Fail> {
     let alloc = rt.alloc();
-    let project = Project::new(alloc)?;
+    let project = Project::rendering(alloc)?;
     let given = [BoardEvent::Give(1)];
     let worked = [BoardEvent::Give(1), BoardEvent::Work(1)];
-    let delivered = [
-        BoardEvent::Give(1),
-        BoardEvent::Work(1),
-        BoardEvent::Deliver(1),
-    ];
+    let delivered = round(1);
     let opened = project.calls(alloc, &[])?;
     let read = project.calls(alloc, worked.as_slice())?;
     assert_eq!(rt; project.calls(alloc, given.as_slice())?, opened);
@@ -203,74 +323,11 @@ fn work_alone_reads_samples(rt: HostRuntime) -> Result<(), Fail> {
 #[test]
 fn any_schedule_that_ends_gives_the_same_file(rt: HostRuntime) -> Result<(), Fail> {
     let alloc = rt.alloc();
-    let project = Project::new(alloc)?;
-    let whole = project.rendered(alloc)?;
-    let mut draws = Draws::new(16);
-    for _ in 0..1000 {
-        let mut events = Vec::new(alloc);
-        for _ in 0..draws.below(60) {
-            events.push(draws.event())?;
-        }
-        put_end(&mut events)?;
-        let mut shelf = project.shelf(alloc, 0, 0)?;
-        let mut bench = MemoryBench::new(alloc);
-        let progress = project.scheduled(alloc, events.as_slice(), &mut shelf, &mut bench)?;
-        assert!(rt; progress.finished);
-        assert_eq!(rt; progress.done, JOBS);
-        let bytes = bench.bytes("render.wav").ok_or("no file")?;
-        assert!(rt; bytes == whole.as_slice());
-    }
-    Ok(())
-}
-
-/// How a schedule ends whose devices fail.
-#[derive(Clone, Copy, Debug, PartialEq, Eq)]
-pub(crate) enum Ended {
-    Whole,
-    Unfinished,
-    GivenUp,
-    Stopped,
-}
-
-impl Ended {
-    pub(crate) fn of(answer: &Result<Progress, Fault>) -> Self {
-        match answer {
-            Ok(progress) if progress.finished => Ended::Whole,
-            Ok(_) => Ended::Unfinished,
-            Err(Fault::GivenUp { .. }) => Ended::GivenUp,
-            Err(_) => Ended::Stopped,
-        }
-    }
+    assert_same_files(&rt, alloc, &Project::rendering(alloc)?, 16)
 }
 
 #[test]
 fn devices_that_fail_leave_right_files(rt: HostRuntime) -> Result<(), Fail> {
     let alloc = rt.alloc();
-    let project = Project::new(alloc)?;
-    let whole = project.rendered(alloc)?;
-    let mut draws = Draws::new(17);
-    let mut seen = [0u32; 4];
-    for _ in 0..1000 {
-        let mut events = Vec::new(alloc);
-        for _ in 0..draws.below(40) {
-            events.push(draws.event())?;
-        }
-        put_end(&mut events)?;
-        put_end(&mut events)?;
-        let from = u64::from(draws.below(40));
-        let mut shelf = project.shelf(alloc, from, u64::from(draws.below(4)))?;
-        let from = u64::from(draws.below(20));
-        let mut bench = MemoryBench::new(alloc).failing(from, u64::from(draws.below(4)));
-        let ended = Ended::of(&project.scheduled(alloc, events.as_slice(), &mut shelf, &mut bench));
-        seen[ended as usize] = seen[ended as usize].saturating_add(1);
-        if ended == Ended::Whole {
-            let bytes = bench.bytes("render.wav").ok_or("no file")?;
-            assert!(rt; bytes == whole.as_slice());
-        }
-    }
-    // most end whole, and each other end is met
-    assert!(rt; seen[0] > 200, "{seen:?}");
-    assert!(rt; seen[2] > 0, "{seen:?}");
-    assert!(rt; seen[3] > 0, "{seen:?}");
-    Ok(())
+    assert_right_files(&rt, alloc, &Project::rendering(alloc)?, 17, 20)
 }

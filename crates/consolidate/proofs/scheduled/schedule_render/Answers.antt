@@ -8,7 +8,7 @@ use Rattle.consolidate.proofs.Due.{opening_due, range_due}
 use Rattle.consolidate.proofs.Events.{events_map, none_done, schedules_list}
 use Rattle.consolidate.proofs.First.{scheduled_first}
 use Rattle.consolidate.proofs.Stores.{opened_before, stopped_early}
-use Rattle.consolidate.proofs.scheduled.run_schedule.Goals as goal
+use Rattle.consolidate.proofs.scheduled.schedule_render.Goals as goal
 
 pub returns-in_err-checked : goal.returns-in_err-checked
 returns-in_err-checked g c =
