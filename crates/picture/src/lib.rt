@@ -1,0 +1,11 @@
+//! A picture of a project: its entries in a lane for each channel, and below them what of each file is played and kept.
+#![tactic(auto)]
+
+mod escaped;
+mod picture;
+mod ruler;
+mod scale;
+mod sources;
+mod timeline;
+
+pub use picture::Picture;

@@ -1,0 +1,50 @@
+// Where times and frames stand across the picture.
+use std::fmt;
+
+/// How wide the picture is, and where what is drawn begins and how wide that is, in pixels.
+pub const WIDTH: u64 = 1200;
+
+pub const LEFT: u64 = 120;
+
+pub const DRAWN: u64 = 1030;
+
+/// A number of tenths, printed with its point.
+#[derive(Clone, Copy, Debug, PartialEq, Eq)]
+pub struct Tenths(pub u64);
+
+impl fmt::Display for Tenths {
+    fn fmt<W: fmt::Write>(&self, f: &mut fmt::Formatter<W>) -> fmt::Result {
+        let whole = self.0 / 10;
+        let tenth = self.0 % 10;
+        write!(f, "{whole}.{tenth}")
+    }
+}
+
+/// A stretch of samples over the whole width.
+#[derive(Clone, Copy, Debug, PartialEq, Eq)]
+pub struct Scale {
+    from: u64,
+    length: u64,
+}
+
+impl Scale {
+    /// The samples from one up to another.
+    pub fn new(from: u64, to: u64) -> Scale {
+        Scale {
+            from,
+            length: to.saturating_sub(from),
+        }
+    }
+
+    /// Where so many samples end behind the left edge, in tenths of a pixel.
+    pub fn width(self, samples: u64) -> Tenths {
+        let behind = samples.min(self.length).saturating_mul(DRAWN * 10);
+        Tenths(behind.checked_div(self.length).unwrap_or(0))
+    }
+
+    /// Where a sample stands, in tenths of a pixel.
+    pub fn place(self, sample: u64) -> Tenths {
+        let Tenths(behind) = self.width(sample.saturating_sub(self.from));
+        Tenths(behind.saturating_add(LEFT * 10))
+    }
+}

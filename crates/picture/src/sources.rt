@@ -1,0 +1,136 @@
+// What of each file is played, kept and dropped.
+use crate::escaped::Escaped;
+use crate::scale::{DRAWN, LEFT, Scale, Tenths};
+use sound_terms::Run;
+use std::fmt;
+use wavread::Sound;
+
+/// How high a file's words and its bar are together, and the bar alone, in pixels.
+const ROW: u64 = 40;
+
+const BAR: u64 = 16;
+
+/// The files, with the runs of frames that the entries play, and of those that a handle keeps.
+#[derive(Clone, Copy)]
+pub struct SourceBars<'a> {
+    pub sounds: &'a [Sound],
+    pub played: &'a [Run],
+    pub kept: &'a [Run],
+    pub top: u64,
+}
+
+/// The frames of a file that lie in runs.
+fn frames_in(runs: &[Run], file: usize) -> u64 {
+    let mut frames: u64 = 0;
+    for run in runs {
+        if run.file as usize == file {
+            frames = frames.saturating_add(run.length);
+        }
+    }
+    frames
+}
+
+/// So many frames in seconds.
+fn seconds(frames: u64) -> Tenths {
+    Tenths(frames / 4_800)
+}
+
+impl SourceBars<'_> {
+    /// Where the last of them ends.
+    pub fn bottom(&self) -> u64 {
+        (self.sounds.len() as u64)
+            .saturating_mul(ROW)
+            .saturating_add(self.top)
+            .saturating_add(ROW)
+    }
+
+    /// Writes what the bars show, and each file with its bar.
+    pub fn put<W: fmt::Write>(&self, f: &mut fmt::Formatter<W>) -> fmt::Result {
+        self.put_legend(f)?;
+        let mut top = self.top.saturating_add(ROW);
+        for (file, sound) in self.sounds.iter().enumerate() {
+            self.put_file(f, file, sound, top)?;
+            top = top.saturating_add(ROW);
+        }
+        Ok(())
+    }
+
+    /// Writes what the bars show.
+    fn put_legend<W: fmt::Write>(&self, f: &mut fmt::Formatter<W>) -> fmt::Result {
+        let text = self.top.saturating_add(24);
+        let box_top = self.top.saturating_add(13);
+        writeln!(
+            f,
+            "<text x='{LEFT}' y='{text}' font-weight='bold'>Files</text>"
+        )?;
+        writeln!(f, "<g stroke='#000'>")?;
+        writeln!(f, "<rect x='220' y='{box_top}' width='24' height='12'/>")?;
+        writeln!(
+            f,
+            "<rect x='330' y='{box_top}' width='24' height='12' fill-opacity='.25'/>"
+        )?;
+        writeln!(
+            f,
+            "<rect x='500' y='{box_top}' width='24' height='12' fill='#fff'/>"
+        )?;
+        writeln!(f, "</g>")?;
+        writeln!(f, "<text x='250' y='{text}'>played</text>")?;
+        writeln!(f, "<text x='360' y='{text}'>kept by the handle</text>")?;
+        writeln!(f, "<text x='530' y='{text}'>dropped</text>")
+    }
+
+    /// Writes the words and the bar of a file.
+    fn put_file<W: fmt::Write>(
+        &self,
+        f: &mut fmt::Formatter<W>,
+        file: usize,
+        sound: &Sound,
+        top: u64,
+    ) -> fmt::Result {
+        let name = Escaped(sound.name());
+        let frames = sound.frames();
+        let played = frames_in(self.played, file);
+        let kept = frames_in(self.kept, file);
+        let all = seconds(frames);
+        let dropped = seconds(frames.saturating_sub(kept));
+        let (played, kept) = (seconds(played), seconds(kept));
+        let text = top.saturating_add(12);
+        let bar = top.saturating_add(17);
+        write!(
+            f,
+            "<text x='{LEFT}' y='{text}'>{name}: {all} s, {played} s played, "
+        )?;
+        writeln!(f, "{kept} s kept, {dropped} s dropped</text>")?;
+        write!(
+            f,
+            "<rect x='{LEFT}' y='{bar}' width='{DRAWN}' height='{BAR}'"
+        )?;
+        writeln!(f, " fill='#fff' stroke='#000'/>")?;
+        let scale = Scale::new(0, frames);
+        writeln!(f, "<g fill-opacity='.25'>")?;
+        put_runs(f, self.kept, file, scale, bar)?;
+        writeln!(f, "</g>")?;
+        put_runs(f, self.played, file, scale, bar)
+    }
+}
+
+/// Writes the runs of a file in its bar.
+fn put_runs<W: fmt::Write>(
+    f: &mut fmt::Formatter<W>,
+    runs: &[Run],
+    file: usize,
+    scale: Scale,
+    bar: u64,
+) -> fmt::Result {
+    for run in runs {
+        if run.file as usize == file {
+            let from = scale.place(run.first);
+            let width = scale.width(run.length);
+            writeln!(
+                f,
+                "<rect x='{from}' y='{bar}' width='{width}' height='{BAR}'/>"
+            )?;
+        }
+    }
+    Ok(())
+}

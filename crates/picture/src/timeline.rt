@@ -1,0 +1,162 @@
+// The entries over time, in a lane for each channel.
+use crate::escaped::Escaped;
+use crate::ruler::{TimeCode, put_ruler};
+use crate::scale::{DRAWN, LEFT, Scale, Tenths};
+use projectcheck::Checked;
+use sound_terms::Event;
+use std::fmt;
+
+/// Where the lanes begin, how high one is, and how high an entry is in it, in pixels.
+const TOP: u64 = 58;
+
+const LANE: u64 = 30;
+
+const HIGH: u64 = 26;
+
+/// An entry at least so wide has its number in it, in tenths of a pixel.
+const NUMBERED: u64 = 260;
+
+/// What the timeline shows: the samples from the first in to the last out, and the channels from the first to the last
+/// that an entry names.
+#[derive(Clone, Copy)]
+pub struct Timeline<'a> {
+    checked: &'a Checked,
+    pub span: (u64, u64),
+    pub channels: (u8, u8),
+}
+
+impl<'a> Timeline<'a> {
+    /// The timeline of a project.
+    pub fn of(checked: &'a Checked) -> Timeline<'a> {
+        let mut span = (u64::MAX, 0);
+        let mut channels = (u8::MAX, 0);
+        for event in checked.project().events() {
+            span.0 = span.0.min(event.dest_in.get());
+            span.1 = span.1.max(event.dest_out.get());
+            channels.0 = channels.0.min(event.dest.first);
+            channels.1 = channels.1.max(event.dest.last);
+        }
+        if span.1 < span.0 {
+            span = (0, 0);
+        }
+        if channels.1 < channels.0 {
+            channels = (1, 1);
+        }
+        Timeline {
+            checked,
+            span,
+            channels,
+        }
+    }
+
+    /// Where the lane of a channel begins, in pixels from the top.
+    fn lane(self, channel: u8) -> u64 {
+        TOP + u64::from(channel.saturating_sub(self.channels.0)) * LANE
+    }
+
+    /// Where the last lane ends.
+    pub fn bottom(self) -> u64 {
+        self.lane(self.channels.1).saturating_add(LANE)
+    }
+
+    /// Writes the time code, the lanes and the entries.
+    pub fn put<W: fmt::Write>(self, f: &mut fmt::Formatter<W>) -> fmt::Result {
+        put_ruler(f, self.checked.project(), self.span, self.bottom())?;
+        self.put_lanes(f)?;
+        writeln!(f, "<g fill-opacity='.15' stroke='#000'>")?;
+        for event in self.checked.project().events() {
+            self.put_entry(f, event)?;
+        }
+        writeln!(f, "</g>")?;
+        self.put_numbers(f)
+    }
+
+    /// Writes the name of each lane, and a line below it.
+    fn put_lanes<W: fmt::Write>(self, f: &mut fmt::Formatter<W>) -> fmt::Result {
+        let edge = LEFT - 8;
+        let right = LEFT + DRAWN;
+        for channel in self.channels.0..=self.channels.1 {
+            let text = self.lane(channel).saturating_add(18);
+            let line = self.lane(channel).saturating_add(HIGH + 2);
+            writeln!(
+                f,
+                "<text x='{edge}' y='{text}' text-anchor='end'>channel {channel}</text>"
+            )?;
+            write!(f, "<line x1='{LEFT}' y1='{line}' x2='{right}' y2='{line}'")?;
+            writeln!(f, " stroke='#000' stroke-width='.5'/>")?;
+        }
+        Ok(())
+    }
+
+    /// Writes an entry: in each lane a shape that rises and falls as its fades do. Its title tells what plays.
+    fn put_entry<W: fmt::Write>(self, f: &mut fmt::Formatter<W>, event: &Event) -> fmt::Result {
+        let project = self.checked.project();
+        let from = TimeCode {
+            project,
+            samples: event.dest_in.get(),
+        };
+        let to = TimeCode {
+            project,
+            samples: event.dest_out.get(),
+        };
+        let name = Escaped(self.name_of(event));
+        let (number, index) = (event.number, event.index);
+        writeln!(
+            f,
+            "<g><title>entry {number}: index {index}, {name}, {from} to {to}</title>"
+        )?;
+        for channel in event.dest.first..=event.dest.last {
+            self.put_shape(f, event, self.lane(channel))?;
+        }
+        writeln!(f, "</g>")
+    }
+
+    /// Writes the shape of an entry in the lane that begins here.
+    fn put_shape<W: fmt::Write>(
+        self,
+        f: &mut fmt::Formatter<W>,
+        event: &Event,
+        top: u64,
+    ) -> fmt::Result {
+        let scale = Scale::new(self.span.0, self.span.1);
+        let (start, end) = (event.dest_in.get(), event.dest_out.get());
+        let from = scale.place(start);
+        let risen = scale.place(start.saturating_add(event.rise.length.get()));
+        let falling = scale.place(end.saturating_sub(event.fall.length.get()));
+        let to = scale.place(end);
+        let bottom = top.saturating_add(HIGH);
+        writeln!(
+            f,
+            "<polygon points='{from},{bottom} {risen},{top} {falling},{top} {to},{bottom}'/>"
+        )
+    }
+
+    /// Writes the number of each entry that is wide enough for it, over all shapes.
+    fn put_numbers<W: fmt::Write>(self, f: &mut fmt::Formatter<W>) -> fmt::Result {
+        let scale = Scale::new(self.span.0, self.span.1);
+        writeln!(f, "<g text-anchor='middle'>")?;
+        for event in self.checked.project().events() {
+            let Tenths(from) = scale.place(event.dest_in.get());
+            let Tenths(to) = scale.place(event.dest_out.get());
+            if to.saturating_sub(from) >= NUMBERED {
+                let at = Tenths(from.saturating_add(to.saturating_sub(from) / 2));
+                let line = self.lane(event.dest.first).saturating_add(18);
+                let number = event.number;
+                writeln!(f, "<text x='{at}' y='{line}'>{number}</text>")?;
+            }
+        }
+        writeln!(f, "</g>")
+    }
+
+    /// The name of the file that an entry plays.
+    fn name_of(self, event: &Event) -> &'a str {
+        let bound = self.checked.bound();
+        let Some(index) = bound.index(event.index) else {
+            return "";
+        };
+        match bound.sounds().get(index.file as usize) {
+            Some(sound) => sound.name(),
+            None => "",
+        }
+    }
+}
