@@ -2,8 +2,9 @@
 _adlcons() {
     local word=${COMP_WORDS[COMP_CWORD]} last=${COMP_WORDS[COMP_CWORD - 1]} options=--help
     case ${COMP_WORDS[1]} in
-        consolidate) options='--handle --help' ;;
-        render) options='--from --to --channels --depth --order --help' ;;
+        check) options='--all --help' ;;
+        consolidate) options='--all --handle --help' ;;
+        render) options='--all --from --to --channels --depth --order --help' ;;
     esac
     if ((COMP_CWORD == 1)); then
         mapfile -t COMPREPLY < <(compgen -W "check consolidate render explain help --help --version" -- "$word")
@@ -26,7 +27,7 @@ _adlcons() {
             3:check | 3:consolidate | 3:render | 4:consolidate | 4:render)
                 mapfile -t COMPREPLY < <(compgen -d -- "$word")
                 ;;
-            *:consolidate | *:render) mapfile -t COMPREPLY < <(compgen -W "$options" -- "$word") ;;
+            *:check | *:consolidate | *:render) mapfile -t COMPREPLY < <(compgen -W "$options" -- "$word") ;;
         esac
     fi
 }

@@ -33,6 +33,9 @@ MISTAKES = {
     "an unknown option behind": ("consolidate", LIST, MEDIA, OUT, "--loud"),
     "an unknown short option": ("render", "-x", LIST, MEDIA, OUT),
     "an empty word": ("",),
+    "all of it with a value": ("check", LIST, MEDIA, "--all=1"),
+    "all of it twice": ("check", LIST, MEDIA, "--all", "--all"),
+    "all of an explanation": ("explain", "--all"),
     "two numbers": ("explain", "13", "46"),
     "a number that no refusal has": ("explain", "59"),
     "a number that no notice has": ("explain", "notice", "8"),
@@ -102,13 +105,14 @@ Example: adlcons render session.adl sources rendered
 
 CHECK_HELP = """Check a list and the files that it uses, and write nothing
 
-Usage: adlcons check <LIST> <MEDIA>
+Usage: adlcons check [OPTIONS] <LIST> <MEDIA>
 
 Arguments:
   <LIST>   The list, a file; - is standard input
   <MEDIA>  The folder of the list's WAVE files
 
 Options:
+      --all   List every fault of a refused list
   -h, --help  Print help
 
 Example: adlcons check session.adl sources

@@ -9,7 +9,7 @@ from typing import Callable
 
 import model
 from harness import (
-    LIST, MEDIA, OUT, Mismatch, Scene, Skipped, Suite, same, same_bytes, same_files, same_outcome, words_of,
+    LIST, MEDIA, OUT, Mismatch, Outcome, Scene, Skipped, Suite, same, same_bytes, same_files, same_outcome, words_of,
 )
 from tables import FIRST_LIST, rendered_bytes, size_changed, wave
 
@@ -194,13 +194,20 @@ def memory_of_long_consolidation(scene: Scene) -> None:
         same("the last sample", file.read(), b"\0\1")
 
 
+UNPRINTED = b"error: standard output can't be written\n"
+
+
 def unprinted(scene: Scene) -> None:
-    """A line that can't be printed changes neither the files nor the status."""
+    """A line that can't be printed changes neither the files nor the status, and is told."""
     prepared(scene)
     with Path("/dev/full").open("wb") as full:
         got = scene.run(*RENDER, stdout=full)
-    same("the status", got.status, 0)
-    same_bytes("render.wav", scene.files()["render.wav"], rendered_bytes())
+        same("the status and standard error", got, Outcome(0, b"", UNPRINTED))
+        same_bytes("render.wav", scene.files()["render.wav"], rendered_bytes())
+        for words in (("--help",), ("--version",), ("explain", "46"), ("explain", "notice")):
+            same(f"the answer of {words}", scene.run(*words, stdout=full), Outcome(0, b"", UNPRINTED))
+        got = scene.run("check", "none", MEDIA, stdout=full)
+        same("a refusal that can't be printed", (got.status, got.error.endswith(UNPRINTED)), (1, True))
 
 
 def closed_outputs(scene: Scene) -> None:

@@ -94,7 +94,7 @@ def same_bytes(what: str, got: bytes, wanted: bytes) -> None:
 
 EXPLANATION = r"[^\n]+: [^\n]+; [^\n]+ \(adlcons explain %d\)\n"
 FURTHER = r"%s(?:: [^\n]+)?\n"
-SAVED = r"of (\d+) bytes of samples in the sources (\d+) are kept; (\d+) bytes were written\n"
+SAVED = r"kept (\d+) of (\d+) bytes of samples; wrote (\d+) bytes in all\n"
 
 
 NOTICE = r"notice %d: [^\n]+ \(adlcons explain notice %d\)\n"
@@ -129,7 +129,8 @@ def same_answer(got: Outcome, wanted: model.Answer) -> None:
     """What was printed, and the status."""
     same_outcome(got, wanted.status, wanted.line, wanted.notices, wanted.further)
     if wanted.saved is not None:
-        told = tuple(map(int, re.match(SAVED, got.error.decode()).groups()))
+        kept, whole, written = map(int, re.match(SAVED, got.error.decode()).groups())
+        told = whole, kept, written
         same("the bytes of samples in the sources, those kept, and all that were written", told, wanted.saved)
 
 

@@ -66,6 +66,21 @@ def garbage(scene: Scene) -> None:
         expect_check(scene, line, 3)
 
 
+def many_faults(scene: Scene) -> None:
+    """50 MB with a fault in each line, or with 8,000,000 lines before the first: that takes a few readings."""
+    faders = FIRST_LIST.replace(b"</ADL>", b"<FADER_LIST>\n" + b"(Fader) 1\n" * 5_000_000 + b"</FADER_LIST>\n</ADL>")
+    gains = FIRST_LIST.replace(b"</EVENT_LIST>", b"(Rem)\n" * 8_000_000 + b"(Gain) -1\n" * 30 + b"</EVENT_LIST>")
+    for text, first, entry_of in ((faders, 13, ""), (gains, 8_000_011, " entry 1")):
+        scene.put(text, {"A.wav": wave()})
+        before = processor_seconds()
+        got = scene.run(*words_of("check"))
+        taken = processor_seconds() - before
+        told = [f"13 at line {first + count}{entry_of}" for count in range(21)]
+        same_outcome(got, 1, f"refused {told[0]}", further=(*(f"also {each}" for each in told[1:]), "and more"))
+        if taken > 3:
+            raise Mismatch(f"{told[0]!r} took {taken:.2f} seconds of the processor, more than 3")
+
+
 def many_chunks(scene: Scene) -> None:
     """A file of 100,000 small chunks before its sound."""
     others = [riff_chunk(b"JUNK", b"odd")] * CHUNKS
@@ -102,6 +117,7 @@ def run(suite: Suite) -> None:
     suite.case("the longest list", longest_list)
     suite.case("2,000 files with few handles", many_files)
     suite.case("50 MB of garbage", garbage)
+    suite.case("many lines at fault", many_faults)
     suite.case("100,000 small chunks", many_chunks)
     suite.case("3 GB of empty chunks", empty_chunks)
     suite.case("a sample at each end of the day", long_day)

@@ -172,6 +172,13 @@ def wait_for(what: str, is_so: Callable[[], bool]) -> None:
     raise Mismatch(f"{what} isn't so after {TIMEOUT} seconds")
 
 
+def is_running(number: int) -> bool:
+    try:
+        return Path(f"/proc/{number}/stat").read_text().rpartition(")")[2].split()[0] != "Z"
+    except OSError:
+        return False
+
+
 @contextmanager
 def slurm(folder: Path):
     """A Slurm of one node in a folder of its own, which ends with the test: its commands' environment."""
@@ -204,9 +211,12 @@ def slurm(folder: Path):
             ["sinfo", "--noheader"], env=environment, capture_output=True, timeout=TIMEOUT).stdout)
         yield environment
     finally:
+        # Each writes to its folder until it has ended.
         for pid in reversed(pids):
             if pid.exists():
-                os.kill(int(pid.read_text()), signal.SIGTERM)
+                number = int(pid.read_text())
+                os.kill(number, signal.SIGTERM)
+                wait_for(f"that {pid.stem} has ended", lambda: not is_running(number))
 
 
 def spread_by_slurm(scene: Scene) -> None:

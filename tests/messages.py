@@ -3,10 +3,14 @@
 import os
 import subprocess
 import time
+from urllib.parse import quote
 
 import model
-from harness import LIST, MEDIA, OUT, TIMEOUT, Mismatch, Outcome, Scene, Suite, expect_refused, same, same_outcome, same_shape
-from progress import on_terminal
+from harness import (
+    LIST, MEDIA, OUT, TIMEOUT, Mismatch, Outcome, Scene, Suite, expect_refused, preloaded, same, same_outcome,
+    same_shape, words_of,
+)
+from progress import on_terminal, put_stretches
 from tables import FIRST_LIST, changed, wave
 
 MIDNIGHT = b"00.00.00.00/0000"
@@ -90,15 +94,11 @@ def gone_meanwhile(scene: Scene) -> None:
     entries = [model.entry_line(1, 1, MIDNIGHT, MIDNIGHT, model.time_text(4)),
                model.entry_line(2, 1, MIDNIGHT, model.time_text(400_000_000), model.time_text(400_000_004))]
     scene.put(model.list_text([model.source_line(1, "A.wav", MIDNIGHT)], entries), MEDIA_FILES)
-    path = scene.folder / OUT / "render.wav"
-
-    def replace() -> None:
-        path.unlink()
-        path.write_bytes(b"another file")
-
+    path, other = scene.folder / OUT / "render.wav", scene.folder / "other.wav"
+    other.write_bytes(b"another file")
     for meddle, said, unsaid in (
         (path.unlink, "; the system says: No such file or directory (os error 2); run again", "unfinished"),
-        (replace, "; it was changed meanwhile; unfinished in the output", "system"),
+        (lambda: other.replace(path), "; it was changed meanwhile; unfinished in the output", "system"),
     ):
         with subprocess.Popen(
                 [scene.program, "render", LIST, MEDIA, OUT, "--depth", "16"], cwd=scene.folder,
@@ -113,17 +113,40 @@ def gone_meanwhile(scene: Scene) -> None:
         scene.empty_out()
 
 
+def medium_gone_meanwhile(scene: Scene) -> None:
+    """So it is with each medium of a consolidation, and no list is written then."""
+    put_stretches(scene)
+    for number in (1, 2):
+        path = scene.folder / OUT / f"M{number:05d}.wav"
+        with subprocess.Popen(
+                [scene.program, *words_of("consolidate", model.Options(handle=0))], cwd=scene.folder,
+                stdout=subprocess.PIPE, stderr=subprocess.PIPE, env=preloaded(scene, SLOW="20000")) as process:
+            end = time.monotonic() + TIMEOUT
+            while not path.exists() and time.monotonic() < end:
+                time.sleep(0.001)
+            path.unlink()
+            output, error = process.communicate(timeout=TIMEOUT)
+        got = Outcome(process.returncode, output, error)
+        said = "; the system says: No such file or directory (os error 2); run again"
+        expect_said(got, f"refused 62 at file {path.name}", (said,), ("unfinished",))
+        same("whether there is a list", (scene.folder / OUT / "consolidated.adl").exists(), False)
+        scene.empty_out()
+
+
 def changed_source(scene: Scene) -> None:
     """A source that is written to or taken away meanwhile is told before the line; the status stays."""
     entries = [model.entry_line(1, 1, MIDNIGHT, MIDNIGHT, model.time_text(4)),
                model.entry_line(2, 1, MIDNIGHT, model.time_text(400_000_000), model.time_text(400_000_004))]
     scene.put(model.list_text([model.source_line(1, "A.wav", MIDNIGHT)], entries))
     source, path = scene.folder / MEDIA / "A.wav", scene.folder / OUT / "render.wav"
+    other = scene.folder / "other.wav"
     told = b"the source A.wav changed while the command ran: run it again\n"
+    # Another file takes the name at once: a source that is written in place is short for a moment.
     for meddle, wanted in (
-        (lambda: os.utime(source, (1, 1)), told), (lambda: source.write_bytes(wave()), told), (source.unlink, told),
+        (lambda: os.utime(source, (1, 1)), told), (lambda: other.replace(source), told), (source.unlink, told),
         (lambda: None, b""),
     ):
+        other.write_bytes(wave())
         source.write_bytes(wave())
         with subprocess.Popen(
                 [scene.program, "render", LIST, MEDIA, OUT, "--depth", "16"], cwd=scene.folder,
@@ -174,6 +197,16 @@ def words_that_fail(scene: Scene) -> None:
             raise Mismatch(f"{option} {value} is answered with {got.error!r}")
     got = scene.run("render", LIST, MEDIA, OUT, "--from", "1 h")
     same_shape("a bad time", got.error, r"bad time: --from\na time is hh\.mm\.ss\.ff/rrrr[^\n]*\n")
+
+
+def control_characters(scene: Scene) -> None:
+    """A mistake in the words tells their control characters as the escapes of their bytes."""
+    for words in (("\x1b]0;x\a",), ("render", LIST, MEDIA, OUT, "--\x1b[2J"), ("check", LIST, MEDIA, "a\rb\u0085")):
+        got = scene.run(*words)
+        same(f"status and standard output of {words}", (got.status, got.output), (2, b""))
+        raw = [character for character in got.error.decode() if character != "\n" and not character.isprintable()]
+        same(f"control characters of {words} on standard error", raw, [])
+    same("an escape", b"'%1B]0;x%07'" in scene.run("\x1b]0;x\a").error, True)
 
 
 def where_to_go_on(scene: Scene) -> None:
@@ -260,6 +293,58 @@ def further_lines(scene: Scene) -> None:
         expect_refused(scene, text, MEDIA_FILES, "refused 13 at line 13")
 
 
+NEARLY = "; the folder has %s, in other capitals or another form of Unicode (NFC, NFD); rename that file"
+
+
+def nearly_the_name(scene: Scene) -> None:
+    """Where a file is missing, one whose name differs in case or in its form of Unicode alone is told."""
+    composed, apart = "\u00e9.wav", "e\u0301.wav"
+    for wanted, there in ((composed, apart), (apart, composed), ("A.wav", "a.WAV"), ("\u00c9a.wav", "E\u0301A.WAV")):
+        text = with_url(b"URL:file://localhost/" + quote(wanted).encode())
+        scene.put(text, {"other.wav": wave(), there: wave()})
+        for command in model.COMMANDS:
+            got = scene.run(*words_of(command))
+            expect_said(got, f"refused 21 at index 1 file {wanted}", (NEARLY % there,))
+        (scene.folder / MEDIA / there).unlink()
+        expect_said(scene.run("check", LIST, MEDIA), f"refused 21 at index 1 file {wanted}", (), ("the folder has",))
+
+
+def all_that_is_at_fault(scene: Scene) -> None:
+    """With --all every line, file and entry at fault is told, by each command; without, 20 of them by a check alone."""
+    count, nothing, second = 40, b"00.00.00.00/0000", b"00.00.01.00/0000"
+    numbers = range(1, count + 1)
+    faders = b"<FADER_LIST>\n" + b"(Fader) 1\n" * count + b"</FADER_LIST>\n</ADL>"
+    missing = model.list_text(
+        [model.source_line(number, f"{number}.wav", nothing) for number in numbers],
+        [model.entry_line(number, number, nothing, nothing, second) for number in numbers])
+    too_long = model.list_text(
+        [model.source_line(1, "A.wav", nothing)],
+        [model.entry_line(number, 1, nothing, nothing, second) for number in numbers])
+    for text, told, more in (
+        (FIRST_LIST.replace(b"</ADL>", faders), [f"13 at line {12 + number}" for number in numbers], "and more"),
+        (missing, [f"21 at index {number} file {number}.wav" for number in numbers], "and 19 more"),
+        (too_long, [f"46 at entry {number}" for number in numbers], "and 19 more"),
+    ):
+        scene.put(text, MEDIA_FILES)
+        also = tuple(f"also {each}" for each in told[1:])
+        for command in model.COMMANDS:
+            words = words_of(command)
+            same_outcome(scene.run(*words, "--all"), 1, f"refused {told[0]}", further=also)
+            few = (*also[:20], more) if command == "check" else ()
+            same_outcome(scene.run(*words), 1, f"refused {told[0]}", further=few)
+    scene.put(FIRST_LIST, MEDIA_FILES)
+    same_outcome(scene.run("check", "--all", LIST, MEDIA), 0, "accepted 1 entries 1 indexes")
+
+
+def rate_behind_faults(scene: Scene) -> None:
+    """The rate of a list holds for its further lines, also where it is told behind the first of them."""
+    faders = b"<FADER_LIST>\n(Fader) 1\n</FADER_LIST>\n<SEQUENCE>"
+    text = FIRST_LIST.replace(b"<SEQUENCE>", faders, 1).replace(b"FRAME_RATE) 25", b"FRAME_RATE) 30")
+    for time, told in ((b"01.00.00.29/0000", ()), (b"01.00.00.30/0000", ("also 6 at line 13 entry 1",))):
+        scene.put(text.replace(b"01.00.00.00/0004", time), MEDIA_FILES)
+        same_outcome(scene.run("check", LIST, MEDIA), 1, "refused 13 at line 3", further=told)
+
+
 OF_LISTS = {
     "a name in Latin-1": (
         with_url(b"URL:file://localhost/%E9.wav"), "refused 09 at line 7 index 1",
@@ -294,6 +379,11 @@ def run(suite: Suite) -> None:
     suite.case("said of what is no plain file", no_plain_file)
     suite.case("said of what is in the output", in_the_output)
     suite.case("an output that is gone or changed", gone_meanwhile)
+    suite.case("a medium that is gone", medium_gone_meanwhile)
+    suite.case("control characters in words", control_characters)
+    suite.case("a name that is nearly the one", nearly_the_name)
+    suite.case("all that is at fault", all_that_is_at_fault)
+    suite.case("the rate behind faults", rate_behind_faults)
     suite.case("an empty name of the media", current_folder)
     suite.case("said of empty ranges", empty_ranges)
     suite.case("said of words that fail", words_that_fail)

@@ -64,7 +64,7 @@ def odd_standard_input(scene: Scene) -> None:
     same_outcome(scene.run("render", "-", MEDIA, OUT, *DEPTH, given=FIRST_LIST, env=slow), 0, RENDERED.line)
     same_files(scene.files(), RENDERED.files)
     scene.empty_out()
-    for how, word in (("broken", b"; the system says: Input/output error"), ("endless", b"or it doesn't end; check")):
+    for how, word in (("broken", b"; the system says: Input/output error"), ("endless", b"or doesn't end; check")):
         got = scene.run("render", "-", MEDIA, OUT, given=FIRST_LIST, env=preloaded(scene, INPUT=how))
         same_outcome(got, 1, "refused 21 at file -")
         if word not in got.error:

@@ -11,7 +11,7 @@ from .project import STANDARD_SEPARATORS, Entry, Project, Source
 from .refusal import Refused
 from .sounds import Sound, packed, written_sound
 from .spelling import project_text
-from .text import read_list
+from .text import lines_of, rate_beside_faults, read_list
 from .times import time_value
 from .tokens import BadToken, tokens_of
 
@@ -191,23 +191,33 @@ def without_line(text: bytes, number: int) -> bytes:
     if is_entry(lines[number - 1]):
         while end < len(lines) and not is_entry(lines[end]) and not lines[end].lstrip(b" \t").startswith(b"<"):
             end += 1
-    lines[number - 1:end] = [b""] * (end - number + 1)
+    # A blank line: an empty one at the end of the text would be no line.
+    lines[number - 1:end] = [b" "] * (end - number + 1)
     return b"\n".join(lines)
 
 
+def line_at_fault(refusal: Refused) -> Optional[int]:
+    """The line that is at fault by itself, if it is one."""
+    place = re.fullmatch(r" at line (\d+)( \w+ \d+)?", refusal.place)
+    if place and refusal.number in OF_A_LINE and (place[2] or refusal.number == UNSUPPORTED):
+        return int(place[1])
+    return None
+
+
 def further_lines(text: bytes, first: Refused) -> list:
-    """The faults of the list without the lines at fault before, as long as these are faults of lines alone: 21."""
-    faults = [first]
-    while len(faults) <= MOST_FURTHER + 1:
-        place = re.fullmatch(r" at line (\d+)( \w+ \d+)?", faults[-1].place)
-        if not place or faults[-1].number not in OF_A_LINE or not (place[2] or faults[-1].number == UNSUPPORTED):
-            break
-        text = without_line(text, int(place[1]))
+    """The faults of the list without the lines at fault before, as long as these are faults of lines alone: 21. Behind
+    the first one times have the rate of the list without its lines at fault."""
+    rate = rate_beside_faults(lines_of(text))
+    faults, line, last = [first], line_at_fault(first), 0
+    while len(faults) <= MOST_FURTHER + 1 and line is not None:
+        text, last = without_line(text, line), max(line, last)
         try:
-            read_list(text)
+            read_list(text, rate)
             break
         except Refused as refusal:
-            faults.append(refusal)
+            line = line_at_fault(refusal)
+            if line is None or line > last:
+                faults.append(refusal)
     return faults[1:]
 
 

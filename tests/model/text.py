@@ -257,10 +257,11 @@ def spelt(token: Token) -> bytes:
 
 
 @lru_cache(maxsize=4)
-def read_list(text: bytes) -> Project:
-    """The project that a text spells; raises its first fault. It is the same one each time, and nobody changes it."""
+def read_list(text: bytes, rate: Optional[int] = None) -> Project:
+    """The project that a text spells, at its own rate of frames or at this one; raises its first fault. It is the same
+    one each time, and nobody changes it."""
     lines = lines_of(text)
-    reader = Reader(rate_of(lines))
+    reader = Reader(rate or rate_of(lines))
     end = read_lines(reader, enumerate(lines, 1))
     if end is None:
         raise Refused(3, f" at line {max(1, len(lines))}")
@@ -305,6 +306,19 @@ def rate_of(lines: list) -> int:
     except Refused:
         pass
     return USUAL_RATE
+
+
+def rate_beside_faults(lines: list) -> int:
+    """The same without the lines that can't stand where they are or aren't cut."""
+    left = list(lines)
+    while True:
+        try:
+            read_lines(Outline(USUAL_RATE), enumerate(left, 1))
+            return USUAL_RATE
+        except RateTold as told:
+            return told.args[0]
+        except Refused as refusal:
+            left[int(re.match(r" at line (\d+)", refusal.place)[1]) - 1] = b""
 
 
 def read_lines(reader: Reader, lines: Iterator) -> Optional[int]:

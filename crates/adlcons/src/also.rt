@@ -1,9 +1,8 @@
 // What else is told of a list that is refused: its further faults, each in a line.
 ghost use Rattle.opening.specs.Further.{WasRead};
 
-use crate::further_lines::further_lines;
 use crate::refusal::put_project_place;
-use adlread::AdlFault;
+use adlread::Faults;
 use console::{Console, put_counted};
 use consolidate::Fault;
 use explanations::further_meaning;
@@ -11,16 +10,14 @@ use opening::further_faults;
 use shelf::Shelf;
 use std::alloc::Global;
 
-/// How many further lines at fault are told.
-const MOST_LINES: usize = 20;
-
-/// Prints the further faults of a list that is refused by this first one, and how many more there are; of lines,
-/// whether there are more. Nothing is printed where they can't be found.
+/// Prints the further faults of a list that is refused by this first one, so many at most, and how many more there are;
+/// of lines, whether there are more. Nothing is printed where they can't be found.
 pub fn tell_further<S: Shelf, E: Console>(
     alloc: Global,
     list: &[u8],
     shelf: &mut S,
     first: &Fault,
+    most: usize,
     err: &mut E,
 )
     ensures { WasRead S.Shelf shelf.old shelf.new }
@@ -28,11 +25,11 @@ pub fn tell_further<S: Shelf, E: Console>(
     let Fault::Project(first) = first else {
         return;
     };
-    if let opening::Fault::List(first) = first {
-        tell_further_lines(alloc, list, *first, err);
+    if let opening::Fault::List(_) = first {
+        tell_further_lines(alloc, list, most, err);
         return;
     }
-    let Ok(further) = further_faults(alloc, list, shelf, first) else {
+    let Ok(further) = further_faults(alloc, list, shelf, first, most) else {
         return;
     };
     for fault in &further.faults {
@@ -43,15 +40,19 @@ pub fn tell_further<S: Shelf, E: Console>(
     }
 }
 
-/// Prints the further lines at fault of a list whose text is refused by this first one, and whether there are more.
-fn tell_further_lines<E: Console>(alloc: Global, list: &[u8], first: AdlFault, err: &mut E) {
-    let Ok(faults) = further_lines(alloc, list, first, MOST_LINES + 1) else {
+/// Prints the lines at fault of a list behind the first one, so many at most, and whether there are more.
+fn tell_further_lines<E: Console>(alloc: Global, list: &[u8], most: usize, err: &mut E) {
+    let Ok(mut faults) = Faults::new(alloc, list) else {
         return;
     };
-    for fault in faults.iter().take(MOST_LINES) {
-        tell_also(alloc, &opening::Fault::List(*fault), err);
+    let _ = faults.next_fault(alloc);
+    for _ in 0..most {
+        let Some(fault) = faults.next_fault(alloc) else {
+            return;
+        };
+        tell_also(alloc, &opening::Fault::List(fault), err);
     }
-    if faults.len() > MOST_LINES {
+    if faults.next_fault(alloc).is_some() {
         err.print_line("and more");
     }
 }

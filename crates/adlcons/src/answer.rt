@@ -19,16 +19,18 @@ ghost use Rattle.adlcons.specs.BadTime.{name_of};
 ghost use Rattle.adlcons.specs.Times.{bad_time_line, values_of};
 
 use crate::also::tell_further;
+use crate::asides::Asides;
 use crate::chosen::{BadTime, options_of, tell_bad_time};
 use crate::meter::Meter;
 use crate::refusal::put_fault;
 use crate::report::{tell_changed, tell_done, tell_meanings};
+use adlmodel::place_of;
 use adlread::rate_of;
 use clap::Error;
 use commandline::Request;
 use console::{Console, Counts};
 use consolidate::{Fault, Options, check_project, consolidate, render};
-use explanations::{Explanation, Saved, meanings_of, notice_meanings_of};
+use explanations::{Explanation, PrintedLines, Saved, meanings_of, notice_meanings_of};
 use passes::Pass;
 use shelf::{Bench, Shelf};
 use std::alloc::Global;
@@ -38,7 +40,7 @@ use stores::Reasons;
 const DONE: u8 = 0;
 
 /// The status of a command that is refused.
-const REFUSED: u8 = 1;
+pub const REFUSED: u8 = 1;
 
 /// The status of a request that asks for nothing.
 pub const MISTAKE: u8 = 2;
@@ -49,7 +51,7 @@ pub const MISTAKE: u8 = 2;
 /// there too, in a line of its own; behind that of a check stand the list's further faults. What numbers mean is printed
 /// on `out`, with 0, or with 2 where nothing has the number.
 #[tactic(auto, using(crate::proofs::Rates::answered_by))]
-pub fn answer<S: Shelf + Reasons, B: Bench + Reasons, O: Console, E: Console, M: Meter>(
+pub fn answer<S: Shelf + Reasons, B: Bench + Reasons, O: Console, E: Console, M: Meter, A: Asides>(
     alloc: Global,
     request: Request<'_>,
     list: &[u8],
@@ -59,6 +61,7 @@ pub fn answer<S: Shelf + Reasons, B: Bench + Reasons, O: Console, E: Console, M:
     out: &mut O,
     err: &mut E,
     meter: &mut M,
+    asides: &A,
 ) -> u8
     // A command was called over the list, and its answer is printed.
     ensures checked { (place media : Text) → asked_of request.entry ≡ asked.Check place media
@@ -94,13 +97,17 @@ pub fn answer<S: Shelf + Reasons, B: Bench + Reasons, O: Console, E: Console, M:
         → bench.new ≡ bench.old }
 {
     match request {
-        Request::Check(_, _) => answer_check(alloc, list, shelf, out, err),
+        Request::Check(_, _) => answer_check(alloc, list, shelf, out, err, asides),
         Request::Render(_, chosen) => match options_of(chosen, rate_of(list)) {
-            Ok(options) => answer_render(alloc, list, &options, shelf, bench, out, err, meter),
+            Ok(options) => answer_render(
+                alloc, list, &options, shelf, bench, out, err, meter, asides,
+            ),
             Err(bad) => refuse_time(bad, err),
         },
         Request::Consolidate(_, handle) => {
-            answer_consolidate(alloc, list, handle, passes, shelf, bench, out, err, meter)
+            answer_consolidate(
+                alloc, list, handle, passes, shelf, bench, out, err, meter, asides,
+            )
         }
         Request::Explain(number) => explain(number, out, err),
         Request::ExplainNotice(number) => explain_notice(number, out, err),
@@ -109,12 +116,13 @@ pub fn answer<S: Shelf + Reasons, B: Bench + Reasons, O: Console, E: Console, M:
 
 /// Checks the list, and prints what came of it. Behind a refusal its further faults are looked for, and printed on
 /// `err`.
-fn answer_check<S: Shelf + Reasons, O: Console, E: Console>(
+fn answer_check<S: Shelf + Reasons, O: Console, E: Console, A: Asides>(
     alloc: Global,
     list: &[u8],
     shelf: &mut S,
     out: &mut O,
     err: &mut E,
+    asides: &A,
 ) -> u8
     ensures answered { IsAnswered (IsChecked S.Shelf list.now shelf.old shelf.new)
         accepted_lines O.Console out.old out.new result }
@@ -142,15 +150,22 @@ fn answer_check<S: Shelf + Reasons, O: Console, E: Console>(
         }
         Err(fault) => {
             let explanation = Explanation::of(&fault, list, shelf.reason(), None);
-            let _ = refuse(alloc, &fault, explanation, out, err);
-            tell_further(alloc, list, shelf, &fault, err);
+            let _ = refuse(alloc, &fault, explanation, asides, out, err);
+            tell_further(alloc, list, shelf, &fault, asides.most(), err);
             REFUSED
         }
     }
 }
 
 /// Renders the list, and prints what came of it.
-fn answer_render<S: Shelf + Reasons, B: Bench + Reasons, O: Console, E: Console, M: Meter>(
+fn answer_render<
+    S: Shelf + Reasons,
+    B: Bench + Reasons,
+    O: Console,
+    E: Console,
+    M: Meter,
+    A: Asides,
+>(
     alloc: Global,
     list: &[u8],
     options: &Options,
@@ -159,6 +174,7 @@ fn answer_render<S: Shelf + Reasons, B: Bench + Reasons, O: Console, E: Console,
     out: &mut O,
     err: &mut E,
     meter: &mut M,
+    asides: &A,
 ) -> u8
     requires { HaveChannels options.now }
     ensures answered { IsAnswered
@@ -184,14 +200,21 @@ fn answer_render<S: Shelf + Reasons, B: Bench + Reasons, O: Console, E: Console,
         }
         Err(fault) => {
             let explanation = Explanation::of(&fault, list, shelf.reason(), bench.reason());
-            let _ = refuse(alloc, &fault, explanation, out, err);
+            let _ = refuse(alloc, &fault, explanation, asides, out, err);
             REFUSED
         }
     }
 }
 
 /// Consolidates the list, and prints what came of it; on `err`, how much was saved.
-fn answer_consolidate<S: Shelf + Reasons, B: Bench + Reasons, O: Console, E: Console, M: Meter>(
+fn answer_consolidate<
+    S: Shelf + Reasons,
+    B: Bench + Reasons,
+    O: Console,
+    E: Console,
+    M: Meter,
+    A: Asides,
+>(
     alloc: Global,
     list: &[u8],
     handle: u64,
@@ -201,6 +224,7 @@ fn answer_consolidate<S: Shelf + Reasons, B: Bench + Reasons, O: Console, E: Con
     out: &mut O,
     err: &mut E,
     meter: &mut M,
+    asides: &A,
 ) -> u8
     ensures answered { IsAnswered (IsConsolidation S.Shelf B.Bench
         (left_by (λ pass. looking pass) (λ pass. gives pass) passes.items)
@@ -232,7 +256,7 @@ fn answer_consolidate<S: Shelf + Reasons, B: Bench + Reasons, O: Console, E: Con
         }
         Err(fault) => {
             let explanation = Explanation::of(&fault, list, shelf.reason(), bench.reason());
-            let _ = refuse(alloc, &fault, explanation, out, err);
+            let _ = refuse(alloc, &fault, explanation, asides, out, err);
             REFUSED
         }
     }
@@ -240,10 +264,11 @@ fn answer_consolidate<S: Shelf + Reasons, B: Bench + Reasons, O: Console, E: Con
 
 /// Prints the line of a refusal on `out` and its explanation on `err`. It is false where no memory was left for the name
 /// of an index's file, which the line is without.
-fn refuse<O: Console, E: Console>(
+fn refuse<O: Console, E: Console, A: Asides>(
     alloc: Global,
     fault: &Fault,
     explanation: Explanation<'_>,
+    asides: &A,
     out: &mut O,
     err: &mut E,
 ) -> bool
@@ -251,8 +276,22 @@ fn refuse<O: Console, E: Console>(
 {
     let is_named = put_fault(alloc, fault, out);
     out.end_line();
-    err.print_line(explanation);
+    let similar = similar_to_missing(alloc, fault, asides);
+    let similar = similar.as_ref().map(|name| name.as_str());
+    err.print_line(explanation.with_similar(similar));
     is_named
+}
+
+/// The name of a source that is nearly that of the one that is missing, where one is.
+fn similar_to_missing<A: Asides>(alloc: Global, fault: &Fault, asides: &A) -> Option<String> {
+    let Fault::Project(opening::Fault::Media { source, fault }) = fault else {
+        return None;
+    };
+    if fault.number() != 21 {
+        return None;
+    }
+    let place = place_of(alloc, source.url()).ok()??;
+    asides.similar(alloc, place.name())
 }
 
 /// Prints which option's time can't be read, and answers the status.
@@ -304,17 +343,30 @@ pub fn explain_notice<O: Console, E: Console>(number: Option<&str>, out: &mut O,
 
 /// Prints why words ask for no command, and answers the status: 2 for a mistake and where memory ran out, which stand on
 /// `err`, and 0 for help and the version, on `out`.
-pub fn answer_error<O: Console, E: Console>(error: Error, out: &mut O, err: &mut E) -> u8
+pub fn answer_error<O: Console, E: Console>(
+    alloc: Global,
+    error: Error,
+    out: &mut O,
+    err: &mut E,
+) -> u8
     ensures mistake { is_shown (kind_of error) ≡ false → result ≡ 2 }
     ensures shown { result ≢ 1 }
     ensures statuses { result ≤ 2 }
     ensures two { result ≡ 2 → out.new ≡ out.old }
 {
     if error.use_stderr() {
-        err.print(error);
+        tell_mistake(alloc, error, err);
         MISTAKE
     } else {
         out.print(error);
         DONE
+    }
+}
+
+/// Prints a mistake in the words, whose control characters are escaped.
+fn tell_mistake<E: Console>(alloc: Global, error: Error, err: &mut E) {
+    match format!(in alloc; "{error}") {
+        Ok(text) => err.print(PrintedLines(text.as_str())),
+        Err(_) => err.print_line("error: out of memory"),
     }
 }

@@ -10,12 +10,15 @@ ghost use Rattle.sound_terms.specs.Passes.{standard_groups};
 ghost use Rattle.adlcons.specs.Answers.{RendersBy, rendered_lines, written_lines};
 ghost use Rattle.adlcons.specs.Openings.{ChecksFolder, IsKeptOut, WorksInFolders, refusal_of_opening};
 
-use crate::answer::{MISTAKE, answer, answer_error, explain, explain_notice};
+use crate::also::tell_further;
+use crate::answer::{MISTAKE, REFUSED, answer, answer_error, explain, explain_notice};
+use crate::asides::{FolderAsides, listed};
 use crate::meter::Meter;
 use crate::reading::{ReadFault, read_list};
 use crate::standard::answer_standard;
 use commandline::{Places, Request, parse};
 use console::{Console, Place, Refusal, put_refusal};
+use consolidate::check_project;
 use explanations::Explanation;
 use std::alloc::AllocError;
 use std::fs::Files;
@@ -110,19 +113,23 @@ where
     ensures help { asks_for_help (texts words.now) ≡ true → result ≢ 1 }
     ensures refused_words { request_of (texts words.now) ≡ None → asks_for_help (texts words.now) ≡ false → result ≡ 2 }
 {
-    match parse(rt.alloc(), words) {
-        Ok(Request::Explain(number)) => explain(number, out, err),
-        Ok(Request::ExplainNotice(number)) => explain_notice(number, out, err),
-        Ok(Request::Check(list, media)) => check_folder(rt, list, media, out, err, meter),
-        Ok(Request::Render(places, chosen)) => {
+    let parsed = match parse(rt.alloc(), words) {
+        Ok(parsed) => parsed,
+        Err(error) => return answer_error(rt.alloc(), error, out, err),
+    };
+    let all = parsed.tells_all;
+    match parsed.request {
+        Request::Explain(number) => explain(number, out, err),
+        Request::ExplainNotice(number) => explain_notice(number, out, err),
+        Request::Check(list, media) => check_folder(rt, list, media, all, out, err, meter),
+        Request::Render(places, chosen) => {
             let request = Request::Render(places, chosen);
-            work_in_folders(rt, request, places, out, err, meter)
+            work_in_folders(rt, request, places, all, out, err, meter)
         }
-        Ok(Request::Consolidate(places, handle)) => {
+        Request::Consolidate(places, handle) => {
             let request = Request::Consolidate(places, handle);
-            work_in_folders(rt, request, places, out, err, meter)
+            work_in_folders(rt, request, places, all, out, err, meter)
         }
-        Err(error) => answer_error(error, out, err),
     }
 }
 
@@ -150,6 +157,7 @@ fn check_folder<R, O: Console, E: Console, M: Meter>(
     rt: &R,
     list: &str,
     media: &str,
+    tells_all: bool,
     out: &mut O,
     err: &mut E,
     meter: &mut M,
@@ -161,7 +169,7 @@ where
         ⊎ ChecksFolder ⟦<FolderShelf<R> as shelf::Shelf>⟧ O.Console media.now out.old out.new result }
     ensures statuses { result ≤ 1 }
 {
-    match try_check(rt, list, media, out, err, meter) {
+    match try_check(rt, list, media, tells_all, out, err, meter) {
         Ok(status) => status,
         Err(fault) => keep_out(fault, list, "", None, out, err),
     }
@@ -172,6 +180,7 @@ fn try_check<R, O: Console, E: Console, M: Meter>(
     rt: &R,
     list: &str,
     media: &str,
+    tells_all: bool,
     out: &mut O,
     err: &mut E,
     meter: &mut M,
@@ -189,6 +198,7 @@ where
     let mut shelf = FolderShelf::new(rt.alloc(), rt.clone()?, media)?;
     let mut bench = MemoryBench::new(rt.alloc());
     let unlisted = unlisted_reason(rt, media);
+    let asides = FolderAsides::new(rt, media, tells_all);
     let status = answer(
         rt.alloc(),
         request,
@@ -199,6 +209,7 @@ where
         out,
         err,
         meter,
+        &asides,
     );
     tell_unlisted(media, unlisted, err);
     Ok(status)
@@ -209,6 +220,7 @@ fn work_in_folders<R, O: Console, E: Console, M: Meter>(
     rt: &R,
     request: Request<'_>,
     places: Places<'_>,
+    tells_all: bool,
     out: &mut O,
     err: &mut E,
     meter: &mut M,
@@ -231,7 +243,7 @@ where
         written_lines O.Console places.entry.media.now places.entry.out.now out.old out.new result }
     ensures statuses { result ≤ 2 }
 {
-    match try_places(rt, request, places, out, err, meter) {
+    match try_places(rt, request, places, tells_all, out, err, meter) {
         Ok(status) => status,
         Err(fault) => {
             let inside = name_inside(rt, fault, places.out);
@@ -247,6 +259,7 @@ fn try_places<R, O: Console, E: Console, M: Meter>(
     rt: &R,
     request: Request<'_>,
     places: Places<'_>,
+    tells_all: bool,
     out: &mut O,
     err: &mut E,
     meter: &mut M,
@@ -273,6 +286,7 @@ where
     let mut bench = FolderBench::new(rt.alloc(), rt.clone()?, places.out, Overwrite::Never)?;
     let mut shelf = FolderShelf::new(rt.alloc(), rt.clone()?, places.media)?;
     let unlisted = unlisted_reason(rt, places.media);
+    let asides = FolderAsides::new(rt, places.media, tells_all);
     let answered = answer_standard(
         rt.alloc(),
         request,
@@ -282,10 +296,14 @@ where
         out,
         err,
         meter,
+        &asides,
     );
     let Ok(status) = answered else {
         return Err(OpenFault::Passes);
     };
+    if status == REFUSED && tells_all {
+        tell_all_further(rt, &list, places.media, err);
+    }
     if status == MISTAKE {
         err.print_line(
             "a time is hh.mm.ss.ff/rrrr: hours to 24, frames below the list's rate, and samples of a frame",
@@ -296,13 +314,29 @@ where
     Ok(status)
 }
 
+/// Tells all that is at fault in a list over the folder of its media behind its first fault, if it has one.
+fn tell_all_further<R, E: Console>(rt: &R, list: &[u8], media: &str, err: &mut E)
+where
+    R: Files + Input + AllocGlobal + Clone + Drop,
+    R::File: FileExt,
+{
+    let Ok(other) = rt.clone() else {
+        return;
+    };
+    let Ok(mut shelf) = FolderShelf::new(rt.alloc(), other, media) else {
+        return;
+    };
+    if let Err(fault) = check_project(rt.alloc(), list, &mut shelf) {
+        tell_further(rt.alloc(), list, &mut shelf, &fault, usize::MAX, err);
+    }
+}
+
 /// Why a folder of media can't be listed, if it can't. It is as an empty one then.
 fn unlisted_reason<R: Files + AllocGlobal + Clone + Drop>(
     rt: &R,
     media: &str,
 ) -> Option<io::Error> {
-    let folder = if media.is_empty() { "." } else { media };
-    match fs::read_dir(rt, folder) {
+    match fs::read_dir(rt, listed(media)) {
         Ok(_) => None,
         Err(error) => Some(error),
     }

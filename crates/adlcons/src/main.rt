@@ -4,10 +4,10 @@
 
 mod also;
 mod answer;
+mod asides;
 mod chosen;
 mod example;
 mod folders;
-mod further_lines;
 mod meter;
 mod reading;
 mod refusal;
@@ -39,14 +39,18 @@ fn words_of(rt: &(impl Env + AllocGlobal)) -> io::Result<Vec<String>> {
 }
 
 /// Answers the words of the command line with a status. Words that can't be read are a mistake, as is out of memory
-/// for them.
+/// for them. That standard output can't be written changes no status, and is told.
 fn run_words(rt: &HostRuntime, words: &[String]) -> io::Result<u8> {
     let words: Vec<&str> = words.iter().map(|word| word.as_str()).collect(rt.alloc())?;
     let mut out = Printer::new(rt.alloc(), rt.stdout())?;
     let mut err = Printer::new(rt.alloc(), rt.stderr())?;
     let console = Printer::new(rt.alloc(), rt.stderr())?;
     let mut meter = ProgressLine::new(rt, console, rt.stderr().is_terminal());
-    Ok(answer_words(rt, words.as_slice(), &mut out, &mut err, &mut meter))
+    let status = answer_words(rt, words.as_slice(), &mut out, &mut err, &mut meter);
+    if out.has_failed() {
+        let _ = rt.eprintln("error: standard output can't be written");
+    }
+    Ok(status)
 }
 
 /// Tells why the words can't be read: which one isn't UTF-8, or what the system said.

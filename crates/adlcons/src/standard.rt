@@ -8,6 +8,7 @@ ghost use Rattle.sound_terms.specs.Passes.{standard_groups};
 ghost use Rattle.adlcons.specs.Answers.{IsAnswered, RendersBy, rendered_lines, written_lines};
 
 use crate::answer::answer;
+use crate::asides::Asides;
 use crate::meter::Meter;
 use commandline::Request;
 use console::Console;
@@ -18,7 +19,14 @@ use stores::Reasons;
 
 /// Answers a request as `answer` does, a consolidation with the standard passes: each fade becomes a piece of its own,
 /// what is silent is left out, cuts are joined, and pieces that continue one another are groups again.
-pub fn answer_standard<S: Shelf + Reasons, B: Bench + Reasons, O: Console, E: Console, M: Meter>(
+pub fn answer_standard<
+    S: Shelf + Reasons,
+    B: Bench + Reasons,
+    O: Console,
+    E: Console,
+    M: Meter,
+    A: Asides,
+>(
     alloc: Global,
     request: Request<'_>,
     list: &[u8],
@@ -27,6 +35,7 @@ pub fn answer_standard<S: Shelf + Reasons, B: Bench + Reasons, O: Console, E: Co
     out: &mut O,
     err: &mut E,
     meter: &mut M,
+    asides: &A,
 ) -> Result<u8, AllocError>
     ensures rendered { (place media target : Text) (chosen : asked.Chosen)
         → asked_of request.entry ≡ asked.Render place media target chosen → IfOk result (λ status. status ≢ 2
@@ -46,7 +55,9 @@ pub fn answer_standard<S: Shelf + Reasons, B: Bench + Reasons, O: Console, E: Co
             let joining: Box<dyn Pass> = Box::new(alloc, JoinCuts)?;
             let grouping: Box<dyn Pass> = Box::new(alloc, Regroup)?;
             let passes = vec![in alloc; splitting, leaving_out, joining, grouping]?;
-            Ok(answer(alloc, request, list, passes, shelf, bench, out, err, meter))
+            Ok(answer(
+                alloc, request, list, passes, shelf, bench, out, err, meter, asides,
+            ))
         }
         Request::Check(_, _)
         | Request::Render(_, _)
@@ -61,6 +72,7 @@ pub fn answer_standard<S: Shelf + Reasons, B: Bench + Reasons, O: Console, E: Co
             out,
             err,
             meter,
+            asides,
         )),
     }
 }

@@ -2,6 +2,7 @@
 use Rattle.std.proofs.Common.{◌≡◌, ◌∙◌, ◌⊎◌, ℕ, inl, inr, Bool, true, false, ◌||◌, List, [], ◌∷◌, Option, None, Some, refl, ap, sym, subst, codes}
 use Rattle.std.specs.Prelude.{option_and_then}
 use Rattle.std.specs.List.{list_any}
+use Rattle.std.specs.Option.{option_map_or}
 use Rattle.std.specs.Str.{bytes_eq}
 use Rattle.clap.specs.Words.{App, HasKind, IsAmong, Kinds, Row, Text, fault_of, first_of, first_value, is_simple, is_simple_and_free, kind_of, rows_of, subcommand_of}
 use Rattle.clap.specs.declared.parser.matches.Found.{Found}
@@ -11,7 +12,7 @@ use Rattle.clap.specs.declared.error.ErrorKind.TheVariants as kind
 use Rattle.clap.proofs.OnLiterals.{clap_on_literals}
 use Rattle.clap.proofs.WalkLemmas.{first_value-rows}
 use Rattle.job_terms.specs.declared.Order.{Order}
-use Rattle.commandline.specs.CommandLine.{Asked, Check, explained, adlcons_app, channels_in, chosen_of, depth_in, handle_of, number_in, order_in, ordered_by, asked, asked_over, asked_to, asks_for_help, is_shown, named_by, request_of, unless_faulty, words_fault}
+use Rattle.commandline.specs.CommandLine.{Asked, Check, explained, adlcons_app, channels_in, chosen_of, depth_in, handle_of, number_in, order_in, ordered_by, asked, asked_over, asked_to, asks_for_help, is_all, is_set, is_shown, named_by, request_of, tells_all, unless_faulty, words_fault}
 
 is_simple-here : is_simple adlcons_app ≡ true
 unfolding clap_on_literals
@@ -35,6 +36,11 @@ pub subcommand_of-adlcons : (app : App) (words : List Text) → app ≡ adlcons_
     → option_and_then asked (subcommand_of app words) ≡ named_by words
 unfolding named_by
 subcommand_of-adlcons app words same = ap (λ (a : App). option_and_then asked (subcommand_of a words)) same
+
+pub tells_all-adlcons : (app : App) (words : List Text) → app ≡ adlcons_app
+    → option_map_or is_all (subcommand_of app words) false ≡ tells_all words
+unfolding tells_all
+tells_all-adlcons app words same = ap (λ (a : App). option_map_or is_all (subcommand_of a words) false) same
 
 -- a value by its name, among the rows of a parse
 pub row_of_value : (found : Found) (id : Text) (value : Option Text) → value ≡ first_value found id
@@ -86,6 +92,10 @@ pub asked-explain : (name : Text) (found : Found) (what number : Option Text) �
     → asked (name, rows_of found) ≡ explained what number
 asked-explain name found what number named one two =
     rw (named, row_of_value found (codes "WHAT") what one, row_of_value found (codes "NUMBER") number two) refl
+
+pub set_read : (found : Found) (id : Text) (value : Option Text) → value ≡ first_value found id
+    → is_set id (rows_of found) ≡ option_map_or (λ text. bytes_eq text (codes "true")) value false
+set_read found id value given = rw (row_of_value found id value given) refl
 
 pub handle_read : (found : Found) (text : Text) → Some text ≡ first_value found (codes "handle")
     → handle_of (rows_of found) ≡ number_in 0 4147200000 text

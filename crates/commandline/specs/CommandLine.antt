@@ -6,6 +6,7 @@ use Rattle.std.specs.Str.{bytes_eq}
 use Rattle.std.specs.Str.Parse.{digits_value, without_leading_plus}
 use Rattle.std.specs.Option.{option_map_or}
 use Rattle.clap.specs.Words.{App, Kinds, Row, Rule, Shape, Text, fault_of, first_of, new_app, new_rule, subcommand_of, with_rule, with_subcommand}
+use Rattle.clap.specs.declared.builder.action.ArgAction.TheVariants.{SetTrue}
 use Rattle.clap.specs.declared.error.ErrorKind.{ErrorKind}
 use Rattle.clap.specs.declared.error.ErrorKind.TheVariants.{DisplayHelp, DisplayVersion}
 use Rattle.job_terms.specs.declared.Order.{Order}
@@ -23,9 +24,15 @@ option_rule id = record (new_rule id) { long = Some id; value_names = 1 }
 abbrev pub default_rule : Text → Text → Rule
 default_rule id default = record (option_rule id) { defaults = default ∷ [] }
 
--- a command over the list and the folder of its media
+-- one of this name that has no value: it is there or it isn't
+abbrev pub flag_rule : Text → Rule
+flag_rule id = record (new_rule id) { long = Some id; action = Some SetTrue }
+
+-- a command over the list and the folder of its media, which may tell all that is at fault
 abbrev pub over_media : Text → App
-over_media name = with_rule (with_rule (new_app name) (place_rule (codes "LIST"))) (place_rule (codes "MEDIA"))
+over_media name =
+    let places = with_rule (with_rule (new_app name) (place_rule (codes "LIST"))) (place_rule (codes "MEDIA")) in
+    with_rule places (flag_rule (codes "all"))
 
 abbrev pub check_shape : Shape
 check_shape = (over_media (codes "check")).top
@@ -84,6 +91,10 @@ pub data Asked : Type 0 where
   Consolidate : (list media out : Text) → (handle : ℕ) → Asked
   Explain : (number : Option Text) → Asked
   ExplainNotice : (number : Option Text) → Asked
+
+-- an option without a value is there
+abbrev pub is_set : Text → List Row → Bool
+is_set id rows = option_map_or (λ text. bytes_eq text (codes "true")) (first_of id rows) false
 
 -- decimal digits, one at least
 abbrev pub is_numeral : Text → Bool
@@ -185,6 +196,14 @@ unless_faulty (kind ∷ kinds) named = None
 -- what the words ask for
 abbrev pub request_of : List Text → Option Asked
 request_of words = unless_faulty (words_fault words) (named_by words)
+
+-- the words of a command ask for all that is at fault
+abbrev pub is_all : Text × List Row → Bool
+is_all (name, rows) = is_set (codes "all") rows
+
+-- the words ask for all that is at fault in a list, and not just for the first of it
+unfoldable pub tells_all : List Text → Bool
+tells_all words = option_map_or is_all (subcommand_of adlcons_app words) false
 
 -- help or the version, which is no mistake
 abbrev pub is_shown : ErrorKind → Bool

@@ -1,9 +1,9 @@
 -- Worked examples of words and of what they ask for.
 use Rattle.std.specs.Prelude.{◌≡◌, [], ◌∷◌, None, Some, refl, codes, true, false}
-use Rattle.clap.specs.declared.error.ErrorKind.TheVariants.{DisplayHelp, DisplayHelpOnMissingArgumentOrSubcommand, DisplayVersion, InvalidSubcommand, MissingRequiredArgument, UnknownArgument}
+use Rattle.clap.specs.declared.error.ErrorKind.TheVariants.{DisplayHelp, DisplayHelpOnMissingArgumentOrSubcommand, DisplayVersion, InvalidSubcommand, MissingRequiredArgument, TooManyValues, UnknownArgument}
 use Rattle.clap.proofs.OnLiterals.{clap_on_literals}
 use Rattle.job_terms.specs.declared.Order.TheVariants.{ByTime, BySource}
-use Rattle.commandline.specs.CommandLine.{Check, Chosen, Render, Consolidate, Explain, ExplainNotice, asks_for_help, named_by, request_of, words_fault}
+use Rattle.commandline.specs.CommandLine.{Check, Chosen, Render, Consolidate, Explain, ExplainNotice, asks_for_help, named_by, request_of, tells_all, words_fault}
 
 -- ---- good words
 
@@ -37,6 +37,25 @@ handles : request_of (codes "consolidate" ∷ codes "--handle" ∷ codes "0" ∷
     ≡ Some (Consolidate (codes "L") (codes "M") (codes "O") 0)
 unfolding words_fault named_by clap_on_literals
 handles = refl
+
+-- ---- all that is at fault, and not just the first of it
+
+checks_all : request_of (codes "check" ∷ codes "--all" ∷ codes "L.adl" ∷ codes "M" ∷ [])
+    ≡ Some (Check (codes "L.adl") (codes "M"))
+unfolding words_fault named_by clap_on_literals
+checks_all = refl
+
+tells_all_asked : tells_all (codes "check" ∷ codes "L.adl" ∷ codes "M" ∷ codes "--all" ∷ []) ≡ true
+unfolding tells_all clap_on_literals
+tells_all_asked = refl
+
+tells_all_unasked : tells_all (codes "check" ∷ codes "L.adl" ∷ codes "M" ∷ []) ≡ false
+unfolding tells_all clap_on_literals
+tells_all_unasked = refl
+
+renders_all : tells_all (codes "render" ∷ codes "L" ∷ codes "M" ∷ codes "O" ∷ codes "--all" ∷ []) ≡ true
+unfolding tells_all clap_on_literals
+renders_all = refl
 
 -- ---- values that no option takes, which are mistakes
 
@@ -130,6 +149,10 @@ capital_command = refl
 two_numbers : request_of (codes "explain" ∷ codes "13" ∷ codes "46" ∷ []) ≡ None
 unfolding words_fault named_by clap_on_literals
 two_numbers = refl
+
+all_with_value : words_fault (codes "check" ∷ codes "--all=1" ∷ codes "L.adl" ∷ codes "M" ∷ []) ≡ TooManyValues ∷ []
+unfolding words_fault clap_on_literals
+all_with_value = refl
 
 three_words : words_fault (codes "explain" ∷ codes "notice" ∷ codes "3" ∷ codes "4" ∷ []) ≡ UnknownArgument ∷ []
 unfolding words_fault clap_on_literals

@@ -2,9 +2,9 @@
 ghost use Rattle.std.specs.Prelude.{◌≡◌, IfOk, false};
 ghost use Rattle.clap.specs.Words.{app_of, new_rule, rule_of, shape_of, with_rule};
 ghost use Rattle.clap.specs.declared.Command.TheViews.{out-Command as fields_of};
-ghost use Rattle.commandline.specs.CommandLine.{adlcons_app, check_shape, consolidate_shape, default_rule, explain_shape, option_rule, over_folders, over_media, place_rule, render_shape, top_app};
+ghost use Rattle.commandline.specs.CommandLine.{adlcons_app, check_shape, consolidate_shape, default_rule, explain_shape, flag_rule, option_rule, over_folders, over_media, place_rule, render_shape, top_app};
 
-use clap::{Arg, Command};
+use clap::{Arg, ArgAction, Command};
 use std::alloc::{AllocError, Global};
 
 /// The program's command line: `check`, `consolidate` and `render`, each over a list and its media, and `explain`. It
@@ -91,7 +91,7 @@ fn render_command<'a>(alloc: Global) -> Result<Command<'a>, AllocError>
     with_default(alloc, command, "order", "O", "time", order)
 }
 
-/// A command over a list and the folder of its media.
+/// A command over a list and the folder of its media, which may tell all that is at fault.
 fn over_media<'a>(
     alloc: Global,
     name: &'a str,
@@ -104,12 +104,10 @@ fn over_media<'a>(
     let command = Command::new(alloc, name).about(about).after_help(example);
     let list = "The list, a file; - is standard input";
     let command = with_place(alloc, command, "LIST", list)?;
-    with_place(
-        alloc,
-        command,
-        "MEDIA",
-        "The folder of the list's WAVE files",
-    )
+    let media = "The folder of the list's WAVE files";
+    let command = with_place(alloc, command, "MEDIA", media)?;
+    let all = "List every fault of a refused list";
+    with_flag(alloc, command, "all", all)
 }
 
 /// A command that writes to a folder besides.
@@ -165,6 +163,24 @@ fn with_place<'a>(
     ensures local { IfOk result (λ added. (fields_of added).has_globals ≡ (fields_of command.entry).has_globals) }
 {
     command.arg(Arg::new(alloc, id).required(true).help(help))
+}
+
+/// The command with one more option that has no value.
+fn with_flag<'a>(
+    alloc: Global,
+    command: Command<'a>,
+    id: &'a str,
+    help: &'a str,
+) -> Result<Command<'a>, AllocError>
+    ensures app { IfOk result (λ added. app_of added ≡ with_rule (app_of command.entry) (flag_rule id.entry.now)) }
+    ensures local { IfOk result (λ added. (fields_of added).has_globals ≡ (fields_of command.entry).has_globals) }
+{
+    command.arg(
+        Arg::new(alloc, id)
+            .long(id)
+            .action(ArgAction::SetTrue)
+            .help(help),
+    )
 }
 
 /// An option of this name, whose value the help calls `value`.

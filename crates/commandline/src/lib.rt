@@ -6,4 +6,4 @@ mod command;
 mod request;
 
 pub use choice::Chosen;
-pub use request::{Places, Request, parse};
+pub use request::{Parsed, Places, Request, parse};

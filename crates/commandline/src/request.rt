@@ -1,5 +1,6 @@
 // What the program's words ask for.
 ghost use Rattle.std.specs.Prelude.{◌≡◌, ◌≤◌, ◌⊎◌, Some, None, true, false, IfOk, IfErr, IfSome, option_and_then, option_map};
+ghost use Rattle.std.specs.Option.{option_map_or};
 ghost use Rattle.clap.specs.Words.{found_of, kind_of, rows_of, subcommand_rows_of};
 ghost use Rattle.clap.specs.Walk.{texts};
 ghost use Rattle.clap.specs.declared.error.ErrorKind.TheVariants.{OutOfMemory};
@@ -42,10 +43,18 @@ pub enum Request<'a> {
     ExplainNotice(Option<&'a str>),
 }
 
+/// What the words ask for, and whether standard error tells all that is at fault in a list that is refused.
+#[derive(Clone, Copy, Debug, PartialEq, Eq)]
+pub struct Parsed<'a> {
+    pub request: Request<'a>,
+    pub tells_all: bool,
+}
+
 /// Reads the words behind the program's name. The error is clap's: a mistake in the words, a request for help or for
 /// the version, or out of memory.
-pub fn parse<'a>(alloc: Global, words: &'a [&'a str]) -> Result<Request<'a>, Error>
-    ensures read { IfOk result (λ request. request_of (texts words.entry.now) ≡ Some (asked_of request)) }
+pub fn parse<'a>(alloc: Global, words: &'a [&'a str]) -> Result<Parsed<'a>, Error>
+    ensures read { IfOk result (λ parsed. request_of (texts words.entry.now) ≡ Some (asked_of parsed.request)) }
+    ensures all { IfOk result (λ parsed. parsed.tells_all ≡ line.tells_all (texts words.entry.now)) }
     ensures no_help { IfOk result (λ _. asks_for_help (texts words.entry.now) ≡ false) }
     ensures refused { IfErr result
         (λ error. (kind_of error ≡ OutOfMemory) ⊎ (request_of (texts words.entry.now) ≡ None)) }
@@ -55,7 +64,10 @@ pub fn parse<'a>(alloc: Global, words: &'a [&'a str]) -> Result<Request<'a>, Err
     let mut command = command(alloc)?;
     let matches = command.try_get_matches_from_mut(words)?;
     match request_in(&matches) {
-        Some(request) => Ok(request),
+        Some(request) => Ok(Parsed {
+            request,
+            tells_all: asks_for_all(&matches),
+        }),
         None => Err(command.error(ErrorKind::ValueValidation, mistake_of(&matches))?),
     }
 }
@@ -77,6 +89,26 @@ fn mistake_of_rendering(words: &ArgMatches<'_>) -> &'static str {
         "an order is time or source"
     } else {
         "there are 1 to 64 channels"
+    }
+}
+
+/// Whether the words of the command ask for all that is at fault.
+fn asks_for_all(matches: &ArgMatches<'_>) -> bool
+    ensures { result ≡ option_map_or line.is_all (subcommand_rows_of matches.now) false }
+{
+    match matches.subcommand() {
+        Some((_, words)) => is_set("all", words),
+        None => false,
+    }
+}
+
+/// Whether an option without a value is among the words of a command.
+fn is_set(id: &str, words: &ArgMatches<'_>) -> bool
+    ensures { result ≡ line.is_set id.now (rows_of (found_of words.now)) }
+{
+    match words.get_str(id) {
+        Some(text) => text == "true",
+        None => false,
     }
 }
 

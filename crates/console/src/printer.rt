@@ -1,5 +1,5 @@
 // Where the program prints: a writer, in one write a line.
-ghost use Rattle.std.specs.Prelude.{◌≡◌, IfOk, IsOk, IsErr};
+ghost use Rattle.std.specs.Prelude.{◌≡◌, IfOk, IsOk, IsErr, nat_lt};
 ghost use Rattle.std.specs.Io.Buffered.{writer_contents, writer_inner};
 ghost use Rattle.work_terms.specs.Disk.{HasCause};
 
@@ -26,6 +26,13 @@ impl<W: Write + Drop> Printer<W> {
             writer: BufWriter::new(alloc, writer)?,
             failures: 0,
         })
+    }
+
+    /// Whether a print has failed.
+    pub fn has_failed(&self) -> bool
+        ensures { result ≡ nat_lt 0 self.now.failures }
+    {
+        self.failures > 0
     }
 
     /// Counts a failure of the writer. The count stays at its last value.

@@ -20,12 +20,13 @@ const SHOWN_BYTES: usize = 160;
 const STOOD_BYTES: usize = 60;
 
 /// What a command found where it refused: the line at fault, a file that the place doesn't name, what lies in a folder,
-/// what the system said, and what is unfinished.
+/// a file there whose name is nearly that of the missing one, what the system said, and what is unfinished.
 #[derive(Clone, Copy)]
 struct Findings<'a> {
     line: Option<LineAtFault<'a>>,
     file: Option<&'a str>,
     inside: Option<&'a str>,
+    similar: Option<&'a str>,
     reason: Option<Error>,
     unfinished: Option<Unfinished>,
 }
@@ -64,8 +65,23 @@ impl<'a> Explanation<'a> {
         }
     }
 
-    /// What to do: by what the system said, or else by the number.
+    /// The same, with a file of the folder whose name differs from that of the missing one in case or in its form of
+    /// Unicode alone, if there is one.
+    pub fn with_similar(self, similar: Option<&'a str>) -> Explanation<'a> {
+        Explanation {
+            findings: Findings {
+                similar,
+                ..self.findings
+            },
+            ..self
+        }
+    }
+
+    /// What to do: by what was found in the folder, by what the system said, or else by the number.
     fn remedy(&self, meaning: Meaning) -> &'static str {
+        if self.findings.similar.is_some() {
+            return "rename that file, or write its name in the list as it is in the folder";
+        }
         match self.findings.reason {
             Some(error) => remedy_by(self.number, error.kind()).unwrap_or(meaning.remedy),
             None => meaning.remedy,
@@ -107,6 +123,7 @@ impl<'a> Findings<'a> {
             line: None,
             file: None,
             inside,
+            similar: None,
             reason,
             unfinished: None,
         }
@@ -126,6 +143,7 @@ impl<'a> Findings<'a> {
                 _ => None,
             },
             inside: None,
+            similar: None,
             reason: reason_of(fault, source, output).map(|reason| reason.error),
             unfinished: unfinished_after(fault, output),
         }
@@ -247,6 +265,13 @@ impl fmt::Display for Findings<'_> {
         if let Some(name) = self.inside {
             let name = PrintedName(name);
             write!(f, "; in it lies: {name}")?;
+        }
+        if let Some(name) = self.similar {
+            let name = PrintedName(name);
+            write!(
+                f,
+                "; the folder has {name}, in other capitals or another form of Unicode (NFC, NFD)"
+            )?;
         }
         if let Some(reason) = self.reason {
             let word = SystemWord(reason);

@@ -1,4 +1,4 @@
-// Names of files in a text.
+// Names of files, and other texts of words, in a text.
 use percent_encoding::percent_encode_byte;
 use std::fmt;
 use std::fmt::Display;
@@ -10,16 +10,38 @@ pub struct PrintedName<'a>(pub &'a str);
 impl fmt::Display for PrintedName<'_> {
     fn fmt<W: fmt::Write>(&self, f: &mut fmt::Formatter<W>) -> fmt::Result {
         for character in self.0.chars() {
-            if character.is_control() {
-                let mut buffer = [0; 4];
-                let text: &str = character.encode_utf8(&mut buffer);
-                for byte in text.as_bytes() {
-                    f.write_str(percent_encode_byte(*byte))?;
-                }
+            write_character(character, f)?;
+        }
+        Ok(())
+    }
+}
+
+/// A text of lines that may hold words as they were given: the same of each control character that doesn't end a line.
+#[derive(Clone, Copy)]
+pub struct PrintedLines<'a>(pub &'a str);
+
+impl fmt::Display for PrintedLines<'_> {
+    fn fmt<W: fmt::Write>(&self, f: &mut fmt::Formatter<W>) -> fmt::Result {
+        for character in self.0.chars() {
+            if character == '\n' {
+                f.write_str("\n")?;
             } else {
-                write!(f, "{character}")?;
+                write_character(character, f)?;
             }
         }
         Ok(())
     }
+}
+
+/// Writes a character, as its percent escapes where it is a control character.
+fn write_character<W: fmt::Write>(character: char, f: &mut fmt::Formatter<W>) -> fmt::Result {
+    if !character.is_control() {
+        return write!(f, "{character}");
+    }
+    let mut buffer = [0; 4];
+    let text: &str = character.encode_utf8(&mut buffer);
+    for byte in text.as_bytes() {
+        f.write_str(percent_encode_byte(*byte))?;
+    }
+    Ok(())
 }

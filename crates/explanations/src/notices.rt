@@ -14,38 +14,38 @@ pub struct NoticeMeaning {
 pub static NOTICES: [NoticeMeaning; 7] = [
     NoticeMeaning {
         kind: 1,
-        meaning: "the section that opens at this line isn't known, and is skipped",
-        remedy: "nothing, if nothing in it is to be heard",
+        meaning: "the section that begins at this line is unknown and is skipped",
+        remedy: "none, unless something in it should be heard",
     },
     NoticeMeaning {
         kind: 2,
-        meaning: "the line isn't an (Index) line, and is dropped",
-        remedy: "nothing, if no file is missing",
+        meaning: "the line isn't an (Index) line and is dropped",
+        remedy: "none, unless a file is missing",
     },
     NoticeMeaning {
         kind: 3,
         meaning: "no entry uses this index, so its file isn't opened",
-        remedy: "nothing, or take the index out of the list",
+        remedy: "none, or take the index out of the list",
     },
     NoticeMeaning {
         kind: 4,
-        meaning: "the list gives the file's first frame another time than the file does",
+        meaning: "the list and the file disagree on the time of the file's first frame",
         remedy: "check that this is the right file; the list's time is used",
     },
     NoticeMeaning {
         kind: 5,
-        meaning: "the file's bext chunk is too short, and is ignored",
-        remedy: "nothing; what the chunk says of the file isn't carried over",
+        meaning: "the file's bext chunk is too short and is ignored",
+        remedy: "none; what the chunk says of the file isn't carried over",
     },
     NoticeMeaning {
         kind: 6,
         meaning: "the file has chunks that aren't carried into new media",
-        remedy: "keep the file, if anyone needs what these chunks say",
+        remedy: "keep the file if anyone needs these chunks",
     },
     NoticeMeaning {
         kind: 7,
-        meaning: "the file's CodingHistory has more than 65536 bytes, and is cut there",
-        remedy: "keep the file, if anyone needs the rest of it",
+        meaning: "the file's CodingHistory is cut after 65536 bytes",
+        remedy: "keep the file if anyone needs the rest of it",
     },
 ];
 

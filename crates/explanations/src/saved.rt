@@ -15,7 +15,7 @@ impl fmt::Display for Saved {
         } = self.0;
         write!(
             f,
-            "of {sources} bytes of samples in the sources {kept} are kept; {written} bytes were written"
+            "kept {kept} of {sources} bytes of samples; wrote {written} bytes in all"
         )
     }
 }

@@ -4,32 +4,32 @@ use Rattle.commandline.specs.Request.{chosen_of}
 use Rattle.adlcons.proofs.Requests.{consolidate_fields, render_fields}
 use Rattle.adlcons.proofs.folders.answer_words.Goals as goal
 
-pub returns-in-Ok-Render-clause-rendered : goal.returns-in-Ok-Render-clause-rendered
-returns-in-Ok-Render-clause-rendered g c = λ list media target chosen request.
-    let places = c.in-Ok-Render.places in
-    let same : Some (Render places.list.now places.media.now places.out.now (chosen_of c.in-Ok-Render.chosen))
+pub returns-in-Render-clause-rendered : goal.returns-in-Render-clause-rendered
+returns-in-Render-clause-rendered g c = λ list media target chosen request.
+    let places = c.in-Render.places in
+    let same : Some (Render places.list.now places.media.now places.out.now (chosen_of c.in-Render.chosen))
     ≡ Some (Render list media target chosen) = search rules in
-    let parts = render_fields places.list.now places.media.now places.out.now (chosen_of c.in-Ok-Render.chosen)
+    let parts = render_fields places.list.now places.media.now places.out.now (chosen_of c.in-Render.chosen)
     list media target chosen same in
     let the_list : places.list.now ≡ list = parts.0 in
     let the_media : places.media.now ≡ media = parts.1 in
     let the_target : places.out.now ≡ target = parts.2 in
-    let the_choice : chosen_of c.in-Ok-Render.chosen ≡ chosen = parts.3 in
+    let the_choice : chosen_of c.in-Render.chosen ≡ chosen = parts.3 in
     rw (← the_list, ← the_media, ← the_target, ← the_choice)
     (λ some. c.work_in_folders.ensures.rendered places.list.now places.media.now places.out.now
-    (chosen_of c.in-Ok-Render.chosen) refl some)
+    (chosen_of c.in-Render.chosen) refl some)
 
-pub returns-in-Ok-Consolidate-clause-consolidated : goal.returns-in-Ok-Consolidate-clause-consolidated
-returns-in-Ok-Consolidate-clause-consolidated g c = λ list media target handle request.
-    let places = c.in-Ok-Consolidate.places in
-    let same : Some (Consolidate places.list.now places.media.now places.out.now c.in-Ok-Consolidate.handle)
+pub returns-in-Consolidate-clause-consolidated : goal.returns-in-Consolidate-clause-consolidated
+returns-in-Consolidate-clause-consolidated g c = λ list media target handle request.
+    let places = c.in-Consolidate.places in
+    let same : Some (Consolidate places.list.now places.media.now places.out.now c.in-Consolidate.handle)
     ≡ Some (Consolidate list media target handle) = search rules in
-    let parts = consolidate_fields places.list.now places.media.now places.out.now c.in-Ok-Consolidate.handle
+    let parts = consolidate_fields places.list.now places.media.now places.out.now c.in-Consolidate.handle
     list media target handle same in
     let the_list : places.list.now ≡ list = parts.0 in
     let the_media : places.media.now ≡ media = parts.1 in
     let the_target : places.out.now ≡ target = parts.2 in
-    let the_handle : c.in-Ok-Consolidate.handle ≡ handle = parts.3 in
+    let the_handle : c.in-Consolidate.handle ≡ handle = parts.3 in
     rw (← the_list, ← the_media, ← the_target, ← the_handle)
-    (λ some. c.work_in_folders-in-Ok-Consolidate.ensures.consolidated places.list.now places.media.now
-    places.out.now c.in-Ok-Consolidate.handle refl)
+    (λ some. c.work_in_folders-in-Consolidate.ensures.consolidated places.list.now places.media.now
+    places.out.now c.in-Consolidate.handle refl)
