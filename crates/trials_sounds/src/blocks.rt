@@ -4,7 +4,7 @@ ghost use Rattle.sound_terms.specs.Groups.{IsRamp};
 
 use blockmachine::Machine;
 use interval::{Group, Intervals, Piece};
-use renderplan::{Depth, Instruction, Plan, Shape, Stretch};
+use renderplan::{Depth, Instruction, Plan, Shape, SourceFrame, Stretch};
 use sampletime::SampleTime;
 use std::alloc::Global;
 use std::test::Fail;
@@ -206,6 +206,23 @@ fn a_fade_goes_on_in_the_next_block(rt: HostRuntime) -> Result<(), Fail> {
         let mut room = vec![in alloc; empty; plan.most_instructions()]?;
         let count = plan.block(k, room.as_mut_slice());
         assert_eq!(rt; &room[..count], program.as_slice());
+    }
+    Ok(())
+}
+
+#[test]
+fn a_block_begins_where_its_first_piece_sounds(rt: HostRuntime) -> Result<(), Fail> {
+    let alloc = rt.alloc();
+    let plan = plan(alloc, SampleTime::ZERO, time(10_000)?)?;
+    assert_eq!(rt; plan.blocks(), 3);
+    let start = SourceFrame { file: 0, frame: 7 };
+    let later = SourceFrame {
+        file: 0,
+        frame: 4003,
+    };
+    for (k, source) in [(0, Some(start)), (1, Some(later)), (2, None)] {
+        assert!(rt; k < plan.blocks());
+        assert_eq!(rt; plan.source_of(k), source);
     }
     Ok(())
 }

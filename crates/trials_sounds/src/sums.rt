@@ -1,6 +1,6 @@
 // Samples at full scale, and sums at each depth.
 use sound_terms::Depth;
-use soundlaw::{contribution, finish, widen};
+use soundlaw::{Rise, contribution, finish, widen};
 
 #[test]
 fn widens_to_full_scale(rt: HostRuntime) {
@@ -59,4 +59,26 @@ fn shares_go_down(rt: HostRuntime) {
         -140_737_488_321_393
     );
     assert_eq!(rt; contribution(1 << 47, day, day), 1 << 47);
+}
+
+#[test]
+fn a_rise_goes_by_as_much(rt: HostRuntime) {
+    let least = widen(-1, Depth::Sixteen);
+    let five = widen(5, Depth::Sixteen);
+    let first = Rise::of(0, 3, 1);
+    assert_eq!(rt; first.gain().share(least), 0);
+    let second = first.next();
+    assert_eq!(rt; second.gain().share(least), -1_431_655_766);
+    assert_eq!(rt; second.gain_left().share(least), -2_863_311_531);
+    let third = second.next();
+    assert_eq!(rt; third.gain().share(five), 14_316_557_653);
+    assert_eq!(rt; third.gain_left().share(five), 7_158_278_826);
+}
+
+#[test]
+fn a_rise_takes_a_day(rt: HostRuntime) {
+    let day = 4_147_200_000;
+    let almost = Rise::of(day - 1, day, 1);
+    assert_eq!(rt; almost.gain().share(-(1 << 47)), -140_737_488_321_393);
+    assert_eq!(rt; almost.next().gain().share(1 << 47), 1 << 47);
 }

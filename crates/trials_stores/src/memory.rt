@@ -1,7 +1,7 @@
 // The memory stores, and functions over any shelf and any bench.
 ghost use Rattle.std.specs.Prelude.{IsTrue, IfOk, OnOk};
 ghost use Rattle.work_terms.specs.Disk.{Changes, IsRange, IsDurable};
-ghost use Rattle.stores.specs.Memory.{IsPut};
+ghost use Rattle.stores.specs.Files.{IsPut};
 
 use shelf::{Bench, DeviceFault, Shelf, ShelfFault};
 use std::alloc::{AllocError, Global};
