@@ -1,7 +1,8 @@
 // Samples four at a time, in the lanes of a vector.
 ghost use Rattle.std.specs.Prelude.{◌≡◌, ◌*◌, ◌/◌, ◌≤◌, ◌∷◌, [], ◌↔◌, pos, length, take, IsTrue};
-ghost use Rattle.std.specs.List.{All};
+ghost use Rattle.std.specs.List.{All, flat_map};
 ghost use Rattle.sound_terms.specs.Depth.{bits_of};
+ghost use Rattle.sound_terms.specs.Waves.{sample_bytes};
 ghost use Rattle.pcm.specs.Samples.{samples_in};
 
 use sound_terms::Depth;
@@ -14,6 +15,9 @@ const SIXTEEN: [u8; 16] = [
 
 /// The same at 24 bits.
 const TWENTY_FOUR: [u8; 16] = [128, 0, 1, 2, 128, 3, 4, 5, 128, 6, 7, 8, 128, 9, 10, 11];
+
+/// Where the lower three bytes of four lanes of 32 bits go: one behind the other, with zeros (128) behind them.
+const PACKED: [u8; 16] = [0, 1, 2, 4, 5, 6, 8, 9, 10, 12, 13, 14, 128, 128, 128, 128];
 
 /// The four samples of 16 bits that sixteen bytes begin with.
 #[inline(always)]
@@ -79,6 +83,34 @@ pub fn unpack_lanes(depth: Depth, bytes: &[u8], samples: &mut [i32]) -> usize
         let four = four_samples(depth, u8x16::from_slice(&bytes[done * width..]));
         let [a, b, c, d] = four;
         put_four(a, b, c, d, &mut samples[done..done + 4]);
+        done += 4;
+    }
+    done
+}
+
+/// Puts the first four samples, at 24 bits, over the first twelve bytes, and something over the next four, in one store.
+#[inline(always)]
+fn write_four(samples: &[i32], bytes: &mut [u8])
+    requires four { 4 ≤ length samples.now }
+    requires room { 16 ≤ length bytes.old }
+    ensures { take 12 bytes.new ≡ flat_map (sample_bytes 24) (take 4 samples.now) }
+{
+    let lanes = i32x4::from_array([samples[0], samples[1], samples[2], samples[3]]);
+    let packed = lanes.to_le_bytes().swizzle_dyn(u8x16::from_array(PACKED));
+    packed.copy_to_slice(bytes);
+}
+
+/// Writes samples of 24 bits four at a time over the front of bytes that have room for just these, as long as sixteen
+/// bytes are left, and says how many it wrote.
+#[inline(always)]
+pub fn pack_lanes(samples: &[i32], bytes: &mut [u8]) -> usize
+    requires { length bytes.old ≡ length samples.now * 3 }
+    ensures some { result ≤ length samples.now }
+    ensures written { take (result * 3) bytes.new ≡ flat_map (sample_bytes 24) (take result samples.now) }
+{
+    let mut done = 0;
+    while bytes.len() - done * 3 >= 16 {
+        write_four(&samples[done..], &mut bytes[done * 3..]);
         done += 4;
     }
     done

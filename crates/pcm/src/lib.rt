@@ -10,9 +10,9 @@ ghost use Rattle.sound_terms.specs.Depth.{bits_of};
 ghost use Rattle.sound_terms.specs.Waves.{sample_bytes};
 ghost use Rattle.pcm.specs.Samples.{FitsDepth, samples_in};
 
-use lanes::{unpack_lanes, zero_lanes};
+use lanes::{pack_lanes, unpack_lanes, zero_lanes};
 pub use sound_terms::Depth;
-use word::{sample_at, write_ahead, write_sixteen, write_thirty_two, write_twenty_four};
+use word::{sample_at, write_sixteen, write_thirty_two, write_twenty_four};
 
 /// Reads `samples` from `bytes`, which hold one after the other and nothing else: 2, 3 or 4 bytes a sample at 16,
 /// 24 or 32 bits, of every channel in turn.
@@ -90,12 +90,9 @@ fn pack_twenty_four(samples: &[i32], bytes: &mut [u8])
     ensures bytes { bytes.new ≡ flat_map (sample_bytes 24) samples.now }
     ensures again { samples_in 24 (length samples.now) bytes.new ≡ samples.now }
 {
-    let last = samples.len().saturating_sub(1);
-    for i in 0..last {
-        write_ahead(&mut bytes[i * 3..], samples[i]);
-    }
-    if last < samples.len() {
-        write_twenty_four(&mut bytes[last * 3..], samples[last]);
+    let done = pack_lanes(samples, bytes);
+    for i in done..samples.len() {
+        write_twenty_four(&mut bytes[i * 3..], samples[i]);
     }
 }
 

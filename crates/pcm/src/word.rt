@@ -1,5 +1,5 @@
 // One sample at the front of bytes, at each depth.
-ghost use Rattle.std.specs.Prelude.{◌≡◌, ◌+◌, ◌*◌, ◌/◌, ◌≤◌, ◌++◌, length, take, drop};
+ghost use Rattle.std.specs.Prelude.{◌≡◌, ◌+◌, ◌*◌, ◌/◌, ◌≤◌, ◌++◌, length, drop};
 ghost use Rattle.sound_terms.specs.Depth.{bits_of};
 ghost use Rattle.sound_terms.specs.Waves.{sample_bytes, sample_of};
 ghost use Rattle.pcm.specs.Samples.{FitsDepth};
@@ -87,15 +87,6 @@ pub fn write_twenty_four(bytes: &mut [u8], sample: i32)
     ensures { bytes.new ≡ sample_bytes 24 sample ++ drop 3 bytes.old }
 {
     LittleEndian::write_i24(bytes, sample);
-}
-
-/// Puts a sample of 24 bits over the first three bytes, and something over the fourth, in one step.
-#[inline(always)]
-pub fn write_ahead(bytes: &mut [u8], sample: i32)
-    requires { 4 ≤ length bytes.old }
-    ensures { take 3 bytes.new ≡ sample_bytes 24 sample }
-{
-    LittleEndian::write_i32(bytes, sample);
 }
 
 /// Puts a sample of 32 bits over the first bytes.

@@ -1,54 +1,35 @@
-use Rattle.std.proofs.Common.{◌≡◌, ◌+◌, ◌*◌, ◌-◌, ◌++◌, [], List, ℕ, ◌∙◌, ap, arith, drop, get_or, length, rules, subst, sym, take, length-take, length-drop}
+use Rattle.std.proofs.Common.{◌≡◌, ◌*◌, ◌-◌, ◌++◌, ◌∙◌, ap, arith, drop, get_or, length, rules, subst, sym, take}
 use Rattle.std.specs.Prelude.{ℤ, pos}
 use Rattle.std.specs.Int.{w32}
-use Rattle.std.specs.List.{flat_map}
 use Rattle.std.proofs.lemmas.Int.{to_z-of_z}
-use Rattle.std.proofs.lemmas.List.{append-nil, take-append-drop, take_all}
-use borrow.Rule.Slice.PartMut.{put_mid}
 use mir.Val.{SFits}
-use Rattle.facts.specs.Parts.{length-put_mid}
 use Rattle.sound_terms.specs.declared.Depth.TheVariants.{TwentyFour}
 use Rattle.sound_terms.specs.Waves.{sample_bytes}
-use Rattle.pcm.specs.Laws.{samples_again}
-use Rattle.pcm.proofs.Steps.{one_written}
+use Rattle.pcm.specs.Samples.{FitsDepth}
+use Rattle.pcm.proofs.Steps.{one_written, written_again}
 use Rattle.pcm.proofs.pack_twenty_four.Goals as goal
+
+pub write_twenty_four-requires-clause-fit : goal.write_twenty_four-requires-clause-fit
+write_twenty_four-requires-clause-fit c =
+    let sample = get_or c.args.samples.now c.loop-i.i (pos 0) in
+    let fit : FitsDepth 24 sample = c.requires.fit c.loop-i.i (pos 0) (omega arith) in
+    let wide : SFits w32 sample = search rules in
+    subst (FitsDepth 24) (sym (to_z-of_z w32 sample wide)) fit
 
 pub loop-i-preserved : goal.loop-i-preserved
 loop-i-preserved c =
     let i = c.loop-i.i in
-    let new = c.write_ahead.new.bytes in
+    let room = length c.loop-i.bytes - i * 3 in
+    let behind = drop 3 (take room (drop (i * 3) c.loop-i.bytes)) in
     let sample = get_or c.args.samples.now i (pos 0) in
+    let fit : FitsDepth 24 sample = c.requires.fit i (pos 0) (omega arith) in
     let wide : SFits w32 sample = search rules in
-    let word : new ≡ sample_bytes 24 sample ++ drop 3 new =
-    sym (take-append-drop 3 new) ∙ ap (λ (l : List ℕ). l ++ drop 3 new)
-    (c.write_ahead.ensures ∙ ap (sample_bytes 24) (to_z-of_z w32 sample wide)) in
-    one_written 24 i (length c.loop-i.bytes - i * 3) c.args.samples.now c.loop-i.bytes new (drop 3 new) (omega arith)
-    (omega arith) word c.loop-i.invariant
-
-pub returns-then-last-samples-clause-bytes : goal.returns-then-last-samples-clause-bytes
-returns-then-last-samples-clause-bytes c =
-    let last = c.saturating_sub-last.result in
-    let bytes = c.loop-i.bytes in
-    let samples = c.args.samples.now in
-    let new = c.write_twenty_four.new.bytes in
-    let room = length bytes - last * 3 in
-    let behind = drop 3 (take room (drop (last * 3) bytes)) in
-    let sample = get_or samples last (pos 0) in
-    let wide : SFits w32 sample = search rules in
-    let word : new ≡ sample_bytes 24 sample ++ behind =
+    let word : c.write_twenty_four.new.bytes ≡ sample_bytes 24 sample ++ behind =
     c.write_twenty_four.ensures ∙ ap (λ (z : ℤ). sample_bytes 24 z ++ behind) (to_z-of_z w32 sample wide) in
-    let end : c.loop-i.i ≡ last = omega arith in
-    let before = subst (λ n. take (n * 3) bytes ≡ flat_map (sample_bytes 24) (take n samples)) end c.loop-i.invariant in
-    let long : length new ≡ room =
-    c.write_twenty_four.auto.bytes ∙ omega (arith, length-take {A = ℕ}, length-drop {A = ℕ}) in
-    let all : length (put_mid (last * 3) room bytes new) ≡ (last + 1) * 3 =
-    length-put_mid (last * 3) room bytes new (omega arith) long ∙ omega arith in
-    sym (take_all ((last + 1) * 3) (put_mid (last * 3) room bytes new) (omega (arith, all)))
-    ∙ one_written 24 last room samples bytes new behind (omega arith) (omega arith) word before
-    ∙ ap (flat_map (sample_bytes 24)) (take_all (last + 1) samples (omega arith))
+    one_written 24 i room c.args.samples.now c.loop-i.bytes c.write_twenty_four.new.bytes behind
+    (omega arith) (omega arith) word c.loop-i.invariant
 
-pub returns-then-last-samples-clause-again : goal.returns-then-last-samples-clause-again
-returns-then-last-samples-clause-again c =
-    let samples = c.args.samples.now in
-    rw (returns-then-last-samples-clause-bytes c ∙ sym (append-nil (flat_map (sample_bytes 24) samples)))
-    (samples_again TwentyFour samples [] c.requires.fit)
+pub returns-clause-again : goal.returns-clause-again
+returns-clause-again c =
+    written_again TwentyFour c.loop-i.i c.args.samples.now c.loop-i.bytes c.requires.fit (omega arith) (omega arith)
+    c.loop-i.invariant
