@@ -5,6 +5,7 @@ pub mod Emitted
 pub mod Fits
 pub mod Full
 pub mod Lanes
+pub mod AtDepth
 pub mod Played
 pub mod Ran
 pub mod Slopes

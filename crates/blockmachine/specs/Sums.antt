@@ -1,5 +1,5 @@
 -- The sums of a block as a machine keeps them: frame after frame.
-use Rattle.std.specs.Prelude.{◌≡◌, ℕ, ◌+◌, ◌-◌, ◌*◌, ◌^◌, ◌<◌, ◌≤◌, ℤ, pos, neg_ℤ, ◌+ℤ◌, ◌≤ℤ◌, List, All, length, slice_index_or}
+use Rattle.std.specs.Prelude.{◌≡◌, ℕ, ◌+◌, ◌-◌, ◌*◌, ◌^◌, ◌<◌, ◌≤◌, Bool, ℤ, pos, neg_ℤ, ◌+ℤ◌, ◌≤ℤ◌, List, All, length, map, slice_index_or, if◌then◌else◌}
 use Rattle.sound_terms.specs.declared.block.Stretch.{Stretch}
 use Rattle.sound_terms.specs.declared.piece.Shape.{Shape}
 use Rattle.sound_terms.specs.Mix.{Reading, full_scale, share_of}
@@ -20,6 +20,14 @@ pub record BlockSums : Type 0 where
 abbrev pub AreSums : BlockSums → (ℕ → ℕ → ℤ) → Type 0
 AreSums kept sums = (i channel : ℕ) → i < block_length → 1 ≤ channel → channel ≤ kept.channels
     → slice_index_or kept.values (i * kept.channels + (channel - 1)) (pos 0) ≡ sums i channel
+
+-- sums that are kept at a depth, at full scale
+abbrev pub widened : (depth : ℕ) → List ℤ → List ℤ
+widened depth sums = map (full_scale depth) sums
+
+-- the sums of a block at full scale, where they are kept at its depth and where they aren't
+abbrev pub kept_sums : (at_depth : Bool) → (depth : ℕ) → (layers values : List ℤ) → List ℤ
+kept_sums at_depth depth layers values = if at_depth then widened depth layers else values
 
 -- as large as the sum of m samples at most
 abbrev pub IsWithin : ℕ → ℤ → Type 0

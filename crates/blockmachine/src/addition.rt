@@ -157,7 +157,7 @@ fn add_rows(
 }
 
 /// Whether a stretch plays all channels of its file on all channels there are, as they are.
-fn is_run(played: &Played, channels: usize) -> bool
+pub fn is_run(played: &Played, channels: usize) -> bool
     ensures { IsTrue result → (played.now.shape ≡ shape.Flat) × (played.now.stretch.width ≡ channels)
         × (played.now.frames.channels ≡ channels) }
 {

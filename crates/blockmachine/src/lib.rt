@@ -6,6 +6,7 @@ mod alone;
 mod buffer;
 mod fault;
 mod frames;
+mod layers;
 mod machine;
 mod output;
 mod slope;

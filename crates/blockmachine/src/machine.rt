@@ -158,7 +158,7 @@ impl Machine {
             }
         }
         let sums = &mut self.sums;
-        sums.clear();
+        sums.clear(depth);
         add_all(lines, sounds, shelf, &mut self.buffer, sums)?;
         sums.emit(depth, out);
         Ok(())

@@ -1,12 +1,12 @@
 // The sums of a block.
-ghost use Rattle.std.specs.Prelude.{◌≡◌, ◌*◌, ◌≤◌, ℕ, ℤ, pos, length, slice_index_or, IfOk};
+ghost use Rattle.std.specs.Prelude.{◌≡◌, ◌*◌, ◌≤◌, ℕ, ℤ, pos, length, IfOk};
 ghost use Rattle.sound_terms.specs.Depth.{bits_of};
 ghost use Rattle.sound_terms.specs.Blocks.{FitsBlock, block_samples};
 ghost use Rattle.blockmachine.specs.Sums.{AreSums, BlockSums, HasPlayed};
 
 use crate::addition::add_played;
 use crate::frames::Played;
-use crate::output::emit;
+use crate::layers::{self, FEW_LAYERS, add_layer, emit_kept, is_layer, widen_layers};
 use sound_terms::Depth;
 use std::alloc::{AllocError, Global};
 use std::marker::Model;
@@ -18,10 +18,14 @@ const BLOCK_LENGTH: usize = 4096;
 const FEW: u32 = 32_767;
 
 /// The sums of a block, frame after frame. As long as few stretches were added since all were zero, none is larger than
-/// as many samples at full scale.
+/// as many samples at full scale. They begin at the depth of the block, in 32 bits, and go to full scale at the first
+/// stretch that is faded, deeper, or on some of the channels alone.
 #[derive(Drop)]
 pub struct Sums {
     channels: u8,
+    at_depth: bool,
+    depth: Depth,
+    layers: Vec<i32>,
     values: Vec<i64>,
     additions: u32,
 }
@@ -29,14 +33,19 @@ pub struct Sums {
 impl Model for Sums {
     ghost use Rattle.std.specs.Prelude.{◌≡◌, ◌*◌, ◌<◌, ◌≤◌, length};
     ghost use Rattle.std.specs.List.{All};
-    ghost use Rattle.blockmachine.specs.Sums.{BlockSums, IsWithin, few_additions};
+    ghost use Rattle.sound_terms.specs.Depth.{bits_of};
+    ghost use Rattle.blockmachine.specs.Sums.{BlockSums, IsWithin, few_additions, kept_sums};
 
     ghost Value = { BlockSums };
 
-    ghost view = { λ s. record { channels = s.channels; values = s.values.items } };
+    ghost view = { λ s. record {
+      channels = s.channels;
+      values = kept_sums s.at_depth (bits_of s.depth) s.layers.items s.values.items;
+    } };
 
-    ghost invariant = { λ s. (length s.values.items ≡ 4096 * s.channels) × (1 ≤ s.channels) × (s.channels ≤ 64)
-        × (s.additions < few_additions → All (IsWithin s.additions) s.values.items) };
+    ghost invariant = { λ s. (length s.values.items ≡ 4096 * s.channels) × (length s.layers.items ≡ 4096 * s.channels)
+        × (1 ≤ s.channels) × (s.channels ≤ 64) × (s.additions < few_additions
+        → All (IsWithin s.additions) (kept_sums s.at_depth (bits_of s.depth) s.layers.items s.values.items)) };
 }
 
 impl Sums {
@@ -45,10 +54,15 @@ impl Sums {
         requires { (1 ≤ channels) × (channels ≤ 64) }
         ensures { IfOk result (λ sums. sums.channels ≡ channels) }
     {
+        let mut layers = Vec::new(alloc);
+        layers.resize(BLOCK_LENGTH * channels as usize, 0)?;
         let mut values = Vec::new(alloc);
         values.resize(BLOCK_LENGTH * channels as usize, 0)?;
         Ok(Sums {
             channels,
+            at_depth: false,
+            depth: Depth::TwentyFour,
+            layers,
             values,
             additions: FEW,
         })
@@ -62,12 +76,14 @@ impl Sums {
         self.channels
     }
 
-    /// Every sum is zero.
-    pub fn clear(&mut self)
+    /// Every sum is zero, in a block of this depth.
+    pub fn clear(&mut self, depth: Depth)
         ensures zero { AreSums self.new (λ _ _. pos 0) }
         ensures same_channels { self.new.channels ≡ self.old.channels }
     {
-        set_to_zero(self.values.as_mut_slice());
+        layers::set_to_zero(self.layers.as_mut_slice());
+        self.at_depth = true;
+        self.depth = depth;
         self.additions = 0;
     }
 
@@ -78,6 +94,31 @@ impl Sums {
             (bits_of played.now.frames.depth) played.now.frames.samples.now self.old self.new }
         ensures same_channels { self.new.channels ≡ self.old.channels }
     {
+        let channels = self.channels as usize;
+        let few = self.at_depth && self.additions < FEW_LAYERS;
+        if few && is_layer(played, channels, self.depth) {
+            add_layer(played, channels, self.depth, self.layers.as_mut_slice());
+            self.additions += 1;
+        } else {
+            self.add_at_full_scale(played);
+        }
+    }
+
+    /// The same at full scale.
+    fn add_at_full_scale(&mut self, played: &Played)
+        requires { FitsBlock 4096 self.old.channels played.now.stretch }
+        ensures played { HasPlayed played.now.stretch played.now.shape played.now.frames.channels
+            (bits_of played.now.frames.depth) played.now.frames.samples.now self.old self.new }
+        ensures same_channels { self.new.channels ≡ self.old.channels }
+    {
+        let layers = self.layers.as_slice();
+        widen_layers(
+            self.at_depth,
+            self.depth,
+            layers,
+            self.values.as_mut_slice(),
+        );
+        self.at_depth = false;
         let is_small = self.additions < FEW;
         let channels = self.channels as usize;
         add_played(played, channels, is_small, self.values.as_mut_slice());
@@ -92,15 +133,8 @@ impl Sums {
         ensures { (all : ℕ → ℕ → ℤ) → AreSums self.now all → (frames : ℕ) → length out.old ≡ frames * self.now.channels
             → out.new ≡ block_samples (bits_of depth) all self.now.channels 0 frames }
     {
-        emit(self.values.as_slice(), depth, out);
-    }
-}
-
-/// Every sum is zero.
-fn set_to_zero(sums: &mut [i64])
-    ensures { (k : ℕ) → slice_index_or sums.new k (pos 0) ≡ pos 0 }
-{
-    for sum in sums.iter_mut() {
-        *sum = 0;
+        let layers = self.layers.as_slice();
+        let values = self.values.as_slice();
+        emit_kept(self.at_depth, self.depth, layers, values, depth, out);
     }
 }
