@@ -11,6 +11,7 @@ SECOND = 48_000
 SECONDS = 1800
 MANY = 32_767
 MOST_SECONDS = 60
+SILENT_SECONDS = 600
 
 
 def medium(number: int) -> str:
@@ -91,6 +92,15 @@ def many_entries(bench: Bench, sync_seconds: float) -> list:
     return lines + many_media(bench, least, sync_seconds)
 
 
+def silent_entries(bench: Bench) -> str:
+    """As many entries as there may be, each of which plays the same ten minutes of zeros: nothing is left of them."""
+    make_sound(bench.media() / "A.wav", bytes(2 * SECOND), SILENT_SECONDS)
+    text = bench.put(list_text(Cut(0, 0, SECOND * SILENT_SECONDS) for _ in range(MANY)))
+    words = bench.words("consolidate", text, "--handle", "0")
+    cost = bench.costs_of({"one": Job(words, look_at_count(0))})["one"]
+    return line("`consolidate`: 32,767 entries over ten minutes of zeros", cost, (None, None))
+
+
 def cost_over(bench: Bench, cuts: list):
     """The cost of a consolidation of these cuts to one medium."""
     words = bench.words("consolidate", bench.put(list_text(cuts)), "--handle", "48000")
@@ -130,5 +140,5 @@ def lines(bench: Bench) -> list:
     sync_seconds, thousand = thousand_cuts(bench)
     return [
         *table("Job", "Seconds", "Peak memory, KB", "Time to `cp`", "Time to `sox`"),
-        *half, *thousand, *many_entries(bench, sync_seconds),
+        *half, *thousand, *many_entries(bench, sync_seconds), silent_entries(bench),
     ]

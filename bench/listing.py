@@ -1,6 +1,7 @@
 """Reading and checking: long lists, many files, many chunks, and what is no list."""
 
 import random
+import struct
 
 from measuring import Bench, Cut, Job, block_of, bytes_read, line, list_text, make_sound, sound_head, table
 
@@ -10,6 +11,8 @@ FILES = 10_000
 HALF = MANY // 2
 GARBAGE = 50_000_000
 CHUNKS_SIZE = 3 * 2 ** 30
+SIZES = 400_000
+SIZED_CHUNKS = 600_000
 
 
 def checked(bench: Bench, text: str, status: int = 0):
@@ -54,6 +57,17 @@ def empty_chunks(bench: Bench) -> None:
         file.truncate(CHUNKS_SIZE)
 
 
+def sized_chunks(bench: Bench) -> None:
+    """An RF64 file with chunks whose size is the last one of a long table (EBU Tech 3306)."""
+    block = block_of(200, 1, 16)
+    sizes = (b"XXXX" + struct.pack("<Q", 2)) * (SIZES - 1) + b"JUNK" + struct.pack("<Q", 2)
+    chunks = b"JUNK\xff\xff\xff\xffxx" * SIZED_CHUNKS + sound_head(1, 16, len(block))[12:] + block
+    size = 4 + 8 + 28 + len(sizes) + len(chunks)
+    told = struct.pack("<QQQI", size, len(block), 200, SIZES) + sizes
+    (bench.media() / "A.wav").write_bytes(
+        b"RF64\xff\xff\xff\xffWAVEds64" + struct.pack("<I", len(told)) + told + chunks)
+
+
 def rows(bench: Bench) -> list:
     block = block_of(200, 1, 16)
     make_sound(bench.media() / "A.wav", block, 1)
@@ -76,9 +90,12 @@ def rows(bench: Bench) -> list:
 def chunk_rows(bench: Bench) -> list:
     many_chunks(bench, 100_000)
     small = checked(bench, entries(1))
+    sized_chunks(bench)
+    sized = checked(bench, entries(1))
     empty_chunks(bench)
     return [
         ("a file of 100,000 small chunks", small),
+        ("an RF64 file of 600,000 chunks, their sizes in a table of 400,000", sized),
         ("a file of 3 GB of empty chunks", checked(bench, entries(1), 1)),
     ]
 
