@@ -1,7 +1,8 @@
 /* Loaded before the program. It syncs nothing; SYNC_LOG names a file where syncs and prints are written down, and SYNC_FAILS
    is the sync that fails, from 1. INPUT says how standard input is read: 'slow' a byte at a time, with an interruption before
    each, 'broken' so and failing at the tenth byte, 'endless' as spaces that never end. SLOW is how many microseconds each
-   write at a place of a file takes, and WRITE_FAILS the first of these writes that fails, as all behind it do. */
+   write at a place of a file takes, and WRITE_FAILS the first of these writes that fails, as all behind it do. ALLOC_FAILS is
+   the allocation that fails, from 1, and ALLOC_LOG names a file that is made when it does. */
 #define _GNU_SOURCE
 #include <dlfcn.h>
 #include <errno.h>
@@ -85,3 +86,27 @@ ssize_t pwrite(int fd, const void *bytes, size_t count, off_t place) {
 }
 
 ssize_t pwrite64(int fd, const void *bytes, size_t count, off64_t place) { return pwrite(fd, bytes, count, place); }
+
+extern void *__libc_malloc(size_t), *__libc_calloc(size_t, size_t), *__libc_realloc(void *, size_t);
+
+static int allocations_left;
+
+__attribute__((constructor)) static void count_allocations(void) {
+    const char *fails = getenv("ALLOC_FAILS");
+    allocations_left = fails ? atoi(fails) : 0;
+}
+
+static int is_refused(void) {
+    if (allocations_left == 0 || --allocations_left > 0) return 0;
+    const char *log = getenv("ALLOC_LOG");
+    int fd = log ? open(log, O_WRONLY | O_CREAT, 0644) : -1;
+    if (fd >= 0) close(fd);
+    errno = ENOMEM;
+    return 1;
+}
+
+void *malloc(size_t size) { return is_refused() ? NULL : __libc_malloc(size); }
+
+void *calloc(size_t count, size_t size) { return is_refused() ? NULL : __libc_calloc(count, size); }
+
+void *realloc(void *block, size_t size) { return is_refused() ? NULL : __libc_realloc(block, size); }

@@ -1,0 +1,90 @@
+"""Each allocation of a command fails in turn: it is refused for want of memory, with nothing written, or it is done."""
+
+import re
+from itertools import count
+
+import model
+from harness import Mismatch, Outcome, Scene, Suite, preloaded, same, same_files, words_of
+from tables import data_chunk, format_chunk, riff_file, wave
+
+MIDNIGHT = b"00.00.00.00/0000"
+# The refusals for want of memory, of which a command meets those for what it makes: the text of a list and a file; the
+# pieces of its entries; a pass over them, the runs of kept frames and the new list, or a rendering; the jobs.
+MEMORY = {18, 31, 45, 47, 51, 54, 56, 57, 60, 63, 69}
+MET = {
+    "check": {18, 31},
+    "consolidate": {18, 31, 47, 51, 54, 56, 60},
+    "render": {18, 31, 47, 57, 60},
+}
+# A device that has no memory for a name fails.
+DEVICES = {20: b" at file OUT", 22: b" at index 1 file A.wav", 52: b"", 62: b" at file "}
+REFUSED = re.compile(rb"refused (\d\d)([^\n]*)\n")
+
+
+def fading(scene: Scene) -> None:
+    """An entry of two channels with both fades, whose middle is silent: two media."""
+    sounding = [sample for _ in range(4) for sample in (0, 100)]
+    samples = [*sounding, *[0] * 8, *sounding]
+    media = {"A.wav": riff_file(format_chunk(channels=2), data_chunk(samples))}
+    entry = model.entry_line(1, 1, MIDNIGHT, MIDNIGHT, model.time_text(12), b"1~2", b"1~2")
+    lines = [entry, model.fade_line(b"Infade", 4), model.fade_line(b"Outfade", 4)]
+    scene.put(model.list_text([model.source_line(1, "A.wav", MIDNIGHT)], lines), media)
+
+
+def three_blocks(scene: Scene) -> None:
+    """An entry of three blocks."""
+    entry = model.entry_line(1, 1, MIDNIGHT, MIDNIGHT, model.time_text(12_000))
+    scene.put(model.list_text([model.source_line(1, "A.wav", MIDNIGHT)], [entry]), {"A.wav": wave(range(12_000))})
+
+
+def number_of(got: Outcome, written: dict, whole: tuple) -> int:
+    """The number of the refusal, or 0 where it is done all the same; 2 where the words find no memory."""
+    if got.status == 0:
+        same("what is printed", got.output, whole[0])
+        same_files(written, whole[1])
+        return 0
+    told = REFUSED.fullmatch(got.output)
+    if got.status == 2:
+        same("what is printed", got.output, b"")
+    elif got.status != 1 or not told:
+        raise Mismatch(f"status {got.status}, {got.output!r} and {got.error!r}")
+    number, place = (int(told[1]), told[2]) if told else (2, b"")
+    if number in DEVICES:
+        same("where it is refused", place.startswith(DEVICES[number]), True)
+    elif number not in {2} | MEMORY:
+        raise Mismatch(f"refused {number}{place.decode()}")
+    if number != 62:
+        same("what stands in the output", sorted(written), [])
+    elif place != b" at file consolidated.adl":
+        same("whether a list is there", "consolidated.adl" in written, False)
+    return number
+
+
+def each_allocation(command: str, put):
+    def body(scene: Scene) -> None:
+        put(scene)
+        log = scene.folder / "log"
+        words = words_of(command, model.Options(handle=0, depth=16))
+        done = scene.run(*words)
+        same("the status of the unbroken command", done.status, 0)
+        whole = (done.output, scene.files())
+        environment = preloaded(scene, ALLOC_LOG=str(log))
+        numbers = []
+        for fails in count(1):
+            scene.empty_out()
+            log.unlink(missing_ok=True)
+            got = scene.run(*words, env={**environment, "ALLOC_FAILS": str(fails)})
+            try:
+                numbers.append(number_of(got, scene.files(), whole))
+            except Mismatch as fault:
+                raise Mismatch(f"allocation {fails} of {command} failed: {fault}") from fault
+            if not log.exists():
+                break
+        same("the refusals that weren't met", MET[command] - set(numbers), set())
+    return body
+
+
+def run(suite: Suite) -> None:
+    suite.case("each allocation of check fails", each_allocation("check", fading))
+    suite.case("each allocation of consolidate fails", each_allocation("consolidate", fading))
+    suite.case("each allocation of render fails", each_allocation("render", three_blocks))

@@ -1,0 +1,95 @@
+"""A disk that is full at each stage of a command: a file system as its output that is a page larger each time."""
+
+import re
+import subprocess
+from contextlib import contextmanager
+from itertools import count
+
+import model
+from harness import OUT, Mismatch, Scene, Skipped, Suite, same, same_files, words_of
+from tables import wave
+
+PAGE = 4_096
+ROOM = 256
+FRAMES = 20_000
+MIDNIGHT = b"00.00.00.00/0000"
+EXACT = model.Options(handle=0, depth=16)
+REFUSED = re.compile(rb"refused (?:62 at file (\S+)|66 at job \d+)\n")
+
+
+def mounted(scene: Scene, options: str) -> None:
+    words = ["mount", "-t", "tmpfs", "-o", options, "none", str(scene.folder / OUT)]
+    try:
+        subprocess.run(words, check=True, capture_output=True)
+    except (OSError, subprocess.CalledProcessError) as fault:
+        raise Skipped("a small file system can't be mounted here") from fault
+
+
+@contextmanager
+def disk(scene: Scene, pages: int = ROOM, files: int = ROOM):
+    """The output on a disk of so many pages, for so many files; its folder is the first."""
+    mounted(scene, f"size={pages * PAGE},nr_inodes={files}")
+    try:
+        yield
+    finally:
+        subprocess.run(["umount", str(scene.folder / OUT)], check=True)
+
+
+def make_room(scene: Scene) -> None:
+    mounted(scene, f"remount,size={ROOM * PAGE},nr_inodes={ROOM}")
+
+
+def put_cuts(scene: Scene) -> None:
+    """Two cuts of all frames of a source but the last, and then of all but the first."""
+    spans = ((0, 0, FRAMES // 2 - 1), (FRAMES // 2 + 1, FRAMES // 2, FRAMES - 1))
+    lines = [
+        model.entry_line(number, 1, *map(model.time_text, times)) for number, times in enumerate(spans, 1)]
+    media = {"A.wav": wave([place % 1000 + 1 for place in range(FRAMES)])}
+    scene.put(model.list_text([model.source_line(1, "A.wav", MIDNIGHT)], lines), media)
+
+
+def refused_file(line: bytes) -> str:
+    """The file that a refusal names; nothing where it names a job."""
+    told = REFUSED.fullmatch(line)
+    if not told:
+        raise Mismatch(f"{line!r}")
+    return (told[1] or b"").decode()
+
+
+def check_full(got, written: dict) -> None:
+    """It is refused for a file that isn't whole, or for a job, and there is no list beside media that aren't whole."""
+    same("the status", got.status, 1)
+    name = refused_file(got.output)
+    if name != "consolidated.adl":
+        same("whether a list is there", "consolidated.adl" in written, False)
+
+
+def each_size(command: str, measure: str):
+    """The command on each disk that is too small by this measure, and done again once there is room."""
+    def body(scene: Scene) -> None:
+        put_cuts(scene)
+        words = words_of(command, EXACT)
+        whole = scene.run(*words)
+        same("the status of the unbroken command", whole.status, 0)
+        files = scene.files()
+        scene.empty_out()
+        for size in count(1):
+            with disk(scene, **{measure: size}):
+                got = scene.run(*words)
+                if got.status != 0:
+                    check_full(got, scene.files())
+                    make_room(scene)
+                    scene.empty_out()
+                    same("what is printed once there is room", scene.run(*words), whole)
+                same_files(scene.files(), files)
+            if got.status == 0:
+                break
+        # a page for each file, or a file, and the folder's own
+        same("whether there were too small ones", size > len(files), True)
+    return body
+
+
+def run(suite: Suite) -> None:
+    for command in model.WRITING:
+        suite.case(f"a disk of each size, {command}", each_size(command, "pages"))
+        suite.case(f"a disk of each number of files, {command}", each_size(command, "files"))
