@@ -20,6 +20,9 @@ MISTAKES = {
     "a depth of nothing": ("render", LIST, MEDIA, OUT, "--depth"),
     "a depth twice": ("render", LIST, MEDIA, OUT, "--depth", "16", "--depth", "16"),
     "an order of a consolidation": ("consolidate", LIST, MEDIA, OUT, "--order", "time"),
+    "an output of a picture": ("show", LIST, MEDIA, OUT),
+    "a picture with a handle of more than a day": ("show", LIST, MEDIA, "--handle", "4147200001"),
+    "a report of a rendering": ("render", LIST, MEDIA, OUT, "--report"),
     "an order by name": ("render", LIST, MEDIA, OUT, "--order", "name"),
     "an order in capitals": ("render", LIST, MEDIA, OUT, "--order", "TIME"),
     "no channels": ("render", LIST, MEDIA, OUT, "--channels", "0"),
@@ -45,8 +48,8 @@ MISTAKES = {
 }
 
 SHOWN = (
-    ("--help",), ("-h",), ("check", "--help"), ("render", "--help"), ("consolidate", "--help"), ("explain", "--help"),
-    ("--version",), ("-V",), ("help",), ("help", "render"))
+    ("--help",), ("-h",), ("check", "--help"), ("render", "--help"), ("consolidate", "--help"), ("show", "--help"),
+    ("explain", "--help"), ("--version",), ("-V",), ("help",), ("help", "render"))
 
 
 def prepared(scene: Scene) -> None:
@@ -77,7 +80,7 @@ def shown(scene: Scene) -> None:
         same(f"status and standard error of {words}", (got.status, got.error), (0, b""))
         if not got.output.strip() or max(map(len, got.output.splitlines())) > 80:
             raise Mismatch(f"{words} prints {got.output!r}")
-    for words in SHOWN[2:6]:
+    for words in SHOWN[2:7]:
         if b"Example" not in scene.run(*words).output:
             raise Mismatch(f"{words} shows no example")
 
@@ -90,6 +93,7 @@ Commands:
   check        Check a list and the files that it uses, and write nothing
   consolidate  Write new media of just the frames that a list plays, and a list
   render       Render a list to one sound file, OUT/render.wav
+  show         Draw a list as SVG: entries over time, and what of files is kept
   explain      Tell what the number of a refusal or notice means, and what to do
   help         Print this message or the help of the given subcommand(s)
 
@@ -112,8 +116,9 @@ Arguments:
   <MEDIA>  The folder of the list's WAVE files
 
 Options:
-      --all   List every fault of a refused list
-  -h, --help  Print help
+      --all     List every fault of a refused list
+      --report  Print all that is found as JSON
+  -h, --help    Print help
 
 Example: adlcons check session.adl sources
 """

@@ -1,13 +1,15 @@
 -- What is said of a request is said of an equal one.
 use Rattle.std.proofs.Common.{◌≡◌, ℕ, Some, refl, subst}
 use Rattle.clap.specs.Walk.{Text}
-use Rattle.commandline.specs.CommandLine.{Asked, Check, Chosen, Render, Consolidate, Explain, ExplainNotice}
+use Rattle.commandline.specs.CommandLine.{Asked, Check, Report, Chosen, Render, Consolidate, Show, Explain, ExplainNotice}
 
 -- of a rendering
 abbrev OfRender : (Text → Text → Text → Chosen → Type 0) → Asked → Type 0
 OfRender P (Check list media) = Unit {0}
+OfRender P (Report list media) = Unit {0}
 OfRender P (Render list media out chosen) = P list media out chosen
 OfRender P (Consolidate list media out handle) = Unit {0}
+OfRender P (Show list media handle) = Unit {0}
 OfRender P (Explain number) = Unit {0}
 OfRender P (ExplainNotice number) = Unit {0}
 
@@ -31,8 +33,10 @@ render_fields list media out chosen list' media' out' chosen' same =
 -- of a consolidation
 abbrev OfConsolidate : (Text → Text → Text → ℕ → Type 0) → Asked → Type 0
 OfConsolidate P (Check list media) = Unit {0}
+OfConsolidate P (Report list media) = Unit {0}
 OfConsolidate P (Render list media out chosen) = Unit {0}
 OfConsolidate P (Consolidate list media out handle) = P list media out handle
+OfConsolidate P (Show list media handle) = Unit {0}
 OfConsolidate P (Explain number) = Unit {0}
 OfConsolidate P (ExplainNotice number) = Unit {0}
 

@@ -12,7 +12,7 @@ use Rattle.consolidate.specs.Fault.{refusal_of}
 use Rattle.consolidate.specs.declared.Fault.{Fault}
 use Rattle.consolidate.specs.declared.Rendered.{Rendered}
 use Rattle.consolidate.specs.declared.Written.{Written}
-use Rattle.commandline.specs.CommandLine.{Asked, Chosen, Check, Render, Consolidate, Explain, ExplainNotice}
+use Rattle.commandline.specs.CommandLine.{Asked, Chosen, Check, Report, Render, Consolidate, Show, Explain, ExplainNotice}
 use Rattle.console.specs.declared.console.Console as console
 use Rattle.console.specs.Lines.{accepted_text, notices_text, refusal_text, rendered_text, written_text}
 use Rattle.console.specs.Printing.{Prints}
@@ -81,7 +81,9 @@ pub record RendersBy {S B : Type 0} (shelf : source.Ghosts S) (bench : output.Gh
 -- what is asked for can't be done: a time that can't be read, or a number that nothing has
 abbrev pub MayBeMistaken : ℕ → Asked → Type 0
 MayBeMistaken rate (Check list media) = ⊥
+MayBeMistaken rate (Report list media) = ⊥
 MayBeMistaken rate (Render list media out chosen) = IsErr (values_of rate chosen)
 MayBeMistaken rate (Consolidate list media out handle) = ⊥
+MayBeMistaken rate (Show list media handle) = ⊥
 MayBeMistaken rate (Explain number) = ⊤
 MayBeMistaken rate (ExplainNotice number) = ⊤

@@ -1,5 +1,5 @@
 -- Why a command doesn't come to its stores, and what it is to come to them.
-use Rattle.std.specs.Prelude.{◌≡◌, ℕ, true, false, List, Result}
+use Rattle.std.specs.Prelude.{◌≡◌, ℕ, IsTrue, true, false, List, Result}
 use Rattle.work_terms.specs.Refusals.{Refusal, Where, Nowhere, File}
 use Rattle.shelf.specs.declared.source.Shelf as source
 use Rattle.stores.specs.Folder.{OutputFolder, SourceFolder, folder_named}
@@ -7,6 +7,7 @@ use Rattle.stores.specs.declared.Overwrite.TheVariants as overwrite
 use Rattle.consolidate.specs.declared.Fault.{Fault}
 use Rattle.console.specs.declared.console.Console as console
 use Rattle.adlcons.specs.Answers.{IsAnswered, IsChecked, Tells, accepted_lines, refusal_line}
+use Rattle.checkreport.specs.Reported.{IsReported}
 use Rattle.adlcons.specs.declared.folders.OpenFault.{OpenFault}
 use Rattle.adlcons.specs.declared.folders.OpenFault.TheVariants as opened
 use Rattle.adlcons.specs.declared.reading.ReadFault.{ReadFault}
@@ -44,6 +45,14 @@ pub record ChecksFolder {O : Type 0} (shelf : source.Ghosts SourceFolder) (out :
   pub after : SourceFolder
   pub folder : before.folder ≡ folder_named media
   pub answered : IsAnswered (IsChecked shelf list before after) accepted_lines out old new status
+
+-- a list was checked over the files of this folder, and its report printed
+pub record ReportsFolder {O : Type 0} (shelf : source.Ghosts SourceFolder) (out : console.Ghosts O)
+    (media : List ℕ) (old new : O) (status : ℕ) : Type 0 where
+  pub list : List ℕ
+  pub before : SourceFolder
+  pub folder : before.folder ≡ folder_named media
+  pub reported : IsTrue (shelf.honest before) → IsReported list (shelf.stored before) out old new status
 
 -- a command was called over a list, the files of one folder, and another folder in which it replaces nothing
 pub record WorksInFolders {X O : Type 0}

@@ -1,5 +1,5 @@
 // The program's answer to a request.
-ghost use Rattle.std.specs.Prelude.{◌≡◌, ◌≢◌, ◌≤◌, ℕ, Err, Ok, Option, false};
+ghost use Rattle.std.specs.Prelude.{◌≡◌, ◌≢◌, ◌≤◌, ℕ, Err, IsTrue, Ok, Option, false};
 ghost use Rattle.clap.specs.Walk.{Text};
 ghost use Rattle.clap.specs.Words.{kind_of};
 ghost use Rattle.consolidate.specs.Commands.{IsConsolidation, IsRendering};
@@ -16,11 +16,14 @@ ghost use Rattle.console.specs.Printing.{Prints};
 ghost use Rattle.list_terms.specs.Text.{rate_of as rate_at};
 ghost use Rattle.adlcons.specs.Answers.{IsAnswered, IsChecked, MayBeMistaken, RendersBy, accepted_lines, refusal_line, rendered_lines, written_lines};
 ghost use Rattle.adlcons.specs.BadTime.{name_of};
+ghost use Rattle.checkreport.specs.Reported.{IsReported};
 ghost use Rattle.adlcons.specs.Times.{bad_time_line, values_of};
 
 use crate::also::tell_further;
 use crate::asides::Asides;
+use crate::check_report::answer_report;
 use crate::chosen::{BadTime, options_of, tell_bad_time};
+use crate::drawing::answer_picture;
 use crate::meter::Meter;
 use crate::refusal::put_fault;
 use crate::report::{tell_changed, tell_done, tell_meanings};
@@ -66,6 +69,8 @@ pub fn answer<S: Shelf + Reasons, B: Bench + Reasons, O: Console, E: Console, M:
     // A command was called over the list, and its answer is printed.
     ensures checked { (place media : Text) → asked_of request.entry ≡ asked.Check place media
         → IsAnswered (IsChecked S.Shelf list.now shelf.old shelf.new) accepted_lines O.Console out.old out.new result }
+    ensures reported { (place media : Text) → asked_of request.entry ≡ asked.Report place media
+        → IsTrue (S.honest shelf.old) → IsReported list.now (S.stored shelf.old) O.Console out.old out.new result }
     ensures rendered { (place media target : Text) (chosen : asked.Chosen)
         → asked_of request.entry ≡ asked.Render place media target chosen → result ≢ 2
         → IsAnswered (RendersBy S.Shelf B.Bench chosen list.now shelf.old shelf.new bench.old bench.new)
@@ -95,9 +100,14 @@ pub fn answer<S: Shelf + Reasons, B: Bench + Reasons, O: Console, E: Console, M:
     ensures two { result ≡ 2 → (shelf.new ≡ shelf.old) × (bench.new ≡ bench.old) × (out.new ≡ out.old) }
     ensures check_writes_nothing { (place media : Text) → asked_of request.entry ≡ asked.Check place media
         → bench.new ≡ bench.old }
+    ensures report_writes_nothing { (place media : Text) → asked_of request.entry ≡ asked.Report place media
+        → bench.new ≡ bench.old }
+    ensures picture_writes_nothing { (place media : Text) (handle : ℕ)
+        → asked_of request.entry ≡ asked.Show place media handle → bench.new ≡ bench.old }
 {
     match request {
         Request::Check(_, _) => answer_check(alloc, list, shelf, out, err, asides),
+        Request::Report(_, _) => answer_report(alloc, list, shelf, out, err),
         Request::Render(_, chosen) => match options_of(chosen, rate_of(list)) {
             Ok(options) => answer_render(
                 alloc, list, &options, shelf, bench, out, err, meter, asides,
@@ -108,6 +118,9 @@ pub fn answer<S: Shelf + Reasons, B: Bench + Reasons, O: Console, E: Console, M:
             answer_consolidate(
                 alloc, list, handle, passes, shelf, bench, out, err, meter, asides,
             )
+        }
+        Request::Show(name, _, handle) => {
+            answer_picture(alloc, name, list, handle, shelf, out, err)
         }
         Request::Explain(number) => explain(number, out, err),
         Request::ExplainNotice(number) => explain_notice(number, out, err),

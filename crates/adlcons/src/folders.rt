@@ -8,11 +8,12 @@ ghost use Rattle.commandline.specs.Request.{asked_of};
 ghost use Rattle.console.specs.Places.{where_of};
 ghost use Rattle.sound_terms.specs.Passes.{standard_groups};
 ghost use Rattle.adlcons.specs.Answers.{RendersBy, rendered_lines, written_lines};
-ghost use Rattle.adlcons.specs.Openings.{ChecksFolder, IsKeptOut, WorksInFolders, refusal_of_opening};
+ghost use Rattle.adlcons.specs.Openings.{ChecksFolder, IsKeptOut, ReportsFolder, WorksInFolders, refusal_of_opening};
 
 use crate::also::tell_further;
 use crate::answer::{MISTAKE, REFUSED, answer, answer_error, explain, explain_notice};
 use crate::asides::{FolderAsides, listed};
+use crate::looks::{report_folder, show_folder};
 use crate::meter::Meter;
 use crate::reading::{ReadFault, read_list};
 use crate::standard::answer_standard;
@@ -96,6 +97,9 @@ where
     ensures checked { (list media : Text) → request_of (texts words.now) ≡ Some (asked.Check list media) → result ≢ 2
         → IsKeptOut O.Console list (codes "") out.old out.new result
         ⊎ ChecksFolder ⟦<FolderShelf<R> as shelf::Shelf>⟧ O.Console media out.old out.new result }
+    ensures reported { (list media : Text) → request_of (texts words.now) ≡ Some (asked.Report list media) → result ≢ 2
+        → IsKeptOut O.Console list (codes "") out.old out.new result
+        ⊎ ReportsFolder ⟦<FolderShelf<R> as shelf::Shelf>⟧ O.Console media out.old out.new result }
     ensures rendered { (list media target : Text) (chosen : asked.Chosen)
         → request_of (texts words.now) ≡ Some (asked.Render list media target chosen) → result ≢ 2
         → IsKeptOut O.Console list target out.old out.new result
@@ -122,6 +126,8 @@ where
         Request::Explain(number) => explain(number, out, err),
         Request::ExplainNotice(number) => explain_notice(number, out, err),
         Request::Check(list, media) => check_folder(rt, list, media, all, out, err, meter),
+        Request::Report(list, media) => report_folder(rt, list, media, all, out, err),
+        Request::Show(list, media, handle) => show_folder(rt, list, media, handle, all, out, err),
         Request::Render(places, chosen) => {
             let request = Request::Render(places, chosen);
             work_in_folders(rt, request, places, all, out, err, meter)
@@ -135,7 +141,7 @@ where
 
 /// The status of a command over this list that writes to this folder and doesn't come to its stores. Why is printed,
 /// and what lies in the folder.
-fn keep_out<O: Console, E: Console>(
+pub fn keep_out<O: Console, E: Console>(
     fault: OpenFault,
     list: &str,
     folder: &str,
@@ -315,7 +321,7 @@ where
 }
 
 /// Tells all that is at fault in a list over the folder of its media behind its first fault, if it has one.
-fn tell_all_further<R, E: Console>(rt: &R, list: &[u8], media: &str, err: &mut E)
+pub fn tell_all_further<R, E: Console>(rt: &R, list: &[u8], media: &str, err: &mut E)
 where
     R: Files + Input + AllocGlobal + Clone + Drop,
     R::File: FileExt,
@@ -332,7 +338,7 @@ where
 }
 
 /// Why a folder of media can't be listed, if it can't. It is as an empty one then.
-fn unlisted_reason<R: Files + AllocGlobal + Clone + Drop>(
+pub fn unlisted_reason<R: Files + AllocGlobal + Clone + Drop>(
     rt: &R,
     media: &str,
 ) -> Option<io::Error> {
@@ -343,7 +349,7 @@ fn unlisted_reason<R: Files + AllocGlobal + Clone + Drop>(
 }
 
 /// Tells why a folder of media can't be listed, if it can't.
-fn tell_unlisted<E: Console>(media: &str, reason: Option<io::Error>, err: &mut E) {
+pub fn tell_unlisted<E: Console>(media: &str, reason: Option<io::Error>, err: &mut E) {
     if let Some(reason) = reason {
         err.print_line(format_args!("the folder {media} can't be read: {reason}"));
     }

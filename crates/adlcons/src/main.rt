@@ -5,9 +5,12 @@
 mod also;
 mod answer;
 mod asides;
+mod check_report;
 mod chosen;
+mod drawing;
 mod example;
 mod folders;
+mod looks;
 mod meter;
 mod reading;
 mod refusal;

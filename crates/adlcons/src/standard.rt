@@ -60,7 +60,9 @@ pub fn answer_standard<
             ))
         }
         Request::Check(_, _)
+        | Request::Report(_, _)
         | Request::Render(_, _)
+        | Request::Show(_, _, _)
         | Request::Explain(_)
         | Request::ExplainNotice(_) => Ok(answer(
             alloc,

@@ -1,6 +1,6 @@
 -- How clap's words on a parse lead to what the words ask for.
 use Rattle.std.proofs.Common.{◌≡◌, ◌∙◌, ◌⊎◌, ℕ, inl, inr, Bool, true, false, ◌||◌, List, [], ◌∷◌, Option, None, Some, refl, ap, sym, subst, codes}
-use Rattle.std.specs.Prelude.{option_and_then}
+use Rattle.std.specs.Prelude.{option_and_then, option_map, if◌then◌else◌}
 use Rattle.std.specs.List.{list_any}
 use Rattle.std.specs.Option.{option_map_or}
 use Rattle.std.specs.Str.{bytes_eq}
@@ -12,7 +12,7 @@ use Rattle.clap.specs.declared.error.ErrorKind.TheVariants as kind
 use Rattle.clap.proofs.OnLiterals.{clap_on_literals}
 use Rattle.clap.proofs.WalkLemmas.{first_value-rows}
 use Rattle.job_terms.specs.declared.Order.{Order}
-use Rattle.commandline.specs.CommandLine.{Asked, Check, explained, adlcons_app, channels_in, chosen_of, depth_in, handle_of, number_in, order_in, ordered_by, asked, asked_over, asked_to, asks_for_help, is_all, is_set, is_shown, named_by, request_of, tells_all, unless_faulty, words_fault}
+use Rattle.commandline.specs.CommandLine.{Asked, Check, Report, Show, explained, adlcons_app, channels_in, chosen_of, depth_in, handle_of, number_in, order_in, ordered_by, asked, asked_over, asked_to, asks_for_help, is_all, is_set, is_shown, named_by, request_of, tells_all, unless_faulty, words_fault}
 
 is_simple-here : is_simple adlcons_app ≡ true
 unfolding clap_on_literals
@@ -56,34 +56,55 @@ pub asked-without_media : (name list : Text) (found : Found) → Some list ≡ f
 asked-without_media name list found one missing =
     rw (row_of_value found (codes "LIST") (Some list) one, row_of_value found (codes "MEDIA") None missing) refl
 
-pub asked-check : (name list media : Text) (found : Found) → bytes_eq name (codes "check") ≡ true
-    → Some list ≡ first_value found (codes "LIST")
-    → Some media ≡ first_value found (codes "MEDIA") → asked_over name (rows_of found) ≡ Some (Check list media)
-asked-check name list media found named one two =
-    rw (row_of_value found (codes "LIST") (Some list) one, row_of_value found (codes "MEDIA") (Some media) two, named)
-    refl
+pub asked-check : (name list media : Text) (found : Found) (request : Asked) → bytes_eq name (codes "check") ≡ true
+    → Some list ≡ first_value found (codes "LIST") → Some media ≡ first_value found (codes "MEDIA")
+    → request ≡ (if is_set (codes "report") (rows_of found) then Report list media else Check list media)
+    → asked_over name (rows_of found) ≡ Some request
+asked-check name list media found request named one two is =
+    rw (
+      row_of_value found (codes "LIST") (Some list) one,
+      row_of_value found (codes "MEDIA") (Some media) two,
+      named,
+      is,
+    ) refl
 
-pub asked-without_out : (name list media : Text) (found : Found) → bytes_eq name (codes "check") ≡ false
-    → Some list ≡ first_value found (codes "LIST")
-    → Some media ≡ first_value found (codes "MEDIA") → None ≡ first_value found (codes "OUT")
-    → asked_over name (rows_of found) ≡ None
-asked-without_out name list media found other one two missing =
+pub asked-show : (name list media : Text) (found : Found) → bytes_eq name (codes "check") ≡ false
+    → bytes_eq name (codes "show") ≡ true
+    → Some list ≡ first_value found (codes "LIST") → Some media ≡ first_value found (codes "MEDIA")
+    → asked_over name (rows_of found) ≡ option_map (λ handle. Show list media handle) (handle_of (rows_of found))
+asked-show name list media found other named one two =
     rw (
       row_of_value found (codes "LIST") (Some list) one,
       row_of_value found (codes "MEDIA") (Some media) two,
       other,
+      named,
+    ) refl
+
+pub asked-without_out : (name list media : Text) (found : Found) → bytes_eq name (codes "check") ≡ false
+    → bytes_eq name (codes "show") ≡ false
+    → Some list ≡ first_value found (codes "LIST")
+    → Some media ≡ first_value found (codes "MEDIA") → None ≡ first_value found (codes "OUT")
+    → asked_over name (rows_of found) ≡ None
+asked-without_out name list media found other another one two missing =
+    rw (
+      row_of_value found (codes "LIST") (Some list) one,
+      row_of_value found (codes "MEDIA") (Some media) two,
+      other,
+      another,
       row_of_value found (codes "OUT") None missing,
     ) refl
 
 pub asked-all : (name list media out : Text) (found : Found) → bytes_eq name (codes "check") ≡ false
+    → bytes_eq name (codes "show") ≡ false
     → Some list ≡ first_value found (codes "LIST")
     → Some media ≡ first_value found (codes "MEDIA") → Some out ≡ first_value found (codes "OUT")
     → asked_over name (rows_of found) ≡ asked_to name list media out (rows_of found)
-asked-all name list media out found other one two three =
+asked-all name list media out found other another one two three =
     rw (
       row_of_value found (codes "LIST") (Some list) one,
       row_of_value found (codes "MEDIA") (Some media) two,
       other,
+      another,
       row_of_value found (codes "OUT") (Some out) three,
     ) refl
 

@@ -35,7 +35,10 @@ over_media name =
     with_rule places (flag_rule (codes "all"))
 
 abbrev pub check_shape : Shape
-check_shape = (over_media (codes "check")).top
+check_shape = (with_rule (over_media (codes "check")) (flag_rule (codes "report"))).top
+
+abbrev pub show_shape : Shape
+show_shape = (with_rule (over_media (codes "show")) (default_rule (codes "handle") (codes "48000"))).top
 
 -- and over the folder that is written to
 abbrev pub over_folders : Text → App
@@ -68,12 +71,12 @@ abbrev pub explain_shape : Shape
 explain_shape =
     (with_rule (with_rule (new_app (codes "explain")) (new_rule (codes "WHAT"))) (new_rule (codes "NUMBER"))).top
 
--- the four commands; clap adds `help`
+-- the five commands; clap adds `help`
 abbrev pub adlcons_app : App
 adlcons_app =
     let checking = with_subcommand top_app check_shape in
     let writing = with_subcommand (with_subcommand checking consolidate_shape) render_shape in
-    with_subcommand writing explain_shape
+    with_subcommand (with_subcommand writing show_shape) explain_shape
 
 -- what is chosen of a rendering: times by their texts, a number of channels, the bits of a sample, the order of jobs
 pub record Chosen : Type 0 where
@@ -84,11 +87,13 @@ pub record Chosen : Type 0 where
   pub order : Order
 
 -- What the program is asked for: a command with its list, the folder of its media, and the folder that is written to;
--- or what the number of a refusal or of a notice means, or all of them.
+-- a report of a check, or a picture; or what the number of a refusal or of a notice means, or all of them.
 pub data Asked : Type 0 where
   Check : (list media : Text) → Asked
+  Report : (list media : Text) → Asked
   Render : (list media out : Text) → (chosen : Chosen) → Asked
   Consolidate : (list media out : Text) → (handle : ℕ) → Asked
+  Show : (list media : Text) → (handle : ℕ) → Asked
   Explain : (number : Option Text) → Asked
   ExplainNotice : (number : Option Text) → Asked
 
@@ -159,7 +164,9 @@ asked_to name list media out rows =
 -- the command of this name over a list and its media
 abbrev pub asked_by : Text → (list media : Text) → List Row → Option Asked
 asked_by name list media rows =
-    if bytes_eq name (codes "check") then Some (Check list media)
+    if bytes_eq name (codes "check")
+    then Some (if is_set (codes "report") rows then Report list media else Check list media)
+    else if bytes_eq name (codes "show") then option_map (λ handle. Show list media handle) (handle_of rows)
     else option_and_then (λ out. asked_to name list media out rows) (first_of (codes "OUT") rows)
 
 abbrev pub asked_over : Text → List Row → Option Asked

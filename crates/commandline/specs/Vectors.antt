@@ -3,7 +3,7 @@ use Rattle.std.specs.Prelude.{◌≡◌, [], ◌∷◌, None, Some, refl, codes,
 use Rattle.clap.specs.declared.error.ErrorKind.TheVariants.{DisplayHelp, DisplayHelpOnMissingArgumentOrSubcommand, DisplayVersion, InvalidSubcommand, MissingRequiredArgument, TooManyValues, UnknownArgument}
 use Rattle.clap.proofs.OnLiterals.{clap_on_literals}
 use Rattle.job_terms.specs.declared.Order.TheVariants.{ByTime, BySource}
-use Rattle.commandline.specs.CommandLine.{Check, Chosen, Render, Consolidate, Explain, ExplainNotice, asks_for_help, named_by, request_of, tells_all, words_fault}
+use Rattle.commandline.specs.CommandLine.{Check, Chosen, Render, Report, Consolidate, Show, Explain, ExplainNotice, asks_for_help, named_by, request_of, tells_all, words_fault}
 
 -- ---- good words
 
@@ -122,7 +122,21 @@ explains_all : request_of (codes "explain" ∷ []) ≡ Some (Explain None)
 unfolding words_fault named_by clap_on_literals
 explains_all = refl
 
+reports : request_of (codes "check" ∷ codes "L.adl" ∷ codes "M" ∷ codes "--report" ∷ [])
+    ≡ Some (Report (codes "L.adl") (codes "M"))
+unfolding words_fault named_by clap_on_literals
+reports = refl
+
+shows : request_of (codes "show" ∷ codes "L.adl" ∷ codes "M" ∷ []) ≡ Some (Show (codes "L.adl") (codes "M") 48000)
+unfolding words_fault named_by clap_on_literals
+shows = refl
+
 -- ---- mistakes
+
+report_of_rendering : words_fault (codes "render" ∷ codes "L" ∷ codes "M" ∷ codes "O" ∷ codes "--report" ∷ [])
+    ≡ UnknownArgument ∷ []
+unfolding words_fault clap_on_literals
+report_of_rendering = refl
 
 too_few : words_fault (codes "render" ∷ codes "L.adl" ∷ codes "M" ∷ []) ≡ MissingRequiredArgument ∷ []
 unfolding words_fault clap_on_literals

@@ -2,13 +2,13 @@
 ghost use Rattle.std.specs.Prelude.{◌≡◌, IfOk, false};
 ghost use Rattle.clap.specs.Words.{app_of, new_rule, rule_of, shape_of, with_rule};
 ghost use Rattle.clap.specs.declared.Command.TheViews.{out-Command as fields_of};
-ghost use Rattle.commandline.specs.CommandLine.{adlcons_app, check_shape, consolidate_shape, default_rule, explain_shape, flag_rule, option_rule, over_folders, over_media, place_rule, render_shape, top_app};
+ghost use Rattle.commandline.specs.CommandLine.{adlcons_app, check_shape, consolidate_shape, default_rule, explain_shape, flag_rule, option_rule, over_folders, over_media, place_rule, render_shape, show_shape, top_app};
 
 use clap::{Arg, ArgAction, Command};
 use std::alloc::{AllocError, Global};
 
-/// The program's command line: `check`, `consolidate` and `render`, each over a list and its media, and `explain`. It
-/// reads the words behind the program's name.
+/// The program's command line: `check`, `consolidate`, `render` and `show`, each over a list and its media, and
+/// `explain`. It reads the words behind the program's name.
 pub fn command<'a>(alloc: Global) -> Result<Command<'a>, AllocError>
     ensures { IfOk result (λ command. app_of command ≡ adlcons_app) }
 {
@@ -16,6 +16,7 @@ pub fn command<'a>(alloc: Global) -> Result<Command<'a>, AllocError>
         .subcommand(check_command(alloc)?)?
         .subcommand(consolidate_command(alloc)?)?
         .subcommand(render_command(alloc)?)?
+        .subcommand(show_command(alloc)?)?
         .subcommand(explain_command(alloc)?)
 }
 
@@ -45,12 +46,29 @@ fn check_command<'a>(alloc: Global) -> Result<Command<'a>, AllocError>
     ensures shape { IfOk result (λ command. shape_of command ≡ check_shape) }
     ensures local { IfOk result (λ command. (fields_of command).has_globals ≡ false) }
 {
-    over_media(
+    let command = over_media(
         alloc,
         "check",
         "Check a list and the files that it uses, and write nothing",
         "Example: adlcons check session.adl sources",
-    )
+    )?;
+    let report = "Print all that is found as JSON";
+    with_flag(alloc, command, "report", report)
+}
+
+/// The command that draws a list.
+fn show_command<'a>(alloc: Global) -> Result<Command<'a>, AllocError>
+    ensures shape { IfOk result (λ command. shape_of command ≡ show_shape) }
+    ensures local { IfOk result (λ command. (fields_of command).has_globals ≡ false) }
+{
+    let command = over_media(
+        alloc,
+        "show",
+        "Draw a list as SVG: entries over time, and what of files is kept",
+        "Example: adlcons show session.adl sources > session.svg",
+    )?;
+    let help = "Frames kept on each side of what plays";
+    with_default(alloc, command, "handle", "N", "48000", help)
 }
 
 /// The command that consolidates a list.

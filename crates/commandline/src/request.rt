@@ -1,5 +1,5 @@
 // What the program's words ask for.
-ghost use Rattle.std.specs.Prelude.{◌≡◌, ◌≤◌, ◌⊎◌, Some, None, true, false, IfOk, IfErr, IfSome, option_and_then, option_map};
+ghost use Rattle.std.specs.Prelude.{◌≡◌, ◌≤◌, ◌⊎◌, codes, if◌then◌else◌, Some, None, true, false, IfOk, IfErr, IfSome, option_and_then, option_map};
 ghost use Rattle.std.specs.Option.{option_map_or};
 ghost use Rattle.clap.specs.Words.{found_of, kind_of, rows_of, subcommand_rows_of};
 ghost use Rattle.clap.specs.Walk.{texts};
@@ -33,10 +33,14 @@ pub struct Places<'a> {
 pub enum Request<'a> {
     /// Checks the list over the folder of its media.
     Check(&'a str, &'a str),
+    /// Checks the list over the folder of its media, and tells all of it to a script.
+    Report(&'a str, &'a str),
     /// Renders the list to one sound file.
     Render(Places<'a>, Chosen<'a>),
     /// Writes a list over new media, with handles of so many frames.
     Consolidate(Places<'a>, u64),
+    /// Draws the list over the folder of its media, with handles of so many frames.
+    Show(&'a str, &'a str, u64),
     /// Tells what the number of a refusal means, or what all of them mean.
     Explain(Option<&'a str>),
     /// Tells what the number of a notice means, or what all of them mean.
@@ -75,7 +79,7 @@ pub fn parse<'a>(alloc: Global, words: &'a [&'a str]) -> Result<Parsed<'a>, Erro
 /// What is told of words that clap takes and that ask for nothing.
 fn mistake_of(matches: &ArgMatches<'_>) -> &'static str {
     match matches.subcommand() {
-        Some(("consolidate", _)) => "a handle is 0 to 4147200000 frames",
+        Some(("consolidate" | "show", _)) => "a handle is 0 to 4147200000 frames",
         Some(("render", words)) => mistake_of_rendering(words),
         _ => "one number can be explained, and behind the word notice that of a notice",
     }
@@ -156,10 +160,35 @@ fn request_over<'a>(name: &str, words: &ArgMatches<'a>) -> Option<Request<'a>>
     let list = words.get_str("LIST")?;
     let media = words.get_str("MEDIA")?;
     if name == "check" {
-        return Some(Request::Check(list, media));
+        return Some(checked(list, media, words));
+    }
+    if name == "show" {
+        return shown(list, media, words);
     }
     let out = words.get_str("OUT")?;
     request_to(name, Places { list, media, out }, words)
+}
+
+/// A check of this list over this folder, or its report.
+fn checked<'a>(list: &'a str, media: &'a str, words: &ArgMatches<'_>) -> Request<'a>
+    ensures { asked_of result ≡ (if line.is_set (codes "report") (rows_of (found_of words.now))
+        then line.Report list.entry.now media.entry.now else line.Check list.entry.now media.entry.now) }
+{
+    if is_set("report", words) {
+        Request::Report(list, media)
+    } else {
+        Request::Check(list, media)
+    }
+}
+
+/// A picture of this list over this folder, with the handle that the words choose.
+fn shown<'a>(list: &'a str, media: &'a str, words: &ArgMatches<'_>) -> Option<Request<'a>>
+    ensures { option_map asked_of result
+        ≡ option_map (λ handle. line.Show list.entry.now media.entry.now handle)
+        (line.handle_of (rows_of (found_of words.now))) }
+{
+    let handle = handle_in(words)?;
+    Some(Request::Show(list, media, handle))
 }
 
 /// What the command of this name asks for over places that it writes to.

@@ -20,6 +20,7 @@ pub struct Picture<'a> {
     name: &'a str,
     played: Vec<Run>,
     kept: Vec<Run>,
+    handle: u64,
 }
 
 impl<'a> Picture<'a> {
@@ -43,6 +44,7 @@ impl<'a> Picture<'a> {
             name,
             played,
             kept,
+            handle,
         })
     }
 
@@ -81,6 +83,7 @@ impl fmt::Display for Picture<'_> {
             sounds: self.checked.bound().sounds(),
             played: self.played.as_slice(),
             kept: self.kept.as_slice(),
+            handle: self.handle,
             top: timeline.bottom(),
         };
         let height = bars.bottom().saturating_add(10);

@@ -10,12 +10,13 @@ const ROW: u64 = 40;
 
 const BAR: u64 = 16;
 
-/// The files, with the runs of frames that the entries play, and of those that a handle keeps.
+/// The files, with the runs of frames that the entries play, and of those that a handle of so many frames keeps.
 #[derive(Clone, Copy)]
 pub struct SourceBars<'a> {
     pub sounds: &'a [Sound],
     pub played: &'a [Run],
     pub kept: &'a [Run],
+    pub handle: u64,
     pub top: u64,
 }
 
@@ -71,12 +72,16 @@ impl SourceBars<'_> {
         )?;
         writeln!(
             f,
-            "<rect x='500' y='{box_top}' width='24' height='12' fill='#fff'/>"
+            "<rect x='660' y='{box_top}' width='24' height='12' fill='#fff'/>"
         )?;
         writeln!(f, "</g>")?;
         writeln!(f, "<text x='250' y='{text}'>played</text>")?;
-        writeln!(f, "<text x='360' y='{text}'>kept by the handle</text>")?;
-        writeln!(f, "<text x='530' y='{text}'>dropped</text>")
+        let handle = self.handle;
+        writeln!(
+            f,
+            "<text x='360' y='{text}'>kept by a handle of {handle} frames</text>"
+        )?;
+        writeln!(f, "<text x='690' y='{text}'>dropped</text>")
     }
 
     /// Writes the words and the bar of a file.

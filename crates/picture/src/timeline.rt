@@ -9,12 +9,24 @@ use std::fmt;
 /// Where the lanes begin, how high one is, and how high an entry is in it, in pixels.
 const TOP: u64 = 58;
 
-const LANE: u64 = 30;
+const LANE: u64 = 48;
 
-const HIGH: u64 = 26;
+const HIGH: u64 = 44;
 
-/// An entry at least so wide has its number in it, in tenths of a pixel.
+/// An entry at least so wide has its number in it, in tenths of a pixel, and one that has so many more for each byte of
+/// its file's name has that too.
 const NUMBERED: u64 = 260;
+
+const LETTER: u64 = 75;
+
+/// In so many rows of a lane such words stand, one so many pixels below the other, so that those of entries which sound
+/// together don't lie over one another.
+const ROWS: u64 = 3;
+
+const ROW: u64 = 12;
+
+/// So many entries before one are looked at for those that sound together with it.
+const BEFORE: usize = 8;
 
 /// What the timeline shows: the samples from the first in to the last out, and the channels from the first to the last
 /// that an entry names.
@@ -68,7 +80,7 @@ impl<'a> Timeline<'a> {
             self.put_entry(f, event)?;
         }
         writeln!(f, "</g>")?;
-        self.put_numbers(f)
+        self.put_names(f)
     }
 
     /// Writes the name of each lane, and a line below it.
@@ -76,7 +88,7 @@ impl<'a> Timeline<'a> {
         let edge = LEFT - 8;
         let right = LEFT + DRAWN;
         for channel in self.channels.0..=self.channels.1 {
-            let text = self.lane(channel).saturating_add(18);
+            let text = self.lane(channel).saturating_add(26);
             let line = self.lane(channel).saturating_add(HIGH + 2);
             writeln!(
                 f,
@@ -131,21 +143,50 @@ impl<'a> Timeline<'a> {
         )
     }
 
-    /// Writes the number of each entry that is wide enough for it, over all shapes.
-    fn put_numbers<W: fmt::Write>(self, f: &mut fmt::Formatter<W>) -> fmt::Result {
-        let scale = Scale::new(self.span.0, self.span.1);
-        writeln!(f, "<g text-anchor='middle'>")?;
-        for event in self.checked.project().events() {
-            let Tenths(from) = scale.place(event.dest_in.get());
-            let Tenths(to) = scale.place(event.dest_out.get());
-            if to.saturating_sub(from) >= NUMBERED {
-                let at = Tenths(from.saturating_add(to.saturating_sub(from) / 2));
-                let line = self.lane(event.dest.first).saturating_add(18);
-                let number = event.number;
-                writeln!(f, "<text x='{at}' y='{line}'>{number}</text>")?;
-            }
+    /// Writes over all shapes what each entry is, with a white edge round the words.
+    fn put_names<W: fmt::Write>(self, f: &mut fmt::Formatter<W>) -> fmt::Result {
+        writeln!(
+            f,
+            "<g text-anchor='middle' stroke='#fff' stroke-width='3' paint-order='stroke'>"
+        )?;
+        let events = self.checked.project().events();
+        for (place, event) in events.iter().enumerate() {
+            let before = events
+                .get(place.saturating_sub(BEFORE)..place)
+                .unwrap_or(&[]);
+            self.put_name(f, event, row_of(event, before))?;
         }
         writeln!(f, "</g>")
+    }
+
+    /// Writes the number of an entry and the name of its file in this row of its first lane, as far as they have room.
+    fn put_name<W: fmt::Write>(
+        self,
+        f: &mut fmt::Formatter<W>,
+        event: &Event,
+        row: u64,
+    ) -> fmt::Result {
+        let scale = Scale::new(self.span.0, self.span.1);
+        let Tenths(from) = scale.place(event.dest_in.get());
+        let Tenths(to) = scale.place(event.dest_out.get());
+        let width = to.saturating_sub(from);
+        if width < NUMBERED {
+            return Ok(());
+        }
+        let at = Tenths(from.saturating_add(width / 2));
+        let line = self
+            .lane(event.dest.first)
+            .saturating_add(row.saturating_mul(ROW))
+            .saturating_add(ROW);
+        let number = event.number;
+        write!(f, "<text x='{at}' y='{line}'>{number}")?;
+        let name = self.name_of(event);
+        let letters = (name.len() as u64).saturating_mul(LETTER);
+        if letters.saturating_add(NUMBERED) <= width {
+            let name = Escaped(name);
+            write!(f, " {name}")?;
+        }
+        writeln!(f, "</text>")
     }
 
     /// The name of the file that an entry plays.
@@ -159,4 +200,25 @@ impl<'a> Timeline<'a> {
             None => "",
         }
     }
+}
+
+/// The row in which the words of an entry stand: the first one, or a next one for each of these entries that sounds
+/// together with it on its first channel.
+fn row_of(event: &Event, before: &[Event]) -> u64 {
+    let mut together: u64 = 0;
+    for other in before {
+        if sound_together(event, other) {
+            together = together.saturating_add(1);
+        }
+    }
+    together % ROWS
+}
+
+/// Whether another entry sounds on the first channel of an entry, at a time at which that does.
+fn sound_together(event: &Event, other: &Event) -> bool {
+    let channel = event.dest.first;
+    other.dest.first <= channel
+        && channel <= other.dest.last
+        && event.dest_in.get() < other.dest_out.get()
+        && other.dest_in.get() < event.dest_out.get()
 }

@@ -41,10 +41,16 @@ returns-in-Check g c = record {
   consolidated = λ place media target handle request. absurd (elim c.in-Check.is [
     | inl check ↦ let other = ap asked_of (sym check.2) ∙ request in cc
     | inr rest ↦ elim rest [
-      | inl render ↦ let other = ap asked_of (sym render.2) ∙ request in cc
+      | inl report ↦ let other = ap asked_of (sym report.2) ∙ request in cc
       | inr rest ↦ elim rest [
-        | inl explain ↦ let other = ap asked_of (sym explain.1) ∙ request in cc
-        | inr notice ↦ let other = ap asked_of (sym notice.1) ∙ request in cc
+        | inl render ↦ let other = ap asked_of (sym render.2) ∙ request in cc
+        | inr rest ↦ elim rest [
+          | inl show ↦ let other = ap asked_of (sym show.3) ∙ request in cc
+          | inr rest ↦ elim rest [
+            | inl explain ↦ let other = ap asked_of (sym explain.1) ∙ request in cc
+            | inr notice ↦ let other = ap asked_of (sym notice.1) ∙ request in cc
+          ]
+        ]
       ]
     ]
   ]);

@@ -1,0 +1,40 @@
+// The answer to a check whose report is asked for.
+ghost use Rattle.std.specs.Prelude.{◌≤◌, IsTrue};
+ghost use Rattle.checkreport.specs.Reported.{IsReported};
+
+use crate::report::tell_changed;
+use checkreport::{put_accepted, put_refused};
+use console::Console;
+use consolidate::Fault;
+use explanations::Explanation;
+use opening::open_project;
+use shelf::Shelf;
+use std::alloc::Global;
+use stores::Reasons;
+
+/// Checks the list, and prints all that came of it as JSON on `out`, by the form of `docs/REPORT.md`; where no memory was
+/// left for that, the refusal 18. A refusal of the list is explained on `err`. The status is 0 where the list is
+/// accepted and told, and else 1.
+pub fn answer_report<S: Shelf + Reasons, O: Console, E: Console>(
+    alloc: Global,
+    list: &[u8],
+    shelf: &mut S,
+    out: &mut O,
+    err: &mut E,
+) -> u8
+    ensures reported { IsTrue (S.honest shelf.old)
+        → IsReported list.now (S.stored shelf.old) O.Console out.old out.new result }
+    ensures statuses { result ≤ 1 }
+{
+    let outcome = open_project(alloc, list, shelf);
+    tell_changed(alloc, shelf, err);
+    match outcome {
+        Ok(checked) => put_accepted(alloc, &checked, out),
+        Err(fault) => {
+            let status = put_refused(alloc, list, shelf, &fault, out);
+            let fault = Fault::Project(fault);
+            err.print_line(Explanation::of(&fault, list, shelf.reason(), None));
+            status
+        }
+    }
+}

@@ -1,0 +1,111 @@
+// Reports and pictures of a list over the folder of its media.
+ghost use Rattle.std.specs.Prelude.{◌≡◌, ◌≤◌, ◌⊎◌, codes, IfOk, OnErr};
+ghost use Rattle.adlcons.specs.Openings.{IsKeptOut, ReportsFolder};
+
+use crate::answer::REFUSED;
+use crate::check_report::answer_report;
+use crate::drawing::answer_picture;
+use crate::folders::{OpenFault, keep_out, tell_all_further, tell_unlisted, unlisted_reason};
+use crate::reading::read_list;
+use console::Console;
+use std::fs::Files;
+use std::os::unix::fs::FileExt;
+use stores::FolderShelf;
+
+/// Prints the report of this list over this folder, and answers the status. All that is at fault may stand on `err`.
+pub fn report_folder<R, O: Console, E: Console>(
+    rt: &R,
+    list: &str,
+    media: &str,
+    tells_all: bool,
+    out: &mut O,
+    err: &mut E,
+) -> u8
+where
+    R: Files + Input + AllocGlobal + Clone + Drop,
+    R::File: FileExt,
+    ensures reported { IsKeptOut O.Console list.now (codes "") out.old out.new result
+        ⊎ ReportsFolder ⟦<FolderShelf<R> as shelf::Shelf>⟧ O.Console media.now out.old out.new result }
+    ensures statuses { result ≤ 1 }
+{
+    match try_report(rt, list, media, tells_all, out, err) {
+        Ok(status) => status,
+        Err(fault) => keep_out(fault, list, "", None, out, err),
+    }
+}
+
+/// Prints this report where the list and the folder can be opened.
+fn try_report<R, O: Console, E: Console>(
+    rt: &R,
+    list: &str,
+    media: &str,
+    tells_all: bool,
+    out: &mut O,
+    err: &mut E,
+) -> Result<u8, OpenFault>
+where
+    R: Files + Input + AllocGlobal + Clone + Drop,
+    R::File: FileExt,
+    ensures reported { IfOk result
+        (λ status. ReportsFolder ⟦<FolderShelf<R> as shelf::Shelf>⟧ O.Console media.now out.old out.new status) }
+    ensures statuses { IfOk result (λ status. status ≤ 1) }
+    ensures nothing { OnErr result (out.new ≡ out.old) }
+{
+    let list = read_list(rt, list)?;
+    let mut shelf = FolderShelf::new(rt.alloc(), rt.clone()?, media)?;
+    let unlisted = unlisted_reason(rt, media);
+    let status = answer_report(rt.alloc(), &list, &mut shelf, out, err);
+    if status == REFUSED && tells_all {
+        tell_all_further(rt, &list, media, err);
+    }
+    tell_unlisted(media, unlisted, err);
+    Ok(status)
+}
+
+/// Prints the picture of this list over this folder with handles of so many frames, and answers the status. All that
+/// is at fault may stand on `err`.
+pub fn show_folder<R, O: Console, E: Console>(
+    rt: &R,
+    list: &str,
+    media: &str,
+    handle: u64,
+    tells_all: bool,
+    out: &mut O,
+    err: &mut E,
+) -> u8
+where
+    R: Files + Input + AllocGlobal + Clone + Drop,
+    R::File: FileExt,
+    ensures { result ≤ 1 }
+{
+    match try_show(rt, list, media, handle, tells_all, out, err) {
+        Ok(status) => status,
+        Err(fault) => keep_out(fault, list, "", None, out, err),
+    }
+}
+
+/// Prints this picture where the list and the folder can be opened.
+fn try_show<R, O: Console, E: Console>(
+    rt: &R,
+    list: &str,
+    media: &str,
+    handle: u64,
+    tells_all: bool,
+    out: &mut O,
+    err: &mut E,
+) -> Result<u8, OpenFault>
+where
+    R: Files + Input + AllocGlobal + Clone + Drop,
+    R::File: FileExt,
+    ensures { IfOk result (λ status. status ≤ 1) }
+{
+    let text = read_list(rt, list)?;
+    let mut shelf = FolderShelf::new(rt.alloc(), rt.clone()?, media)?;
+    let unlisted = unlisted_reason(rt, media);
+    let status = answer_picture(rt.alloc(), list, &text, handle, &mut shelf, out, err);
+    if status == REFUSED && tells_all {
+        tell_all_further(rt, &text, media, err);
+    }
+    tell_unlisted(media, unlisted, err);
+    Ok(status)
+}
