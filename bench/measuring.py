@@ -7,6 +7,7 @@ import struct
 import subprocess
 import sys
 import time
+from itertools import count
 from pathlib import Path
 from typing import Callable, Iterable, NamedTuple, Optional
 
@@ -137,17 +138,20 @@ class Cut(NamedTuple):
         return [f"(Entry) {number:04d} (Cut) I {self.index:04d} {channels} {channels} {times}", *fades]
 
 
-def index_lines(names: Iterable) -> list:
+def index_lines(names: Iterable, numbers: Iterable) -> list:
     return [
         f'(Index) {number:04d} (F) "URL:file://localhost/{name}" _ 00.00.00.00/0000 _'
-        for number, name in enumerate(names, 1)
+        for number, name in zip(numbers, names)
     ]
 
 
-def list_text(cuts: Iterable, names: Iterable = ("A.wav",), channels: str = "1", head: Iterable = ()) -> str:
-    """A list of cuts over these files, which begin at midnight, with further lines behind its own first one."""
+def list_text(
+        cuts: Iterable, names: Iterable = ("A.wav",), channels: str = "1", head: Iterable = (),
+        numbers: Optional[Iterable] = None) -> str:
+    """A list of cuts over these files of these numbers, which begin at midnight, with further lines behind its own
+    first one. They are numbered in turn where no numbers are told."""
     lines = ["<ADL>", *head, "<SEQUENCE>", "(SEQ_SAMPLE_RATE) S48000", "(SEQ_FRAME_RATE) 25", "</SEQUENCE>"]
-    lines += ["<SOURCE_INDEX>", *index_lines(names), "</SOURCE_INDEX>", "<EVENT_LIST>"]
+    lines += ["<SOURCE_INDEX>", *index_lines(names, numbers or count(1)), "</SOURCE_INDEX>", "<EVENT_LIST>"]
     for number, cut in enumerate(cuts, 1):
         lines += cut.lines(number, channels)
     lines += ["</EVENT_LIST>", "</ADL>", ""]
