@@ -1,10 +1,12 @@
 """Each allocation of a command fails in turn: it is refused for want of memory, with nothing written, or it is done."""
 
 import re
+import subprocess
 from itertools import count
+from pathlib import Path
 
 import model
-from harness import Mismatch, Outcome, Scene, Suite, preloaded, same, same_files, words_of
+from harness import TIMEOUT, Mismatch, Outcome, Scene, Skipped, Suite, preloaded, same, same_files, words_of
 from tables import data_chunk, format_chunk, riff_file, wave
 
 MIDNIGHT = b"00.00.00.00/0000"
@@ -19,6 +21,12 @@ MET = {
 # A device that has no memory for a name fails.
 DEVICES = {20: b" at file OUT", 22: b" at index 1 file A.wav", 52: b"", 62: b" at file "}
 REFUSED = re.compile(rb"refused (\d\d)([^\n]*)\n")
+# The tests of the libraries, as they are built, of which those of memory make something by events.
+TRIALS = Path(__file__).resolve().parent.parent / "crates/trials_faults/out/trials_faults_tests"
+BY_EVENTS = {
+    "a_consolidation_by_events": {18, 31, 47, 51, 54, 56, 60, 62},
+    "a_rendering_by_events": {18, 31, 47, 57, 60, 62},
+}
 
 
 def fading(scene: Scene) -> None:
@@ -84,7 +92,31 @@ def each_allocation(command: str, put):
     return body
 
 
+def each_allocation_of_test(name: str, met: set):
+    """A test of the library goes well, and tells the refusal that it saw; or it has no memory for itself."""
+    def body(scene: Scene) -> None:
+        if not TRIALS.exists():
+            raise Skipped("the tests of trials_faults aren't built (rt test in its folder)")
+        log = scene.folder / "log"
+        environment = preloaded(scene, ALLOC_LOG=str(log))
+        numbers = set()
+        for fails in count(1):
+            log.unlink(missing_ok=True)
+            got = subprocess.run(
+                [TRIALS, f"memory::{name}"], cwd=scene.folder, env={**environment, "ALLOC_FAILS": str(fails)},
+                capture_output=True, timeout=TIMEOUT)
+            if got.returncode != 0 and not got.stderr.startswith((b"error: Alloc", b"error: Memory\n")):
+                raise Mismatch(f"allocation {fails} failed: {got.stdout!r} and {got.stderr!r}")
+            numbers.update(map(int, re.findall(rb"refused (\d+)", got.stdout)))
+            if not log.exists():
+                break
+        same("the refusals that are met", numbers, met)
+    return body
+
+
 def run(suite: Suite) -> None:
     suite.case("each allocation of check fails", each_allocation("check", fading))
     suite.case("each allocation of consolidate fails", each_allocation("consolidate", fading))
     suite.case("each allocation of render fails", each_allocation("render", three_blocks))
+    for name, met in BY_EVENTS.items():
+        suite.case(f"each allocation of {name.replace('_', ' ')} fails", each_allocation_of_test(name, met))

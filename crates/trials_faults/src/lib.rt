@@ -1,0 +1,11 @@
+//! Tests of stores that fail at a chosen call, each call in turn, and of files that end early.
+#![tactic(auto)]
+
+#[cfg(test)]
+mod devices;
+#[cfg(test)]
+mod memory;
+#[cfg(test)]
+mod prefixes;
+#[cfg(test)]
+mod works;

@@ -1,0 +1,51 @@
+// Works that find memory for all, or else are refused. The tests of the built program run these again, with each
+// allocation failing in turn.
+use crate::works::{Call, Job, is_untouched};
+use std::alloc::Global;
+use std::test::Fail;
+use stores::MemoryBench;
+
+/// Does a work: `None` where it is done, and else the number of its refusal, where nothing was written by then.
+fn refusal(alloc: Global, call: Call) -> Result<Option<u8>, Fail> {
+    let job = Job::new(alloc, call)?;
+    let mut shelf = job.shelf(0, 0)?;
+    let mut bench = MemoryBench::new(alloc);
+    let Err(fault) = job.run(&mut shelf, &mut bench)? else {
+        return if job.is_whole(&bench) {
+            Ok(None)
+        } else {
+            Err("it is done, and isn't whole".into())
+        };
+    };
+    let number = fault.number();
+    // a worker's memory is taken as it comes, and the bench takes memory for what it is given
+    if is_untouched(&bench) || matches!(number, 60 | 62) {
+        Ok(Some(number))
+    } else {
+        Err("something was written".into())
+    }
+}
+
+#[test]
+fn a_rendering_by_events(rt: HostRuntime) -> Result<(), Fail> {
+    let call = Call::Schedule {
+        is_rendering: true,
+        rounds: 5,
+    };
+    if let Some(number) = refusal(rt.alloc(), call)? {
+        println!(rt; "refused {number}")?;
+    }
+    Ok(())
+}
+
+#[test]
+fn a_consolidation_by_events(rt: HostRuntime) -> Result<(), Fail> {
+    let call = Call::Schedule {
+        is_rendering: false,
+        rounds: 4,
+    };
+    if let Some(number) = refusal(rt.alloc(), call)? {
+        println!(rt; "refused {number}")?;
+    }
+    Ok(())
+}
