@@ -1,9 +1,8 @@
 -- What marks are that are found, and that a run finds its own.
-use Rattle.std.proofs.Common.{◌≡◌, ◌∙◌, ℕ, ◌+◌, ◌-◌, ◌<◌, ◌≤◌, Bool, true, false, cond, ◌&&◌, ◌==◌, nat_eq, nat_le, Option, Some, None, Result, Ok, Err, List, ◌∷◌, ◌++◌, codes, length, take, drop, get_or, map, sym, ap, subst, refl, arith}
+use Rattle.std.proofs.Common.{◌≡◌, ◌∙◌, ℕ, ◌+◌, ◌<◌, Bool, true, false, cond, ◌&&◌, ◌==◌, nat_le, Option, Some, None, Result, Ok, Err, List, ◌∷◌, ◌++◌, codes, length, take, drop, get_or, map, sym, ap, refl, arith}
 use Rattle.std.specs.Prelude.{IfOk, IfSome, option_map}
-use Rattle.std.specs.Str.{bytes_eq}
 use Rattle.std.proofs.lemmas.Bool.Decides.{nat_tests}
-use Rattle.std.proofs.lemmas.List.{drop-drop, drop_more, get_or-drop, get_or-map, get_or-take, length-append, length-drop, length-map, length-take, take-append-drop, take_all, take_at, drop_at}
+use Rattle.std.proofs.lemmas.List.{drop-drop, drop_more, get_or-drop, get_or-map, get_or-take, length-drop, length-map, length-take, take-append-drop, take_all}
 use Rattle.std.proofs.lemmas.Slice.Eq.{bytes_eq-Decides}
 use Rattle.sound_terms.specs.Chunks.{stands_at}
 use Rattle.sound_terms.specs.Laws.{length-u32_bytes}

@@ -13,6 +13,7 @@ mod starting;
 mod synced;
 
 pub use fault::MarksFault;
+pub use fresh::FreshMarks;
 pub use opening::{Marks, open_marks};
 pub use run::{RunId, RunRange};
 pub use setting::{MOST_AT_ONCE, mark};

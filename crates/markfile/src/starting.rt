@@ -1,17 +1,14 @@
 // The marks of a new run.
-ghost use Rattle.std.specs.Prelude.{◌≡◌, ◌≢◌, ◌∷◌, [], IsTrue, IsErrOf, OnOk, ⊤};
+ghost use Rattle.std.specs.Prelude.{◌≡◌, ◌≢◌, ◌∷◌, [], IsTrue, OnOk, ⊤};
 ghost use Rattle.work_terms.specs.Disk.{Files, LeavesOnly};
 ghost use Rattle.shelf.specs.Frame.{OnlyWrites};
-ghost use Rattle.markfile.specs.Fault.{WritesMarks};
 ghost use Rattle.markfile.specs.Format.{AreFresh, fresh_marks, marks_name};
 ghost use Rattle.markfile.specs.Started.{Holds, LeavesStart, LeavesUnstarted, NoneStarted};
 
-use crate::fresh::behind_gate;
+use crate::FreshMarks;
 use crate::front::{OPEN, SHUT};
 use crate::synced::{append_synced, create_synced, write_synced};
-use crate::{MarksFault, RunId};
 use shelf::{Bench, DeviceFault};
-use std::alloc::Global;
 
 /// Makes the file with a gate that is shut.
 fn shut<B: Bench>(bench: &mut B) -> Result<(), DeviceFault>
@@ -53,28 +50,25 @@ fn lay<B: Bench>(bench: &mut B, rest: &[u8]) -> Result<(), DeviceFault>
     }
 }
 
-/// Makes the marks of a new run, none of them set. The gate is opened last, once all that stands behind it is on the
-/// disk, so a crash leaves marks that aren't started or whole ones, where those that stood there before weren't
-/// started. After a fault no block is marked.
-pub fn start<B: Bench>(alloc: Global, bench: &mut B, run: &RunId) -> Result<(), MarksFault>
-    ensures started { IsTrue (B.honest bench.old) → OnOk result (Holds B.Bench (fresh_marks run.now) bench.new) }
+/// Makes the file of these marks. The gate is opened last, once all that stands behind it is on the disk, so a crash
+/// leaves marks that aren't started or whole ones, where those that stood there before weren't started. It takes no
+/// memory. `DeviceFault` where the device fails at the marks: no block is marked then.
+pub fn start<B: Bench>(bench: &mut B, fresh: &FreshMarks) -> Result<(), DeviceFault>
+    ensures started { IsTrue (B.honest bench.old) → OnOk result (Holds B.Bench (fresh_marks fresh.now) bench.new) }
     ensures any_moment { IsTrue (B.honest bench.old) → NoneStarted (B.may_leave bench.old)
-        → LeavesOnly B.moment B.left_since bench.old bench.new (LeavesStart run.now (B.may_leave bench.old)) }
+        → LeavesOnly B.moment B.left_since bench.old bench.new (LeavesStart fresh.now (B.may_leave bench.old)) }
     ensures crash { IsTrue (B.honest bench.old) → NoneStarted (B.may_leave bench.old)
-        → (c : Files) → B.may_leave bench.new c → LeavesStart run.now (B.may_leave bench.old) c }
-    ensures memory { IsErrOf result MarksFault.Memory → bench.new ≡ bench.old }
-    ensures only_writes { WritesMarks B.Bench bench.old bench.new result }
-    ensures fresh { AreFresh run.now (fresh_marks run.now) }
+        → (c : Files) → B.may_leave bench.new c → LeavesStart fresh.now (B.may_leave bench.old) c }
+    ensures only_writes { OnlyWrites B.Bench (λ n. n ≢ marks_name) bench.old bench.new result (λ _. ⊤)
+        (λ _ failed. failed marks_name) }
+    ensures fresh { AreFresh fresh.now (fresh_marks fresh.now) }
 {
-    let Ok(rest) = behind_gate(alloc, run) else {
-        return Err(MarksFault::Memory);
-    };
-    match lay(bench, rest.as_slice()) {
+    match lay(bench, fresh.rest.as_slice()) {
         Ok(()) => {}
-        Err(_) => return Err(MarksFault::Marks),
+        Err(fault) => return Err(fault),
     }
     match write_synced(bench, 0, &[OPEN]) {
         Ok(()) => return Ok(()),
-        Err(_) => return Err(MarksFault::Marks),
+        Err(fault) => return Err(fault),
     }
 }

@@ -1,5 +1,6 @@
 mod Asked
 mod Beside
+mod Calls
 mod BlockMarks
 mod Resuming
 mod Chosen

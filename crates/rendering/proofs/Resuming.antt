@@ -1,26 +1,31 @@
 -- A rendering that begins with its marks, goes on with those it finds, and ends.
-use Rattle.std.proofs.Common.{◌≡◌, ◌≢◌, ◌∙◌, ℕ, zero, suc, ◌<◌, ◌≤◌, Bool, true, false, cond, Option, Some, None, Ok, List, [], ◌∷◌, length, take, get_or, refl, sym, ap, subst, inl, inr, arith}
-use Rattle.std.specs.Prelude.{Contains, option_map}
+use Rattle.std.proofs.Common.{◌≡◌, ◌≢◌, ◌∙◌, ℕ, zero, suc, ◌+◌, ◌<◌, ◌≤◌, Bool, true, false, cond, Option, Some, None, Ok, List, [], ◌∷◌, ◌++◌, ◌==◌, length, take, drop, replicate, get_or, refl, sym, ap, subst, inl, inr, arith}
+use Rattle.std.specs.Prelude.{Contains, map, option_map}
 use Rattle.std.specs.List.{All}
+use Rattle.sha2.specs.Sha256.{sha256}
+use Rattle.sound_terms.specs.Render.{Range}
 use Rattle.std.proofs.lemmas.Bool.Decides.{nat_tests}
-use Rattle.std.proofs.lemmas.List.{ext_get_or, get_or-take}
+use Rattle.std.proofs.lemmas.List.{ext_get_or, get_or-drop, get_or-map, get_or-replicate, get_or-take, length-drop, length-map, length-replicate, take-append-drop}
 use Rattle.sound_terms.specs.Blocks.{block_count}
 use Rattle.sound_terms.specs.Sounds.{SoundFacts}
 use Rattle.renderplan.specs.Planned.{Planned}
 use Rattle.work_terms.specs.Disk.{Files, IsBeside, IsDurable}
+use Rattle.job_terms.specs.declared.Job.{Job}
+use Rattle.job_terms.specs.Board.{Board, fresh_job, is_done, no_job}
 use Rattle.job_terms.specs.Workers.{jobs_over}
+use Rattle.blockcut.specs.declared.stretch.Stretch.{Stretch}
 use Rattle.blockcut.specs.Cut.{IsUniform}
 use Rattle.blockcut.specs.Laws.{cut-covers}
 use Rattle.markfile.specs.declared.fault.MarksFault.{MarksFault}
 use Rattle.markfile.specs.declared.run.RunId.{RunId}
-use Rattle.markfile.specs.Format.{AreFresh, fresh_marks, head_of, marks_name, sound_name}
+use Rattle.markfile.specs.Format.{AreFresh, fresh_marks, head_of, marks_name, run_bytes, sound_name}
 use Rattle.markfile.specs.Opened.{AreFound, AreSettled, IsSettledAs, front_fault, opened_by, opened_of, told}
 use Rattle.markfile.specs.Started.{LeavesStart, NoneStarted, is_started}
-use Rattle.schedule.specs.Filled.{AreFilled, IsFilled}
-use Rattle.schedule.specs.Marking.{HoldsIn, IsRunning, Leaves, Marking, is_marked}
-use Rattle.rendering.specs.Marked.{IsAllMarked, IsLeftByRun, IsResumable, IsRunOf, MarkedWork, file_length, marking_of}
-use Rattle.rendering.specs.Work.{IsRenderWork, RenderWork, done_before, no_stretch, whole_of, work_of}
-use Rattle.rendering.proofs.BlockMarks.{job_block, names_apart}
+use Rattle.schedule.specs.Filled.{AreFilled, IsFilled, IsFixedIn}
+use Rattle.schedule.specs.Marking.{HoldsIn, IsNoOutput, IsRunning, Leaves, Marking, done_of, is_marked}
+use Rattle.rendering.specs.Marked.{HoldsMarked, IsAllMarked, IsLeftByRun, IsOther, IsResumable, IsRunOf, MarkedWork, block_end, block_place, file_length, full_marks, marking_of, run_of}
+use Rattle.rendering.specs.Work.{IsRenderWork, RenderWork, done_before, no_stretch, stretch_at, whole_of, work_of}
+use Rattle.rendering.proofs.BlockMarks.{job_block, job_own, names_apart}
 use Rattle.rendering.proofs.Parts.{stretch_inside}
 
 some_same : (a b : List ℕ) → Some a ≡ Some b → a ≡ b
@@ -173,6 +178,116 @@ module _ (marked : MarkedWork) (sources : Files) (is : IsRenderWork marked.work)
           runs.tell inside.place b inside.there inside.behind_first inside.before_end ∙ all inside.place inside.there;
     }
 
+    -- the file is filled as far as the jobs are done whose marks are set
+    pub filled_running : (done : ℕ → Bool) (o : Files → Type 0) (files : Files) → IsRunning m done o → o files
+        → AreFilled (jobs_over (work_of marked.work) sources) (λ _. whole_of marked.work sources) done files
+    filled_running done o files runs now = record {
+      each = λ j below. let sound = runs.wave files now in record {
+        bytes = sound.bytes;
+        there = sound.there;
+        size = sound.holds.size;
+        same = λ i fixed. sound.holds.same i (λ b few from to. set b i few fixed from to);
+      };
+    }
+      where
+        set : (b i : ℕ) → b < marked.run.blocks
+            → IsFixedIn (jobs_over (work_of marked.work) sources) sound_name done i
+            → block_place marked.work.planned.range b ≤ i → i < block_end marked.work.planned.range b
+            → is_marked runs.marks b ≡ true
+        set b i few fixed from to =
+            let inside = cut-covers marked.work.stretches 0 (block_count marked.work.planned.range) b no_stretch is.cut
+            (omega arith) (omega (arith, few, run.blocks)) in
+            let own = job_own marked sources is run inside.place b inside.there inside.behind_first inside.before_end in
+            runs.tell inside.place b inside.there inside.behind_first inside.before_end
+            ∙ fixed inside.place inside.there refl (omega (arith, own.0, from)) (omega (arith, own.1, to))
+
+    -- the blocks that were marked before stand
+    pub leaves_marked : (done : ℕ → Bool) (o : Files → Type 0) (files c : Files) (marks : List ℕ)
+        → IsRunning m done o → o files → files marks_name ≡ Some marks → Leaves m done c → HoldsMarked m marks c
+    leaves_marked done o files c marks runs now there left = record {
+      bytes = left.wave.bytes;
+      there = left.wave.there;
+      holds = record {
+        size = left.wave.holds.size;
+        same = λ i fixed. left.wave.holds.same i (λ b few from to. still b few (fixed b few from to));
+      };
+    }
+      where
+        same : runs.marks ≡ marks
+        same = some_same runs.marks marks (sym (runs.kept files now) ∙ there)
+
+        still : (b : ℕ) → b < marked.run.blocks → is_marked marks b ≡ true → is_marked left.marks b ≡ true
+        still b few set =
+            let inside = cut-covers marked.work.stretches 0 (block_count marked.work.planned.range) b no_stretch is.cut
+            (omega arith) (omega (arith, few, run.blocks)) in
+            left.still inside.place b inside.there inside.behind_first inside.before_end
+            (sym (runs.tell inside.place b inside.there inside.behind_first inside.before_end)
+            ∙ ap (λ x. is_marked x b) same ∙ set)
+
+-- ---- marks that are all set
+
+full : (run : RunId) (marks : List ℕ) → take 44 marks ≡ 1 ∷ head_of run → length marks ≡ 44 + run.blocks
+    → ((b : ℕ) → b < run.blocks → is_marked marks b ≡ true) → marks ≡ full_marks run
+full run marks front size set = sym (take-append-drop 44 marks) ∙ ap (λ x. x ++ drop 44 marks) front
+    ∙ ap (λ x. (1 ∷ head_of run) ++ x) ones
+  where
+    one : (n : ℕ) → (n == 1) ≡ true → n ≡ 1
+    one n e = grind (arith, nat_tests, e)
+
+    below : (i : ℕ) → i < length (drop 44 marks) → i < run.blocks
+    below i lt = omega (arith, lt, length-drop 44 marks, size)
+
+    ones : drop 44 marks ≡ replicate run.blocks 1
+    ones = ext_get_or 0 (drop 44 marks) (replicate run.blocks 1)
+        (length-drop 44 marks ∙ omega (arith, size) ∙ sym (length-replicate {A = ℕ} run.blocks 1))
+        (λ i lt. get_or-drop 44 marks i 0 ∙ one (get_or marks (44 + i) 0) (set i (below i lt))
+        ∙ sym (get_or-replicate {A = ℕ} run.blocks i 1 0 (below i lt)))
+
+pub full_of : (run : RunId) (file : Option (List ℕ)) → IsAllMarked run file → file ≡ Some (full_marks run)
+full_of run file is =
+    is.there ∙ ap (λ x. Some x) (full run is.marks is.ours.front is.ours.size is.all)
+
+-- ---- other files
+
+same_marking : (a b : Marking) → Some a ≡ Some b → a ≡ b
+same_marking a b e = cc
+
+pub other_output : (marked : MarkedWork) (n : List ℕ) → IsOther n
+    → IsNoOutput (work_of marked.work) (λ sources. Some (marking_of marked sources)) n
+other_output marked n other = record {
+  jobs = λ k below e. other.0 (sym e);
+  marks = λ sources m is e. other.1 (sym
+      (ap (λ (x : Marking). x.marks) (same_marking (marking_of marked sources) m is) ∙ e));
+}
+
+-- ---- no job is done
+
+pub none_done : (stretches : List Stretch) → ((k : ℕ) → (stretch_at stretches k).done ≡ false) → (k : ℕ)
+    → k < length (map (λ (s : Stretch). s.done) stretches)
+    → get_or (map (λ (s : Stretch). s.done) stretches) k false ≡ false
+none_done stretches none k below =
+    get_or-map (λ (s : Stretch). s.done) stretches k no_stretch false
+    (omega (arith, below, length-map stretches (λ (s : Stretch). s.done))) ∙ none k
+
+-- a board on which all jobs are open
+pub none_before : (count : ℕ) (board : Board) → board.jobs ≡ replicate count fresh_job → (k : ℕ) → k < count
+    → done_of board k ≡ false
+none_before count board fresh k lt = ap (λ (jobs : List Job). is_done (get_or jobs k no_job).standing) fresh
+    ∙ ap (λ (job : Job). is_done job.standing) (get_or-replicate count k fresh_job no_job lt)
+
+-- and a file of which no job's bytes count
+pub filled_none : (work : RenderWork) (sources : Files) (files : Files) → ((k : ℕ) → done_before work k ≡ false)
+    → AreFilled (jobs_over (work_of work) sources) (λ _. whole_of work sources) (done_before work) files
+    → AreFilled (jobs_over (work_of work) sources) (λ _. whole_of work sources) (λ _. false) files
+filled_none work sources files none filled = record {
+  each = λ j below. let f = filled.each j below in record {
+    bytes = f.bytes;
+    there = f.there;
+    size = f.size;
+    same = λ i fixed. f.same i (λ k lt named from to. none k ∙ fixed k lt named from to);
+  };
+}
+
 -- ---- one board for another
 
 -- the same jobs are done
@@ -258,3 +373,13 @@ same_run was is marks_run same run = record {
   blocks = run.blocks ∙ ap (λ (p : Planned). block_count p.range) (sym same);
   size = run.size ∙ ap (λ (p : Planned). file_length p.range) (sym same);
 }
+
+-- ---- the run of a list
+
+pub run_is : (is : RunId) (list : List ℕ) (range : Range) → is.digest ≡ sha256 (run_bytes range list)
+    → is.blocks ≡ block_count range → is.length ≡ file_length range → is ≡ run_of list range
+run_is is list range digest blocks size = by_parts is.digest is.blocks is.length digest blocks size where
+  by_parts : (d : List ℕ) (b n : ℕ) → d ≡ sha256 (run_bytes range list) → b ≡ block_count range
+      → n ≡ file_length range
+      → record { digest = d; blocks = b; length = n } ≡ run_of list range
+  by_parts d b n one two three = rw (one, two, three) refl

@@ -1,15 +1,19 @@
 -- A rendering whose blocks are marked.
-use Rattle.std.specs.Prelude.{◌≡◌, ℕ, ◌+◌, ◌-◌, ◌*◌, ◌%◌, ◌<◌, Bool, true, List, Option, Some, length}
+use Rattle.std.specs.Prelude.{◌≡◌, ◌≢◌, ℕ, ◌+◌, ◌-◌, ◌*◌, ◌%◌, ◌<◌, Bool, true, List, ◌∷◌, ◌++◌, Option, None, Some, Result, Ok, Err, IsOk, length, replicate, ⊤}
 use Rattle.std.specs.List.{count_by}
+use Rattle.sha2.specs.Sha256.{sha256}
 use Rattle.sound_terms.specs.Blocks.{block_count, block_length}
 use Rattle.sound_terms.specs.Render.{Range, render_info}
 use Rattle.sound_terms.specs.Waves.{header_of}
 use Rattle.work_terms.specs.Disk.{Files}
-use Rattle.markfile.specs.Format.{AreMarksOf, head_of, marks_name, sound_name}
-use Rattle.markfile.specs.Opened.{AreFound}
+use Rattle.markfile.specs.Format.{AreMarksOf, head_of, marks_name, run_bytes, sound_name}
 use Rattle.markfile.specs.Started.{is_started}
+use Rattle.markfile.specs.declared.fault.MarksFault.{MarksFault}
+use Rattle.markfile.specs.declared.fault.MarksFault.TheVariants as fault
 use Rattle.markfile.specs.declared.run.RunId.{RunId}
 use Rattle.schedule.specs.Marking.{HoldsIn, IsMarkFile, Marking, is_marked}
+use Rattle.rendering.specs.declared.fault.LayFault.{LayFault}
+use Rattle.rendering.specs.declared.fault.LayFault.TheVariants.{Sound, Marks}
 use Rattle.rendering.specs.Work.{RenderWork, bytes_for, stretch_at, whole_of}
 use Rattle.rendering.specs.Written.{frames_before}
 
@@ -36,6 +40,14 @@ file_length range = length (header_of (render_info range)) + padded (bytes_for r
 pub record IsRunOf (work : RenderWork) (run : RunId) : Type 0 where
   pub blocks : run.blocks ≡ block_count work.planned.range
   pub size : run.length ≡ file_length work.planned.range
+
+-- the run that the marks of this rendering of a list belong to
+abbrev pub run_of : List ℕ → Range → RunId
+run_of list range = record {
+  digest = sha256 (run_bytes range list);
+  blocks = block_count range;
+  length = file_length range;
+}
 
 -- the rendered file, block by block, and its marks
 abbrev pub marking_of : MarkedWork → Files → Marking
@@ -66,11 +78,15 @@ pub record IsAllMarked (run : RunId) (file : Option (List ℕ)) : Type 0 where
   pub ours : AreMarksOf run marks
   pub all : (b : ℕ) → b < run.blocks → is_marked marks b ≡ true
 
--- so many blocks are marked in whole marks of the run
-pub record CountsMarks (run : RunId) (files : Files) (count : ℕ) : Type 0 where
-  pub marked : List Bool
-  pub found : AreFound run files marked
-  pub counted : count ≡ count_by (λ mark. mark) marked
+-- so many blocks are found to be marked, none where nothing is started, or why this run can't go on with the marks
+abbrev pub IsFoundAs : Result (Option ℕ) MarksFault → Result (Option (List Bool)) MarksFault → Type 0
+IsFoundAs (Ok None) due = due ≡ Ok None
+IsFoundAs (Ok (Some count)) due = (marked : List Bool) × (due ≡ Ok (Some marked)) × (count ≡ count_by (λ mark. mark) marked)
+IsFoundAs (Err fault.OtherRun) due = due ≡ Err fault.OtherRun
+IsFoundAs (Err fault.BadMarks) due = due ≡ Err fault.BadMarks
+IsFoundAs (Err fault.Memory) due = IsOk due
+IsFoundAs (Err fault.Sound) due = ⊤
+IsFoundAs (Err fault.Marks) due = ⊤
 
 -- what a run may leave: marks that aren't started, or true ones
 abbrev pub IsResumable : Marking → Files → Type 0
@@ -79,3 +95,20 @@ IsResumable m c = is_started (c m.marks) ≡ true → AreTrueMarks m c
 -- the same of each outcome of a crash
 abbrev pub IsLeftByRun : Marking → (Files → Type 0) → Type 0
 IsLeftByRun m outcomes = (c : Files) → outcomes c → IsResumable m c
+
+-- each block that these marks tell stands in the rendered file
+abbrev pub HoldsMarked : Marking → List ℕ → Files → Type 0
+HoldsMarked m marks c = HoldsIn m (is_marked marks) (c m.name)
+
+-- the marks of a run, all of them set
+abbrev pub full_marks : RunId → List ℕ
+full_marks run = 1 ∷ (head_of run ++ replicate run.blocks 1)
+
+-- a file of this name is neither the rendered one nor its marks
+abbrev pub IsOther : List ℕ → Type 0
+IsOther n = (n ≢ sound_name) × (n ≢ marks_name)
+
+-- the file at which the device failed
+abbrev pub lay_name : LayFault → List ℕ
+lay_name Sound = sound_name
+lay_name Marks = marks_name

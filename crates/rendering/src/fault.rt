@@ -22,6 +22,17 @@ pub enum RenderFault {
     Memory,
 }
 
+/// Why the two files of a marked rendering aren't begun or finished: the device failed at one of them.
+#[derive(Clone, Copy, Debug, PartialEq, Eq, Error)]
+pub enum LayFault {
+    /// At the rendered file.
+    #[error("the rendered file can't be written")]
+    Sound,
+    /// At its marks.
+    #[error("the marks can't be written")]
+    Marks,
+}
+
 impl RenderFault {
     /// The number of the refusal.
     pub fn number(&self) -> u8

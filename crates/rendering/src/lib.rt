@@ -11,7 +11,7 @@ mod order;
 mod span;
 mod work;
 
-pub use fault::RenderFault;
+pub use fault::{LayFault, RenderFault};
 pub use job_terms::Order;
 pub use marked::MarkedRendering;
 pub use options::Options;

@@ -1,20 +1,28 @@
 // A rendering whose blocks are marked as they come to stand on the disk.
-ghost use Rattle.std.specs.Prelude.{◌≡◌, ◌+◌, ◌<◌, ◌≤◌, ℕ, IfErr, IfOk, IfSome, IsTrue, List, None, OnOk, Some, codes, false, length, map, true, ◌^◌, ⊤};
+ghost use Rattle.std.specs.Prelude.{◌≡◌, ◌+◌, ◌<◌, ◌≤◌, ℕ, IfErr, IfOk, IfSome, IsTrue, List, None, OnOk, Some, codes, false, length, map, true, ◌^◌, ⊤, IsErrOf, replicate};
 ghost use Rattle.std.specs.List.{All, count_by};
 ghost use Rattle.sha2.specs.Sha256.{sha256};
 ghost use Rattle.sound_terms.specs.Blocks.{block_count};
-ghost use Rattle.work_terms.specs.Disk.{Files, IsDurable, IsUntouched, LeavesOnly, LeavesOthers};
-ghost use Rattle.shelf.specs.Frame.{OnlyReads};
+ghost use Rattle.work_terms.specs.Disk.{Files, IsDurable, IsUntouched, LeavesOnly, LeavesOthers, ReadsTo, Rises};
+ghost use Rattle.shelf.specs.Frame.{OnlyReads, OnlyWrites};
+ghost use Rattle.job_terms.specs.Board.{fresh_job};
 ghost use Rattle.job_terms.specs.Workers.{Nothing, jobs_over};
 ghost use Rattle.blockcut.specs.Cut.{IsUniform};
 ghost use Rattle.markfile.specs.Fault.{ReadsMarks};
-ghost use Rattle.markfile.specs.Format.{run_bytes, sound_name, marks_name};
+ghost use Rattle.markfile.specs.Format.{run_bytes, sound_name, marks_name, fresh_marks};
+ghost use Rattle.markfile.specs.Opened.{opened_of};
 ghost use Rattle.markfile.specs.Started.{NoneStarted};
 ghost use Rattle.schedule.specs.Alone.{AtRest};
+ghost use Rattle.schedule.specs.Ends.{ended_of};
+ghost use Rattle.schedule.specs.Events.{EndsIn, RunsEvents};
 ghost use Rattle.schedule.specs.Filled.{AreFilled};
 ghost use Rattle.schedule.specs.Marking.{IsRunning, Leaves, done_of};
+ghost use Rattle.schedule.specs.Rounds.{RoundsFrom};
 ghost use Rattle.schedule.specs.Run.{HasRoom};
-ghost use Rattle.rendering.specs.Marked.{CountsMarks, IsAllMarked, IsLeftByRun, IsResumable, file_length, marking_of};
+ghost use Rattle.schedule.specs.declared.fault.JobFault.TheVariants as job_fault;
+ghost use Rattle.schedule.specs.declared.fault.RunFault.TheVariants as run_fault;
+ghost use Rattle.workboard.specs.Indexed.{IsOrder};
+ghost use Rattle.rendering.specs.Marked.{HoldsMarked, IsAllMarked, IsFoundAs, IsLeftByRun, IsOther, IsResumable, file_length, full_marks, lay_name, marking_of, run_of};
 ghost use Rattle.rendering.specs.Work.{IsRenderWork, done_before, place_of, stretch_at, whole_of, work_of};
 ghost use Rattle.rendering.specs.Written.{WritesRendering};
 ghost use Rattle.rendering.specs.Fault.{refusal_of};
@@ -23,14 +31,19 @@ ghost use Rattle.rendering.specs.Rendering.{HasRange, HaveChannels, render_fault
 ghost use Rattle.work_terms.specs.Refusals.{Answers};
 
 use crate::blocks::BLOCK_LENGTH;
-use crate::{Options, Order, RenderFault, Rendered, Rendering};
+use crate::{LayFault, Options, Order, RenderFault, Rendered, Rendering};
 use blockcut::{Stretch, blocks_at_once, stretches_of};
-use markfile::{MARKS, MarksFault, RunId, SOUND, open_marks, start};
+use job_terms::{BoardEvent, Progress};
+use markfile::{FreshMarks, MARKS, MarksFault, RunId, SOUND, open_marks, start};
 use projectcheck::Checked;
-use schedule::{JobFault, JobMaker, PlaceFault, Start, alone, place_marked, resting_start};
+use schedule::{
+    JobFault, JobMaker, PlaceFault, RunFault, Start, alone, fresh_board, place_marked,
+    resting_start, run_laid,
+};
 use shelf::{Bench, DeviceFault, Shelf, Watch};
 use std::alloc::{AllocError, Global};
 use std::marker::Model;
+use workboard::Board;
 
 /// The bytes of the marks before that of the first block.
 const FRONT: u64 = 44;
@@ -222,8 +235,7 @@ impl<'a> MarkedRendering<'a> {
         requires { HaveChannels options.now }
         ensures planned { IfOk result (λ marked. IsRenderingOf checked.now.project checked.now.bound
             (values_of options.now) marked.work) }
-        ensures run { IfOk result (λ marked. marked.run.digest
-            ≡ sha256 (run_bytes marked.work.planned.range list.now)) }
+        ensures run { IfOk result (λ marked. marked.run ≡ run_of list.now marked.work.planned.range) }
         ensures refusals { Answers refusal_of result (render_fault checked.now.project (values_of options.now)) }
     {
         let rendering = match Rendering::plan(alloc, checked, options) {
@@ -241,10 +253,19 @@ impl<'a> MarkedRendering<'a> {
         self.rendering.rendered()
     }
 
-    /// Makes the rendered file at its full length, with every sample zero, and syncs it; then its marks, of which none
-    /// is set. `Sound` and `Marks` where the device fails, `Memory` where there is none for the marks: the file may
-    /// then be unfinished, and no block is marked.
-    pub fn start<B: Bench>(&self, alloc: Global, bench: &mut B) -> Result<(), MarksFault>
+    /// Its marks, of which none is set: a front of 44 bytes and one for each block, before any is written. Want of
+    /// memory is the only error.
+    pub fn fresh_marks(&self, alloc: Global) -> Result<FreshMarks, AllocError>
+        ensures { IfOk result (λ fresh. fresh ≡ self.now.run) }
+    {
+        FreshMarks::of(alloc, &self.run)
+    }
+
+    /// Makes the rendered file at its full length, with every sample zero, and syncs it; then these marks of it. It
+    /// takes no memory. `Sound` and `Marks` where the device fails: the file may then be unfinished, and no block is
+    /// marked.
+    pub fn start<B: Bench>(&self, fresh: &FreshMarks, bench: &mut B) -> Result<(), LayFault>
+        requires { fresh.now ≡ self.now.run }
         ensures running { IsTrue (B.honest bench.old) → (sources : Files)
             → ((k : ℕ) → done_before self.now.work k ≡ false)
             → OnOk result (IsRunning (marking_of self.now sources) (done_before self.now.work)
@@ -256,14 +277,18 @@ impl<'a> MarkedRendering<'a> {
             → LeavesOnly B.moment B.left_since bench.old bench.new (IsResumable (marking_of self.now sources)) }
         ensures left { IsTrue (B.honest bench.old) → NoneStarted (B.may_leave bench.old) → (sources : Files)
             → IsLeftByRun (marking_of self.now sources) (B.may_leave bench.new) }
+        ensures marks { IsTrue (B.honest bench.old)
+            → OnOk result (B.stored bench.new marks_name ≡ Some (fresh_marks self.now.run)) }
+        ensures only_writes { OnlyWrites B.Bench IsOther bench.old bench.new result (λ _. ⊤)
+            (λ fault failed. failed (lay_name fault)) }
     {
         match self.rendering.lay_out_synced(bench) {
             Ok(()) => {}
-            Err(_) => return Err(MarksFault::Sound),
+            Err(_) => return Err(LayFault::Sound),
         }
-        match start(alloc, bench, &self.run) {
+        match start(bench, fresh) {
             Ok(()) => return Ok(()),
-            Err(fault) => return Err(fault),
+            Err(_) => return Err(LayFault::Marks),
         }
     }
 
@@ -281,8 +306,8 @@ impl<'a> MarkedRendering<'a> {
             (done_before self.new.work) (B.may_leave bench.new))) }
         ensures unstarted { IsTrue (B.honest bench.old) → IfOk result (λ found. found ≡ None
             → NoneStarted (B.may_leave bench.new)) }
-        ensures marked { IsTrue (B.honest bench.old) → IfOk result (λ found. IfSome found (λ count.
-            CountsMarks self.old.run (B.stored bench.old) count)) }
+        ensures found { IsTrue (B.honest bench.old)
+            → IsFoundAs result (opened_of self.old.run (B.stored bench.old)) }
         ensures unchanged { IfOk result (λ found. found ≡ None → self.new ≡ self.old) }
         ensures planned { self.new.work.planned ≡ self.old.work.planned }
         ensures sounds { self.new.work.sounds ≡ self.old.work.sounds }
@@ -312,11 +337,27 @@ impl<'a> MarkedRendering<'a> {
             → done_of start.board k ≡ done_before self.now.work k) }
         ensures empty { IfOk result (λ start. start.worker.hand ≡ Nothing) }
         ensures room { IfOk result (λ start. HasRoom (work_of self.now.work) start.worker.room) }
+        ensures order { IfOk result (λ start. IsOrder (work_of self.now.work).count start.board.order) }
+        ensures fresh { ((k : ℕ) → done_before self.now.work k ≡ false)
+            → IfOk result (λ start. start.board.jobs ≡ replicate (work_of self.now.work).count fresh_job) }
     {
         let order = self.rendering.order(alloc, checked, order)?;
         let done = self.rendering.done(alloc)?;
         match resting_start(alloc, self, order, done.as_slice()) {
             Ok(start) => Ok(start),
+            Err(_) => Err(AllocError),
+        }
+    }
+
+    /// A board on which all its jobs are open, to be handed out in this order, of the project that it was planned of.
+    /// Want of memory is the only error.
+    pub fn board(&self, alloc: Global, checked: &Checked, order: Order) -> Result<Board, AllocError>
+        ensures jobs { IfOk result (λ board. board.jobs ≡ replicate (work_of self.now.work).count fresh_job) }
+        ensures order { IfOk result (λ board. IsOrder (work_of self.now.work).count board.order) }
+    {
+        let order = self.rendering.order(alloc, checked, order)?;
+        match fresh_board(alloc, self, order) {
+            Ok(board) => Ok(board),
             Err(_) => Err(AllocError),
         }
     }
@@ -351,6 +392,39 @@ impl<'a> MarkedRendering<'a> {
         ensures all_marked { IsTrue (S.honest shelf.old) → IsTrue (B.honest bench.old)
             → IsRunning (marking_of self.old (S.stored shelf.old)) (done_before self.old.work) (B.may_leave bench.old)
             → OnOk result ((c : Files) → B.may_leave bench.new c → IsAllMarked self.old.run (c marks_name)) }
+        ensures finished { IsTrue (S.honest shelf.old) → IsTrue (B.honest bench.old)
+            → IsRunning (marking_of self.old (S.stored shelf.old)) (done_before self.old.work) (B.may_leave bench.old)
+            → OnOk result (B.stored bench.new sound_name ≡ Some (whole_of self.old.work (S.stored shelf.old))) }
+        ensures marked { IsTrue (S.honest shelf.old) → IsTrue (B.honest bench.old)
+            → IsRunning (marking_of self.old (S.stored shelf.old)) (done_before self.old.work) (B.may_leave bench.old)
+            → OnOk result (B.stored bench.new marks_name ≡ Some (full_marks self.old.run)) }
+        ensures durable { IsTrue (S.honest shelf.old) → IsTrue (B.honest bench.old)
+            → IsRunning (marking_of self.old (S.stored shelf.old)) (done_before self.old.work) (B.may_leave bench.old)
+            → OnOk result (IsDurable sound_name (B.stored bench.new) (B.may_leave bench.new)) }
+        ensures marks_durable { IsTrue (S.honest shelf.old) → IsTrue (B.honest bench.old)
+            → IsRunning (marking_of self.old (S.stored shelf.old)) (done_before self.old.work) (B.may_leave bench.old)
+            → OnOk result (IsDurable marks_name (B.stored bench.new) (B.may_leave bench.new)) }
+        ensures keeps { IsTrue (S.honest shelf.old) → IsTrue (B.honest bench.old)
+            → IsRunning (marking_of self.old (S.stored shelf.old)) (done_before self.old.work) (B.may_leave bench.old)
+            → (marks : List ℕ) → B.stored bench.old marks_name ≡ Some marks
+            → LeavesOnly B.moment B.left_since bench.old bench.new
+            (HoldsMarked (marking_of self.old (S.stored shelf.old)) marks) }
+        ensures rounds { IsTrue (S.honest shelf.old) → IsTrue (B.honest bench.old)
+            → IsRunning (marking_of self.old (S.stored shelf.old)) (done_before self.old.work) (B.may_leave bench.old)
+            → RoundsFrom true (jobs_over (work_of self.old.work) (S.stored shelf.old))
+            (λ _. whole_of self.old.work (S.stored shelf.old)) start.old.board (S.failures shelf.old)
+            (B.failures bench.old) (S.failures shelf.new) (B.failures bench.new) (B.stored bench.new)
+            (ended_of result) }
+        ensures others { IsTrue (B.honest bench.old) → (n : List ℕ) → IsOther n
+            → B.stored bench.new n ≡ B.stored bench.old n }
+        ensures failed { IsErrOf result job_fault.Mark → B.failed_at bench.new marks_name }
+        ensures raised { IsErrOf result job_fault.Mark → Rises (B.failures bench.old) (B.failures bench.new) }
+        ensures same_shelf { S.stored shelf.new ≡ S.stored shelf.old }
+        ensures same_honest { S.honest shelf.new ≡ S.honest shelf.old }
+        ensures same_bench { B.honest bench.new ≡ B.honest bench.old }
+        ensures same_work { work_of self.new.work ≡ work_of self.old.work }
+        ensures later_shelf { S.failures shelf.old ≤ S.failures shelf.new }
+        ensures later_bench { B.failures bench.old ≤ B.failures bench.new }
     {
         let _rendering = &self.rendering;
         match alone(
@@ -363,6 +437,74 @@ impl<'a> MarkedRendering<'a> {
         ) {
             Ok(()) => return Ok(()),
             Err(fault) => return Err(fault),
+        }
+    }
+
+    /// Does these events of any workers, one after the other, where no job is done and no worker holds anything at first.
+    /// A delivery writes and syncs a job's bytes, and then writes and syncs its blocks' marks. Tells how far the jobs are.
+    /// A job that fails for the third time ends it, and so does a mark that isn't written; `Memory` where a worker's
+    /// place or the room for a job's bytes found none.
+    pub fn run_events<S: Shelf, B: Bench>(
+        &mut self,
+        alloc: Global,
+        board: &mut Board,
+        events: &[BoardEvent],
+        shelf: &mut S,
+        bench: &mut B,
+    ) -> Result<Progress, RunFault>
+        requires board { board.old.jobs ≡ replicate (work_of self.old.work).count fresh_job }
+        requires none { (k : ℕ) → done_before self.old.work k ≡ false }
+        ensures events { IsTrue (S.honest shelf.old) → IsTrue (B.honest bench.old)
+            → IsRunning (marking_of self.old (S.stored shelf.old)) (done_before self.old.work) (B.may_leave bench.old)
+            → EndsIn result (RunsEvents true (jobs_over (work_of self.old.work) (S.stored shelf.old))
+            (λ _. whole_of self.old.work (S.stored shelf.old)) board.old.order events.now (S.failures shelf.old)
+            (B.failures bench.old) (S.failures shelf.new) (B.failures bench.new) (B.stored bench.new)) }
+        ensures any_moment { IsTrue (S.honest shelf.old) → IsTrue (B.honest bench.old)
+            → IsRunning (marking_of self.old (S.stored shelf.old)) (done_before self.old.work) (B.may_leave bench.old)
+            → LeavesOnly B.moment B.left_since bench.old bench.new
+            (Leaves (marking_of self.old (S.stored shelf.old)) (done_before self.old.work)) }
+        ensures finished { IsTrue (S.honest shelf.old) → IsTrue (B.honest bench.old)
+            → IsRunning (marking_of self.old (S.stored shelf.old)) (done_before self.old.work) (B.may_leave bench.old)
+            → IfOk result (λ told. IsTrue told.finished
+            → B.stored bench.new sound_name ≡ Some (whole_of self.old.work (S.stored shelf.old))) }
+        ensures marked { IsTrue (S.honest shelf.old) → IsTrue (B.honest bench.old)
+            → IsRunning (marking_of self.old (S.stored shelf.old)) (done_before self.old.work) (B.may_leave bench.old)
+            → IfOk result (λ told. IsTrue told.finished
+            → B.stored bench.new marks_name ≡ Some (full_marks self.old.run)) }
+        ensures others { IsTrue (B.honest bench.old) → (n : List ℕ) → IsOther n
+            → B.stored bench.new n ≡ B.stored bench.old n }
+        ensures failed { IsErrOf result run_fault.Mark → B.failed_at bench.new marks_name }
+        ensures raised { IsErrOf result run_fault.Mark → Rises (B.failures bench.old) (B.failures bench.new) }
+        ensures same_shelf { S.stored shelf.new ≡ S.stored shelf.old }
+        ensures same_honest { S.honest shelf.new ≡ S.honest shelf.old }
+        ensures same_bench { B.honest bench.new ≡ B.honest bench.old }
+        ensures later_shelf { S.failures shelf.old ≤ S.failures shelf.new }
+        ensures later_bench { B.failures bench.old ≤ B.failures bench.new }
+    {
+        let _rendering = &self.rendering;
+        match run_laid(alloc, self, board, events, shelf, bench) {
+            Ok(progress) => return Ok(progress),
+            Err(fault) => return Err(fault),
+        }
+    }
+
+    /// Syncs the rendered file and its marks. Nothing is written. `Sound` and `Marks` where the device fails.
+    pub fn finish<B: Bench>(&self, bench: &mut B) -> Result<(), LayFault>
+        ensures durable { IsTrue (B.honest bench.old)
+            → OnOk result (IsDurable sound_name (B.stored bench.new) (B.may_leave bench.new)) }
+        ensures marks_durable { IsTrue (B.honest bench.old)
+            → OnOk result (IsDurable marks_name (B.stored bench.new) (B.may_leave bench.new)) }
+        ensures untouched { IsUntouched B.stored B.may_leave B.moment B.left_since bench.old bench.new }
+        ensures only_reads { ReadsTo B.stored B.honest B.failures B.failed_at bench.old bench.new result (λ _. ⊤)
+            (λ fault failed. failed (lay_name fault)) }
+    {
+        match bench.sync(SOUND) {
+            Ok(()) => {}
+            Err(_) => return Err(LayFault::Sound),
+        }
+        match bench.sync(MARKS) {
+            Ok(()) => return Ok(()),
+            Err(_) => return Err(LayFault::Marks),
         }
     }
 }

@@ -1,5 +1,5 @@
 -- Lemmas on single steps.
-use Rattle.std.proofs.Common.{◌≡◌, ◌∙◌, ℕ, ◌<◌, Bool, true, false, cond, Option, Some, None, Result, Ok, Err, List, [], ◌∷◌, ◌++◌, take, IsTrue, is_some, length, refl, sym, ap, subst, inl, inr}
+use Rattle.std.proofs.Common.{◌≡◌, ◌∙◌, ℕ, ◌<◌, ◌≤◌, Bool, true, false, cond, Option, Some, None, Result, Ok, Err, List, [], ◌∷◌, ◌++◌, take, IsTrue, is_some, length, refl, sym, ap, subst, inl, inr, arith}
 use Rattle.std.proofs.lemmas.Bool.{cases_lt}
 use Rattle.std.proofs.lemmas.List.{get_or_past}
 use Rattle.std.proofs.Math.Seq.{take-append_seam}
@@ -81,6 +81,16 @@ steps-of X Y fault told P e h = subst (λ (f : RunFault). Steps {X = Y} (Err f) 
 -- an answer that tells a failure
 pub raised : (before now : ℕ) (quiet device : Type 0) → HasCause before now quiet device → device → Rises before now
 raised before now quiet device cause d = record { later = cause.later; rose = cause.rose d }
+
+-- and a later one
+pub rises-after : (before mid now : ℕ) → before ≤ mid → Rises mid now → Rises before now
+rises-after before mid now le rises = record {
+  later = omega (arith, le, rises.later);
+  rose = λ few. elim (cases_lt before mid) [
+    | inl lt ↦ omega (arith, lt, rises.later)
+    | inr ge ↦ omega (arith, le, rises.rose (omega (arith, few, le, ge)))
+  ];
+}
 
 pub placed-write : (X : Type 0) (work : JobsBy) (marks : Bool) (job : ℕ) (seen bytes : List ℕ) (old new : Files)
     (f : PlaceFault)

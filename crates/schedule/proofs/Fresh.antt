@@ -1,5 +1,5 @@
 -- Events from a fresh board on.
-use Rattle.std.proofs.Common.{◌≡◌, ◌+◌, ◌<◌, ℕ, Bool, true, false, Option, None, Some, List, ap, length, refl, replicate, subst, sym, take}
+use Rattle.std.proofs.Common.{◌≡◌, ◌+◌, ◌<◌, ℕ, Bool, true, false, Option, None, Some, List, length, refl, replicate, subst, sym, take}
 use Rattle.std.specs.Prelude.{IfSome}
 use Rattle.std.proofs.lemmas.List.{length-replicate}
 use Rattle.work_terms.specs.Disk.{Files}

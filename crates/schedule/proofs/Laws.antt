@@ -1,5 +1,5 @@
 -- What each run of jobs whose places are apart keeps to.
-use Rattle.std.proofs.Common.{◌≡◌, ◌≢◌, ◌∙◌, ◌⊎◌, ℕ, ◌+◌, ◌<◌, ◌≤◌, Bool, true, false, cond, nat_le, MatchBool, is_none, Option, Some, None, List, [], ◌∷◌, length, take, drop, get_or, get_or-set_same, refl, sym, ap, subst, inl, inr, arith}
+use Rattle.std.proofs.Common.{◌≡◌, ◌∙◌, ℕ, ◌+◌, ◌<◌, ◌≤◌, Bool, true, false, cond, MatchBool, is_none, Option, Some, None, List, [], ◌∷◌, length, take, drop, get_or-set_same, refl, sym, ap, subst, inl, inr, arith}
 use Rattle.std.proofs.lemmas.Bool.{cases_eq}
 use Rattle.std.proofs.lemmas.Bool.Decides.{nat_tests}
 use Rattle.std.proofs.lemmas.List.{ext_get_or, get_or-drop, get_or-take, length-drop, length-take-le}
@@ -8,7 +8,7 @@ use Rattle.job_terms.specs.declared.BoardEvent.TheVariants.{Give, Work, Deliver,
 use Rattle.job_terms.specs.declared.Job.{Job}
 use Rattle.job_terms.specs.declared.Ticket.{Ticket}
 use Rattle.job_terms.specs.declared.Standing.TheVariants.{Open}
-use Rattle.job_terms.specs.Board.{Board, faulted, is_current, is_last_fault, is_out, job_at, no_job, reopened}
+use Rattle.job_terms.specs.Board.{faulted, is_current, is_last_fault, is_out, job_at, no_job, reopened}
 use Rattle.job_terms.specs.Workers as w
 use Rattle.job_terms.specs.Workers.{DeliverStep, Delivers, CantWrite, CantMark, IsStale, HasNoBytes, DonePlaces, End, GivenUp, Hand, Jobs, MarkFailed, State, World, after_fault}
 use Rattle.schedule.specs.Filled.{AreApart, AreParts, IsFixedIn, IsGood, IsSound}

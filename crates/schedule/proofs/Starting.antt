@@ -1,5 +1,5 @@
 -- Where no job is done yet.
-use Rattle.std.proofs.Common.{◌≡◌, ◌∙◌, ◌^◌, ◌+◌, ◌++◌, [], ◌∷◌, ℕ, ◌<◌, ◌≤◌, Bool, true, false, None, Some, Result, Ok, Err, OnOk, List, replicate, take, get_or, refl, sym, ap, subst, arith}
+use Rattle.std.proofs.Common.{◌≡◌, ◌∙◌, ◌^◌, ◌+◌, ◌++◌, [], ◌∷◌, ℕ, ◌<◌, ◌≤◌, Bool, true, false, Option, None, Some, Result, Ok, Err, OnOk, List, length, replicate, take, get_or, refl, sym, ap, subst, arith}
 use Rattle.std.specs.List.{range_with_len}
 use Rattle.std.proofs.lemmas.List.{get_or-replicate, length-replicate, map-id}
 use Rattle.std.proofs.lemmas.List.FromFn.{get_or-range_with_len, length-range_with_len, map-range_with_len_more}
@@ -8,7 +8,7 @@ use Rattle.job_terms.specs.Board.{Board, fresh_job, is_done, job_at, no_job}
 use Rattle.schedule.specs.Alone.{AtRest, IsAtRest, Waits, only}
 use Rattle.schedule.specs.Ends.{ended_of}
 use Rattle.schedule.specs.Events.{fresh_board}
-use Rattle.schedule.specs.Rounds.{RunsInRounds}
+use Rattle.schedule.specs.Rounds.{RoundsFrom, RunsInRounds}
 use Rattle.schedule.specs.Run.{Leads, state_of}
 use Rattle.schedule.specs.declared.fault.JobFault.{JobFault}
 use Rattle.schedule.specs.declared.fault.JobFault.TheVariants as fault
@@ -71,30 +71,22 @@ filled-fresh jobs whole done files fresh filled = record {
   };
 }
 
--- what one worker alone did from a fresh board on
+-- what one worker alone did from a board on
 pub rounds-from : (X : Type 0) (r : Result X JobFault) (marks : Bool) (jobs : Jobs) (whole : List ℕ → List ℕ)
     (old new : Board) (laid written : Files)
-    (shelf_old bench_old shelf_new bench_new : ℕ) → old.jobs ≡ replicate jobs.count fresh_job → AreParts jobs whole
-    → AreApart jobs → AreFilled jobs whole (λ _. false) laid
+    (shelf_old bench_old shelf_new bench_new : ℕ) → length old.jobs ≡ jobs.count → AreParts jobs whole
+    → AreApart jobs → AreFilled jobs whole (done_of old) laid
     → ((n : ℕ) × (m : ℕ) × (hand : Hand) × (m ≤ 3) × (OnOk r (m ≡ 0)) × Leads (λ world next. BoardRun marks jobs world
     (rounds n ++ take m (rounds 1)) next)
     (state_of old laid 0 shelf_old bench_old None) (λ _. Nothing) (state_of new written 0 shelf_new bench_new
     (ended_of r)) (only hand))
     → OnOk r ((k : ℕ) → k < jobs.count → done_of new k ≡ true)
-    → RunsInRounds marks jobs whole old.order shelf_old bench_old shelf_new bench_new written (ended_of r)
-rounds-from X r marks jobs whole old new laid written shelf_old bench_old shelf_new bench_new fresh parts apart
-    filled (n, m, hand, few, full, run) all =
-    let start = state_of (fresh_board jobs.count old.order) laid 0 shelf_old bench_old None in
-    let last = state_of new written 0 shelf_new bench_new (ended_of r) in
-    let ran : Leads (λ world next. BoardRun marks jobs world (rounds n ++ take m (rounds 1)) next) start (λ _. Nothing)
-    last (only hand) =
-    subst (λ (js : List Job). Leads (λ world next. BoardRun marks jobs world (rounds n ++ take m (rounds 1)) next)
-    (state_of (record { jobs = js; order = old.order }) laid 0 shelf_old bench_old None) (λ _. Nothing) last (only hand))
-    fresh run in
-    record {
+    → RoundsFrom marks jobs whole old shelf_old bench_old shelf_new bench_new written (ended_of r)
+rounds-from X r marks jobs whole old new laid written shelf_old bench_old shelf_new bench_new size parts apart
+    filled (n, m, hand, few, full, run) all = record {
       parts = parts;
-      laid = laid;
       apart = apart;
+      laid = laid;
       filled = filled;
       board = new;
       hands = only hand;
@@ -102,14 +94,11 @@ rounds-from X r marks jobs whole old new laid written shelf_old bench_old shelf_
       more = m;
       few = few;
       in_full = λ e. on-none r (m ≡ 0) full e;
-      run = ran;
+      run = run;
       all = λ e. on-none r ((k : ℕ) → k < jobs.count → done_of new k ≡ true) all e;
-      laws = laws-kept marks jobs whole (rounds n ++ take m (rounds 1)) (rounds n ++ take m (rounds 1)) start last
-          (only hand) parts apart (record {
-            board = length-replicate jobs.count fresh_job;
-            filled = filled-fresh jobs whole (done_of (fresh_board jobs.count old.order)) laid
-                (none-done jobs.count old.order) filled;
-          }) refl ran;
+      laws = laws-kept marks jobs whole (rounds n ++ take m (rounds 1)) (rounds n ++ take m (rounds 1))
+          (state_of old laid 0 shelf_old bench_old None) (state_of new written 0 shelf_new bench_new (ended_of r))
+          (only hand) parts apart (record { board = size; filled = filled }) refl run;
     }
   where
     apart-end : (end : End) → Some end ≡ None → ⊥
@@ -119,3 +108,13 @@ rounds-from X r marks jobs whole old new laid written shelf_old bench_old shelf_
     on-none (Ok x) P p e = p
     on-none (Err (fault.GivenUp job)) P p e = absurd (apart-end (GivenUp job) e)
     on-none (Err fault.Mark) P p e = absurd (apart-end MarkFailed e)
+
+-- the same from a fresh board on
+pub from-fresh : (marks : Bool) (jobs : Jobs) (whole : List ℕ → List ℕ) (old : Board)
+    (shelf_old bench_old shelf_new bench_new : ℕ) (written : Files) (ended : Option End)
+    → old.jobs ≡ replicate jobs.count fresh_job
+    → RoundsFrom marks jobs whole old shelf_old bench_old shelf_new bench_new written ended
+    → RunsInRounds marks jobs whole old.order shelf_old bench_old shelf_new bench_new written ended
+from-fresh marks jobs whole old shelf_old bench_old shelf_new bench_new written ended fresh run =
+    subst (λ (js : List Job). RoundsFrom marks jobs whole (record { jobs = js; order = old.order })
+    shelf_old bench_old shelf_new bench_new written ended) fresh run

@@ -1,7 +1,7 @@
 // One event.
-ghost use Rattle.std.specs.Prelude.{◌≡◌, ◌<◌, ◌≤◌, ◌+◌, ◌^◌, ℕ, Bool, IsTrue, None, length, OnOk, IfErr, IsErrOf, List};
-ghost use Rattle.work_terms.specs.Disk.{Files, LeavesOnly};
-ghost use Rattle.schedule.specs.Marking.{IsNoOutput, IsRight, IsRunningBy, LeavesBy, RunsOn, done_of};
+ghost use Rattle.std.specs.Prelude.{◌≡◌, ◌<◌, ◌≤◌, ◌+◌, ◌^◌, ℕ, Bool, IsTrue, None, length, OnOk, IfErr, IsErrOf, List, Some};
+ghost use Rattle.work_terms.specs.Disk.{Files, LeavesOnly, Rises};
+ghost use Rattle.schedule.specs.Marking.{IsNoOutput, IsRight, IsRunningBy, LeavesBy, RunsOn, done_of, Marking};
 ghost use Rattle.job_terms.specs.Workers.{BoardStep, Hand, Jobs, JobsBy, State, jobs_over};
 ghost use Rattle.job_terms.specs.declared.BoardEvent.TheVariants as event;
 ghost use Rattle.schedule.specs.Held.{hands_in};
@@ -138,6 +138,9 @@ pub fn deliver_by<J: JobMaker, B: Bench>(
     ensures same { length board.new.jobs ≡ length board.old.jobs }
     ensures counted { stale.new ≤ stale.old + 1 }
     ensures only_marks { IsErrOf result run_fault.Mark → IsTrue (J.marks maker.old) }
+    ensures failed { IsErrOf result run_fault.Mark → (sources : Files) (m : Marking)
+        → J.marking maker.old sources ≡ Some m → B.failed_at bench.new m.marks }
+    ensures raised { IsErrOf result run_fault.Mark → Rises (B.failures bench.old) (B.failures bench.new) }
 {
     let mut worker = hands.take(alloc, number);
     let outcome = deliver(maker, board, stale, &mut worker, bench);

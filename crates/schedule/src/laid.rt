@@ -1,11 +1,13 @@
 // Events on the jobs of a work whose files are laid out.
-ghost use Rattle.std.specs.Prelude.{◌≡◌, ◌≤◌, ◌<◌, ◌+◌, ℕ, IsTrue, Some, false, List, IfOk, IsErrOf, length, replicate};
+ghost use Rattle.std.specs.Prelude.{◌≡◌, ◌≤◌, ◌<◌, ◌+◌, ℕ, IsTrue, Some, false, true, List, IfOk, IsErrOf, length, replicate};
+ghost use Rattle.work_terms.specs.Disk.{Files, LeavesOnly, Rises};
 ghost use Rattle.job_terms.specs.Board.{fresh_job};
 ghost use Rattle.job_terms.specs.Workers.{jobs_over};
 ghost use Rattle.schedule.specs.Events as spec;
 ghost use Rattle.schedule.specs.Events.{EndsIn, RunsEvents};
 ghost use Rattle.schedule.specs.Filled.{AreApart, AreFilled, AreParts};
-ghost use Rattle.schedule.specs.Marking.{IsNoOutput};
+ghost use Rattle.schedule.specs.Ends.{Steps};
+ghost use Rattle.schedule.specs.Marking.{IsNoOutput, IsRunningBy, LeavesBy, Marking, RunsOn, done_of};
 ghost use Rattle.schedule.specs.declared.fault.RunFault.TheVariants as run_fault;
 
 use crate::running::run;
@@ -54,6 +56,15 @@ pub fn run_laid<J: JobMaker, S: Shelf, B: Bench>(
         → AreFilled (jobs_over (J.work maker.old) (S.stored shelf.old)) whole (λ _. false) (B.stored bench.old)
         → IfOk result (λ told. IsTrue told.finished → (k : ℕ) → k < (J.work maker.old).count
         → B.stored bench.new ((J.work maker.old).name k) ≡ Some (whole ((J.work maker.old).name k))) }
+    ensures done { IfOk result (λ told. IsTrue told.finished → (k : ℕ) → k < (J.work maker.old).count
+        → done_of board.new k ≡ true) }
+    ensures running { IsTrue (S.honest shelf.old) → IsTrue (B.honest bench.old) → IsRunningBy (J.marking maker.old
+        (S.stored shelf.old)) (done_of board.old) (B.may_leave bench.old)
+        → Steps result (RunsOn (J.marking maker.old (S.stored shelf.old)) (done_of board.new) (B.may_leave bench.new)) }
+    ensures any_moment { IsTrue (S.honest shelf.old) → IsTrue (B.honest bench.old) → IsRunningBy (J.marking maker.old
+        (S.stored shelf.old)) (done_of board.old) (B.may_leave bench.old)
+        → LeavesOnly B.moment B.left_since bench.old bench.new (LeavesBy (J.marking maker.old (S.stored shelf.old))
+        (done_of board.old)) }
     ensures all_jobs { IfOk result (λ told. told.idle + told.out + told.done ≡ (J.work maker.old).count) }
     ensures same_work { J.work maker.new ≡ J.work maker.old }
     ensures same_shelf { S.stored shelf.new ≡ S.stored shelf.old }
@@ -64,6 +75,9 @@ pub fn run_laid<J: JobMaker, S: Shelf, B: Bench>(
     ensures later_shelf { S.failures shelf.old ≤ S.failures shelf.new }
     ensures later_bench { B.failures bench.old ≤ B.failures bench.new }
     ensures only_marks { IsErrOf result run_fault.Mark → IsTrue (J.marks maker.old) }
+    ensures failed { IsErrOf result run_fault.Mark → (sources : Files) (m : Marking)
+        → J.marking maker.old sources ≡ Some m → B.failed_at bench.new m.marks }
+    ensures raised { IsErrOf result run_fault.Mark → Rises (B.failures bench.old) (B.failures bench.new) }
 {
     match run(alloc, maker, board, events, shelf, bench) {
         Ok(stale) => return Ok(progress_of(board, stale)),

@@ -1,5 +1,5 @@
 // What a work is, to a board.
-ghost use Rattle.std.specs.Prelude.{◌≡◌, ◌<◌, ℕ, ⊤, Bool, false, Option, List, length, IsTrue, IsOk, IsErr, IsErrOf, OnOk};
+ghost use Rattle.std.specs.Prelude.{◌≡◌, ◌<◌, ℕ, ⊤, Bool, false, Option, Some, List, length, IsTrue, IsOk, IsErr, IsErrOf, OnOk};
 ghost use Rattle.work_terms.specs.Disk.{Files, HasCause, LeavesOnly};
 ghost use Rattle.job_terms.specs.Workers.{JobsBy};
 ghost use Rattle.shelf.specs.Frame.{OnlyReads};
@@ -69,6 +69,8 @@ pub trait JobMaker {
         ensures others { IsTrue (B.honest bench.old) → (n : List ℕ) → IsNoOutput (work self.old) (marking self.old) n
             → B.stored bench.new n ≡ B.stored bench.old n }
         ensures only_marks { IsErrOf result PlaceFault.Mark → IsTrue (marks self.old) }
+        ensures failed { IsErrOf result PlaceFault.Mark → (sources : Files) (m : Marking)
+            → marking self.old sources ≡ Some m → B.failed_at bench.new m.marks }
         ensures honest { B.honest bench.new ≡ B.honest bench.old }
         ensures cause { HasCause (B.failures bench.old) (B.failures bench.new) (IsOk result) (IsErr result) };
 }

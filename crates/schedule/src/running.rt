@@ -1,9 +1,9 @@
 // A list of events.
-ghost use Rattle.std.specs.Prelude.{◌≡◌, ◌<◌, ◌≤◌, ◌+◌, ◌^◌, ℕ, Bool, List, IsTrue, None, length, take, OnOk, IfOk, IsErrOf};
-ghost use Rattle.work_terms.specs.Disk.{Files, LeavesOnly};
+ghost use Rattle.std.specs.Prelude.{◌≡◌, ◌<◌, ◌≤◌, ◌+◌, ◌^◌, ℕ, Bool, List, IsTrue, None, length, take, OnOk, IfOk, IsErrOf, Some};
+ghost use Rattle.work_terms.specs.Disk.{Files, LeavesOnly, Rises};
 ghost use Rattle.job_terms.specs.Workers.{BoardRun, BoardStep, Hand, Nothing, jobs_over};
 ghost use Rattle.schedule.specs.Filled.{AreFilled, AreParts};
-ghost use Rattle.schedule.specs.Marking.{IsNoOutput, IsRight, IsRunningBy, LeavesBy, RunsOn, done_of};
+ghost use Rattle.schedule.specs.Marking.{IsNoOutput, IsRight, IsRunningBy, LeavesBy, RunsOn, done_of, Marking};
 ghost use Rattle.schedule.specs.Held.{hands_in};
 ghost use Rattle.schedule.specs.Ends.{Steps};
 ghost use Rattle.schedule.specs.Events.{RanSome, end_of};
@@ -64,6 +64,9 @@ fn step<J: JobMaker, S: Shelf, B: Bench>(
     ensures memory { IsErrOf result run_fault.Memory → (bench.new ≡ bench.old) × (stale.new ≡ stale.old)
         × (S.failures shelf.new ≡ S.failures shelf.old) }
     ensures only_marks { IsErrOf result run_fault.Mark → IsTrue (J.marks maker.old) }
+    ensures failed { IsErrOf result run_fault.Mark → (sources : Files) (m : Marking)
+        → J.marking maker.old sources ≡ Some m → B.failed_at bench.new m.marks }
+    ensures raised { IsErrOf result run_fault.Mark → Rises (B.failures bench.old) (B.failures bench.new) }
 {
     match event {
         BoardEvent::Give(number) => return give_to(alloc, board, hands, number),
@@ -126,6 +129,9 @@ pub fn run<J: JobMaker, S: Shelf, B: Bench>(
     ensures later_shelf { S.failures shelf.old ≤ S.failures shelf.new }
     ensures later_bench { B.failures bench.old ≤ B.failures bench.new }
     ensures only_marks { IsErrOf result run_fault.Mark → IsTrue (J.marks maker.old) }
+    ensures failed { IsErrOf result run_fault.Mark → (sources : Files) (m : Marking)
+        → J.marking maker.old sources ≡ Some m → B.failed_at bench.new m.marks }
+    ensures raised { IsErrOf result run_fault.Mark → Rises (B.failures bench.old) (B.failures bench.new) }
 {
     let mut hands = Hands::new(alloc);
     let mut stale: u64 = 0;

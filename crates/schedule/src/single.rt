@@ -1,13 +1,14 @@
 // One worker alone.
 ghost use Rattle.std.specs.Prelude.{◌≡◌, ◌<◌, ◌≤◌, ◌+◌, ◌^◌, ◌++◌, ℕ, false, true, IsTrue, List, None, Some, length, take, OnOk, IfOk, IfSome, IsErrOf};
 ghost use Rattle.std.specs.Option.{ForSome};
-ghost use Rattle.work_terms.specs.Disk.{LeavesOnly};
+ghost use Rattle.work_terms.specs.Disk.{LeavesOnly, Files, Rises};
 ghost use Rattle.job_terms.specs.Board.{is_finished};
 ghost use Rattle.job_terms.specs.Workers.{BoardRun, Hand, Nothing, jobs_over, rounds};
 ghost use Rattle.schedule.specs.Alone.{AtRest, all_rounds_left, only};
 ghost use Rattle.schedule.specs.Ends.{ended_of};
-ghost use Rattle.schedule.specs.Filled.{AreFilled, AreParts};
-ghost use Rattle.schedule.specs.Marking.{IsNoOutput, IsRunningBy, LeavesBy, RunsOn, done_of};
+ghost use Rattle.schedule.specs.Filled.{AreFilled, AreParts, AreApart};
+ghost use Rattle.schedule.specs.Marking.{IsNoOutput, IsRunningBy, LeavesBy, RunsOn, done_of, Marking};
+ghost use Rattle.schedule.specs.Rounds.{RoundsFrom};
 ghost use Rattle.schedule.specs.Run.{HasRoom, Leads, state_of};
 ghost use Rattle.schedule.specs.declared.fault.JobFault.TheVariants as job_fault;
 
@@ -63,6 +64,9 @@ fn round<J: JobMaker, S: Shelf, B: Bench>(
     ensures others { IsTrue (B.honest bench.old) → (n : List ℕ) → IsNoOutput (J.work maker.old) (J.marking maker.old) n
         → B.stored bench.new n ≡ B.stored bench.old n }
     ensures only_marks { IsErrOf result job_fault.Mark → IsTrue (J.marks maker.old) }
+    ensures failed { IsErrOf result job_fault.Mark → (sources : Files) (m : Marking)
+        → J.marking maker.old sources ≡ Some m → B.failed_at bench.new m.marks }
+    ensures raised { IsErrOf result job_fault.Mark → Rises (B.failures bench.old) (B.failures bench.new) }
     ensures later_shelf { S.failures shelf.old ≤ S.failures shelf.new }
     ensures later_bench { B.failures bench.old ≤ B.failures bench.new }
     ensures same { length board.new.jobs ≡ length board.old.jobs }
@@ -154,6 +158,13 @@ pub fn alone<J: JobMaker, S: Shelf, B: Bench, W: Watch>(
         (state_of board.old (B.stored bench.old) 0 (S.failures shelf.old) (B.failures bench.old) None) (λ _. Nothing)
         (state_of board.new (B.stored bench.new) 0 (S.failures shelf.new) (B.failures bench.new) (ended_of result))
         (only hand) }
+    ensures from_board { IsTrue (S.honest shelf.old) → IsTrue (B.honest bench.old) → (whole : List ℕ → List ℕ)
+        → AreParts (jobs_over (J.work maker.old) (S.stored shelf.old)) whole
+        → AreApart (jobs_over (J.work maker.old) (S.stored shelf.old))
+        → AreFilled (jobs_over (J.work maker.old) (S.stored shelf.old)) whole (done_of board.old) (B.stored bench.old)
+        → RoundsFrom (J.marks maker.old) (jobs_over (J.work maker.old) (S.stored shelf.old)) whole board.old
+        (S.failures shelf.old) (B.failures bench.old) (S.failures shelf.new) (B.failures bench.new)
+        (B.stored bench.new) (ended_of result) }
     ensures done { OnOk result ((k : ℕ) → k < (J.work maker.old).count → done_of board.new k ≡ true) }
     ensures stay { IsTrue (S.honest shelf.old) → IsTrue (B.honest bench.old) → (k : ℕ) → done_of board.old k ≡ true
         → done_of board.new k ≡ true }
@@ -181,6 +192,9 @@ pub fn alone<J: JobMaker, S: Shelf, B: Bench, W: Watch>(
     ensures others { IsTrue (B.honest bench.old) → (n : List ℕ) → IsNoOutput (J.work maker.old) (J.marking maker.old) n
         → B.stored bench.new n ≡ B.stored bench.old n }
     ensures only_marks { IsErrOf result job_fault.Mark → IsTrue (J.marks maker.old) }
+    ensures failed { IsErrOf result job_fault.Mark → (sources : Files) (m : Marking)
+        → J.marking maker.old sources ≡ Some m → B.failed_at bench.new m.marks }
+    ensures raised { IsErrOf result job_fault.Mark → Rises (B.failures bench.old) (B.failures bench.new) }
     ensures later_shelf { S.failures shelf.old ≤ S.failures shelf.new }
     ensures later_bench { B.failures bench.old ≤ B.failures bench.new }
 {

@@ -1,5 +1,6 @@
 // What one worker alone begins with.
 ghost use Rattle.std.specs.Prelude.{◌≡◌, ◌<◌, ◌≤◌, ℕ, false, Some, List, IfOk, IsErrOf, IsTrue, OnOk, length, replicate, slice_index_or};
+ghost use Rattle.work_terms.specs.Disk.{Files, Rises};
 ghost use Rattle.std.specs.List.{range_with_len};
 ghost use Rattle.job_terms.specs.Board.{fresh_job};
 ghost use Rattle.job_terms.specs.Workers.{Nothing, jobs_over};
@@ -7,7 +8,7 @@ ghost use Rattle.schedule.specs.Alone.{AtRest};
 ghost use Rattle.schedule.specs.Ends.{ended_of};
 ghost use Rattle.schedule.specs.Events as spec;
 ghost use Rattle.schedule.specs.Filled.{AreApart, AreFilled, AreParts};
-ghost use Rattle.schedule.specs.Marking.{IsNoOutput, done_of};
+ghost use Rattle.schedule.specs.Marking.{IsNoOutput, done_of, Marking};
 ghost use Rattle.schedule.specs.Rounds.{RunsInRounds};
 ghost use Rattle.schedule.specs.Run.{HasRoom};
 ghost use Rattle.schedule.specs.declared.fault.JobFault.TheVariants as fault;
@@ -87,6 +88,9 @@ pub fn resting_start<J: JobMaker>(
     ensures rest { IfOk result (λ start. AtRest start.board) }
     ensures done { IfOk result (λ start. (k : ℕ) → k < (J.work maker.now).count
         → done_of start.board k ≡ slice_index_or done.now k false) }
+    ensures fresh { ((k : ℕ) → k < length done.now → slice_index_or done.now k false ≡ false)
+        → IfOk result (λ start. start.board.jobs ≡ replicate (J.work maker.now).count fresh_job) }
+    ensures order { IfOk result (λ start. IsOrder (J.work maker.now).count start.board.order) }
     ensures empty { IfOk result (λ start. start.worker.hand ≡ Nothing) }
     ensures room { IfOk result (λ start. HasRoom (J.work maker.now) start.worker.room) }
 {
@@ -127,6 +131,9 @@ pub fn from_start<J: JobMaker, S: Shelf, B: Bench, W: Watch>(
     ensures others { IsTrue (B.honest bench.old) → (n : List ℕ) → IsNoOutput (J.work maker.old) (J.marking maker.old) n
         → B.stored bench.new n ≡ B.stored bench.old n }
     ensures only_marks { IsErrOf result fault.Mark → IsTrue (J.marks maker.old) }
+    ensures failed { IsErrOf result fault.Mark → (sources : Files) (m : Marking)
+        → J.marking maker.old sources ≡ Some m → B.failed_at bench.new m.marks }
+    ensures raised { IsErrOf result fault.Mark → Rises (B.failures bench.old) (B.failures bench.new) }
     ensures later_shelf { S.failures shelf.old ≤ S.failures shelf.new }
     ensures later_bench { B.failures bench.old ≤ B.failures bench.new }
 {

@@ -1,8 +1,8 @@
 // The steps of one worker.
-ghost use Rattle.std.specs.Prelude.{◌≡◌, ◌≢◌, ◌<◌, ◌+◌, ◌^◌, ◌≤◌, ℕ, IsTrue, true, None, length, OnErr, OnOk, IfErr, IsErrOf, List, take, ⊤};
-ghost use Rattle.work_terms.specs.Disk.{Files, LeavesOnly};
+ghost use Rattle.std.specs.Prelude.{◌≡◌, ◌≢◌, ◌<◌, ◌+◌, ◌^◌, ◌≤◌, ℕ, IsTrue, true, None, length, OnErr, OnOk, IfErr, IsErrOf, List, take, ⊤, Some};
+ghost use Rattle.work_terms.specs.Disk.{Files, LeavesOnly, Rises};
 ghost use Rattle.shelf.specs.Frame.{OnlyReads};
-ghost use Rattle.schedule.specs.Marking.{IsNoOutput, IsRight, IsRunningBy, LeavesBy, RunsOn, done_of};
+ghost use Rattle.schedule.specs.Marking.{IsNoOutput, IsRight, IsRunningBy, LeavesBy, RunsOn, done_of, Marking};
 ghost use Rattle.job_terms.specs.Workers.{JobsBy, DeliverStep, FaultStep, GiveStep, Hand, Holds, Jobs, Made, Nothing, State, WorkStep, after_fault, jobs_over};
 ghost use Rattle.job_terms.specs.Board.{accepted, is_current};
 ghost use Rattle.schedule.specs.Alone.{Turned, Worked};
@@ -174,6 +174,9 @@ pub fn deliver<J: JobMaker, B: Bench>(
     ensures others { IsTrue (B.honest bench.old) → (n : List ℕ) → IsNoOutput (J.work maker.old) (J.marking maker.old) n
         → B.stored bench.new n ≡ B.stored bench.old n }
     ensures only_marks { IsErrOf result fault.Mark → IsTrue (J.marks maker.old) }
+    ensures failed { IsErrOf result fault.Mark → (sources : Files) (m : Marking)
+        → J.marking maker.old sources ≡ Some m → B.failed_at bench.new m.marks }
+    ensures raised { IsErrOf result fault.Mark → Rises (B.failures bench.old) (B.failures bench.new) }
     ensures later { B.failures bench.old ≤ B.failures bench.new }
     ensures waits { worker.new.hand ≢ Nothing → (bench.new ≡ bench.old) × (stale.new ≡ stale.old) }
     ensures same_room { worker.new.room ≡ worker.old.room }

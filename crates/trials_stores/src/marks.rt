@@ -1,5 +1,7 @@
 // The marks of a rendering, byte for byte.
-use markfile::{MARKS, MarksFault, RunId, RunRange, SOUND, mark, open_marks, start};
+use markfile::{
+    FreshMarks, MARKS, MarksFault, RunId, RunRange, SOUND, mark, open_marks, start,
+};
 use sampletime::SampleTime;
 use shelf::{Bench, DeviceFault};
 use sound_terms::Depth;
@@ -73,7 +75,8 @@ fn marks_are_made_set_and_found(rt: HostRuntime) -> Result<(), Fail> {
     let mut bench = bench_of(rt.alloc(), &SAMPLES, &[])?;
     assert_eq!(rt; found(rt.alloc(), &mut bench, &run), Ok(false));
 
-    start(rt.alloc(), &mut bench, &run)?;
+    let fresh = FreshMarks::of(rt.alloc(), &run)?;
+    start(&mut bench, &fresh)?;
     assert_eq!(rt; marks_on(&mut bench)?, FRESH);
     assert_eq!(rt; bench.length(MARKS)?, 47);
     let none = open_marks(rt.alloc(), &mut bench, &run)?.ok_or("not started")?;
@@ -146,7 +149,7 @@ fn files_of_another_length_are_refused_or_not_started(rt: HostRuntime) -> Result
     }
     let mut alone = MemoryBench::new(rt.alloc());
     assert_eq!(rt; found(rt.alloc(), &mut alone, &run), Ok(false));
-    start(rt.alloc(), &mut alone, &run)?;
+    start(&mut alone, &FreshMarks::of(rt.alloc(), &run)?)?;
     assert_eq!(rt;
         found(rt.alloc(), &mut alone, &run),
         Err(MarksFault::BadMarks)
@@ -157,15 +160,16 @@ fn files_of_another_length_are_refused_or_not_started(rt: HostRuntime) -> Result
 #[test]
 fn each_failing_call_is_told(rt: HostRuntime) -> Result<(), Fail> {
     let run = run_of(2)?;
+    let fresh = FreshMarks::of(rt.alloc(), &run)?;
     for call in 0..8 {
         let mut bench = bench_of(rt.alloc(), &SAMPLES, &[])?.failing(call, 1);
         assert_eq!(rt;
-            start(rt.alloc(), &mut bench, &run),
-            Err(MarksFault::Marks),
+            start(&mut bench, &fresh),
+            Err(DeviceFault),
             "call {call}"
         );
         assert_eq!(rt; bench.failures(), 1);
-        start(rt.alloc(), &mut bench, &run)?;
+        start(&mut bench, &fresh)?;
         assert_eq!(rt; marks_on(&mut bench)?, FRESH);
     }
     for call in 0..6 {

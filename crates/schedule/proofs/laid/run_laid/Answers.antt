@@ -1,8 +1,9 @@
-use Rattle.std.proofs.Common.{◌≡◌, ◌∙◌, ℕ, Option, None, Some, Ok, Err, ap, length, rules}
+use Rattle.std.proofs.Common.{◌≡◌, ◌∙◌, ◌<◌, ℕ, Option, None, Some, Ok, Err, ap, length, rules, subst, sym}
 use Rattle.std.proofs.lemmas.List.{length-replicate}
 use Rattle.job_terms.specs.Board.{fresh_job}
 use Rattle.job_terms.specs.Workers.{jobs_over}
 use Rattle.schedule.proofs.Fresh.{events-laid, filled-as-fresh, whole-finished}
+use Rattle.schedule.proofs.Rests.{finished-done}
 use Rattle.job_terms.specs.declared.Progress.{Progress}
 use Rattle.job_terms.specs.Workers.{End}
 use Rattle.schedule.specs.Events.{EndsIn, RunsEvents, end_of}
@@ -81,3 +82,9 @@ pub returns-in-Ok-clause-all_jobs : goal.returns-in-Ok-clause-all_jobs
 returns-in-Ok-clause-all_jobs g c =
     c.progress_of.ensures.all ∙ c.in-Ok.ensures.same ∙ ap length c.requires
     ∙ length-replicate (g.J.JobMaker.work c.args.maker.now).count fresh_job
+
+pub returns-in-Ok-clause-done : goal.returns-in-Ok-clause-done
+returns-in-Ok-clause-done g c finished k lt =
+    finished-done c.run.new.board (search rules) k
+    (subst (λ n. k < n) (sym (c.in-Ok.ensures.same ∙ ap length c.requires
+    ∙ length-replicate (g.J.JobMaker.work c.args.maker.now).count fresh_job)) lt)

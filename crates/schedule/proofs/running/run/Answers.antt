@@ -5,7 +5,10 @@ use Rattle.job_terms.specs.Workers.{BoardRun, Nothing, State, jobs_over}
 use Rattle.schedule.specs.Held.{hands_in}
 use Rattle.schedule.specs.Ends.{Steps}
 use Rattle.schedule.specs.Events.{RanSome}
+use Rattle.schedule.specs.declared.fault.RunFault.{RunFault}
+use Rattle.schedule.specs.declared.fault.RunFault.TheVariants as run_fault
 use Rattle.schedule.specs.declared.fault.RunFault.TheVariants.{Memory}
+use Rattle.schedule.proofs.Firsts.{rises-after}
 use Rattle.std.proofs.Common.{◌≡◌, IsErrOf, rules}
 use Rattle.schedule.proofs.Ended.{ended-by}
 use Rattle.schedule.specs.Run.{FitsHand, Leads, state_of}
@@ -306,3 +309,13 @@ loop-event-init g c = record {
     before = λ t f le h. inl h;
   };
 }
+
+-- it is the event's fault
+mark-told : (told : RunFault) → IsErrOf {T = ℕ} {E = RunFault} (Err told) run_fault.Mark → told ≡ run_fault.Mark
+mark-told told e = cc
+
+pub returns-in-Err-clause-raised : goal.returns-in-Err-clause-raised
+returns-in-Err-clause-raised g c of =
+    rises-after (g.B.Bench.failures c.args.bench.now) (g.B.Bench.failures c.loop-event.bench)
+    (g.B.Bench.failures c.step.new.bench) c.loop-event.invariant.later_bench (c.in-Err.ensures.raised
+    (ap (λ (f : RunFault). Err f) (mark-told c.in-Err.fault of)))

@@ -1,4 +1,5 @@
-use Rattle.std.proofs.Common.{◌∙◌, ◌+◌, ◌++◌, ℕ, IsTrue, Option, None, Err, List, take, refl, sym, ap, subst, inl, arith, rules}
+use Rattle.std.proofs.Common.{◌≡◌, ◌∙◌, ◌+◌, ◌++◌, ℕ, IsTrue, Option, None, Ok, Err, List, take, refl, sym, ap, subst, inl, arith, rules}
+use Rattle.std.specs.Prelude.{IsErrOf}
 use Rattle.std.proofs.lemmas.List.{append-nil}
 use Rattle.job_terms.specs.declared.BoardEvent.{BoardEvent}
 use Rattle.job_terms.specs.Workers.{BoardRun, Nothing, jobs_over, rounds}
@@ -6,9 +7,13 @@ use Rattle.schedule.specs.Alone.{only}
 use Rattle.schedule.specs.Ends.{ended_of}
 use Rattle.schedule.specs.Marking.{IsRunningBy, LeavesBy, Marking, done_of}
 use Rattle.schedule.specs.Run.{Leads, state_of}
+use Rattle.schedule.specs.declared.fault.JobFault.{JobFault}
+use Rattle.schedule.specs.declared.fault.JobFault.TheVariants as fault
 use Rattle.schedule.proofs.Filling.{filled-whole}
 use Rattle.schedule.proofs.Marked.{leaves-as, running-leaves}
 use Rattle.schedule.proofs.Rests.{finished-done}
+use Rattle.schedule.proofs.Firsts.{rises-after}
+use Rattle.schedule.proofs.Starting.{rounds-from}
 use Rattle.schedule.proofs.Rounds.{by-same, joined, leads-good, leads-keeps, leads-none, only-nothing, round-on, round-whole}
 use Rattle.schedule.proofs.single.alone.Goals as goal
 
@@ -269,3 +274,29 @@ returns-clause-finished g c honest right whole parts filled k lt =
     (done_of c.loop-frames.board) (g.B.Bench.stored c.loop-frames.bench
     ((g.J.JobMaker.work c.args.maker.now).name k)) (returns-clause-done g c)
     ((returns-clause-filled g c honest right whole parts filled).each k lt)
+
+pub returns-clause-from_board : goal.returns-clause-from_board
+returns-clause-from_board g c honest right whole parts apart filled = rounds-from (Unit {0}) (Ok tt)
+    (g.J.JobMaker.marks c.args.maker.now) (jobs_over (g.J.JobMaker.work c.args.maker.now) (g.S.Shelf.stored
+    c.args.shelf.now)) whole c.args.board.now c.loop-frames.board (g.B.Bench.stored c.args.bench.now)
+    (g.B.Bench.stored c.loop-frames.bench) (g.S.Shelf.failures c.args.shelf.now) (g.B.Bench.failures
+    c.args.bench.now) (g.S.Shelf.failures c.loop-frames.shelf) (g.B.Bench.failures c.loop-frames.bench)
+    c.requires.whole parts apart filled (returns-clause-rounds g c honest right) (returns-clause-done g c)
+
+pub returns-in-Err-clause-from_board : goal.returns-in-Err-clause-from_board
+returns-in-Err-clause-from_board g c honest right whole parts apart filled = rounds-from (Unit {0})
+    (Err c.in-Err.fault) (g.J.JobMaker.marks c.args.maker.now) (jobs_over (g.J.JobMaker.work c.args.maker.now)
+    (g.S.Shelf.stored c.args.shelf.now)) whole c.args.board.now c.round.new.board (g.B.Bench.stored
+    c.args.bench.now) (g.B.Bench.stored c.round.new.bench) (g.S.Shelf.failures c.args.shelf.now)
+    (g.B.Bench.failures c.args.bench.now) (g.S.Shelf.failures c.round.new.shelf) (g.B.Bench.failures
+    c.round.new.bench) c.requires.whole parts apart filled (returns-in-Err-clause-rounds g c honest right) tt
+
+-- it is the round's fault
+mark-told : (told : JobFault) → IsErrOf {T = Unit {0}} {E = JobFault} (Err told) fault.Mark → told ≡ fault.Mark
+mark-told told e = cc
+
+pub returns-in-Err-clause-raised : goal.returns-in-Err-clause-raised
+returns-in-Err-clause-raised g c of =
+    rises-after (g.B.Bench.failures c.args.bench.now) (g.B.Bench.failures c.loop-frames.bench)
+    (g.B.Bench.failures c.round.new.bench) c.loop-frames.invariant.later_bench (c.in-Err.ensures.raised
+    (ap (λ (f : JobFault). Err f) (mark-told c.in-Err.fault of)))

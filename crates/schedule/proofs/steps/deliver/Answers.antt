@@ -145,3 +145,6 @@ returns-in-Err-Write-clause-turn g c ticket bytes made current = turned-as c.fai
     c.worker.inside.bytes.items) bytes c.args.worker.now.hand c.in-Some.is c.if-not-worker.false (ap {B = Hand}
     (λ (d : Desk). d.hand) c.worker.view_is) made)
     c.failed.ensures.turned current
+
+pub returns-in-Err-Mark-clause-raised : goal.returns-in-Err-Mark-clause-raised
+returns-in-Err-Mark-clause-raised g c of = raised _ _ _ _ c.in-Err-Mark.ensures.cause refl

@@ -1,11 +1,11 @@
-use Rattle.std.proofs.Common.{Bool, List, Option, sym, subst}
-use Rattle.std.specs.Prelude.{IfSome}
-use Rattle.std.specs.List.{All}
+use Rattle.std.proofs.Common.{◌≡◌, ◌∙◌, Bool, List, Option, Ok, Some, ap, refl, sym, subst}
+use Rattle.std.specs.Prelude.{IfSome, IsOk}
+use Rattle.std.specs.List.{All, count_by}
 use Rattle.blockcut.specs.Cut.{IsUniform}
 use Rattle.markfile.specs.declared.opening.Marks.{Marks}
 use Rattle.work_terms.specs.Disk.{Files}
-use Rattle.markfile.specs.Opened.{AreFound, AreSettled}
-use Rattle.rendering.specs.Marked.{IsLeftByRun, MarkedWork, marking_of}
+use Rattle.markfile.specs.Opened.{Answers, AreFound, AreSettled, opened_of}
+use Rattle.rendering.specs.Marked.{IsFoundAs, IsLeftByRun, MarkedWork, marking_of}
 use Rattle.rendering.proofs.Resuming.{goes_on_running, same_run}
 use Rattle.rendering.proofs.marked.MarkedRendering.open.Goals as goal
 
@@ -38,3 +38,23 @@ returns-in-Ok-cut_by-clause-running g c honest sources left =
     (same_run c.self.inside.rendering c.cut_by.new.self c.self.inside.run cut.planned c.self.invariant.1) cut.planned
     cut.sounds (g.B.Bench.may_leave c.args.bench.now) (g.B.Bench.may_leave c.open_marks.new.bench) files told found
     was_left c.in-Ok.ensures.untouched.crash settled uniform
+
+pub returns-in-Ok-cut_by-clause-found : goal.returns-in-Ok-cut_by-clause-found
+returns-in-Ok-cut_by-clause-found g c honest =
+    let due = opened_of c.self.inside.run (g.B.Bench.stored c.args.bench.now) in
+    let found : due ≡ Ok (Some c.in-Some.marks.marked.items) =
+    subst (λ (f : Option Marks). Answers (Ok f) due) c.in-Some.is (c.in-Ok.ensures.found honest) in
+    subst (λ (x : MarkedWork). IsFoundAs (Ok (Some c.count_of.result))
+    (opened_of x.run (g.B.Bench.stored c.args.bench.now))) c.self.view_is (
+      c.in-Some.marks.marked.items,
+      found,
+      c.count_of.ensures ∙ ap (count_by (λ mark. mark)) c.as_slice-in-Ok-cut_by.ensures.value,
+    )
+
+pub returns-in-Err-cut_by-clause-found : goal.returns-in-Err-cut_by-clause-found
+returns-in-Err-cut_by-clause-found g c honest =
+    let due = opened_of c.self.inside.run (g.B.Bench.stored c.args.bench.now) in
+    let found : due ≡ Ok (Some c.in-Some.marks.marked.items) =
+    subst (λ (f : Option Marks). Answers (Ok f) due) c.in-Some.is (c.in-Ok.ensures.found honest) in
+    subst (λ (x : MarkedWork). IsOk (opened_of x.run (g.B.Bench.stored c.args.bench.now))) c.self.view_is
+    (subst IsOk (sym found) refl)
