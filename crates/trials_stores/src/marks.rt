@@ -1,7 +1,5 @@
 // The marks of a rendering, byte for byte.
-use markfile::{
-    FreshMarks, MARKS, MarksFault, RunId, RunRange, SOUND, mark, open_marks, start,
-};
+use markfile::{FreshMarks, MARKS, MarksFault, RunId, RunRange, SOUND, mark, open_marks, start};
 use sampletime::SampleTime;
 use shelf::{Bench, DeviceFault};
 use sound_terms::Depth;
@@ -163,11 +161,7 @@ fn each_failing_call_is_told(rt: HostRuntime) -> Result<(), Fail> {
     let fresh = FreshMarks::of(rt.alloc(), &run)?;
     for call in 0..8 {
         let mut bench = bench_of(rt.alloc(), &SAMPLES, &[])?.failing(call, 1);
-        assert_eq!(rt;
-            start(&mut bench, &fresh),
-            Err(DeviceFault),
-            "call {call}"
-        );
+        assert_eq!(rt; start(&mut bench, &fresh), Err(DeviceFault), "call {call}");
         assert_eq!(rt; bench.failures(), 1);
         start(&mut bench, &fresh)?;
         assert_eq!(rt; marks_on(&mut bench)?, FRESH);
