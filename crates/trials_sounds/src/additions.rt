@@ -37,8 +37,8 @@ fn stereo(alloc: Global, depth: Depth, width: u8) -> Result<MemoryShelf, Fail>
     Ok(MemoryShelf::new(alloc).with_file("A.wav", &file)?)
 }
 
-/// Sample and channel of a block to which a stretch was added twice.
-fn expected(depth: Depth, stretch: Stretch, frame: usize, channel: u8) -> i32
+/// Sample and channel of a block at this depth to which a stretch was added twice.
+fn expected(depth: Depth, shown: Depth, stretch: Stretch, frame: usize, channel: u8) -> i32
     requires { FitsBlock 83 2 stretch }
 {
     let at = stretch.at as usize;
@@ -50,7 +50,7 @@ fn expected(depth: Depth, stretch: Stretch, frame: usize, channel: u8) -> i32
     }
     let from = usize::from(stretch.first - 1 + (channel - stretch.dest));
     let sample = sample_at(depth, 2 * (frame - at) + from);
-    finish(2 * widen(sample, depth), Depth::ThirtyTwo)
+    finish(2 * widen(sample, depth), shown)
 }
 
 /// The machine hands out a stretch that is added twice as the definition has it.
@@ -60,6 +60,7 @@ fn adds(
     sounds: &[Sound],
     shelf: &mut MemoryShelf,
     depth: Depth,
+    shown: Depth,
     stretch: Stretch,
 ) -> Result<(), Fail>
     requires machine { machine.old ≡ record { frames = 4096; channels = 2 } }
@@ -72,14 +73,12 @@ fn adds(
         shape: Shape::Flat,
     };
     let start = Instruction::Start { frames: 83 };
-    let emit = Instruction::Emit {
-        depth: Depth::ThirtyTwo,
-    };
+    let emit = Instruction::Emit { depth: shown };
     let mut out = [0; 2 * FRAMES];
     machine.run(&[start, flat, flat, emit], sounds, shelf, &mut out)?;
     for (k, sample) in out.iter().enumerate() {
         let channel = if k % 2 == 0 { 1 } else { 2 };
-        assert_eq!(rt; *sample, expected(depth, stretch, k / 2, channel));
+        assert_eq!(rt; *sample, expected(depth, shown, stretch, k / 2, channel));
     }
     Ok(())
 }
@@ -91,6 +90,7 @@ fn adds_at_each_place(
     sounds: &[Sound],
     shelf: &mut MemoryShelf,
     depth: Depth,
+    shown: Depth,
     channels: (u8, u8, u8),
 ) -> Result<(), Fail>
     requires machine { machine.old ≡ record { frames = 4096; channels = 2 } }
@@ -114,14 +114,20 @@ fn adds_at_each_place(
                 dest,
                 width,
             };
-            adds(rt, machine, sounds, shelf, depth, stretch)?;
+            adds(rt, machine, sounds, shelf, depth, shown, stretch)?;
         }
     }
     Ok(())
 }
 
-/// On one channel and on both.
-fn adds_on_all(rt: &impl Abort, alloc: Global, depth: Depth, width: u8) -> Result<(), Fail>
+/// On one channel and on both, in a block of this depth.
+fn adds_on_all(
+    rt: &impl Abort,
+    alloc: Global,
+    depth: Depth,
+    width: u8,
+    shown: Depth,
+) -> Result<(), Fail>
     requires { width ≤ 4 }
 {
     let mut shelf = stereo(alloc, depth, width)?;
@@ -130,22 +136,66 @@ fn adds_on_all(rt: &impl Abort, alloc: Global, depth: Depth, width: u8) -> Resul
         return Err("another file".into());
     }
     let mut machine = Machine::new(alloc, 2)?;
-    adds_at_each_place(rt, &mut machine, &sounds, &mut shelf, depth, (1, 1, 2))?;
-    adds_at_each_place(rt, &mut machine, &sounds, &mut shelf, depth, (1, 2, 1))?;
-    adds_at_each_place(rt, &mut machine, &sounds, &mut shelf, depth, (2, 1, 1))
+    adds_at_each_place(
+        rt,
+        &mut machine,
+        &sounds,
+        &mut shelf,
+        depth,
+        shown,
+        (1, 1, 2),
+    )?;
+    adds_at_each_place(
+        rt,
+        &mut machine,
+        &sounds,
+        &mut shelf,
+        depth,
+        shown,
+        (1, 2, 1),
+    )?;
+    adds_at_each_place(
+        rt,
+        &mut machine,
+        &sounds,
+        &mut shelf,
+        depth,
+        shown,
+        (2, 1, 1),
+    )
 }
 
 #[test]
 fn adds_sixteen_bits(rt: HostRuntime) -> Result<(), Fail> {
-    adds_on_all(&rt, rt.alloc(), Depth::Sixteen, 2)
+    adds_on_all(&rt, rt.alloc(), Depth::Sixteen, 2, Depth::ThirtyTwo)
 }
 
 #[test]
 fn adds_twenty_four_bits(rt: HostRuntime) -> Result<(), Fail> {
-    adds_on_all(&rt, rt.alloc(), Depth::TwentyFour, 3)
+    adds_on_all(&rt, rt.alloc(), Depth::TwentyFour, 3, Depth::ThirtyTwo)
 }
 
 #[test]
 fn adds_thirty_two_bits(rt: HostRuntime) -> Result<(), Fail> {
-    adds_on_all(&rt, rt.alloc(), Depth::ThirtyTwo, 4)
+    adds_on_all(&rt, rt.alloc(), Depth::ThirtyTwo, 4, Depth::ThirtyTwo)
+}
+
+#[test]
+fn adds_sixteen_bits_at_their_depth(rt: HostRuntime) -> Result<(), Fail> {
+    adds_on_all(&rt, rt.alloc(), Depth::Sixteen, 2, Depth::Sixteen)
+}
+
+#[test]
+fn adds_sixteen_bits_at_more(rt: HostRuntime) -> Result<(), Fail> {
+    adds_on_all(&rt, rt.alloc(), Depth::Sixteen, 2, Depth::TwentyFour)
+}
+
+#[test]
+fn adds_twenty_four_bits_at_their_depth(rt: HostRuntime) -> Result<(), Fail> {
+    adds_on_all(&rt, rt.alloc(), Depth::TwentyFour, 3, Depth::TwentyFour)
+}
+
+#[test]
+fn adds_twenty_four_bits_at_less(rt: HostRuntime) -> Result<(), Fail> {
+    adds_on_all(&rt, rt.alloc(), Depth::TwentyFour, 3, Depth::Sixteen)
 }

@@ -137,6 +137,24 @@ fn a_crossfade_is_exact(rt: HostRuntime) -> Result<(), Fail> {
     Ok(())
 }
 
+#[test]
+fn a_flat_stretch_and_a_fade_are_one_sum(rt: HostRuntime) -> Result<(), Fail> {
+    let alloc = rt.alloc();
+    let samples = [1000, -1000, 32_767, -32_768];
+    let half = Shape::Fall { offset: 0, den: 4 };
+    for (first, second) in [(Shape::Flat, half), (half, Shape::Flat)] {
+        assert_eq!(rt;
+            heard(alloc, samples, first, second, Depth::Sixteen)?,
+            [2000, -1750, 32_767, -32_768]
+        );
+        assert_eq!(rt;
+            heard(alloc, samples, first, second, Depth::TwentyFour)?,
+            [512_000, -448_000, 8_388_607, -8_388_608]
+        );
+    }
+    Ok(())
+}
+
 /// This time.
 fn time(samples: u64) -> Result<SampleTime, Fail>
     ensures { IfOk result (λ time. time ≡ samples) }
@@ -206,6 +224,17 @@ fn a_fade_goes_on_in_the_next_block(rt: HostRuntime) -> Result<(), Fail> {
         let mut room = vec![in alloc; empty; plan.most_instructions()]?;
         let count = plan.block(k, room.as_mut_slice());
         assert_eq!(rt; &room[..count], program.as_slice());
+    }
+    Ok(())
+}
+
+#[test]
+fn a_block_has_4096_frames(rt: HostRuntime) -> Result<(), Fail> {
+    let alloc = rt.alloc();
+    for (frames, blocks, last) in [(4095, 1, 4095), (4096, 1, 4096), (4097, 2, 1)] {
+        let plan = plan(alloc, SampleTime::ZERO, time(frames)?)?;
+        assert_eq!(rt; plan.blocks(), blocks);
+        assert_eq!(rt; plan.frames_of(blocks - 1), last);
     }
     Ok(())
 }

@@ -1,7 +1,6 @@
 use Rattle.std.proofs.Common.{ℕ, [], ◌∷◌, refl, ap, arith}
 use Rattle.std.proofs.lemmas.List.Elements.{All-cons, All-nil}
 use Rattle.sound_terms.specs.declared.Depth.{Depth}
-use Rattle.sound_terms.specs.declared.Depth.TheVariants.{ThirtyTwo}
 use Rattle.sound_terms.specs.declared.block.Instruction.TheVariants.{Start, Add, Emit}
 use Rattle.sound_terms.specs.declared.block.Stretch.{Stretch}
 use Rattle.sound_terms.specs.declared.piece.Shape.TheVariants.{Flat}
@@ -25,8 +24,8 @@ run-requires-clause-fits g c =
     let channels = ap (λ machine. machine.channels) c.requires.machine in
     let frames = ap (λ machine. machine.frames) c.requires.machine in (
       83,
-      ThirtyTwo,
+      c.args.shown,
       omega (arith, frames),
-      rw channels (added_twice 2 c.args.stretch ThirtyTwo c.requires.fits),
+      rw channels (added_twice 2 c.args.stretch c.args.shown c.requires.fits),
       omega (arith, channels),
     )
