@@ -1,8 +1,9 @@
-/* Loaded before the program. It syncs nothing; SYNC_LOG names a file where syncs and prints are written down, and SYNC_FAILS
-   is the sync that fails, from 1. INPUT says how standard input is read: 'slow' a byte at a time, with an interruption before
-   each, 'broken' so and failing at the tenth byte, 'endless' as spaces that never end. SLOW is how many microseconds each
-   write at a place of a file takes, and WRITE_FAILS the first of these writes that fails, as all behind it do. ALLOC_FAILS is
-   the allocation that fails, from 1, and ALLOC_LOG names a file that is made when it does. */
+/* Loaded before the program. It syncs nothing; SYNC_LOG names a file where syncs and prints are written down, and
+   SYNC_FAILS is the sync that fails, from 1. INPUT says how standard input is read: 'slow' a byte at a time, with an
+   interruption before each, 'broken' so and failing at the tenth byte, 'endless' as spaces that never end. SLOW is how
+   many microseconds each write at a place of a file takes, SLOW_READS so for each read at a place, and WRITE_FAILS the
+   first of these writes that fails, as all behind it do. ALLOC_FAILS is the allocation that fails, from 1, and
+   ALLOC_LOG names a file that is made when it does. */
 #define _GNU_SOURCE
 #include <dlfcn.h>
 #include <errno.h>
@@ -84,6 +85,16 @@ ssize_t pwrite(int fd, const void *bytes, size_t count, off_t place) {
     if (fails && ++writes >= atoi(fails)) return failed(EIO);
     return next(fd, bytes, count, place);
 }
+
+ssize_t pread(int fd, void *bytes, size_t count, off_t place) {
+    static ssize_t (*next)(int, void *, size_t, off_t);
+    const char *slow = getenv("SLOW_READS");
+    if (!next) next = (ssize_t (*)(int, void *, size_t, off_t))dlsym(RTLD_NEXT, "pread");
+    if (slow) usleep((useconds_t)atoi(slow));
+    return next(fd, bytes, count, place);
+}
+
+ssize_t pread64(int fd, void *bytes, size_t count, off64_t place) { return pread(fd, bytes, count, place); }
 
 ssize_t pwrite64(int fd, const void *bytes, size_t count, off64_t place) { return pwrite(fd, bytes, count, place); }
 

@@ -18,12 +18,15 @@ BLOCK = 4096
 BLOCKS = 10
 STRETCHES = 20
 STRETCH = 100
+SILENT = 24
 PIECES = 8
 PIECE = 131072
 EXACT = model.Options(handle=0)
 SLOW = {"SLOW": "60000"}
 SLOWER = {"SLOW": "300000"}
-LINE = rb"\r(\d+) %%: (\d+) of %d frames"
+SLOW_READS = {"SLOW_READS": "100000"}
+LOOKED = rb"\r(\d+) %%: (\d+) of %d frames looked at for silence\x1b\[K"
+LINE = rb"\r(\d+) %%: (\d+) of %d frames\x1b\[K"
 CLEARED = rb"\r\x1b\[K"
 
 
@@ -125,6 +128,26 @@ def long_medium(scene: Scene) -> None:
         raise Mismatch(f"a single medium of {PIECES} pieces shows {sorted(counts)} before its end")
 
 
+def looking_for_silence(scene: Scene) -> None:
+    """A single entry that sounds in its last frame alone is seen to be looked at, and then its medium to come."""
+    frames = SILENT * BLOCK
+    nothing = b"00.00.00.00/0000"
+    text = model.list_text(
+        [model.source_line(1, "A.wav", nothing)],
+        [model.entry_line(1, 1, nothing, nothing, model.time_text(frames))])
+    scene.put(text, {"A.wav": wave([0] * (frames - 1) + [1])})
+    shown = on_terminal(scene, words_of("consolidate", EXACT), env=preloaded(scene, **SLOW_READS))
+    told = [tuple(map(int, each)) for each in re.findall(LOOKED % frames, shown.outcome.error)]
+    for percent, done in told:
+        same(f"the hundredths of {done} frames", percent, done * 100 // frames)
+    counts = [done for _, done in told]
+    same("how far it is, in turn", counts, sorted(set(counts)))
+    if len(counts) < 4:
+        raise Mismatch(f"of {SILENT} blocks that are looked at the terminal shows {counts}")
+    rest = re.sub(rb"(\r[^\r]*)*%s" % CLEARED, b"", re.sub(LOOKED % frames, b"", shown.outcome.error))
+    same_outcome(shown.outcome._replace(error=rest), 0, "written 1 media 1 entries")
+
+
 def refused(scene: Scene) -> None:
     """Where a job fails later on, the line is taken off before the refusal is explained."""
     frames = put_sound(scene)
@@ -149,5 +172,6 @@ def run(suite: Suite) -> None:
     suite.case("progress of a rendering", rendering)
     suite.case("progress of a consolidation", consolidation)
     suite.case("progress within a medium", long_medium)
+    suite.case("progress of a search for silence", looking_for_silence)
     suite.case("progress before a refusal", refused)
     suite.case("progress of short work", short)

@@ -45,18 +45,26 @@ impl<'a, C: Clock, O: Console + Drop> ProgressLine<'a, C, O> {
             _ => false,
         }
     }
-}
 
-impl<C: Clock, O: Console + Drop> Watch for ProgressLine<'_, C, O> {
-    fn reached(&mut self, done: u64, whole: u64) {
+    /// Writes the line where it is due, over all of the last one.
+    fn show(&mut self, done: u64, whole: u64, how: &str) {
         if !self.is_due() {
             return;
         }
         let percent = percent_of(done, whole);
-        self.console
-            .print(format_args!("\r{percent} %: {done} of {whole} frames"));
+        self.console.print(format_args!("\r{percent} %: {done} of {whole} frames{how}\x1b[K"));
         self.is_shown = true;
         self.next = time_after(self.clock, Duration::from_millis(100));
+    }
+}
+
+impl<C: Clock, O: Console + Drop> Watch for ProgressLine<'_, C, O> {
+    fn reached(&mut self, done: u64, whole: u64) {
+        self.show(done, whole, "");
+    }
+
+    fn looked(&mut self, done: u64, whole: u64) {
+        self.show(done, whole, " looked at for silence");
     }
 }
 

@@ -138,7 +138,7 @@ fn consolidate_checked<S: Shelf, B: Bench, W: Watch>(
         → B.stored bench.new n ≡ B.stored bench.old n }
     ensures stores { KeepsStores S.Shelf B.Bench shelf.old shelf.new bench.old bench.new result }
 {
-    let consolidation = match Consolidation::plan(alloc, &checked, handle, passes, shelf) {
+    let consolidation = match Consolidation::plan(alloc, &checked, handle, passes, shelf, watch) {
         Ok(consolidation) => consolidation,
         Err(fault) => return Err(Fault::of_consolidation(checked, fault)),
     };
@@ -165,11 +165,11 @@ fn consolidate_checked<S: Shelf, B: Bench, W: Watch>(
 /// passes, it sounds as the given list does, sample for sample.
 ///
 /// The list is refused first, then a file in the order of the source index, then an entry in the order of the list,
-/// then more than 32,767 runs (53) or entries (55), and want of memory. All
-/// of these come before the first write, and no memory is taken behind it. The media are laid out at their full length;
-/// then the pieces of their runs are jobs, done in turn by one worker. A job whose device fails is done again; the third
-/// time it is given up (66). Outside the jobs a device that fails ends the call at once (62). The list is written last,
-/// so an unfinished output has none. The watch is told behind each job how many frames of all media are there.
+/// then more than 32,767 runs (53) or entries (55), and want of memory. All of these come before the first write, and no
+/// memory is taken behind it. The media are laid out at their full length; then the pieces of their runs are jobs, done
+/// in turn by one worker. A job whose device fails is done again; the third time it is given up (66). Outside the jobs a
+/// device that fails ends the call at once (62). The list is written last, so an unfinished output has none. The watch is
+/// told how many frames are looked at for silence, and then behind each job how many frames of all media are there.
 pub fn consolidate<S: Shelf, B: Bench, W: Watch>(
     alloc: Global,
     list: &[u8],

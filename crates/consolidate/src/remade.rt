@@ -27,7 +27,7 @@ use job_terms::{BoardEvent, Progress};
 use passes::Pass;
 use projectcheck::Checked;
 use schedule::{JobMaker, RunFault, fresh_board, in_turn, run_laid};
-use shelf::{Bench, Shelf};
+use shelf::{Bench, Shelf, Unwatched};
 use std::alloc::Global;
 use workboard::Board;
 
@@ -129,7 +129,14 @@ fn schedule_consolidation<S: Shelf, B: Bench>(
         → B.stored bench.new n ≡ B.stored bench.old n }
     ensures stores { KeepsStores S.Shelf B.Bench shelf.old shelf.new bench.old bench.new result }
 {
-    let consolidation = match Consolidation::plan(alloc, &checked, handle, passes, shelf) {
+    let consolidation = match Consolidation::plan(
+        alloc,
+        &checked,
+        handle,
+        passes,
+        shelf,
+        &mut Unwatched,
+    ) {
         Ok(consolidation) => consolidation,
         Err(fault) => return Err(Fault::of_consolidation(checked, fault)),
     };

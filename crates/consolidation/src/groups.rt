@@ -10,17 +10,18 @@ ghost use Rattle.consolidation.specs.Planned.{AreEntries, AreLeft, SoundsAsGiven
 use interval::Intervals;
 use passes::{Pass, PassFault};
 use projectcheck::Checked;
-use shelf::Shelf;
+use shelf::{Shelf, Watch};
 use silence::run;
 use std::alloc::Global;
 
 /// What passes leave of the pieces of the entries.
-pub fn groups_left<S: Shelf>(
+pub fn groups_left<S: Shelf, W: Watch>(
     alloc: Global,
     intervals: Intervals,
     checked: &Checked,
     passes: Vec<Box<dyn Pass>>,
     shelf: &mut S,
+    watch: &mut W,
 ) -> Result<Intervals, PassFault>
     requires { AreEntries checked.now.project checked.now.bound intervals }
     ensures left { IfOk result (AreLeft checked.now.bound) }
@@ -29,7 +30,14 @@ pub fn groups_left<S: Shelf>(
         checked.now.project checked.now.bound (S.stored shelf.old)) }
     ensures only_reads { OnlyReads S.Shelf shelf.old shelf.new result IsDevice (FailsAt (sounds_of checked.now.bound)) }
 {
-    let left = run(alloc, passes, intervals, checked.bound().sounds(), shelf)?;
+    let left = run(
+        alloc,
+        passes,
+        intervals,
+        checked.bound().sounds(),
+        shelf,
+        watch,
+    )?;
     // Its groups are known to be well formed from here on.
     let _ = left.groups();
     Ok(left)

@@ -16,7 +16,7 @@ use crate::groups::groups_left;
 use crate::planning::plan_of;
 use passes::Pass;
 use projectcheck::{Checked, from_checked};
-use shelf::Shelf;
+use shelf::{Shelf, Watch};
 use sound_terms::{Home, Run};
 use std::alloc::Global;
 use std::marker::Model;
@@ -69,14 +69,15 @@ impl<'a> Consolidation<'a> {
     /// passes, it sounds as the given project does, sample for sample.
     ///
     /// All memory that the consolidation needs is taken here. `Intervals`, `Pass`, `Runs` and `Relink`, in this turn; where
-    /// no memory was left for the names of media, `Runs`.
+    /// no memory was left for the names of media, `Runs`. The watch is told how far the looking for silence has come.
     #[tactic(auto, using(crate::proofs::Opened::bound_there))]
-    pub fn plan<S: Shelf>(
+    pub fn plan<S: Shelf, W: Watch>(
         alloc: Global,
         checked: &'a Checked,
         handle: u64,
         passes: Vec<Box<dyn Pass>>,
         shelf: &mut S,
+        watch: &mut W,
     ) -> Result<Self, ConsolidationFault>
         ensures planned { IfOk result (IsPlanOf (left_by (λ pass. looking pass) (λ pass. gives pass) passes.items)
             checked.now.project checked.now.bound handle (S.honest shelf.old) (S.stored shelf.old)) }
@@ -90,7 +91,7 @@ impl<'a> Consolidation<'a> {
             (FailsAt (sounds_of checked.now.bound)) }
     {
         let intervals = from_checked(alloc, checked)?;
-        let left = groups_left(alloc, intervals, checked, passes, shelf)?;
+        let left = groups_left(alloc, intervals, checked, passes, shelf, watch)?;
         plan_of(alloc, checked, handle, left)
     }
 }

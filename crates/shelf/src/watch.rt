@@ -2,8 +2,11 @@
 
 /// Is told how far a call has come.
 pub trait Watch {
-    /// So much is done, of so much.
+    /// So many frames are there, of so many.
     fn reached(&mut self, done: u64, whole: u64);
+
+    /// So many frames are looked at for silence, of so many.
+    fn looked(&mut self, done: u64, whole: u64);
 }
 
 /// Tells nobody.
@@ -12,4 +15,6 @@ pub struct Unwatched;
 
 impl Watch for Unwatched {
     fn reached(&mut self, _done: u64, _whole: u64) {}
+
+    fn looked(&mut self, _done: u64, _whole: u64) {}
 }

@@ -7,9 +7,10 @@ ghost use Rattle.shelf.specs.Frame.{OnlyReads};
 ghost use Rattle.silence.specs.Known.{IsSo, Reaches, Tells};
 ghost use Rattle.silence.specs.Zero.{LiesIn};
 
+use crate::looking::Looking;
 use crate::part::Part;
 use crate::zeros::first_sounding;
-use shelf::{Shelf, ShelfFault};
+use shelf::{Shelf, ShelfFault, Watch};
 use wavread::Sound;
 
 /// A part of a file that is known to be zero, and whether the frame behind it is known to sound.
@@ -44,7 +45,7 @@ impl Known {
 
     /// What is known of this part of a file before it is looked at: as it was, or nothing.
     #[tactic(auto, using(crate::proofs::Knowing::nothing_before))]
-    fn up_to(self, file: u32, part: &Part) -> Known
+    pub fn up_to(self, file: u32, part: &Part) -> Known
         ensures reaches { part.now.from ≤ part.now.to → Reaches result file part.now }
         ensures so { (reading : Reading) → IsSo reading self → IsSo reading result }
     {
@@ -80,29 +81,29 @@ impl Known {
     }
 }
 
-/// What is known once a part of a file was looked at. Only what isn't known of it is read, up to the first frame that
-/// sounds.
-pub fn looked_at<S: Shelf>(
+/// What is known once a part of a file was looked at, up to which it was known before. Only what isn't known of it is
+/// read, up to the first frame that sounds.
+pub fn looked_at<S: Shelf, W: Watch>(
     known: Known,
-    file: u32,
     part: &Part,
     sound: &Sound,
     shelf: &mut S,
     bytes: &mut [u8],
     samples: &mut [i32],
+    looking: &mut Looking<W>,
 ) -> Result<Known, ShelfFault>
     requires inside { LiesIn sound.now part.now }
+    requires reaches { Reaches known known.file part.now }
     requires some_samples { 64 ≤ length samples.old }
     requires room { length samples.old * 4 ≤ length bytes.old }
-    ensures so { IsTrue (S.honest shelf.old) → (sounds : List SoundFacts) → slice_get sounds file ≡ Some sound.now
+    ensures so { IsTrue (S.honest shelf.old) → (sounds : List SoundFacts) → slice_get sounds known.file ≡ Some sound.now
         → IsSo (reading_by (S.stored shelf.old) sounds) known
         → IfOk result (IsSo (reading_by (S.stored shelf.old) sounds)) }
-    ensures tells { IsTrue (S.honest shelf.old) → IfOk result (λ new. Tells new file part.now) }
+    ensures tells { IsTrue (S.honest shelf.old) → IfOk result (λ new. Tells new known.file part.now) }
     ensures not_missing { IsErrOf result ShelfFault.NotFound → ⊥ }
     ensures only_reads { OnlyReads S.Shelf shelf.old shelf.new result (λ fault. fault ≡ ShelfFault.Device)
         (λ _ failed. failed sound.now.name) }
 {
-    let known = known.up_to(file, part);
     if known.sounds || part.to <= known.part.to {
         return Ok(known);
     }
@@ -110,6 +111,6 @@ pub fn looked_at<S: Shelf>(
         from: known.part.to,
         ..*part
     };
-    let found = first_sounding(&rest, sound, shelf, bytes, samples)?;
+    let found = first_sounding(&rest, sound, shelf, bytes, samples, looking)?;
     Ok(known.until(found, part.to))
 }

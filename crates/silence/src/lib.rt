@@ -2,6 +2,7 @@
 #![tactic(auto)]
 
 mod known;
+mod looking;
 mod part;
 mod pieces;
 mod search;

@@ -9,10 +9,11 @@ ghost use Rattle.silence.specs.Fault.{FailsAt};
 ghost use Rattle.silence.specs.Known.{IsSo};
 
 use crate::known::{Known, looked_at};
+use crate::looking::Looking;
 use crate::part::Part;
 use interval::Piece;
 use passes::PassFault;
-use shelf::Shelf;
+use shelf::{Shelf, Watch};
 use std::alloc::{AllocError, Global};
 use std::marker::Model;
 use wavread::Sound;
@@ -60,11 +61,12 @@ impl Search {
     }
 
     /// Whether all that a piece plays is zero. `Device` where a read fails.
-    pub fn is_silent<S: Shelf>(
+    pub fn is_silent<S: Shelf, W: Watch>(
         &mut self,
         piece: &Piece,
         sounds: &[Sound],
         shelf: &mut S,
+        looking: &mut Looking<W>,
     ) -> Result<bool, PassFault>
         requires { IsPiece piece.now }
         ensures answer { IsTrue (S.honest shelf.old) → IsSo (reading_by (S.stored shelf.old) sounds.now) self.old
@@ -80,7 +82,8 @@ impl Search {
         let part = Part::inside(piece, sound);
         let bytes = self.bytes.as_mut_slice();
         let samples = self.samples.as_mut_slice();
-        match looked_at(self.known, piece.file, &part, sound, shelf, bytes, samples) {
+        let known = self.known.up_to(piece.file, &part);
+        match looked_at(known, &part, sound, shelf, bytes, samples, looking) {
             Ok(known) => {
                 self.known = known;
                 Ok(part.to <= known.part.to)

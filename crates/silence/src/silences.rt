@@ -9,21 +9,32 @@ ghost use Rattle.passes.specs.Silent.{IsDevice, silences_of};
 ghost use Rattle.shelf.specs.Frame.{OnlyReads};
 ghost use Rattle.silence.specs.Fault.{FailsAt};
 
+use crate::looking::Looking;
 use crate::pieces::{pieces_of, reading_order};
 use crate::search::Search;
 use interval::{Intervals, Piece};
 use passes::PassFault;
-use shelf::Shelf;
+use shelf::{Shelf, Watch};
 use std::alloc::Global;
 use wavread::Sound;
 
+/// How many frames these pieces play, 2^64 - 1 at most.
+fn frames_of(pieces: &[Piece]) -> u64 {
+    let mut frames: u64 = 0;
+    for piece in pieces {
+        frames = frames.saturating_add(piece.length);
+    }
+    frames
+}
+
 /// For each of these pieces whether it is silent, asked in the order of these places.
-fn asked_in_order<S: Shelf>(
+fn asked_in_order<S: Shelf, W: Watch>(
     alloc: Global,
     pieces: &[Piece],
     order: &[usize],
     sounds: &[Sound],
     shelf: &mut S,
+    watch: &mut W,
 ) -> Result<Vec<bool>, PassFault>
     requires pieces { All IsPiece pieces.now }
     requires inside { All (λ place. place < length pieces.now) order.now }
@@ -35,20 +46,25 @@ fn asked_in_order<S: Shelf>(
     let mut search = Search::new(alloc)?;
     let mut silent = Vec::new(alloc);
     silent.resize(pieces.len(), false)?;
+    let mut looking = Looking::new(watch, frames_of(pieces));
     for place in order {
-        let answer = search.is_silent(&pieces[*place], sounds, shelf)?;
+        let piece = &pieces[*place];
+        let answer = search.is_silent(piece, sounds, shelf, &mut looking)?;
         silent[*place] = answer;
+        looking.answered(piece.length);
     }
     Ok(silent)
 }
 
 /// For each piece of the groups, in order, whether all samples that it plays are zero, on all its channels. A stretch
-/// of a file is read once for its silence, however many pieces play it on the same channels.
-pub fn silent_of<S: Shelf>(
+/// of a file is read once for its silence, however many pieces play it on the same channels. The watch is told how many
+/// frames of all pieces are looked at.
+pub fn silent_of<S: Shelf, W: Watch>(
     alloc: Global,
     intervals: &Intervals,
     sounds: &[Sound],
     shelf: &mut S,
+    watch: &mut W,
 ) -> Result<Vec<bool>, PassFault>
     ensures answers { IsTrue (S.honest shelf.old)
         → IfOk result (λ silent. silent.items ≡ silences (reading_by (S.stored shelf.old) sounds.now) intervals.now) }
@@ -59,6 +75,13 @@ pub fn silent_of<S: Shelf>(
     let _ = intervals.groups();
     let pieces = pieces_of(alloc, intervals)?;
     let order = reading_order(alloc, pieces.as_slice())?;
-    let silent = asked_in_order(alloc, pieces.as_slice(), order.as_slice(), sounds, shelf)?;
+    let silent = asked_in_order(
+        alloc,
+        pieces.as_slice(),
+        order.as_slice(),
+        sounds,
+        shelf,
+        watch,
+    )?;
     Ok(silent)
 }

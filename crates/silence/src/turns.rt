@@ -11,17 +11,18 @@ ghost use Rattle.silence.specs.Fault.{FailsAt};
 use crate::silences::silent_of;
 use interval::Intervals;
 use passes::{Pass, PassFault, turn};
-use shelf::Shelf;
+use shelf::{Shelf, Watch};
 use std::alloc::Global;
 use wavread::Sound;
 
 /// Asks what is silent where a pass looks, and applies it.
-fn asked<S: Shelf>(
+fn asked<S: Shelf, W: Watch>(
     alloc: Global,
     pass: Box<dyn Pass>,
     intervals: Intervals,
     sounds: &[Sound],
     shelf: &mut S,
+    watch: &mut W,
 ) -> Result<Intervals, PassFault>
     ensures given { IsTrue (S.honest shelf.old) → IfOk result (λ new. new ≡ gives pass intervals
         (if looking pass then silences (reading_by (S.stored shelf.old) sounds.now) intervals else [])) }
@@ -34,7 +35,7 @@ fn asked<S: Shelf>(
     ensures only_reads { OnlyReads S.Shelf shelf.old shelf.new result IsDevice (FailsAt sounds.now) }
 {
     if pass.looks() {
-        let silent = silent_of(alloc, &intervals, sounds, shelf)?;
+        let silent = silent_of(alloc, &intervals, sounds, shelf, watch)?;
         turn(alloc, pass, intervals, silent.as_slice())
     } else {
         turn(alloc, pass, intervals, &[])
@@ -43,13 +44,14 @@ fn asked<S: Shelf>(
 
 /// What passes make of these groups, one after the other, whose pieces play the sounds of their files' places among
 /// `sounds`. What is silent is asked anew before each pass that looks, and a pass is dropped once it was applied.
-/// `Device` where a read fails.
-pub fn run<S: Shelf>(
+/// `Device` where a read fails. The watch is told how far the looking for silence has come before each pass that looks.
+pub fn run<S: Shelf, W: Watch>(
     alloc: Global,
     passes: Vec<Box<dyn Pass>>,
     intervals: Intervals,
     sounds: &[Sound],
     shelf: &mut S,
+    watch: &mut W,
 ) -> Result<Intervals, PassFault>
     ensures given { IsTrue (S.honest shelf.old)
         → IfOk result (λ new. new ≡ in_turn (λ pass. looking pass) (λ pass. gives pass)
@@ -71,7 +73,7 @@ pub fn run<S: Shelf>(
 {
     let mut left = intervals;
     for pass in passes {
-        left = asked(alloc, pass, left, sounds, shelf)?;
+        left = asked(alloc, pass, left, sounds, shelf, watch)?;
     }
     Ok(left)
 }

@@ -3,9 +3,10 @@ ghost use Rattle.std.specs.Prelude.{◌≡◌, ◌+◌, ◌-◌, ◌*◌, ◌/�
 ghost use Rattle.shelf.specs.Frame.{OnlyReads};
 ghost use Rattle.silence.specs.Zero.{IsFirstSounding, IsFrameZero, IsZeroAt, LiesIn, sound_by};
 
+use crate::looking::Looking;
 use crate::part::Part;
 use pcm::all_zero;
-use shelf::{Shelf, ShelfFault};
+use shelf::{Shelf, ShelfFault, Watch};
 use wavread::Sound;
 
 /// The first frame in which not all of these channels are zero, `width` from `first` on (from 1), in frames of so many
@@ -55,12 +56,13 @@ fn first_in_block<S: Shelf>(
 
 /// The first frame of a part of a file that isn't zero. Each frame is read once, for all its channels, and no block is
 /// read behind the first one that sounds.
-pub fn first_sounding<S: Shelf>(
+pub fn first_sounding<S: Shelf, W: Watch>(
     part: &Part,
     sound: &Sound,
     shelf: &mut S,
     bytes: &mut [u8],
     samples: &mut [i32],
+    looking: &mut Looking<W>,
 ) -> Result<Option<u64>, ShelfFault>
     requires inside { LiesIn sound.now part.now }
     requires some_samples { 64 ≤ length samples.old }
@@ -85,6 +87,7 @@ pub fn first_sounding<S: Shelf>(
             return Ok(found);
         }
         at += count;
+        looking.at(at - part.from);
     }
     Ok(None)
 }

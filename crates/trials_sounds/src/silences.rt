@@ -3,7 +3,7 @@ ghost use Rattle.std.specs.Prelude.{◌≤◌};
 ghost use Rattle.sound_terms.specs.Groups.{IsPiece};
 
 use interval::{Group, Intervals, Piece, Shape};
-use shelf::{Shelf, ShelfFault};
+use shelf::{Shelf, ShelfFault, Watch};
 use silence::silent_of;
 use std::alloc::Global;
 use std::test::Fail;
@@ -82,9 +82,34 @@ fn ten(alloc: Global, apart: u64) -> Result<Intervals, Fail>
     Ok(Intervals::ordered(groups)?)
 }
 
+/// What a watch was told of the looking for silence last, how often, and whether it ever fell.
+#[derive(Default, Drop)]
+struct Told {
+    done: u64,
+    whole: u64,
+    times: u64,
+    fell: bool,
+}
+
+impl Watch for Told {
+    fn reached(&mut self, _done: u64, _whole: u64) {}
+
+    fn looked(&mut self, done: u64, whole: u64) {
+        self.fell = self.fell || done < self.done;
+        self.done = done;
+        self.whole = whole;
+        self.times = self.times.saturating_add(1);
+    }
+}
+
 /// Whether each of ten pieces is silent, so many frames apart in a file that sounds in one frame; and how many bytes
 /// were read of it.
-fn asked(rt: &HostRuntime, sounding: usize, apart: u64) -> Result<(Vec<bool>, u64), Fail>
+fn asked(
+    rt: &HostRuntime,
+    sounding: usize,
+    apart: u64,
+    watch: &mut Told,
+) -> Result<(Vec<bool>, u64), Fail>
     requires { apart ≤ 500 }
 {
     let alloc = rt.alloc();
@@ -92,13 +117,13 @@ fn asked(rt: &HostRuntime, sounding: usize, apart: u64) -> Result<(Vec<bool>, u6
     let sounds = [open(alloc, &mut shelf, "A.wav")?];
     shelf.bytes = 0;
     let intervals = ten(alloc, apart)?;
-    let silent = silent_of(alloc, &intervals, &sounds, &mut shelf)?;
+    let silent = silent_of(alloc, &intervals, &sounds, &mut shelf, watch)?;
     Ok((silent, shelf.bytes))
 }
 
 #[test]
 fn equal_pieces_are_read_once(rt: HostRuntime) -> Result<(), Fail> {
-    let (silent, bytes) = asked(&rt, 9000, 0)?;
+    let (silent, bytes) = asked(&rt, 9000, 0, &mut Told::default())?;
     assert_eq!(rt; silent.as_slice(), [true; 10].as_slice());
     assert_eq!(rt; bytes, 10_000);
     Ok(())
@@ -106,7 +131,7 @@ fn equal_pieces_are_read_once(rt: HostRuntime) -> Result<(), Fail> {
 
 #[test]
 fn pieces_that_overlap_are_read_once(rt: HostRuntime) -> Result<(), Fail> {
-    let (silent, bytes) = asked(&rt, 9999, 500)?;
+    let (silent, bytes) = asked(&rt, 9999, 500, &mut Told::default())?;
     assert_eq!(rt; silent.as_slice(), [true; 10].as_slice());
     assert_eq!(rt; bytes, 19_000);
     Ok(())
@@ -114,8 +139,19 @@ fn pieces_that_overlap_are_read_once(rt: HostRuntime) -> Result<(), Fail> {
 
 #[test]
 fn a_frame_that_sounds_is_found_once(rt: HostRuntime) -> Result<(), Fail> {
-    let (silent, bytes) = asked(&rt, 4999, 500)?;
+    let (silent, bytes) = asked(&rt, 4999, 500, &mut Told::default())?;
     assert_eq!(rt; silent.as_slice(), [false; 10].as_slice());
     assert_eq!(rt; bytes, 10_000);
+    Ok(())
+}
+
+#[test]
+fn a_watch_is_told_of_each_block_and_each_piece(rt: HostRuntime) -> Result<(), Fail> {
+    let mut told = Told::default();
+    asked(&rt, 9000, 0, &mut told)?;
+    assert_eq!(rt;
+        (told.done, told.whole, told.times, told.fell),
+        (50_000, 50_000, 12, false)
+    );
     Ok(())
 }

@@ -9,20 +9,19 @@ pub returns-clause-so : goal.returns-clause-so
 returns-clause-so g c honest sounds there so =
     let files = g.S.Shelf.stored c.args.shelf.now in
     let reading = reading_by files sounds in
-    let reaches = c.up_to-known.ensures.reaches c.requires.inside.in_order in
+    let known = c.args.known in
     rw c.until.ensures
-    (looked reading c.up_to-known.result c.args.file c.args.part.now reaches (c.up_to-known.ensures.so reading so)
-    (sound_by files c.args.sound.now) (heard_there files sounds c.args.file c.args.sound.now there) (omega arith)
+    (looked reading known known.file c.args.part.now c.requires.reaches so
+    (sound_by files c.args.sound.now) (heard_there files sounds known.file c.args.sound.now there) (omega arith)
     c.in_ok-found.found (c.in_ok-found.ensures.found honest))
 
 pub returns-then-known-clause-so : goal.returns-then-known-clause-so
-returns-then-known-clause-so g c honest sounds there so =
-    c.up_to-known.ensures.so (reading_by (g.S.Shelf.stored c.args.shelf.now) sounds) so
+returns-then-known-clause-so g c honest sounds there so = so
 
 pub returns-clause-tells : goal.returns-clause-tells
 returns-clause-tells g c honest =
     let part = c.args.part.now in
     let sound = sound_by (g.S.Shelf.stored c.args.shelf.now) c.args.sound.now in
     rw c.until.ensures
-    (tells_then c.up_to-known.result c.args.file part (c.up_to-known.ensures.reaches c.requires.inside.in_order)
+    (tells_then c.args.known c.args.known.file part c.requires.reaches
     (omega arith) (IsZeroAt sound part.first part.width) c.in_ok-found.found (c.in_ok-found.ensures.found honest))

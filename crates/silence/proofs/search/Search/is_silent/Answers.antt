@@ -24,11 +24,13 @@ returns-in-Ok-clause-answer g c = λ honest so.
     let found = c.in-Some.ensures.lookup in
     let there : slice_get sounds piece.file ≡ Some sound =
     slice_get_read sounds (length sounds) piece.file sound refl found.3.0 found.1 in
+    let reading = reading_by files sounds in
     let known : c.args.self.now ≡ c.self.inside.known = cc in
+    let file = (c.up_to-known.ensures.reaches c.inside-part.ensures.lies.in_order).same_file in
     let tells = c.in-Ok.ensures.tells honest in
     silent_by files sounds piece sound c.inside-part.result _ there (c.inside-part.ensures.rest files)
-    (told (reading_by files sounds) c.in-Ok.known piece.file c.inside-part.result tells.reaches
-    (c.in-Ok.ensures.so honest sounds there (rw known at so)) tells.decided)
+    (told reading c.in-Ok.known piece.file c.inside-part.result (rw file at tells.reaches)
+    (c.in-Ok.ensures.so honest sounds (rw file there) (c.up_to-known.ensures.so reading (rw known at so))) tells.decided)
 
 pub returns-in-Ok-clause-known : goal.returns-in-Ok-clause-known
 returns-in-Ok-clause-known g c = λ honest so.
@@ -39,7 +41,9 @@ returns-in-Ok-clause-known g c = λ honest so.
     let there : slice_get sounds piece.file ≡ Some sound =
     slice_get_read sounds (length sounds) piece.file sound refl found.3.0 found.1 in
     let known : c.args.self.now ≡ c.self.inside.known = cc in
-    c.in-Ok.ensures.so honest sounds there (rw known at so)
+    let file = (c.up_to-known.ensures.reaches c.inside-part.ensures.lies.in_order).same_file in
+    c.in-Ok.ensures.so honest sounds (rw file there)
+    (c.up_to-known.ensures.so (reading_by (g.S.Shelf.stored c.args.shelf.now) sounds) (rw known at so))
 
 pub returns-in-Err-clause-only_reads : goal.returns-in-Err-clause-only_reads
 returns-in-Err-clause-only_reads g c =
