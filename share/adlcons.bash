@@ -5,10 +5,11 @@ _adlcons() {
         check) options='--all --report --help' ;;
         consolidate) options='--all --handle --help' ;;
         show) options='--all --handle --help' ;;
-        render) options='--all --from --to --channels --depth --order --help' ;;
+        render | resume) options='--all --from --to --channels --depth --order --help' ;;
     esac
     if ((COMP_CWORD == 1)); then
-        mapfile -t COMPREPLY < <(compgen -W "check consolidate render show explain help --help --version" -- "$word")
+        local commands='check consolidate render resume show explain help --help --version'
+        mapfile -t COMPREPLY < <(compgen -W "$commands" -- "$word")
     elif [[ $last == --depth ]]; then
         mapfile -t COMPREPLY < <(compgen -W "16 24 32" -- "$word")
     elif [[ $last == --order ]]; then
@@ -24,11 +25,11 @@ _adlcons() {
                 numbers=$(adlcons explain 2>/dev/null | grep -oE '^[0-9]+' | sort -u)
                 mapfile -t COMPREPLY < <(compgen -W "$numbers" -- "$word")
                 ;;
-            2:check | 2:consolidate | 2:render | 2:show) mapfile -t COMPREPLY < <(compgen -f -- "$word") ;;
-            3:check | 3:consolidate | 3:render | 3:show | 4:consolidate | 4:render)
+            2:check | 2:consolidate | 2:render | 2:resume | 2:show) mapfile -t COMPREPLY < <(compgen -f -- "$word") ;;
+            3:check | 3:consolidate | 3:render | 3:resume | 3:show | 4:consolidate | 4:render | 4:resume)
                 mapfile -t COMPREPLY < <(compgen -d -- "$word")
                 ;;
-            *:check | *:consolidate | *:render | *:show) mapfile -t COMPREPLY < <(compgen -W "$options" -- "$word") ;;
+            *:check | *:consolidate | *:render | *:resume | *:show) mapfile -t COMPREPLY < <(compgen -W "$options" -- "$word") ;;
         esac
     fi
 }

@@ -1,7 +1,7 @@
 """The words of the command line: the stored run, faults of the words, help."""
 
 from harness import LIST, MEDIA, OUT, Mismatch, Outcome, Scene, Suite, same, same_files
-from tables import FIRST_LIST, rendered_bytes, wave
+from tables import FIRST_LIST, rendered_files, wave
 
 STORED_RUN = b"698 bytes: 1000 -1000 32767 -32768\n"
 
@@ -20,6 +20,8 @@ MISTAKES = {
     "a depth of nothing": ("render", LIST, MEDIA, OUT, "--depth"),
     "a depth twice": ("render", LIST, MEDIA, OUT, "--depth", "16", "--depth", "16"),
     "an order of a consolidation": ("consolidate", LIST, MEDIA, OUT, "--order", "time"),
+    "no output to go on with": ("resume", LIST, MEDIA),
+    "a depth of 20 to go on with": ("resume", LIST, MEDIA, OUT, "--depth", "20"),
     "an output of a picture": ("show", LIST, MEDIA, OUT),
     "a picture with a handle of more than a day": ("show", LIST, MEDIA, "--handle", "4147200001"),
     "a report of a rendering": ("render", LIST, MEDIA, OUT, "--report"),
@@ -48,8 +50,8 @@ MISTAKES = {
 }
 
 SHOWN = (
-    ("--help",), ("-h",), ("check", "--help"), ("render", "--help"), ("consolidate", "--help"), ("show", "--help"),
-    ("explain", "--help"), ("--version",), ("-V",), ("help",), ("help", "render"))
+    ("--help",), ("-h",), ("check", "--help"), ("render", "--help"), ("consolidate", "--help"), ("resume", "--help"),
+    ("show", "--help"), ("explain", "--help"), ("--version",), ("-V",), ("help",), ("help", "render"))
 
 
 def prepared(scene: Scene) -> None:
@@ -80,7 +82,7 @@ def shown(scene: Scene) -> None:
         same(f"status and standard error of {words}", (got.status, got.error), (0, b""))
         if not got.output.strip() or max(map(len, got.output.splitlines())) > 80:
             raise Mismatch(f"{words} prints {got.output!r}")
-    for words in SHOWN[2:7]:
+    for words in SHOWN[2:8]:
         if b"Example" not in scene.run(*words).output:
             raise Mismatch(f"{words} shows no example")
 
@@ -93,6 +95,7 @@ Commands:
   check        Check a list and the files that it uses, and write nothing
   consolidate  Write new media of just the frames that a list plays, and a list
   render       Render a list to one sound file, OUT/render.wav
+  resume       Go on with a rendering that was stopped, by the same words
   show         Draw a list as SVG: entries over time, and what of files is kept
   explain      Tell what the number of a refusal or notice means, and what to do
   help         Print this message or the help of the given subcommand(s)
@@ -175,7 +178,7 @@ def option_forms(scene: Scene) -> None:
         ("render", LIST, MEDIA, OUT, "--depth", "16", "--from=01.00.00.00/0000", "--to", "01:00|00,00=0004"),
     ):
         same(f"the answer of {words}", scene.run(*words), Outcome(0, b"rendered 4 frames 1 channels\n", b""))
-        same_files(scene.files(), {"render.wav": rendered_bytes()})
+        same_files(scene.files(), rendered_files())
         scene.empty_out()
 
 

@@ -69,17 +69,20 @@ def run_logged(scene: Scene, command: str, environment: dict, fails: int = 0) ->
 
 
 def syncs_of(command: str, media: int) -> list:
-    """What is synced, and the file that is refused where that fails. All media are there before the first is synced, so
-    their folder is synced once; the list comes behind them."""
+    """What is synced, and the file that is refused where that fails, none where it is a job's, which is done again. All
+    media are there before the first is synced, so their folder is synced once; the list comes behind them."""
     if command == "render":
-        return [("render.wav", "render.wav"), (OUT, "render.wav")]
+        sound, marks = ("render.wav", "render.wav"), ("render.marks", "render.marks")
+        made = [sound, (OUT, "render.wav"), marks, (OUT, "render.marks"), marks, marks, marks]
+        return [*made, ("render.wav", None), marks, sound, marks]
     names = [f"M{number:05d}.wav" for number in range(1, media + 1)]
     files = [(name, name) for name in (*names, "consolidated.adl")]
     return [files[0], (OUT, names[0]), *files[1:], (OUT, "consolidated.adl")]
 
 
 def on_the_disk(command: str):
-    """Each output and its folder are synced, the list last, before the line is written; a sync that fails is 62."""
+    """Each output and its folder are synced, the list last, before the line is written; a sync that fails outside a job
+    is 62."""
     def body(scene: Scene) -> None:
         text = cuts_over("A.wav", 3)
         media = {"A.wav": sound_of(3, 1000)}
@@ -94,6 +97,11 @@ def on_the_disk(command: str):
         scene.empty_out()
         for fails, (_, output) in enumerate(syncs, 1):
             got, log = run_logged(scene, command, environment, fails)
+            if output is None:
+                same_answer(got, wanted)
+                same_files(scene.files(), wanted.files)
+                scene.empty_out()
+                continue
             same_outcome(got, 1, f"refused 62 at file {output}")
             logged = [*(f"sync {name}" for name, _ in syncs[:fails]), "print out", "print err"]
             same("what is synced and printed", log, logged)

@@ -13,6 +13,7 @@ from typing import Callable
 
 import model
 from random_projects import Dice
+from resumes import plain
 from harness import LIST, MEDIA, OUT, Mismatch, Scene, Skipped, Suite, same, same_bytes
 
 MAKEFILE = Path(__file__).resolve().parent.parent / "examples" / "many_machines" / "Makefile"
@@ -99,6 +100,35 @@ def begun_again(scene: Scene) -> None:
     text = model.list_text([], [])
     scene.put(text)
     expect_joined(scene, text, media, settings)
+
+
+def gone_on_with(scene: Scene) -> None:
+    """A part that was broken off goes on: what is marked of it stays as it is, also where that is wrong."""
+    blocks = 6
+    text, media = plain(2 * blocks)
+    scene.put(text, media)
+    end = model.time_text(2 * blocks * model.BLOCK).decode()
+    settings = {"FROM": "00.00.00.00/0000", "TO": end, "PARTS": 2, "CHANNELS": 1, "DEPTH": 16}
+    expect_joined(scene, text, media, settings)
+    whole = scene.folder / "work" / "render.wav"
+    wanted = bytearray(whole.read_bytes())
+    ranges = [MAKEFILE.parent / "ranges", "words", LIST, settings["FROM"], end, "2", "2"]
+    words = subprocess.run(ranges, cwd=scene.folder, check=True, capture_output=True, timeout=TIMEOUT).stdout.split()
+    run = scene.folder / "work" / "run" / "0002"
+    run.mkdir(parents=True)
+    same("the status", scene.run("render", LIST, MEDIA, run, *words, "--channels", "1", "--depth", "16").status, 0)
+    sound, marks = (bytearray((run / name).read_bytes()) for name in ("render.wav", "render.marks"))
+    # The first block is marked and wrong, the second one isn't marked and is silent.
+    size = 2 * model.BLOCK
+    sound[690:690 + size] = b"\x55" * size
+    sound[690 + size:690 + 2 * size] = bytes(size)
+    marks[model.FRONT + 1] = 0
+    for name, data in (("render.wav", sound), ("render.marks", marks)):
+        (run / name).write_bytes(data)
+    (scene.folder / "work" / "parts" / "P0002.wav").unlink()
+    same("the status", make(scene, **settings).returncode, 0)
+    wanted[690 + blocks * size:690 + (blocks + 1) * size] = b"\x55" * size
+    same_bytes("the joined file", whole.read_bytes(), bytes(wanted))
 
 
 def refused(scene: Scene) -> None:
@@ -260,6 +290,7 @@ def run(suite: Suite) -> None:
     for seed in range(FIRST_SEED, FIRST_SEED + PROJECTS):
         suite.case(f"random project {seed} in parts", joined(seed))
     suite.case("parts that are there already", begun_again)
+    suite.case("a part that was broken off", gone_on_with)
     suite.case("parts that can't be made", refused)
     suite.case("parts that GNU parallel makes", spread_by_parallel)
     suite.case("parts that Slurm makes", spread_by_slurm)

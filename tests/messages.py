@@ -1,6 +1,7 @@
 """What standard error says beside the lines of the output: it says what is so, and what to do about just that."""
 
 import os
+import re
 import subprocess
 import time
 from urllib.parse import quote
@@ -10,7 +11,8 @@ from harness import (
     LIST, MEDIA, OUT, TIMEOUT, Mismatch, Outcome, Scene, Suite, expect_refused, preloaded, same, same_outcome,
     same_shape, words_of,
 )
-from progress import on_terminal, put_stretches
+from model import FRONT
+from progress import on_terminal, put_sound, put_stretches
 from tables import FIRST_LIST, changed, wave
 
 MIDNIGHT = b"00.00.00.00/0000"
@@ -90,15 +92,15 @@ def in_the_output(scene: Scene) -> None:
 
 
 def gone_meanwhile(scene: Scene) -> None:
-    """An output that is taken away, or changed, while the command is at work is 62."""
+    """An output that is taken away, or changed, while the command is at work is 62, and 66 where a job finds it so."""
     entries = [model.entry_line(1, 1, MIDNIGHT, MIDNIGHT, model.time_text(4)),
                model.entry_line(2, 1, MIDNIGHT, model.time_text(400_000_000), model.time_text(400_000_004))]
     scene.put(model.list_text([model.source_line(1, "A.wav", MIDNIGHT)], entries), MEDIA_FILES)
     path, other = scene.folder / OUT / "render.wav", scene.folder / "other.wav"
     other.write_bytes(b"another file")
-    for meddle, said, unsaid in (
-        (path.unlink, "; the system says: No such file or directory (os error 2); run again", "unfinished"),
-        (lambda: other.replace(path), "; it was changed meanwhile; unfinished in the output", "system"),
+    for meddle, found in (
+        (path.unlink, r"the system says: No such file or directory \(os error 2\)|it is gone"),
+        (lambda: other.replace(path), "it was changed meanwhile|it is shorter than it was"),
     ):
         with subprocess.Popen(
                 [scene.program, "render", LIST, MEDIA, OUT, "--depth", "16"], cwd=scene.folder,
@@ -108,9 +110,30 @@ def gone_meanwhile(scene: Scene) -> None:
                 time.sleep(0.001)
             meddle()
             output, error = process.communicate(timeout=TIMEOUT)
+        line = output.decode().rstrip("\n")
+        if not re.fullmatch(r"refused (62 at file render\.wav|66 at job \d+)", line):
+            raise Mismatch(f"an output that was taken away is answered with {line!r}")
         got = Outcome(process.returncode, output, error)
-        expect_said(got, "refused 62 at file render.wav", (said,), (unsaid,))
+        expect_said(got, line, ("run again into an empty folder",), ("adlcons resume",))
+        if not re.search(rf"; ({found}); ", error.decode()):
+            raise Mismatch(f"what became of the output isn't told: {error!r}")
         scene.empty_out()
+
+
+def marks_gone_meanwhile(scene: Scene) -> None:
+    """Marks that are taken away are 62 at once, and what is unfinished is the rendered file."""
+    put_sound(scene)
+    marks = scene.folder / OUT / "render.marks"
+    with subprocess.Popen(
+            [scene.program, *words_of("render")], cwd=scene.folder, stdout=subprocess.PIPE, stderr=subprocess.PIPE,
+            env=preloaded(scene, SLOW="100000")) as process:
+        end = time.monotonic() + TIMEOUT
+        while not (marks.exists() and b"\1" in marks.read_bytes()[FRONT:]) and time.monotonic() < end:
+            time.sleep(0.001)
+        marks.unlink()
+        output, error = process.communicate(timeout=TIMEOUT)
+    said = "; it is gone; unfinished in the output: render.wav; run again into an empty folder"
+    expect_said(Outcome(process.returncode, output, error), "refused 62 at file render.marks", (said,))
 
 
 def medium_gone_meanwhile(scene: Scene) -> None:
@@ -379,6 +402,7 @@ def run(suite: Suite) -> None:
     suite.case("said of what is no plain file", no_plain_file)
     suite.case("said of what is in the output", in_the_output)
     suite.case("an output that is gone or changed", gone_meanwhile)
+    suite.case("marks that are gone", marks_gone_meanwhile)
     suite.case("a medium that is gone", medium_gone_meanwhile)
     suite.case("control characters in words", control_characters)
     suite.case("a name that is nearly the one", nearly_the_name)

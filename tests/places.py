@@ -7,11 +7,11 @@ from harness import (
     LIST, MEDIA, OUT, Mismatch, Outcome, Scene, Suite, expect_answer, preloaded, same, same_answer, same_files,
     same_outcome, same_shape,
 )
-from tables import FIRST_LIST, rendered_bytes, wave
+from tables import FIRST_LIST, rendered_files, wave
 
 AT_16_BITS = model.Options(depth=16)
 DEPTH = AT_16_BITS.words("render")
-RENDERED = model.Answer(0, "rendered 4 frames 1 channels", {"render.wav": rendered_bytes()})
+RENDERED = model.Answer(0, "rendered 4 frames 1 channels", rendered_files())
 MEDIA_FILES = {"A.wav": wave()}
 
 
@@ -47,7 +47,7 @@ def long_standard_input(scene: Scene) -> None:
     text = FIRST_LIST + b"behind the list\n" * 100_000
     got = scene.run("render", "-", MEDIA, OUT, *DEPTH, given=text)
     same_outcome(got, 0, RENDERED.line)
-    same_files(scene.files(), RENDERED.files)
+    same_files(scene.files(), model.answer("render", text, MEDIA_FILES, AT_16_BITS).files)
 
 
 def closed_standard_input(scene: Scene) -> None:

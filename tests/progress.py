@@ -10,12 +10,14 @@ from typing import NamedTuple
 
 import model
 from harness import (
-    EXPLANATION, SAVED, TIMEOUT, Mismatch, Outcome, Scene, Suite, preloaded, same, same_outcome, same_shape, words_of,
+    EXPLANATION, OUT, SAVED, TIMEOUT, Mismatch, Outcome, Scene, Suite, preloaded, same, same_outcome, same_shape,
+    words_of,
 )
 from tables import wave
 
 BLOCK = 4096
 BLOCKS = 10
+MARKED = 4
 STRETCHES = 20
 STRETCH = 100
 SILENT = 24
@@ -106,6 +108,21 @@ def rendering(scene: Scene) -> None:
     same_outcome(scene.run(*words_of("render"), env=preloaded(scene, **SLOWER)), 0, line)
 
 
+def resumed(scene: Scene) -> None:
+    """What was marked is counted from the first line on."""
+    frames = put_sound(scene)
+    same("the status", scene.run(*words_of("render")).status, 0)
+    path = scene.folder / OUT / "render.marks"
+    head = path.read_bytes()[:model.FRONT]
+    path.write_bytes(head + b"\1" * MARKED + bytes(BLOCKS - MARKED))
+    shown = on_terminal(scene, words_of("resume"), env=preloaded(scene, **SLOWER))
+    rest = without_lines(shown, frames)
+    same_outcome(shown.outcome._replace(error=rest), 0, f"resumed {frames} frames {MARKED} blocks were marked")
+    first = int(re.search(LINE % frames, shown.outcome.error).group(2))
+    if first <= MARKED * BLOCK:
+        raise Mismatch(f"the first line tells {first} frames, and {MARKED} blocks were marked")
+
+
 def consolidation(scene: Scene) -> None:
     frames = put_stretches(scene)
     line = f"written {STRETCHES} media {STRETCHES} entries"
@@ -170,6 +187,7 @@ def short(scene: Scene) -> None:
 
 def run(suite: Suite) -> None:
     suite.case("progress of a rendering", rendering)
+    suite.case("progress of a rendering that goes on", resumed)
     suite.case("progress of a consolidation", consolidation)
     suite.case("progress within a medium", long_medium)
     suite.case("progress of a search for silence", looking_for_silence)

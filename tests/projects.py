@@ -38,12 +38,13 @@ def whole_range(text: bytes, media: dict, options: model.Options) -> model.Optio
     return options._replace(begin=begin, end=end, channels=part.channels)
 
 
-def rendered_by(scene: Scene, options: model.Options) -> dict:
+def rendered_by(scene: Scene, options: model.Options) -> bytes:
+    """The rendered file alone: its marks are those of its list."""
     scene.empty_out()
     scene.run(*words_of("render", options))
     files = scene.files()
     scene.empty_out()
-    return files
+    return files["render.wav"]
 
 
 def consolidated_again(scene: Scene, text: bytes, media: dict, options: model.Options) -> None:
@@ -108,7 +109,7 @@ def project(seed: int, met: set):
             new_text, new_media = written_media(scene)
             same_sums(text, media, new_text, new_media)
             consolidated_again(scene, new_text, new_media, options)
-            same_files(rendered_by(scene, whole), sound)
+            same_bytes("the sound of the new list", rendered_by(scene, whole), sound)
     return body
 
 

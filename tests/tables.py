@@ -1,5 +1,6 @@
 """Lists and files whose bytes are known from tables, not from any program."""
 
+import hashlib
 import struct
 
 FIRST_LIST = b"""<ADL>
@@ -46,6 +47,16 @@ def rendered_bytes() -> bytes:
         part = bytes.fromhex(digits)
         data[at:at + len(part)] = part
     return bytes(data)
+
+
+# Before the list: from, to, channels and depth of its rendering at 16 bits.
+FIRST_RUN = bytes.fromhex("00b84c0a00000000 04b84c0a00000000 0100 1000")
+
+
+def rendered_files() -> dict:
+    """The rendered file of the first list, and the marks beside it: one block, which is marked."""
+    digest = hashlib.sha256(FIRST_RUN + FIRST_LIST).digest()
+    return {"render.wav": rendered_bytes(), "render.marks": b"\1ADLMRK1" + digest + bytes.fromhex("01000000 01")}
 
 
 def consolidated_bytes() -> bytes:

@@ -79,7 +79,8 @@ def expect_rendering(scene: Scene, text: bytes, media: dict, wanted: Rendering, 
     same("the line of the model", told.line, answer.line)
     same_bytes("the file of the model", told.files["render.wav"], answer.files["render.wav"])
     scene.put(text, media)
-    expect_answer(scene, "render", answer._replace(notices=told.notices), options)
+    files = {**told.files, **answer.files}
+    expect_answer(scene, "render", answer._replace(notices=told.notices, files=files), options)
     scene.empty_out()
 
 
@@ -137,10 +138,11 @@ def chosen(options: model.Options, wanted: Rendering, size: int):
 def first_list_rendered(rate: int):
     """The same bytes at each rate of frames, since none of its times has a frame."""
     def body(scene: Scene) -> None:
-        scene.put(changed(4, b"(SEQ_FRAME_RATE) %d" % rate), FIRST_MEDIA)
+        text = changed(4, b"(SEQ_FRAME_RATE) %d" % rate)
+        scene.put(text, FIRST_MEDIA)
         same("the length of its file", len(rendered_bytes()), 698)
-        answer = model.Answer(0, "rendered 4 frames 1 channels", {"render.wav": rendered_bytes()})
-        expect_answer(scene, "render", answer, EXACT)
+        files = {**model.answer("render", text, FIRST_MEDIA, EXACT).files, "render.wav": rendered_bytes()}
+        expect_answer(scene, "render", model.Answer(0, "rendered 4 frames 1 channels", files), EXACT)
     return body
 
 

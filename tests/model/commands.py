@@ -6,6 +6,7 @@ from typing import NamedTuple, Optional
 
 from .binding import Bound, bind, check_entry, faults_of_entries, faults_of_files
 from .groups import FALL, RISE, Run, runs_of, standard_groups
+from .marks import marks_of
 from .mixing import Range, rendered
 from .project import STANDARD_SEPARATORS, Entry, Project, Source
 from .refusal import Refused
@@ -33,7 +34,8 @@ class Options(NamedTuple):
 
     def words(self, command: str) -> list:
         """The words for what isn't chosen by default."""
-        options = {"consolidate": ("handle",), "render": ("from", "to", "channels", "depth")}.get(command, ())
+        rendering = "from", "to", "channels", "depth"
+        options = {"consolidate": ("handle",), "render": rendering, "resume": rendering}.get(command, ())
         chosen = {
             "handle": self.handle, "from": self.begin, "to": self.end, "channels": self.channels, "depth": self.depth}
         standard = {"handle": 48_000, "from": None, "to": None, "channels": None, "depth": 24}
@@ -99,7 +101,8 @@ def render(text: bytes, media: dict, options: Options) -> Answer:
     data = packed(options.depth, rendered(project, bound, part, options.depth))
     sound = Sound(part.channels, options.depth, data, time_reference=part.begin)
     line = f"rendered {part.frames()} frames {part.channels} channels"
-    return Answer(0, line, {"render.wav": written_sound(sound)}, notices_of(project, bound))
+    files = {"render.wav": written_sound(sound), "render.marks": marks_of(text, part, options.depth)}
+    return Answer(0, line, files, notices_of(project, bound))
 
 
 def medium_name(number: int) -> str:

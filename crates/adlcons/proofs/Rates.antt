@@ -5,9 +5,10 @@ use Rattle.shelf.specs.declared.bench.Bench as output
 use Rattle.list_terms.specs.Accepted.{OptionValues}
 use Rattle.list_terms.specs.Text.{rate_of}
 use Rattle.consolidate.specs.Commands.{IsRendering}
+use Rattle.consolidate.specs.Resuming.{IsResuming}
 use Rattle.commandline.specs.CommandLine.{Chosen}
 use Rattle.console.specs.declared.console.Console as console
-use Rattle.adlcons.specs.Answers.{IsAnswered, RendersBy, rendered_lines}
+use Rattle.adlcons.specs.Answers.{IsAnswered, RendersBy, ResumesBy, rendered_lines, resumed_lines}
 use Rattle.adlcons.specs.Times.{values_of}
 
 pub answered_by : {S B O : Type 0} (shelf : source.Ghosts S) (bench : output.Ghosts B) (out : console.Ghosts O)
@@ -20,6 +21,21 @@ pub answered_by : {S B O : Type 0} (shelf : source.Ghosts S) (bench : output.Gho
 answered_by shelf bench out chosen values list shelf_old shelf_new bench_old bench_new old new status read is = record {
   outcome = is.outcome;
   called = record { values = values; read = read; rendering = is.called };
+  status_is = is.status_is;
+  is_named = is.is_named;
+  printed = is.printed;
+}
+
+pub resumed_by : {S B O : Type 0} (shelf : source.Ghosts S) (bench : output.Ghosts B) (out : console.Ghosts O)
+    (chosen : Chosen) (values : OptionValues) (list : List ℕ) (shelf_old shelf_new : S) (bench_old bench_new : B)
+    (old new : O) (status : ℕ) → values_of (rate_of list) chosen ≡ Ok values
+    → IsAnswered (IsResuming shelf bench list values shelf_old shelf_new bench_old bench_new) resumed_lines out old new
+    status
+    → IsAnswered (ResumesBy shelf bench chosen list shelf_old shelf_new bench_old bench_new) resumed_lines out old new
+    status
+resumed_by shelf bench out chosen values list shelf_old shelf_new bench_old bench_new old new status read is = record {
+  outcome = is.outcome;
+  called = record { values = values; read = read; resuming = is.called };
   status_is = is.status_is;
   is_named = is.is_named;
   printed = is.printed;

@@ -1,13 +1,14 @@
 -- What is said of a request is said of an equal one.
 use Rattle.std.proofs.Common.{◌≡◌, ℕ, Some, refl, subst}
 use Rattle.clap.specs.Walk.{Text}
-use Rattle.commandline.specs.CommandLine.{Asked, Check, Report, Chosen, Render, Consolidate, Show, Explain, ExplainNotice}
+use Rattle.commandline.specs.CommandLine.{Asked, Check, Report, Chosen, Render, Resume, Consolidate, Show, Explain, ExplainNotice}
 
 -- of a rendering
 abbrev OfRender : (Text → Text → Text → Chosen → Type 0) → Asked → Type 0
 OfRender P (Check list media) = Unit {0}
 OfRender P (Report list media) = Unit {0}
 OfRender P (Render list media out chosen) = P list media out chosen
+OfRender P (Resume list media out chosen) = Unit {0}
 OfRender P (Consolidate list media out handle) = Unit {0}
 OfRender P (Show list media handle) = Unit {0}
 OfRender P (Explain number) = Unit {0}
@@ -30,11 +31,37 @@ render_fields list media out chosen list' media' out' chosen' same =
     render_alike (λ l m o c. (list ≡ l) × (media ≡ m) × (out ≡ o) × (chosen ≡ c)) list media out chosen
     list' media' out' chosen' same (refl, refl, refl, refl)
 
+-- of a rendering that is gone on with
+abbrev OfResume : (Text → Text → Text → Chosen → Type 0) → Asked → Type 0
+OfResume P (Check list media) = Unit {0}
+OfResume P (Report list media) = Unit {0}
+OfResume P (Render list media out chosen) = Unit {0}
+OfResume P (Resume list media out chosen) = P list media out chosen
+OfResume P (Consolidate list media out handle) = Unit {0}
+OfResume P (Show list media handle) = Unit {0}
+OfResume P (Explain number) = Unit {0}
+OfResume P (ExplainNotice number) = Unit {0}
+
+resume_alike : (P : Text → Text → Text → Chosen → Type 0) (list media out : Text) (chosen : Chosen)
+    (list' media' out' : Text) (chosen' : Chosen)
+    → Some (Resume list media out chosen) ≡ Some (Resume list' media' out' chosen')
+    → P list media out chosen → P list' media' out' chosen'
+resume_alike P list media out chosen list' media' out' chosen' same holds =
+    subst (OfResume P) (some_same (Resume list media out chosen) (Resume list' media' out' chosen') same) holds
+
+pub resume_fields : (list media out : Text) (chosen : Chosen) (list' media' out' : Text) (chosen' : Chosen)
+    → Some (Resume list media out chosen) ≡ Some (Resume list' media' out' chosen')
+    → (list ≡ list') × (media ≡ media') × (out ≡ out') × (chosen ≡ chosen')
+resume_fields list media out chosen list' media' out' chosen' same =
+    resume_alike (λ l m o c. (list ≡ l) × (media ≡ m) × (out ≡ o) × (chosen ≡ c)) list media out chosen
+    list' media' out' chosen' same (refl, refl, refl, refl)
+
 -- of a consolidation
 abbrev OfConsolidate : (Text → Text → Text → ℕ → Type 0) → Asked → Type 0
 OfConsolidate P (Check list media) = Unit {0}
 OfConsolidate P (Report list media) = Unit {0}
 OfConsolidate P (Render list media out chosen) = Unit {0}
+OfConsolidate P (Resume list media out chosen) = Unit {0}
 OfConsolidate P (Consolidate list media out handle) = P list media out handle
 OfConsolidate P (Show list media handle) = Unit {0}
 OfConsolidate P (Explain number) = Unit {0}

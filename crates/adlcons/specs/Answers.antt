@@ -8,13 +8,15 @@ use Rattle.shelf.specs.declared.bench.Bench as output
 use Rattle.list_terms.specs.Accepted.{OptionValues}
 use Rattle.list_terms.specs.Text.{rate_of}
 use Rattle.consolidate.specs.Commands.{IsChecking, IsRendering}
+use Rattle.consolidate.specs.Resuming.{IsResuming}
 use Rattle.consolidate.specs.Fault.{refusal_of}
 use Rattle.consolidate.specs.declared.Fault.{Fault}
 use Rattle.consolidate.specs.declared.Rendered.{Rendered}
+use Rattle.consolidate.specs.declared.Resumed.{Resumed}
 use Rattle.consolidate.specs.declared.Written.{Written}
-use Rattle.commandline.specs.CommandLine.{Asked, Chosen, Check, Report, Render, Consolidate, Show, Explain, ExplainNotice}
+use Rattle.commandline.specs.CommandLine.{Asked, Chosen, Check, Report, Render, Resume, Consolidate, Show, Explain, ExplainNotice}
 use Rattle.console.specs.declared.console.Console as console
-use Rattle.console.specs.Lines.{accepted_text, notices_text, refusal_text, rendered_text, written_text}
+use Rattle.console.specs.Lines.{accepted_text, notices_text, refusal_text, rendered_text, resumed_text, written_text}
 use Rattle.console.specs.Printing.{Prints}
 use Rattle.adlcons.specs.Times.{values_of}
 
@@ -25,6 +27,10 @@ accepted_lines told = (notices_text told.notices.items ++ accepted_text told.ent
 -- of a rendering
 abbrev pub rendered_lines : Rendered → List ℕ
 rendered_lines told = (notices_text told.notices.items ++ rendered_text told.frames told.channels) ++ 10 ∷ []
+
+-- of a rendering that was gone on with
+abbrev pub resumed_lines : Resumed → List ℕ
+resumed_lines told = (notices_text told.notices.items ++ resumed_text told.frames told.marked) ++ 10 ∷ []
 
 -- of a consolidation
 abbrev pub written_lines : Written → List ℕ
@@ -78,11 +84,19 @@ pub record RendersBy {S B : Type 0} (shelf : source.Ghosts S) (bench : output.Gh
   pub read : values_of (rate_of list) chosen ≡ Ok values
   pub rendering : IsRendering shelf bench list values shelf_old shelf_new bench_old bench_new result
 
+-- the rendering of the list was gone on with, by what the words choose likewise
+pub record ResumesBy {S B : Type 0} (shelf : source.Ghosts S) (bench : output.Ghosts B) (chosen : Chosen)
+    (list : List ℕ) (shelf_old shelf_new : S) (bench_old bench_new : B) (result : Result Resumed Fault) : Type 0 where
+  pub values : OptionValues
+  pub read : values_of (rate_of list) chosen ≡ Ok values
+  pub resuming : IsResuming shelf bench list values shelf_old shelf_new bench_old bench_new result
+
 -- what is asked for can't be done: a time that can't be read, or a number that nothing has
 abbrev pub MayBeMistaken : ℕ → Asked → Type 0
 MayBeMistaken rate (Check list media) = ⊥
 MayBeMistaken rate (Report list media) = ⊥
 MayBeMistaken rate (Render list media out chosen) = IsErr (values_of rate chosen)
+MayBeMistaken rate (Resume list media out chosen) = IsErr (values_of rate chosen)
 MayBeMistaken rate (Consolidate list media out handle) = ⊥
 MayBeMistaken rate (Show list media handle) = ⊥
 MayBeMistaken rate (Explain number) = ⊤

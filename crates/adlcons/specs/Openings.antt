@@ -3,7 +3,9 @@ use Rattle.std.specs.Prelude.{◌≡◌, ℕ, IsTrue, true, false, List, Result}
 use Rattle.work_terms.specs.Refusals.{Refusal, Where, Nowhere, File}
 use Rattle.shelf.specs.declared.source.Shelf as source
 use Rattle.stores.specs.Folder.{OutputFolder, SourceFolder, folder_named}
-use Rattle.stores.specs.declared.Overwrite.TheVariants as overwrite
+use Rattle.stores.specs.declared.Overwrite.{Overwrite}
+use Rattle.stores.specs.declared.Overwrite.TheVariants.{Files, Never}
+use Rattle.commandline.specs.CommandLine.{Asked, Resume}
 use Rattle.consolidate.specs.declared.Fault.{Fault}
 use Rattle.console.specs.declared.console.Console as console
 use Rattle.adlcons.specs.Answers.{IsAnswered, IsChecked, Tells, accepted_lines, refusal_line}
@@ -27,6 +29,7 @@ abbrev pub refusal_of_opening : OpenFault → List ℕ → List ℕ → Refusal
 refusal_of_opening (opened.List fault) list folder = refusal_of_read fault list
 refusal_of_opening (opened.Unlisted reason) list folder = early 20 (File folder)
 refusal_of_opening opened.NotEmpty list folder = early 20 (File folder)
+refusal_of_opening opened.Media list folder = early 20 (File folder)
 refusal_of_opening opened.Memory list folder = early 18 Nowhere
 refusal_of_opening opened.Passes list folder = early 51 Nowhere
 
@@ -54,8 +57,13 @@ pub record ReportsFolder {O : Type 0} (shelf : source.Ghosts SourceFolder) (out 
   pub folder : before.folder ≡ folder_named media
   pub reported : IsTrue (shelf.honest before) → IsReported list (shelf.stored before) out old new status
 
--- a command was called over a list, the files of one folder, and another folder in which it replaces nothing
-pub record WorksInFolders {X O : Type 0}
+-- a rendering that is gone on with may replace files in its folder, no other command may
+abbrev pub overwrite_for : Asked → Overwrite
+overwrite_for (Resume list media out chosen) = Files
+overwrite_for _ = Never
+
+-- a command was called over a list, the files of one folder, and another folder in which it may replace these files
+pub record WorksInFolders {X O : Type 0} (replaced : Overwrite)
     (call : List ℕ → SourceFolder → SourceFolder → OutputFolder → OutputFolder → Result X Fault → Type 0)
     (report_lines : X → List ℕ) (out : console.Ghosts O) (media target : List ℕ) (old new : O) (status : ℕ)
     : Type 0 where
@@ -66,5 +74,5 @@ pub record WorksInFolders {X O : Type 0}
   pub full : OutputFolder
   pub folder : before.folder ≡ folder_named media
   pub output : empty.folder ≡ folder_named target
-  pub careful : empty.overwrite ≡ overwrite.Never
+  pub careful : empty.overwrite ≡ replaced
   pub answered : IsAnswered (call list before after empty full) report_lines out old new status

@@ -3,6 +3,7 @@ ghost use Rattle.std.specs.Prelude.{◌≡◌, ◌≢◌, ◌≤◌, ℕ, Err, I
 ghost use Rattle.clap.specs.Walk.{Text};
 ghost use Rattle.clap.specs.Words.{kind_of};
 ghost use Rattle.consolidate.specs.Commands.{IsConsolidation, IsRendering};
+ghost use Rattle.consolidate.specs.Resuming.{IsResuming};
 ghost use Rattle.consolidate.specs.Fault.{refusal_of};
 ghost use Rattle.passes.specs.Left.{left_by};
 ghost use Rattle.passes.specs.Standard.{AreStandard};
@@ -14,7 +15,7 @@ ghost use Rattle.commandline.specs.CommandLine.{is_shown};
 ghost use Rattle.commandline.specs.Request.{asked_of};
 ghost use Rattle.console.specs.Printing.{Prints};
 ghost use Rattle.list_terms.specs.Text.{rate_of as rate_at};
-ghost use Rattle.adlcons.specs.Answers.{IsAnswered, IsChecked, MayBeMistaken, RendersBy, accepted_lines, refusal_line, rendered_lines, written_lines};
+ghost use Rattle.adlcons.specs.Answers.{IsAnswered, IsChecked, MayBeMistaken, RendersBy, ResumesBy, accepted_lines, refusal_line, rendered_lines, resumed_lines, written_lines};
 ghost use Rattle.adlcons.specs.BadTime.{name_of};
 ghost use Rattle.checkreport.specs.Reported.{IsReported};
 ghost use Rattle.adlcons.specs.Times.{bad_time_line, values_of};
@@ -32,7 +33,7 @@ use adlread::rate_of;
 use clap::Error;
 use commandline::Request;
 use console::{Console, Counts};
-use consolidate::{Fault, Options, check_project, consolidate, render};
+use consolidate::{Fault, Options, check_project, consolidate, render, resume};
 use explanations::{Explanation, PrintedLines, Saved, meanings_of, notice_meanings_of};
 use passes::Pass;
 use shelf::{Bench, Shelf};
@@ -53,7 +54,7 @@ pub const MISTAKE: u8 = 2;
 /// passes go over the pieces of the entries. A refusal is explained
 /// there too, in a line of its own; behind that of a check stand the list's further faults. What numbers mean is printed
 /// on `out`, with 0, or with 2 where nothing has the number.
-#[tactic(auto, using(crate::proofs::Rates::answered_by))]
+#[tactic(auto, using(crate::proofs::Rates::answered_by, crate::proofs::Rates::resumed_by))]
 pub fn answer<S: Shelf + Reasons, B: Bench + Reasons, O: Console, E: Console, M: Meter, A: Asides>(
     alloc: Global,
     request: Request<'_>,
@@ -75,6 +76,10 @@ pub fn answer<S: Shelf + Reasons, B: Bench + Reasons, O: Console, E: Console, M:
         → asked_of request.entry ≡ asked.Render place media target chosen → result ≢ 2
         → IsAnswered (RendersBy S.Shelf B.Bench chosen list.now shelf.old shelf.new bench.old bench.new)
         rendered_lines O.Console out.old out.new result }
+    ensures resumed { (place media target : Text) (chosen : asked.Chosen)
+        → asked_of request.entry ≡ asked.Resume place media target chosen → result ≢ 2
+        → IsAnswered (ResumesBy S.Shelf B.Bench chosen list.now shelf.old shelf.new bench.old bench.new)
+        resumed_lines O.Console out.old out.new result }
     ensures consolidated { (place media target : Text) (handle : ℕ)
         → asked_of request.entry ≡ asked.Consolidate place media target handle
         → IsAnswered (IsConsolidation S.Shelf B.Bench
@@ -89,6 +94,10 @@ pub fn answer<S: Shelf + Reasons, B: Bench + Reasons, O: Console, E: Console, M:
     // It names a time that can't be read.
     ensures bad_time { (place media target : Text) (chosen : asked.Chosen) (option : Text)
         → asked_of request.entry ≡ asked.Render place media target chosen
+        → values_of (rate_at list.now) chosen ≡ Err option
+        → (result ≡ 2) × Prints E.contents E.failures err.old err.new (bad_time_line option) }
+    ensures bad_time_resumed { (place media target : Text) (chosen : asked.Chosen) (option : Text)
+        → asked_of request.entry ≡ asked.Resume place media target chosen
         → values_of (rate_at list.now) chosen ≡ Err option
         → (result ≡ 2) × Prints E.contents E.failures err.old err.new (bad_time_line option) }
     ensures explained { (number : Option Text) → asked_of request.entry ≡ asked.Explain number
@@ -110,6 +119,12 @@ pub fn answer<S: Shelf + Reasons, B: Bench + Reasons, O: Console, E: Console, M:
         Request::Report(_, _) => answer_report(alloc, list, shelf, out, err),
         Request::Render(_, chosen) => match options_of(chosen, rate_of(list)) {
             Ok(options) => answer_render(
+                alloc, list, &options, shelf, bench, out, err, meter, asides,
+            ),
+            Err(bad) => refuse_time(bad, err),
+        },
+        Request::Resume(_, chosen) => match options_of(chosen, rate_of(list)) {
+            Ok(options) => answer_resume(
                 alloc, list, &options, shelf, bench, out, err, meter, asides,
             ),
             Err(bad) => refuse_time(bad, err),
@@ -213,6 +228,57 @@ fn answer_render<
         }
         Err(fault) => {
             let explanation = Explanation::of(&fault, list, shelf.reason(), bench.reason());
+            let explanation = explanation.of_rendering();
+            let _ = refuse(alloc, &fault, explanation, asides, out, err);
+            REFUSED
+        }
+    }
+}
+
+/// Goes on with a rendering of the list that was stopped, and prints what came of it.
+fn answer_resume<
+    S: Shelf + Reasons,
+    B: Bench + Reasons,
+    O: Console,
+    E: Console,
+    M: Meter,
+    A: Asides,
+>(
+    alloc: Global,
+    list: &[u8],
+    options: &Options,
+    shelf: &mut S,
+    bench: &mut B,
+    out: &mut O,
+    err: &mut E,
+    meter: &mut M,
+    asides: &A,
+) -> u8
+    requires { HaveChannels options.now }
+    ensures answered { IsAnswered
+        (IsResuming S.Shelf B.Bench list.now (rendering.values_of options.now) shelf.old shelf.new bench.old bench.new)
+        resumed_lines O.Console out.old out.new result }
+    ensures statuses { result ≤ 1 }
+{
+    let outcome = resume(alloc, list, options, shelf, bench, meter);
+    meter.clear();
+    tell_changed(alloc, shelf, err);
+    match outcome {
+        Ok(resumed) => {
+            let words = Counts {
+                before: "resumed ",
+                between: " frames ",
+                behind: " blocks were marked",
+            };
+            let notices = resumed.notices.as_slice();
+            let marked = u64::from(resumed.marked);
+            tell_done(out, notices, words, resumed.frames, marked);
+            tell_meanings(notices, list, err);
+            DONE
+        }
+        Err(fault) => {
+            let explanation = Explanation::of(&fault, list, shelf.reason(), bench.reason());
+            let explanation = explanation.of_rendering();
             let _ = refuse(alloc, &fault, explanation, asides, out, err);
             REFUSED
         }

@@ -7,8 +7,9 @@ ghost use Rattle.commandline.specs.CommandLine.{asks_for_help, request_of};
 ghost use Rattle.commandline.specs.Request.{asked_of};
 ghost use Rattle.console.specs.Places.{where_of};
 ghost use Rattle.sound_terms.specs.Passes.{standard_groups};
-ghost use Rattle.adlcons.specs.Answers.{RendersBy, rendered_lines, written_lines};
-ghost use Rattle.adlcons.specs.Openings.{ChecksFolder, IsKeptOut, ReportsFolder, WorksInFolders, refusal_of_opening};
+ghost use Rattle.adlcons.specs.Answers.{RendersBy, ResumesBy, rendered_lines, resumed_lines, written_lines};
+ghost use Rattle.adlcons.specs.Openings.{ChecksFolder, IsKeptOut, ReportsFolder, WorksInFolders, overwrite_for, refusal_of_opening};
+ghost use Rattle.stores.specs.declared.Overwrite.TheVariants as overwrite;
 
 use crate::also::tell_further;
 use crate::answer::{MISTAKE, REFUSED, answer, answer_error, explain, explain_notice};
@@ -23,9 +24,12 @@ use consolidate::check_project;
 use explanations::Explanation;
 use std::alloc::AllocError;
 use std::fs::Files;
-use std::os::unix::fs::FileExt;
+use std::os::unix::fs::{FileExt, MetadataExt};
 use std::{fs, io};
 use stores::{FolderBench, FolderShelf, MemoryBench, Overwrite};
+
+/// The marks of a rendering.
+const MARKS: &str = "render.marks";
 
 /// Why a command didn't come to its stores.
 #[derive(Clone, Copy, Debug)]
@@ -36,6 +40,8 @@ pub enum OpenFault {
     Unlisted(io::Error),
     /// Something is in the folder of the output.
     NotEmpty,
+    /// Files would be replaced in the folder of the media.
+    Media,
     /// Out of memory for the stores.
     Memory,
     /// Out of memory for the passes.
@@ -50,7 +56,9 @@ impl OpenFault {
     {
         match self {
             OpenFault::List(fault) => fault.refusal(list),
-            OpenFault::Unlisted(_) | OpenFault::NotEmpty => Refusal::of_file(20, out),
+            OpenFault::Unlisted(_) | OpenFault::NotEmpty | OpenFault::Media => {
+                Refusal::of_file(20, out)
+            }
             OpenFault::Memory => Refusal::MEMORY,
             OpenFault::Passes => Refusal {
                 number: 51,
@@ -64,7 +72,7 @@ impl OpenFault {
         match self {
             OpenFault::List(fault) => fault.reason(),
             OpenFault::Unlisted(error) => Some(error),
-            OpenFault::NotEmpty | OpenFault::Memory | OpenFault::Passes => None,
+            OpenFault::NotEmpty | OpenFault::Media | OpenFault::Memory | OpenFault::Passes => None,
         }
     }
 }
@@ -103,13 +111,19 @@ where
     ensures rendered { (list media target : Text) (chosen : asked.Chosen)
         → request_of (texts words.now) ≡ Some (asked.Render list media target chosen) → result ≢ 2
         → IsKeptOut O.Console list target out.old out.new result
-        ⊎ WorksInFolders
+        ⊎ WorksInFolders overwrite.Never
         (RendersBy ⟦<FolderShelf<R> as shelf::Shelf>⟧ ⟦<FolderBench<R> as shelf::Bench>⟧ chosen)
         rendered_lines O.Console media target out.old out.new result }
+    ensures resumed { (list media target : Text) (chosen : asked.Chosen)
+        → request_of (texts words.now) ≡ Some (asked.Resume list media target chosen) → result ≢ 2
+        → IsKeptOut O.Console list target out.old out.new result
+        ⊎ WorksInFolders overwrite.Files
+        (ResumesBy ⟦<FolderShelf<R> as shelf::Shelf>⟧ ⟦<FolderBench<R> as shelf::Bench>⟧ chosen)
+        resumed_lines O.Console media target out.old out.new result }
     ensures consolidated { (list media target : Text) (handle : ℕ)
         → request_of (texts words.now) ≡ Some (asked.Consolidate list media target handle) → result ≢ 2
         → IsKeptOut O.Console list target out.old out.new result
-        ⊎ WorksInFolders
+        ⊎ WorksInFolders overwrite.Never
         (λ list. IsConsolidation ⟦<FolderShelf<R> as shelf::Shelf>⟧ ⟦<FolderBench<R> as shelf::Bench>⟧ standard_groups
         list handle)
         written_lines O.Console media target out.old out.new result }
@@ -130,6 +144,10 @@ where
         Request::Show(list, media, handle) => show_folder(rt, list, media, handle, all, out, err),
         Request::Render(places, chosen) => {
             let request = Request::Render(places, chosen);
+            work_in_folders(rt, request, places, all, out, err, meter)
+        }
+        Request::Resume(places, chosen) => {
+            let request = Request::Resume(places, chosen);
             work_in_folders(rt, request, places, all, out, err, meter)
         }
         Request::Consolidate(places, handle) => {
@@ -154,8 +172,17 @@ pub fn keep_out<O: Console, E: Console>(
     let refusal = fault.refusal(list, folder);
     put_refusal(out, refusal);
     out.end_line();
-    err.print_line(Explanation::by(refusal.number, fault.reason(), inside));
+    err.print_line(explanation_of(fault, refusal.number, inside));
     1
+}
+
+/// What is told of such a refusal beside its line.
+fn explanation_of(fault: OpenFault, number: u8, inside: Option<&str>) -> Explanation<'_> {
+    let explanation = Explanation::by(number, fault.reason(), inside);
+    match fault {
+        OpenFault::Media => explanation.in_media(),
+        _ => explanation,
+    }
 }
 
 /// Checks this list over this folder, and answers the status.
@@ -237,13 +264,19 @@ where
     ensures rendered { (list media target : Text) (chosen : asked.Chosen)
         → asked_of request.entry ≡ asked.Render list media target chosen → result ≢ 2
         → IsKeptOut O.Console places.entry.list.now places.entry.out.now out.old out.new result
-        ⊎ WorksInFolders
+        ⊎ WorksInFolders overwrite.Never
         (RendersBy ⟦<FolderShelf<R> as shelf::Shelf>⟧ ⟦<FolderBench<R> as shelf::Bench>⟧ chosen)
         rendered_lines O.Console places.entry.media.now places.entry.out.now out.old out.new result }
+    ensures resumed { (list media target : Text) (chosen : asked.Chosen)
+        → asked_of request.entry ≡ asked.Resume list media target chosen → result ≢ 2
+        → IsKeptOut O.Console places.entry.list.now places.entry.out.now out.old out.new result
+        ⊎ WorksInFolders overwrite.Files
+        (ResumesBy ⟦<FolderShelf<R> as shelf::Shelf>⟧ ⟦<FolderBench<R> as shelf::Bench>⟧ chosen)
+        resumed_lines O.Console places.entry.media.now places.entry.out.now out.old out.new result }
     ensures consolidated { (list media target : Text) (handle : ℕ)
         → asked_of request.entry ≡ asked.Consolidate list media target handle
         → IsKeptOut O.Console places.entry.list.now places.entry.out.now out.old out.new result
-        ⊎ WorksInFolders
+        ⊎ WorksInFolders overwrite.Never
         (λ list. IsConsolidation ⟦<FolderShelf<R> as shelf::Shelf>⟧ ⟦<FolderBench<R> as shelf::Bench>⟧ standard_groups
         list handle)
         written_lines O.Console places.entry.media.now places.entry.out.now out.old out.new result }
@@ -260,7 +293,7 @@ where
 }
 
 /// Answers such a request where its places can be opened. A list that can't be read is refused first, then an output
-/// that isn't an empty folder.
+/// that isn't an empty folder, or where a rendering is gone on with, that is the folder of the media.
 fn try_places<R, O: Console, E: Console, M: Meter>(
     rt: &R,
     request: Request<'_>,
@@ -275,12 +308,17 @@ where
     R::File: FileExt,
     ensures rendered { (list media target : Text) (chosen : asked.Chosen)
         → asked_of request.entry ≡ asked.Render list media target chosen
-        → IfOk result (λ status. status ≢ 2 → WorksInFolders
+        → IfOk result (λ status. status ≢ 2 → WorksInFolders overwrite.Never
         (RendersBy ⟦<FolderShelf<R> as shelf::Shelf>⟧ ⟦<FolderBench<R> as shelf::Bench>⟧ chosen)
         rendered_lines O.Console places.entry.media.now places.entry.out.now out.old out.new status) }
+    ensures resumed { (list media target : Text) (chosen : asked.Chosen)
+        → asked_of request.entry ≡ asked.Resume list media target chosen
+        → IfOk result (λ status. status ≢ 2 → WorksInFolders overwrite.Files
+        (ResumesBy ⟦<FolderShelf<R> as shelf::Shelf>⟧ ⟦<FolderBench<R> as shelf::Bench>⟧ chosen)
+        resumed_lines O.Console places.entry.media.now places.entry.out.now out.old out.new status) }
     ensures consolidated { (list media target : Text) (handle : ℕ)
         → asked_of request.entry ≡ asked.Consolidate list media target handle
-        → IfOk result (λ status. WorksInFolders
+        → IfOk result (λ status. WorksInFolders overwrite.Never
         (λ list. IsConsolidation ⟦<FolderShelf<R> as shelf::Shelf>⟧ ⟦<FolderBench<R> as shelf::Bench>⟧ standard_groups
         list handle)
         written_lines O.Console places.entry.media.now places.entry.out.now out.old out.new status) }
@@ -288,8 +326,9 @@ where
     ensures nothing { OnErr result (out.new ≡ out.old) }
 {
     let list = read_list(rt, places.list)?;
-    require_empty_folder(rt, places.out)?;
-    let mut bench = FolderBench::new(rt.alloc(), rt.clone()?, places.out, Overwrite::Never)?;
+    let overwrite = overwrite_for(&request);
+    require_ready_folder(rt, places.out, places.media, overwrite)?;
+    let mut bench = FolderBench::new(rt.alloc(), rt.clone()?, places.out, overwrite)?;
     let mut shelf = FolderShelf::new(rt.alloc(), rt.clone()?, places.media)?;
     let unlisted = unlisted_reason(rt, places.media);
     let asides = FolderAsides::new(rt, places.media, tells_all);
@@ -318,6 +357,42 @@ where
         tell_unlisted(places.media, unlisted, err);
     }
     Ok(status)
+}
+
+/// Whether a request may replace files in its output: one that goes on with a rendering.
+fn overwrite_for(request: &Request<'_>) -> Overwrite
+    ensures { result ≡ overwrite_for (asked_of request.now) }
+{
+    match request {
+        Request::Resume(_, _) => Overwrite::Files,
+        _ => Overwrite::Never,
+    }
+}
+
+/// Fails where nothing is to be replaced in the folder of this path and it isn't empty, or can't be listed, and where
+/// files may be replaced and it is the folder of the media, which may have a source of that name.
+fn require_ready_folder<R: Files + AllocGlobal + Clone + Drop>(
+    rt: &R,
+    path: &str,
+    media: &str,
+    overwrite: Overwrite,
+) -> Result<(), OpenFault> {
+    match overwrite {
+        Overwrite::Files if is_same_folder(rt, path, media) => Err(OpenFault::Media),
+        Overwrite::Files => Ok(()),
+        Overwrite::Never => require_empty_folder(rt, path),
+    }
+}
+
+/// Whether both paths lead to one folder that is there.
+fn is_same_folder<R: Files + AllocGlobal + Clone + Drop>(rt: &R, path: &str, other: &str) -> bool {
+    match (
+        fs::metadata(rt, listed(path)),
+        fs::metadata(rt, listed(other)),
+    ) {
+        (Ok(one), Ok(other)) => one.dev() == other.dev() && one.ino() == other.ino(),
+        _ => false,
+    }
 }
 
 /// Tells all that is at fault in a list over the folder of its media behind its first fault, if it has one.
@@ -355,7 +430,8 @@ pub fn tell_unlisted<E: Console>(media: &str, reason: Option<io::Error>, err: &m
     }
 }
 
-/// The name of something in the folder of this path, where that was refused since it isn't empty.
+/// The name of something in the folder of this path, where that was refused since it isn't empty; that of the marks of
+/// a rendering, if they are there.
 fn name_inside<R: Files + AllocGlobal + Clone + Drop>(
     rt: &R,
     fault: OpenFault,
@@ -364,8 +440,20 @@ fn name_inside<R: Files + AllocGlobal + Clone + Drop>(
     let OpenFault::NotEmpty = fault else {
         return None;
     };
+    if has_marks(rt, path) {
+        return String::from_str(rt.alloc(), MARKS).ok();
+    }
     let found = fs::read_dir(rt, path).ok()?.next()?.ok()?;
     String::from_str(rt.alloc(), found.file_name()).ok()
+}
+
+/// Whether the marks of a rendering lie in the folder of this path.
+fn has_marks<R: Files + AllocGlobal + Clone + Drop>(rt: &R, path: &str) -> bool {
+    let folder = listed(path);
+    match format!(in rt.alloc(); "{folder}/{MARKS}") {
+        Ok(marks) => fs::symlink_metadata(rt, &marks).is_ok(),
+        Err(_) => false,
+    }
 }
 
 /// Fails where the folder of this path can't be listed or isn't empty.

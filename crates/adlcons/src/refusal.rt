@@ -4,7 +4,7 @@ ghost use Rattle.work_terms.specs.Refusals.{File, IndexFile};
 ghost use Rattle.adlread.specs.Fault as text;
 ghost use Rattle.sourceindex.specs.Fault.{name_of_source};
 ghost use Rattle.opening.specs.Faults as project;
-ghost use Rattle.consolidate.specs.Fault.{name_of_output, refusal_of};
+ghost use Rattle.consolidate.specs.Fault.{name_of_output, place_of_marks, refusal_of};
 ghost use Rattle.console.specs.Lines.{place_text, refusal_text};
 ghost use Rattle.console.specs.Places.{where_of};
 ghost use Rattle.console.specs.Printing.{Prints};
@@ -13,7 +13,7 @@ ghost use Rattle.adlcons.specs.Answers.{place_told};
 use adlmodel::{Source, place_of};
 use adlread::AdlFault;
 use console::{Console, Place, Refusal, put_place, put_refusal, put_refused};
-use consolidate::{Fault, OutputFile};
+use consolidate::{Fault, MarksFault, OutputFile};
 use list_terms::Location;
 use std::alloc::Global;
 
@@ -40,6 +40,12 @@ pub fn put_fault<C: Console>(alloc: Global, fault: &Fault, console: &mut C) -> b
             put_refusal(console, Refusal { number, place });
             true
         }
+        Fault::Marks(fault) => {
+            let number = fault.number();
+            let place = marks_place(*fault);
+            put_refusal(console, Refusal { number, place });
+            true
+        }
         Fault::Intervals
         | Fault::PassMemory
         | Fault::Silence { .. }
@@ -63,8 +69,20 @@ fn output_place(file: OutputFile) -> Place<'static>
 {
     match file {
         OutputFile::Rendering => Place::File("render.wav"),
+        OutputFile::Marks => Place::File("render.marks"),
         OutputFile::Medium(number) => Place::Medium(number),
         OutputFile::List => Place::File("consolidated.adl"),
+    }
+}
+
+/// Where marks that can't be gone on with stand: the file at which the device failed, if it did.
+fn marks_place(fault: MarksFault) -> Place<'static>
+    ensures { where_of result ≡ place_of_marks fault }
+{
+    match fault {
+        MarksFault::Sound => Place::File("render.wav"),
+        MarksFault::Marks => Place::File("render.marks"),
+        MarksFault::OtherRun | MarksFault::BadMarks | MarksFault::Memory => Place::Nowhere,
     }
 }
 

@@ -5,7 +5,7 @@ ghost use Rattle.commandline.specs.CommandLine as asked;
 ghost use Rattle.commandline.specs.Request.{asked_of};
 ghost use Rattle.consolidate.specs.Commands.{IsConsolidation};
 ghost use Rattle.sound_terms.specs.Passes.{standard_groups};
-ghost use Rattle.adlcons.specs.Answers.{IsAnswered, RendersBy, rendered_lines, written_lines};
+ghost use Rattle.adlcons.specs.Answers.{IsAnswered, RendersBy, ResumesBy, rendered_lines, resumed_lines, written_lines};
 
 use crate::answer::answer;
 use crate::asides::Asides;
@@ -41,6 +41,10 @@ pub fn answer_standard<
         → asked_of request.entry ≡ asked.Render place media target chosen → IfOk result (λ status. status ≢ 2
         → IsAnswered (RendersBy S.Shelf B.Bench chosen list.now shelf.old shelf.new bench.old bench.new)
         rendered_lines O.Console out.old out.new status) }
+    ensures resumed { (place media target : Text) (chosen : asked.Chosen)
+        → asked_of request.entry ≡ asked.Resume place media target chosen → IfOk result (λ status. status ≢ 2
+        → IsAnswered (ResumesBy S.Shelf B.Bench chosen list.now shelf.old shelf.new bench.old bench.new)
+        resumed_lines O.Console out.old out.new status) }
     ensures consolidated { (place media target : Text) (handle : ℕ)
         → asked_of request.entry ≡ asked.Consolidate place media target handle → IfOk result (λ status. IsAnswered
         (IsConsolidation S.Shelf B.Bench standard_groups list.now handle shelf.old shelf.new bench.old bench.new)
@@ -62,6 +66,7 @@ pub fn answer_standard<
         Request::Check(_, _)
         | Request::Report(_, _)
         | Request::Render(_, _)
+        | Request::Resume(_, _)
         | Request::Show(_, _, _)
         | Request::Explain(_)
         | Request::ExplainNotice(_) => Ok(answer(

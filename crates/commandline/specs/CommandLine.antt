@@ -47,12 +47,16 @@ over_folders name = with_rule (over_media name) (place_rule (codes "OUT"))
 abbrev pub consolidate_shape : Shape
 consolidate_shape = (with_rule (over_folders (codes "consolidate")) (default_rule (codes "handle") (codes "48000"))).top
 
-abbrev pub render_shape : Shape
-render_shape =
-    let places = over_folders (codes "render") in
-    let timed = with_rule (with_rule places (option_rule (codes "from"))) (option_rule (codes "to")) in
+-- with what may be chosen of a rendering
+abbrev pub with_choice : App → App
+with_choice app =
+    let timed = with_rule (with_rule app (option_rule (codes "from"))) (option_rule (codes "to")) in
     let sounding = with_rule (with_rule timed (option_rule (codes "channels"))) (default_rule (codes "depth") (codes "24")) in
-    (with_rule sounding (default_rule (codes "order") (codes "time"))).top
+    with_rule sounding (default_rule (codes "order") (codes "time"))
+
+-- a command of this name that renders
+abbrev pub rendering_shape : Text → Shape
+rendering_shape name = (with_choice (over_folders name)).top
 
 -- The program itself: it has a version and wants a command, and its words are those behind its name.
 abbrev pub top_app : App
@@ -71,11 +75,12 @@ abbrev pub explain_shape : Shape
 explain_shape =
     (with_rule (with_rule (new_app (codes "explain")) (new_rule (codes "WHAT"))) (new_rule (codes "NUMBER"))).top
 
--- the five commands; clap adds `help`
+-- the six commands; clap adds `help`
 abbrev pub adlcons_app : App
 adlcons_app =
     let checking = with_subcommand top_app check_shape in
-    let writing = with_subcommand (with_subcommand checking consolidate_shape) render_shape in
+    let rendering = with_subcommand (with_subcommand checking consolidate_shape) (rendering_shape (codes "render")) in
+    let writing = with_subcommand rendering (rendering_shape (codes "resume")) in
     with_subcommand (with_subcommand writing show_shape) explain_shape
 
 -- what is chosen of a rendering: times by their texts, a number of channels, the bits of a sample, the order of jobs
@@ -86,12 +91,14 @@ pub record Chosen : Type 0 where
   pub depth : ℕ
   pub order : Order
 
--- What the program is asked for: a command with its list, the folder of its media, and the folder that is written to;
--- a report of a check, or a picture; or what the number of a refusal or of a notice means, or all of them.
+-- What the program is asked for: a command with its list, the folder of its media, and the folder that is written to
+-- (a resumed one goes on with what is in there); a report of a check, or a picture; or what the number of a refusal or
+-- of a notice means, or all of them.
 pub data Asked : Type 0 where
   Check : (list media : Text) → Asked
   Report : (list media : Text) → Asked
   Render : (list media out : Text) → (chosen : Chosen) → Asked
+  Resume : (list media out : Text) → (chosen : Chosen) → Asked
   Consolidate : (list media out : Text) → (handle : ℕ) → Asked
   Show : (list media : Text) → (handle : ℕ) → Asked
   Explain : (number : Option Text) → Asked
@@ -157,6 +164,7 @@ chosen_of rows =
 abbrev pub asked_to : Text → (list media out : Text) → List Row → Option Asked
 asked_to name list media out rows =
     if bytes_eq name (codes "render") then option_map (λ chosen. Render list media out chosen) (chosen_of rows)
+    else if bytes_eq name (codes "resume") then option_map (λ chosen. Resume list media out chosen) (chosen_of rows)
     else if bytes_eq name (codes "consolidate")
     then option_map (λ handle. Consolidate list media out handle) (handle_of rows)
     else None

@@ -4,7 +4,7 @@ use Rattle.sound_terms.specs.Depth.{bits_of}
 use Rattle.commandline.specs.CommandLine as words
 use Rattle.commandline.specs.declared.choice.Chosen.{Chosen}
 use Rattle.commandline.specs.declared.request.Request.{Request}
-use Rattle.commandline.specs.declared.request.Request.TheVariants.{Check, Report, Render, Consolidate, Show, Explain, ExplainNotice}
+use Rattle.commandline.specs.declared.request.Request.TheVariants.{Check, Report, Render, Resume, Consolidate, Show, Explain, ExplainNotice}
 
 -- what is chosen of a rendering
 abbrev pub chosen_of : Chosen → words.Chosen
@@ -21,6 +21,7 @@ abbrev pub asked_of : Request → words.Asked
 asked_of (Check list media) = words.Check list.now media.now
 asked_of (Report list media) = words.Report list.now media.now
 asked_of (Render places chosen) = words.Render places.list.now places.media.now places.out.now (chosen_of chosen)
+asked_of (Resume places chosen) = words.Resume places.list.now places.media.now places.out.now (chosen_of chosen)
 asked_of (Consolidate places handle) = words.Consolidate places.list.now places.media.now places.out.now handle
 asked_of (Show list media handle) = words.Show list.now media.now handle
 asked_of (Explain number) = words.Explain (option_map (λ text. text.now) number)

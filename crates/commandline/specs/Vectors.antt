@@ -3,7 +3,7 @@ use Rattle.std.specs.Prelude.{◌≡◌, [], ◌∷◌, None, Some, refl, codes,
 use Rattle.clap.specs.declared.error.ErrorKind.TheVariants.{DisplayHelp, DisplayHelpOnMissingArgumentOrSubcommand, DisplayVersion, InvalidSubcommand, MissingRequiredArgument, TooManyValues, UnknownArgument}
 use Rattle.clap.proofs.OnLiterals.{clap_on_literals}
 use Rattle.job_terms.specs.declared.Order.TheVariants.{ByTime, BySource}
-use Rattle.commandline.specs.CommandLine.{Check, Chosen, Render, Report, Consolidate, Show, Explain, ExplainNotice, asks_for_help, named_by, request_of, tells_all, words_fault}
+use Rattle.commandline.specs.CommandLine.{Check, Chosen, Render, Report, Resume, Consolidate, Show, Explain, ExplainNotice, asks_for_help, named_by, request_of, tells_all, words_fault}
 
 -- ---- good words
 
@@ -77,12 +77,23 @@ long_handle : request_of (codes "consolidate" ∷ codes "L" ∷ codes "M" ∷ co
 unfolding words_fault named_by clap_on_literals
 long_handle = refl
 
+resumed_depth : request_of (codes "resume" ∷ codes "L" ∷ codes "M" ∷ codes "O" ∷ codes "--depth" ∷ codes "20" ∷ [])
+    ≡ None
+unfolding words_fault named_by clap_on_literals
+resumed_depth = refl
+
 -- ---- commands and places
 
 renders : request_of (codes "render" ∷ codes "L.adl" ∷ codes "M" ∷ codes "O" ∷ [])
     ≡ Some (Render (codes "L.adl") (codes "M") (codes "O") default_choice)
 unfolding words_fault named_by clap_on_literals
 renders = refl
+
+resumes : request_of (codes "resume" ∷ codes "L.adl" ∷ codes "M" ∷ codes "O" ∷ codes "--depth" ∷ codes "32" ∷ [])
+    ≡ Some (Resume (codes "L.adl") (codes "M") (codes "O")
+    (record { from = None; to = None; channels = None; depth = 32; order = ByTime }))
+unfolding words_fault named_by clap_on_literals
+resumes = refl
 
 consolidates : request_of (codes "consolidate" ∷ codes "L.adl" ∷ codes "M" ∷ codes "O" ∷ [])
     ≡ Some (Consolidate (codes "L.adl") (codes "M") (codes "O") 48000)

@@ -1,14 +1,14 @@
 // What the program's words may be, as clap's command.
-ghost use Rattle.std.specs.Prelude.{◌≡◌, IfOk, false};
+ghost use Rattle.std.specs.Prelude.{◌≡◌, codes, IfOk, false};
 ghost use Rattle.clap.specs.Words.{app_of, new_rule, rule_of, shape_of, with_rule};
 ghost use Rattle.clap.specs.declared.Command.TheViews.{out-Command as fields_of};
-ghost use Rattle.commandline.specs.CommandLine.{adlcons_app, check_shape, consolidate_shape, default_rule, explain_shape, flag_rule, option_rule, over_folders, over_media, place_rule, render_shape, show_shape, top_app};
+ghost use Rattle.commandline.specs.CommandLine.{adlcons_app, check_shape, consolidate_shape, default_rule, explain_shape, flag_rule, option_rule, over_folders, over_media, place_rule, rendering_shape, show_shape, top_app, with_choice};
 
 use clap::{Arg, ArgAction, Command};
 use std::alloc::{AllocError, Global};
 
-/// The program's command line: `check`, `consolidate`, `render` and `show`, each over a list and its media, and
-/// `explain`. It reads the words behind the program's name.
+/// The program's command line: `check`, `consolidate`, `render`, `resume` and `show`, each over a list and its media,
+/// and `explain`. It reads the words behind the program's name.
 pub fn command<'a>(alloc: Global) -> Result<Command<'a>, AllocError>
     ensures { IfOk result (λ command. app_of command ≡ adlcons_app) }
 {
@@ -16,6 +16,7 @@ pub fn command<'a>(alloc: Global) -> Result<Command<'a>, AllocError>
         .subcommand(check_command(alloc)?)?
         .subcommand(consolidate_command(alloc)?)?
         .subcommand(render_command(alloc)?)?
+        .subcommand(resume_command(alloc)?)?
         .subcommand(show_command(alloc)?)?
         .subcommand(explain_command(alloc)?)
 }
@@ -26,6 +27,9 @@ Status: 0 done, 1 refused, 2 the words can't be read.
 A refusal is one line with its number and its place.
 'adlcons explain 46' tells what 46 means and what to do.
 Example: adlcons render session.adl sources rendered";
+
+/// What the help says of a folder in which nothing is replaced.
+const EMPTY_FOLDER: &str = "The folder to write to, which is there and empty";
 
 /// The program itself, which wants a command.
 fn top_command<'a>(alloc: Global) -> Result<Command<'a>, AllocError>
@@ -80,6 +84,7 @@ fn consolidate_command<'a>(alloc: Global) -> Result<Command<'a>, AllocError>
         alloc,
         "consolidate",
         "Write new media of just the frames that a list plays, and a list",
+        EMPTY_FOLDER,
         "Example: adlcons consolidate session.adl sources consolidated --handle 96000",
     )?;
     let help = "Frames kept on each side of what plays";
@@ -88,15 +93,39 @@ fn consolidate_command<'a>(alloc: Global) -> Result<Command<'a>, AllocError>
 
 /// The command that renders a list.
 fn render_command<'a>(alloc: Global) -> Result<Command<'a>, AllocError>
-    ensures shape { IfOk result (λ command. shape_of command ≡ render_shape) }
+    ensures shape { IfOk result (λ command. shape_of command ≡ rendering_shape (codes "render")) }
     ensures local { IfOk result (λ command. (fields_of command).has_globals ≡ false) }
 {
     let command = over_folders(
         alloc,
         "render",
         "Render a list to one sound file, OUT/render.wav",
+        EMPTY_FOLDER,
         "Example: adlcons render session.adl sources rendered --depth 16",
     )?;
+    with_choice(alloc, command)
+}
+
+/// The command that goes on with a rendering.
+fn resume_command<'a>(alloc: Global) -> Result<Command<'a>, AllocError>
+    ensures shape { IfOk result (λ command. shape_of command ≡ rendering_shape (codes "resume")) }
+    ensures local { IfOk result (λ command. (fields_of command).has_globals ≡ false) }
+{
+    let command = over_folders(
+        alloc,
+        "resume",
+        "Go on with a rendering that was stopped, by the same words",
+        "The folder in which the rendering was stopped",
+        "Example: adlcons resume session.adl sources rendered --depth 16",
+    )?;
+    with_choice(alloc, command)
+}
+
+/// The command with what may be chosen of a rendering.
+fn with_choice<'a>(alloc: Global, command: Command<'a>) -> Result<Command<'a>, AllocError>
+    ensures app { IfOk result (λ added. app_of added ≡ with_choice (app_of command.entry)) }
+    ensures local { IfOk result (λ added. (fields_of added).has_globals ≡ (fields_of command.entry).has_globals) }
+{
     let from = "The first sample, hh.mm.ss.ff/rrrr [default: the first in]";
     let command = with_option(alloc, command, "from", "T", from)?;
     let to = "The time behind the last sample [default: the last out]";
@@ -128,18 +157,18 @@ fn over_media<'a>(
     with_flag(alloc, command, "all", all)
 }
 
-/// A command that writes to a folder besides.
+/// A command that writes to a folder besides, of which the help says this.
 fn over_folders<'a>(
     alloc: Global,
     name: &'a str,
     about: &'a str,
+    out: &'a str,
     example: &'a str,
 ) -> Result<Command<'a>, AllocError>
     ensures app { IfOk result (λ command. app_of command ≡ over_folders name.entry.now) }
     ensures local { IfOk result (λ command. (fields_of command).has_globals ≡ false) }
 {
     let command = over_media(alloc, name, about, example)?;
-    let out = "The folder to write to, which is there and empty";
     with_place(alloc, command, "OUT", out)
 }
 

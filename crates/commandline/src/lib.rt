@@ -1,4 +1,4 @@
-//! What the words of a command line ask for: `check`, `consolidate` and `render`, and what numbers mean.
+//! What the words of a command line ask for: `check`, `consolidate`, `render`, `resume`, `show` or `explain`.
 #![tactic(auto)]
 
 mod choice;

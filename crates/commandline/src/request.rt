@@ -37,6 +37,8 @@ pub enum Request<'a> {
     Report(&'a str, &'a str),
     /// Renders the list to one sound file.
     Render(Places<'a>, Chosen<'a>),
+    /// Goes on with such a rendering that was stopped.
+    Resume(Places<'a>, Chosen<'a>),
     /// Writes a list over new media, with handles of so many frames.
     Consolidate(Places<'a>, u64),
     /// Draws the list over the folder of its media, with handles of so many frames.
@@ -80,7 +82,7 @@ pub fn parse<'a>(alloc: Global, words: &'a [&'a str]) -> Result<Parsed<'a>, Erro
 fn mistake_of(matches: &ArgMatches<'_>) -> &'static str {
     match matches.subcommand() {
         Some(("consolidate" | "show", _)) => "a handle is 0 to 4147200000 frames",
-        Some(("render", words)) => mistake_of_rendering(words),
+        Some(("render" | "resume", words)) => mistake_of_rendering(words),
         _ => "one number can be explained, and behind the word notice that of a notice",
     }
 }
@@ -199,6 +201,7 @@ fn request_to<'a>(name: &str, places: Places<'a>, words: &ArgMatches<'a>) -> Opt
 {
     match name {
         "render" => Some(Request::Render(places, chosen_in(words)?)),
+        "resume" => Some(Request::Resume(places, chosen_in(words)?)),
         "consolidate" => Some(Request::Consolidate(places, handle_in(words)?)),
         _ => None,
     }

@@ -70,6 +70,10 @@ accepted_text = counts_text (codes "accepted ") (codes " entries ") (codes " ind
 abbrev pub rendered_text : ℕ → ℕ → List ℕ
 rendered_text = counts_text (codes "rendered ") (codes " frames ") (codes " channels")
 
+-- `resumed F frames K blocks were marked`
+abbrev pub resumed_text : ℕ → ℕ → List ℕ
+resumed_text = counts_text (codes "resumed ") (codes " frames ") (codes " blocks were marked")
+
 -- `written R media E entries`
 abbrev pub written_text : ℕ → ℕ → List ℕ
 written_text = counts_text (codes "written ") (codes " media ") (codes " entries")

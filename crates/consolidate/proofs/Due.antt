@@ -43,20 +43,21 @@ one_work leave text files p q b d handle work refusal one other due is_work =
     (subst (λ (r : ListProject). IsWorkOf leave r d handle files work) (sym same.0) is_work))
 
 -- what may come where the project is opened may come in place of what comes later
-pub due_behind : (refusal : Refusal) (first later : Option Refusal) → turn_of refusal ≤ 3
-    → IfSome later (λ due. 3 ≤ turn_of due) → IsDue refusal first
+pub due_behind : (last : ℕ) (refusal : Refusal) (first later : Option Refusal) → turn_of refusal ≤ last
+    → IfSome later (λ due. last ≤ turn_of due) → IsDue refusal first
     → IsDue refusal (first_fault first later)
-due_behind refusal (Some due) later turn late is_due = is_due
-due_behind refusal None later turn late is_due = by_excuse (is_excused refusal.number) later refl late is_due where
-  in_turn : (later : Option Refusal) → IfSome later (λ (d : Refusal). 3 ≤ turn_of d) → ComesInTurn refusal later
-  in_turn None late = tt
-  in_turn (Some due) late = omega arith
+due_behind last refusal (Some due) later turn late is_due = is_due
+due_behind last refusal None later turn late is_due = by_excuse (is_excused refusal.number) later refl late is_due
+  where
+    in_turn : (later : Option Refusal) → IfSome later (λ (d : Refusal). last ≤ turn_of d) → ComesInTurn refusal later
+    in_turn None late = tt
+    in_turn (Some due) late = omega (arith, turn, late)
 
-  by_excuse : (excused : Bool) (later : Option Refusal) → is_excused refusal.number ≡ excused
-      → IfSome later (λ (d : Refusal). 3 ≤ turn_of d)
-      → IsDue refusal None → IsDue refusal later
-  by_excuse true later is late due = rw is (in_turn later late)
-  by_excuse false later is late due = let none = rw is at due in absurd (cc)
+    by_excuse : (excused : Bool) (later : Option Refusal) → is_excused refusal.number ≡ excused
+        → IfSome later (λ (d : Refusal). last ≤ turn_of d)
+        → IsDue refusal None → IsDue refusal later
+    by_excuse true later is late due = rw is (in_turn later late)
+    by_excuse false later is late due = let none = rw is at due in absurd (cc)
 
 -- ---- 58 of a rendering
 
@@ -83,7 +84,7 @@ pub opening_due : (refusal : Refusal) (text : List ℕ) (values : OptionValues) 
     → IsDue refusal (project_fault text files)
     → IsDue refusal (render_refusal text values files)
 opening_due refusal text values files turn due =
-    due_behind refusal (project_fault text files) (range_refusal values (text_value text)) turn
+    due_behind 3 refusal (project_fault text files) (range_refusal values (text_value text)) turn
     (range_turn values (text_value text)) due
 
 -- what is due of rendering an accepted list is due of its range
@@ -112,5 +113,5 @@ pub opening_due_of_work : (refusal : Refusal) (text : List ℕ) (files : Files) 
     → IsAccepted text files project binding → IsDue refusal (project_fault text files)
     → IsDue refusal (work_fault work)
 opening_due_of_work refusal text files project binding work turn accepted due =
-    due_behind refusal None (work_fault work) turn (work_turn work)
+    due_behind 3 refusal None (work_fault work) turn (work_turn work)
     (rw (none_due text files project binding accepted) at due)

@@ -1,5 +1,5 @@
 -- The events of a command, from what its parts leave.
-use Rattle.std.proofs.Common.{◌≡◌, ℕ, false, Option, None, Some, Err, List, refl, subst}
+use Rattle.std.proofs.Common.{◌≡◌, ℕ, Bool, true, Option, None, Some, Err, List, refl, subst}
 use Rattle.sound_terms.specs.Render.{rendering_of}
 use Rattle.work_terms.specs.Disk.{Files}
 use Rattle.job_terms.specs.declared.BoardEvent.{BoardEvent}
@@ -19,19 +19,21 @@ use Rattle.consolidate.specs.declared.fault.Fault.{Fault}
 use Rattle.consolidate.specs.declared.fault.Fault.TheVariants as told
 
 -- calls before and behind the events that failed nowhere, and wrote nothing behind them
-pub events_between : (jobs : Jobs) (whole : List ℕ → List ℕ) (order : List ℕ) (events : List BoardEvent)
+pub events_between : (marks : Bool) (jobs : Jobs) (whole : List ℕ → List ℕ) (order : List ℕ) (events : List
+    BoardEvent)
     (shelf_old bench_old laid_out shelf_new done bench_new : ℕ) (behind written : Files) (progress : Option Progress)
     (ended : Option End) → laid_out ≡ bench_old → bench_new ≡ done → written ≡ behind
-    → RunsEvents false jobs whole order events shelf_old laid_out shelf_new done behind progress ended
-    → RunsEvents false jobs whole order events shelf_old bench_old shelf_new bench_new written progress ended
-events_between jobs whole order events shelf_old bench_old laid_out shelf_new done bench_new behind written progress
+    → RunsEvents marks jobs whole order events shelf_old laid_out shelf_new done behind progress ended
+    → RunsEvents marks jobs whole order events shelf_old bench_old shelf_new bench_new written progress ended
+events_between marks jobs whole order events shelf_old bench_old laid_out shelf_new done bench_new behind written
+    progress
     ended before after same run = rw (same, after, ← before) run
 
 pub schedules_project : (project : ListProject) (binding : Binding) (values : OptionValues) (work : RenderWork)
     (order : List ℕ) (events : List BoardEvent) (sources : Files) (shelf_old bench_old shelf_new bench_new : ℕ)
     (written : Files) (progress : Option Progress) (ended : Option End)
     → IsRenderingOf project binding values work → IsOrder (work_of work).count order
-    → RunsEvents false (jobs_over (work_of work) sources) (λ _. whole_of work sources) order events
+    → RunsEvents true (jobs_over (work_of work) sources) (λ _. whole_of work sources) order events
     shelf_old bench_old shelf_new bench_new written progress ended
     → SchedulesProject project binding values events sources shelf_old bench_old shelf_new bench_new written progress
     ended
@@ -41,7 +43,7 @@ schedules_project project binding values work order events sources shelf_old ben
       renders = of;
       order = order;
       is_order = is;
-      run = subst (λ (w : List ℕ). RunsEvents false (jobs_over (work_of work) sources) (λ _. w) order events
+      run = subst (λ (w : List ℕ). RunsEvents true (jobs_over (work_of work) sources) (λ _. w) order events
           shelf_old bench_old shelf_new bench_new written progress ended) (of.whole sources) run;
     }
 
@@ -60,6 +62,7 @@ events_map (told.Relink of) P Q f h = tt
 events_map told.RenderMemory P Q f h = tt
 events_map told.EmptyRange P Q f h = tt
 events_map told.BoardMemory P Q f h = tt
+events_map (told.Marks of) P Q f h = tt
 events_map (told.Output file) P Q f h = tt
 
 -- a list that isn't accepted has no events
@@ -74,6 +77,7 @@ none_done text (told.Relink of) P own = tt
 none_done text told.RenderMemory P own = tt
 none_done text told.EmptyRange P own = tt
 none_done text told.BoardMemory P own = tt
+none_done text (told.Marks of) P own = tt
 none_done text told.WorkerMemory P own = absurd own
 none_done text (told.GivenUp job) P own = absurd own
 none_done text (told.Output file) P own = tt

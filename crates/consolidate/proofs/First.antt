@@ -9,7 +9,7 @@ use Rattle.opening.specs.Own as opening
 use Rattle.opening.specs.Own.{IsOfOpening}
 use Rattle.opening.specs.declared.fault.Fault.{Fault}
 use Rattle.opening.specs.declared.fault.Fault.TheVariants as opened
-use Rattle.consolidate.specs.Own.{IsFirst, IsOfConsolidation, IsOfConsolidationSchedule, IsOfRenderSchedule, IsOfRendering}
+use Rattle.consolidate.specs.Own.{IsFirst, IsOfConsolidation, IsOfConsolidationSchedule, IsOfRenderSchedule, IsOfRendering, IsOfResuming}
 use Rattle.consolidate.specs.declared.fault.Fault as consolidate
 use Rattle.consolidate.specs.declared.fault.Fault.TheVariants as fault
 
@@ -30,6 +30,11 @@ pub rendered_first : (text : bytes.List bytes.ℕ) (files : Files) (told : conso
     → ((any : bytes.List bytes.ℕ) → IsOfRendering any told) → IsFirst text files told
 rendered_first text files (fault.Project of) own = opened_first text files of own
 rendered_first text files _ own = tt
+
+pub resumed_first : (text : bytes.List bytes.ℕ) (files : Files) (told : consolidate.Fault)
+    → ((any : bytes.List bytes.ℕ) → IsOfResuming any told) → IsFirst text files told
+resumed_first text files (fault.Project of) own = opened_first text files of own
+resumed_first text files _ own = tt
 
 pub consolidated_first : (text : bytes.List bytes.ℕ) (files : Files) (told : consolidate.Fault)
     → ((any : bytes.List bytes.ℕ) → IsOfConsolidation any told) → IsFirst text files told

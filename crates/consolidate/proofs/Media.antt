@@ -25,7 +25,8 @@ pub lent_events : (plan pieces : MediaPlan) (order : List ℕ) (events : List Bo
     → ((whole : List ℕ → List ℕ) → AreParts (jobs_over (media.work_of pieces) sources) whole
     → AreApart (jobs_over (media.work_of pieces) sources)
     → AreFilled (jobs_over (media.work_of pieces) sources) whole (λ _. false) laid
-    → EndsIn result (RunsEvents false (jobs_over (media.work_of pieces) sources) whole order events shelf_old bench_old
+    → EndsIn result (RunsEvents false (jobs_over (media.work_of pieces) sources) whole order events shelf_old
+    bench_old
     shelf_new bench_new written))
     → AreParts (jobs_over (media.work_of plan) sources) (media.whole_of plan sources)
     → AreApart (jobs_over (media.work_of plan) sources)
@@ -58,7 +59,7 @@ schedules_media leave project binding handle plan events sources shelf_old bench
       planned = planned;
       media = behind;
       behind = same;
-      run = events_between (jobs_over (media.work_of plan) sources) (media.whole_of plan sources)
+      run = events_between false (jobs_over (media.work_of plan) sources) (media.whole_of plan sources)
           (range_with_len 0 (media.work_of plan).count) events shelf_old bench_old laid_out shelf_new done bench_new
           behind behind told ended before after refl run;
     }
@@ -67,8 +68,10 @@ schedules_media leave project binding handle plan events sources shelf_old bench
 pub schedules_from : (leave : Leaving) (project : ListProject) (binding : Binding) (handle : ℕ)
     (events : List BoardEvent) (old new : Files) (shelf_old shelf_mid bench_old shelf_new bench_new : ℕ)
     (written : Files) (told : Option Progress) (ended : Option End) → new ≡ old → shelf_mid ≡ shelf_old
-    → SchedulesMedia leave project binding handle events new shelf_mid bench_old shelf_new bench_new written told ended
-    → SchedulesMedia leave project binding handle events old shelf_old bench_old shelf_new bench_new written told ended
+    → SchedulesMedia leave project binding handle events new shelf_mid bench_old shelf_new bench_new written told
+    ended
+    → SchedulesMedia leave project binding handle events old shelf_old bench_old shelf_new bench_new written told
+    ended
 schedules_from leave project binding handle events old new shelf_old shelf_mid bench_old shelf_new bench_new written
     told ended same quiet run = rw (← same, ← quiet) run
 

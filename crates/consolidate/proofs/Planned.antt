@@ -65,6 +65,7 @@ holds_of sounds file fault.RenderMemory P names failed = absurd names
 holds_of sounds file fault.EmptyRange P names failed = absurd names
 holds_of sounds file fault.BoardMemory P names failed = absurd names
 holds_of sounds file fault.WorkerMemory P names failed = absurd names
+holds_of sounds file (fault.Marks of) P names failed = absurd names
 holds_of sounds file (fault.GivenUp job) P names failed = absurd names
 holds_of sounds file (fault.Output of) P names failed = absurd names
 
@@ -99,7 +100,7 @@ module _ {S B : Type 0} (shelf : source.Ghosts S) (bench : output.Ghosts B) wher
         cause_at_source = λ e. record { later = reads.cause.later; rose = reads.cause.rose (source e) };
         cause_of_62 = λ e. absurd (no_output of (sym number ∙ e));
         quiet_source = λ early quiet. reads.cause.left (λ e. quiet (sounded e));
-        quiet_output = λ early. refl;
+        quiet_output = λ early quiet. refl;
         failed_source = λ e. named_there sounds of told (shelf.failed_at new) names (source e) (reads.failed_there
             (source e));
         failed_output = λ e. absurd (no_output of (sym number ∙ e));

@@ -1,5 +1,5 @@
 -- The jobs of a command, from what its parts leave.
-use Rattle.std.proofs.Common.{Bool, true, IsTrue, ◌≡◌, ◌∙◌, ℕ, ◌<◌, ◌≤◌, arith, length, false, Option, Some, None, Err, List, sym, subst, refl}
+use Rattle.std.proofs.Common.{Bool, true, IsTrue, ◌≡◌, ◌∙◌, ℕ, ◌<◌, ◌≤◌, arith, length, false, Option, Some, None, Err, List, replicate, sym, subst, refl}
 use Rattle.sound_terms.specs.Render.{ReadsBack}
 use Rattle.work_terms.specs.Disk.{Files}
 use Rattle.job_terms.specs.Workers.{End, GivenUp, Jobs, jobs_over}
@@ -15,7 +15,9 @@ use Rattle.workboard.specs.Indexed.{IsOrder}
 use Rattle.schedule.specs.Filled.{AreApart, AreFilled, AreParts}
 use Rattle.schedule.specs.Marking.{IsNoOutput, Marking}
 use Rattle.passes.specs.Left.{Leaving}
-use Rattle.schedule.specs.Rounds.{RunsInRounds}
+use Rattle.schedule.specs.Rounds.{RoundsFrom, RunsInRounds}
+use Rattle.job_terms.specs.declared.Job.{Job}
+use Rattle.job_terms.specs.Board.{Board, fresh_job}
 use Rattle.consolidation.specs.Jobs as media
 use Rattle.consolidation.specs.Jobs.{HoldsMedia}
 use Rattle.consolidation.specs.Media.{IsNoMedium}
@@ -31,15 +33,24 @@ use Rattle.consolidate.specs.declared.fault.Fault.{Fault}
 use Rattle.consolidate.specs.declared.fault.Fault.TheVariants as told
 
 -- calls before and behind the jobs that failed nowhere, and wrote nothing behind them
-pub rounds_between : (jobs : Jobs) (whole : List ℕ → List ℕ) (order : List ℕ)
-    (shelf_old bench_old laid_out shelf_new done bench_new : ℕ) (behind written : Files) (ended : Option End) → laid_out ≡ bench_old → bench_new ≡ done → written ≡ behind
-    → RunsInRounds false jobs whole order shelf_old laid_out shelf_new done behind ended
-    → RunsInRounds false jobs whole order shelf_old bench_old shelf_new bench_new written ended
-rounds_between jobs whole order shelf_old bench_old laid_out shelf_new done bench_new behind written ended before after same
-    run =
-    subst (λ (f : Files). RunsInRounds false jobs whole order shelf_old bench_old shelf_new bench_new f ended) (sym same)
-    (subst (λ (n : ℕ). RunsInRounds false jobs whole order shelf_old bench_old shelf_new n behind ended) (sym after)
-    (subst (λ (n : ℕ). RunsInRounds false jobs whole order shelf_old n shelf_new done behind ended) before run))
+pub rounds_between : (marks : Bool) (jobs : Jobs) (whole : List ℕ → List ℕ) (first : Board)
+    (shelf_old bench_old laid_out shelf_new done bench_new : ℕ) (behind written : Files) (ended : Option End) →
+    laid_out ≡ bench_old → bench_new ≡ done → written ≡ behind
+    → RoundsFrom marks jobs whole first shelf_old laid_out shelf_new done behind ended
+    → RoundsFrom marks jobs whole first shelf_old bench_old shelf_new bench_new written ended
+rounds_between marks jobs whole first shelf_old bench_old laid_out shelf_new done bench_new behind written ended
+    before
+    after same run = rw (same, after, ← before) run
+
+-- from a board on which no job is done
+pub rounds_fresh : (marks : Bool) (jobs : Jobs) (whole : List ℕ → List ℕ) (first : Board)
+    (shelf_old bench_old shelf_new bench_new : ℕ) (written : Files) (ended : Option End)
+    → first.jobs ≡ replicate jobs.count fresh_job
+    → RoundsFrom marks jobs whole first shelf_old bench_old shelf_new bench_new written ended
+    → RunsInRounds marks jobs whole first.order shelf_old bench_old shelf_new bench_new written ended
+rounds_fresh marks jobs whole first shelf_old bench_old shelf_new bench_new written ended fresh run =
+    subst (λ (js : List Job). RoundsFrom marks jobs whole (record { jobs = js; order = first.order })
+    shelf_old bench_old shelf_new bench_new written ended) fresh run
 
 -- the file that its jobs made is the rendering
 pub rendered_of : (project : ListProject) (binding : Binding) (values : OptionValues) (work : RenderWork)
@@ -58,16 +69,17 @@ rendered_of project binding values work sources file of there = record {
 pub renders_in_rounds : (project : ListProject) (binding : Binding) (values : OptionValues) (work : RenderWork)
     (order : List ℕ) (sources : Files) (shelf_old bench_old shelf_new bench_new : ℕ) (written : Files)
     (ended : Option End) → IsRenderingOf project binding values work → IsOrder (work_of work).count order
-    → RunsInRounds false (jobs_over (work_of work) sources) (λ _. whole_of work sources) order
+    → RunsInRounds true (jobs_over (work_of work) sources) (λ _. whole_of work sources) order
     shelf_old bench_old shelf_new bench_new written ended
     → RendersInRounds project binding values sources shelf_old bench_old shelf_new bench_new written ended
-renders_in_rounds project binding values work order sources shelf_old bench_old shelf_new bench_new written ended of is
+renders_in_rounds project binding values work order sources shelf_old bench_old shelf_new bench_new written ended of
+    is
     run = record {
       work = work;
       renders = of;
       order = order;
       is_order = is;
-      run = subst (λ (w : List ℕ). RunsInRounds false (jobs_over (work_of work) sources) (λ _. w) order
+      run = subst (λ (w : List ℕ). RunsInRounds true (jobs_over (work_of work) sources) (λ _. w) order
           shelf_old bench_old shelf_new bench_new written ended) (of.whole sources) run;
     }
 
@@ -84,6 +96,7 @@ ends_map X Y told.RenderMemory P Q f h = tt
 ends_map X Y told.EmptyRange P Q f h = tt
 ends_map X Y told.BoardMemory P Q f h = tt
 ends_map X Y told.WorkerMemory P Q f h = tt
+ends_map X Y (told.Marks of) P Q f h = tt
 ends_map X Y (told.GivenUp job) P Q f h = f (Some (GivenUp job)) h
 ends_map X Y (told.Output file) P Q f h = tt
 
@@ -99,9 +112,11 @@ renders_list text values project binding sources opened shelf_old shelf_mid benc
       project = project;
       binding = binding;
       accepted = accepted;
-      run = subst (λ (f : Files). RendersInRounds project binding values f shelf_old bench_old shelf_new bench_new written
+      run = subst (λ (f : Files). RendersInRounds project binding values f shelf_old bench_old shelf_new bench_new
+          written
           ended) same
-          (subst (λ (n : ℕ). RendersInRounds project binding values opened n bench_old shelf_new bench_new written ended)
+          (subst (λ (n : ℕ). RendersInRounds project binding values opened n bench_old shelf_new bench_new written
+          ended)
           quiet run);
     }
 
@@ -135,6 +150,7 @@ none_ended X text told.RenderMemory P own = tt
 none_ended X text told.EmptyRange P own = tt
 none_ended X text told.BoardMemory P own = tt
 none_ended X text told.WorkerMemory P own = tt
+none_ended X text (told.Marks of) P own = tt
 none_ended X text (told.GivenUp job) P own = absurd own
 none_ended X text (told.Output file) P own = tt
 
@@ -145,7 +161,8 @@ pub lent_rounds : (plan pieces : MediaPlan) (order : List ℕ) (sources laid wri
     → ((whole : List ℕ → List ℕ) → AreParts (jobs_over (media.work_of pieces) sources) whole
     → AreApart (jobs_over (media.work_of pieces) sources)
     → AreFilled (jobs_over (media.work_of pieces) sources) whole (λ _. false) laid
-    → RunsInRounds false (jobs_over (media.work_of pieces) sources) whole order shelf_old bench_old shelf_new bench_new
+    → RunsInRounds false (jobs_over (media.work_of pieces) sources) whole order shelf_old bench_old shelf_new
+    bench_new
     written ended)
     → AreParts (jobs_over (media.work_of plan) sources) (media.whole_of plan sources)
     → AreApart (jobs_over (media.work_of plan) sources)

@@ -1,5 +1,5 @@
 -- What a call leaves of its stores.
-use Rattle.std.proofs.Common.{◌≡◌, ◌≢◌, ◌∙◌, ◌≤◌, ◌+◌, ◌^◌, ℕ, true, false, inl, inr, arith, refl, subst, sym}
+use Rattle.std.proofs.Common.{◌≡◌, ◌≢◌, ◌∙◌, ◌≤◌, ◌+◌, ◌^◌, ℕ, List, true, false, inl, inr, arith, refl, subst, sym}
 use Rattle.std.proofs.lemmas.Bool.{cases_lt}
 use Rattle.consolidation.specs.Fault.{output_of}
 use Rattle.consolidation.specs.declared.fault.WriteFault.{WriteFault}
@@ -8,7 +8,11 @@ use Rattle.std.specs.Prelude.{⊤, Result, Ok, Err, IfErr}
 use Rattle.shelf.specs.declared.source.Shelf as source
 use Rattle.shelf.specs.declared.bench.Bench as output
 use Rattle.work_terms.specs.Disk.{Files, HasRead, IsUntouched, Rises}
-use Rattle.consolidate.specs.Commands.{IsOutput, IsSource, KeepsStores, ReadsSources}
+use Rattle.markfile.specs.Fault.{ReadsMarks, name_of, number_of}
+use Rattle.markfile.specs.declared.fault.MarksFault.{MarksFault}
+use Rattle.markfile.specs.declared.fault.MarksFault.TheVariants as marks
+use Rattle.consolidate.proofs.Crashes.{joined}
+use Rattle.consolidate.specs.Commands.{HoldsOfOutput, IsOutput, IsSource, KeepsStores, ReadsSources}
 use Rattle.consolidate.specs.Fault.{file_of, name_of_output, refusal_of}
 use Rattle.consolidate.specs.declared.fault.OutputFile.{OutputFile}
 use Rattle.consolidate.specs.declared.fault.Fault.{Fault}
@@ -31,6 +35,33 @@ raised_behind old mid new before r = record {
 pub same_output : (fault : WriteFault) → output_of fault ≡ name_of_output (file_of fault)
 same_output (writing.Medium number) = refl
 same_output writing.List = refl
+
+-- no fault of marks tells of a source
+no_source : (of : MarksFault) → IsSource (fault.Marks of) → ⊥
+no_source marks.Sound e = late_not_early (sym e)
+no_source marks.Marks e = late_not_early (sym e)
+no_source marks.OtherRun e = late_not_early (sym e)
+no_source marks.BadMarks e = late_not_early (sym e)
+no_source marks.Memory e = late_not_early (sym e)
+
+-- a device's fault of marks names its file
+at_file : (of : MarksFault) (P : List ℕ → Type 0) → number_of of ≡ 62 → P (name_of of) → HoldsOfOutput (fault.Marks
+    of) P
+at_file marks.Sound P e p = p
+at_file marks.Marks P e p = p
+at_file marks.OtherRun P e p = absurd (let n : 67 ≡ 62 = e in omega (arith, n))
+at_file marks.BadMarks P e p = absurd (let n : 68 ≡ 62 = e in omega (arith, n))
+at_file marks.Memory P e p = absurd (let n : 69 ≡ 62 = e in omega (arith, n))
+
+-- two calls that wrote nothing
+untouched_twice : {D : Type 0} (stored : D → Files) (may_leave : D → Files → Type 0) (moment : D → ℕ)
+    (left_since : D → ℕ → Files → Type 0) (old mid new : D) → IsUntouched stored may_leave moment left_since old mid
+    → IsUntouched stored may_leave moment left_since mid new → IsUntouched stored may_leave moment left_since old new
+untouched_twice stored may_leave moment left_since old mid new one other = record {
+  reads = other.reads ∙ one.reads;
+  crash = λ c left. one.crash c (other.crash c left);
+  moments = joined moment left_since old mid new (may_leave old) (may_leave mid) one.crash one.moments other.moments;
+}
 
 module _ {S B : Type 0} (shelf : source.Ghosts S) (bench : output.Ghosts B) where
   -- a bench that no call has touched
@@ -57,7 +88,7 @@ module _ {S B : Type 0} (shelf : source.Ghosts S) (bench : output.Ghosts B) wher
     cause_at_source = λ device. record { later = only_reads.cause.later; rose = only_reads.cause.rose device };
     cause_of_62 = λ device. absurd (no_output device);
     quiet_source = λ early quiet. only_reads.cause.left quiet;
-    quiet_output = λ early. refl;
+    quiet_output = λ early quiet. refl;
     failed_source = only_reads.failed_there;
     failed_output = λ device. absurd (no_output device);
   }
@@ -76,7 +107,7 @@ module _ {S B : Type 0} (shelf : source.Ghosts S) (bench : output.Ghosts B) wher
     cause_at_source = λ device. absurd (no_source device);
     cause_of_62 = λ device. absurd (no_output device);
     quiet_source = λ early quiet. refl;
-    quiet_output = λ early. refl;
+    quiet_output = λ early quiet. refl;
     failed_source = λ device. absurd (no_source device);
     failed_output = λ device. absurd (no_output device);
   }
@@ -93,7 +124,8 @@ module _ {S B : Type 0} (shelf : source.Ghosts S) (bench : output.Ghosts B) wher
         honest_bench = told.honest_bench;
         later_at_source = subst (λ (n : ℕ). n ≤ shelf.failures new) quiet told.later_at_source;
         later_at_output = told.later_at_output;
-        cause_at_source = subst (λ (n : ℕ). IfErr result (λ fault. IsSource fault → Rises n (shelf.failures new))) quiet
+        cause_at_source = subst (λ (n : ℕ). IfErr result (λ fault. IsSource fault → Rises n (shelf.failures new)))
+            quiet
             told.cause_at_source;
         cause_of_62 = told.cause_of_62;
         quiet_source = subst (λ (n : ℕ). IfErr result (λ fault. (refusal_of fault).late ≡ false → ¬ IsSource fault
@@ -183,6 +215,75 @@ module _ {S B : Type 0} (shelf : source.Ghosts S) (bench : output.Ghosts B) wher
     quiet_output = λ early. absurd (late_not_early early);
     failed_source = λ device. absurd (late_not_early (sym device));
     failed_output = λ _. failed;
+  }
+
+  -- a call behind others that wrote and failed nowhere
+  pub behind_start : (X : Type 0) (old new : S) (before mid after : B) (result : Result X Fault)
+      → bench.honest mid ≡ bench.honest before → bench.failures before ≤ bench.failures mid
+      → IfErr result (λ fault. (refusal_of fault).late ≡ true)
+      → KeepsStores shelf bench {X = X} old new mid after result
+      → KeepsStores shelf bench {X = X} old new before after result
+  behind_start X old new before mid after (Ok x) same later late told = went_on old new before after x told.sources
+      told.honest_shelf (told.honest_bench ∙ same) told.later_at_source (omega (arith, later, told.later_at_output))
+  behind_start X old new before mid after (Err fault) same later late told = record {
+    early = λ early. absurd (late_not_early (sym late ∙ early));
+    sources = told.sources;
+    honest_shelf = told.honest_shelf;
+    honest_bench = told.honest_bench ∙ same;
+    later_at_source = told.later_at_source;
+    later_at_output = omega (arith, later, told.later_at_output);
+    cause_at_source = told.cause_at_source;
+    cause_of_62 = λ device. raised_behind (bench.failures before) (bench.failures mid) (bench.failures after) later
+        (told.cause_of_62 device);
+    quiet_source = told.quiet_source;
+    quiet_output = λ early. absurd (late_not_early (sym late ∙ early));
+    failed_source = told.failed_source;
+    failed_output = told.failed_output;
+  }
+
+  -- marks that aren't opened
+  pub not_opened : (X Y : Type 0) (s : S) (before after : B) (of : MarksFault)
+      → IsUntouched bench.stored bench.may_leave bench.moment bench.left_since before after
+      → ReadsMarks {X = X} bench before after (Err of)
+      → KeepsStores shelf bench {X = Y} s s before after (Err (fault.Marks of))
+  not_opened X Y s before after of same reads = record {
+    early = λ early. same;
+    sources = refl;
+    honest_shelf = refl;
+    honest_bench = reads.honest_same;
+    later_at_source = omega arith;
+    later_at_output = reads.cause.later;
+    cause_at_source = λ device. absurd (no_source of device);
+    cause_of_62 = λ device. record { later = reads.cause.later; rose = reads.cause.rose device };
+    quiet_source = λ early quiet. refl;
+    quiet_output = λ early quiet. reads.cause.left quiet;
+    failed_source = λ device. absurd (no_source of device);
+    failed_output = λ device. at_file of (bench.failed_at after) device (reads.failed_there device);
+  }
+
+  -- a call behind marks that were opened
+  pub behind_open : (X Y : Type 0) (old new : S) (before mid after : B) (result : Result X Fault) (found : Y)
+      → IsUntouched bench.stored bench.may_leave bench.moment bench.left_since before mid
+      → ReadsMarks {X = Y} bench before mid (Ok found) → KeepsStores shelf bench {X = X} old new mid after result
+      → KeepsStores shelf bench {X = X} old new before after result
+  behind_open X Y old new before mid after (Ok x) found same reads told = went_on old new before after x told.sources
+      told.honest_shelf (told.honest_bench ∙ reads.honest_same) told.later_at_source
+      (omega (arith, reads.cause.later, told.later_at_output))
+  behind_open X Y old new before mid after (Err fault) found same reads told = record {
+    early = λ early. untouched_twice bench.stored bench.may_leave bench.moment bench.left_since before mid after same
+        (told.early early);
+    sources = told.sources;
+    honest_shelf = told.honest_shelf;
+    honest_bench = told.honest_bench ∙ reads.honest_same;
+    later_at_source = told.later_at_source;
+    later_at_output = omega (arith, reads.cause.later, told.later_at_output);
+    cause_at_source = told.cause_at_source;
+    cause_of_62 = λ device. raised_behind (bench.failures before) (bench.failures mid) (bench.failures after)
+        reads.cause.later (told.cause_of_62 device);
+    quiet_source = told.quiet_source;
+    quiet_output = λ early quiet. told.quiet_output early quiet ∙ reads.cause.left tt;
+    failed_source = told.failed_source;
+    failed_output = told.failed_output;
   }
 
   -- a refusal, or an answer, is passed on

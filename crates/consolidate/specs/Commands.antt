@@ -3,7 +3,7 @@ use Rattle.std.specs.Prelude.{◌≡◌, ◌≢◌, ◌≤◌, ◌==◌, ◌||�
 use Rattle.shelf.specs.declared.source.Shelf as source
 use Rattle.shelf.specs.declared.bench.Bench as output
 use Rattle.shelf.specs.Frame.{OnlyReads, OnlyWrites}
-use Rattle.work_terms.specs.Disk.{Files, HasCause, IsDurable, IsUntouched, Rises}
+use Rattle.work_terms.specs.Disk.{Files, HasCause, IsDurable, IsUntouched, LeavesOnly, Rises}
 use Rattle.work_terms.specs.Refusals.{Answers, IsDue, Refusal}
 use Rattle.list_terms.specs.declared.Notice.{Notice}
 use Rattle.list_terms.specs.Project.{ListProject}
@@ -16,6 +16,9 @@ use Rattle.passes.specs.Left.{Leaving}
 use Rattle.opening.specs.Commands as opening
 use Rattle.opening.specs.Faults as opening_faults
 use Rattle.opening.specs.declared.checking.Accepted.{Accepted}
+use Rattle.markfile.specs.Format.{marks_name}
+use Rattle.markfile.specs.Started.{NoneStarted}
+use Rattle.rendering.specs.Marked.{IsOther}
 use Rattle.rendering.specs.Rendering as rendering
 use Rattle.consolidation.specs.Consolidated as consolidation
 use Rattle.consolidation.specs.Consolidated.{AreDurable, IsElsewhere, IsWorkOf, Work, work_fault}
@@ -23,6 +26,7 @@ use Rattle.consolidation.specs.Work.{SoundsTheSame}
 use Rattle.consolidate.specs.Fault.{refusal_of}
 use Rattle.consolidate.specs.Rounds.{ConsolidatesList, EndsOf, RendersList}
 use Rattle.consolidate.specs.Own.{IsFirst, IsOfConsolidation, IsOfProject, IsOfRendering}
+use Rattle.consolidate.specs.Marks.{AreBothDurable, HasAllMarks, IsLeftByRendering, IsLeftOf}
 use Rattle.consolidate.specs.declared.fault.Fault.{Fault}
 use Rattle.consolidate.specs.declared.fault.Fault.TheVariants as fault
 use Rattle.consolidate.specs.declared.fault.OutputFile.TheVariants as file
@@ -131,7 +135,7 @@ module _ {S B : Type 0} (shelf : source.Ghosts S) (bench : output.Ghosts B) wher
         bench_new))
     pub quiet_source : IfErr result (λ fault. (refusal_of fault).late ≡ false → ¬ IsSource fault
         → shelf.failures shelf_new ≡ shelf.failures shelf_old)
-    pub quiet_output : IfErr result (λ fault. (refusal_of fault).late ≡ false
+    pub quiet_output : IfErr result (λ fault. (refusal_of fault).late ≡ false → ¬ IsOutput fault
         → bench.failures bench_new ≡ bench.failures bench_old)
     pub failed_source : IfErr result (λ fault. IsSource fault → HoldsOfSource fault (shelf.failed_at shelf_new))
     pub failed_output : IfErr result (λ fault. IsOutput fault → HoldsOfOutput fault (bench.failed_at bench_new))
@@ -142,14 +146,22 @@ module _ {S B : Type 0} (shelf : source.Ghosts S) (bench : output.Ghosts B) wher
     pub rendered : IsTrue (shelf.honest shelf_old) → IsTrue (bench.honest bench_old)
         → IfOk result (IsRendered list values (shelf.stored shelf_old) (bench.stored bench_new))
     pub durable : IsTrue (bench.honest bench_old)
-        → OnOk result (IsDurable (codes "render.wav") (bench.stored bench_new) (bench.may_leave bench_new))
+        → OnOk result (AreBothDurable (bench.stored bench_new) (bench.may_leave bench_new))
+    pub marked : IsTrue (shelf.honest shelf_old) → IsTrue (bench.honest bench_old)
+        → OnOk result (HasAllMarks list values (bench.stored bench_new marks_name))
+    pub any_moment : IsTrue (shelf.honest shelf_old) → IsTrue (bench.honest bench_old)
+        → NoneStarted (bench.may_leave bench_old)
+        → LeavesOnly bench.moment bench.left_since bench_old bench_new (IsLeftOf list values (shelf.stored shelf_old))
+    pub left : IsTrue (shelf.honest shelf_old) → IsTrue (bench.honest bench_old)
+        → NoneStarted (bench.may_leave bench_old)
+        → IsLeftByRendering list values (shelf.stored shelf_old) (bench.may_leave bench_new)
     pub report : IfOk result (Reports list values)
     pub refusals : IsTrue (shelf.honest shelf_old)
         → Answers refusal_of result (render_refusal list values (shelf.stored shelf_old))
     pub bad_text : RefusesBadText list result
     pub own : IfErr result (IsOfRendering list)
     pub in_turn : IsTrue (shelf.honest shelf_old) → IfErr result (IsFirst list (shelf.stored shelf_old))
-    pub named : IsTrue (bench.honest bench_old) → (n : List ℕ) → n ≢ codes "render.wav"
+    pub named : IsTrue (bench.honest bench_old) → (n : List ℕ) → IsOther n
         → bench.stored bench_new n ≡ bench.stored bench_old n
     pub rounds : IsTrue (shelf.honest shelf_old) → IsTrue (bench.honest bench_old)
         → EndsOf result (RendersList list values (shelf.stored shelf_old) (shelf.failures shelf_old)

@@ -4,6 +4,9 @@ use Rattle.std.specs.Prelude as bytes
 use Rattle.sound_terms.specs.Sounds.{SoundFacts}
 use Rattle.work_terms.specs.Refusals.{Refusal, Where, Nowhere, File, Job}
 use Rattle.list_terms.specs.Renewed.{media_name}
+use Rattle.markfile.specs.Fault.{name_of, number_of}
+use Rattle.markfile.specs.declared.fault.MarksFault.{MarksFault}
+use Rattle.markfile.specs.declared.fault.MarksFault.TheVariants as marks
 use Rattle.passes.specs.declared.fault.PassFault.TheVariants as pass
 use Rattle.mediaset.specs.Fault as mediaset
 use Rattle.relink.specs.Fault as relink
@@ -15,7 +18,7 @@ use Rattle.consolidation.specs.declared.fault.WriteFault.TheVariants as writing
 use Rattle.consolidate.specs.declared.fault.OutputFile.{OutputFile}
 use Rattle.consolidate.specs.declared.fault.OutputFile.TheVariants as output
 use Rattle.consolidate.specs.declared.fault.Fault.{Fault}
-use Rattle.consolidate.specs.declared.fault.Fault.TheVariants.{Project, Intervals, PassMemory, Silence, Runs, Relink, RenderMemory, EmptyRange, BoardMemory, WorkerMemory, GivenUp, Output}
+use Rattle.consolidate.specs.declared.fault.Fault.TheVariants.{Project, Intervals, PassMemory, Silence, Runs, Relink, RenderMemory, EmptyRange, BoardMemory, WorkerMemory, Marks, GivenUp, Output}
 
 -- before the first write
 abbrev early : ℕ → Refusal
@@ -28,8 +31,20 @@ late number place = record { number = number; place = place; late = true }
 -- the name of an output
 abbrev pub name_of_output : OutputFile → bytes.List ℕ
 name_of_output output.Rendering = codes "render.wav"
+name_of_output output.Marks = codes "render.marks"
 name_of_output (output.Medium number) = media_name number
 name_of_output output.List = codes "consolidated.adl"
+
+-- the file at which the device failed
+abbrev pub place_of_marks : MarksFault → Where
+place_of_marks marks.OtherRun = Nowhere
+place_of_marks marks.BadMarks = Nowhere
+place_of_marks marks.Memory = Nowhere
+place_of_marks fault = File (name_of fault)
+
+-- of marks that an earlier rendering left
+abbrev pub refusal_of_marks : MarksFault → Refusal
+refusal_of_marks fault = record { number = number_of fault; place = place_of_marks fault; late = false }
 
 abbrev pub refusal_of : Fault → Refusal
 refusal_of (Project fault) = opening.refusal_of fault
@@ -41,6 +56,7 @@ refusal_of (Relink fault) = early (relink.number_of fault)
 refusal_of RenderMemory = early 57
 refusal_of EmptyRange = early 58
 refusal_of BoardMemory = early 60
+refusal_of (Marks fault) = refusal_of_marks fault
 refusal_of WorkerMemory = late 60 Nowhere
 refusal_of (GivenUp job) = late 66 (Job job)
 refusal_of (Output file) = late 62 (File (name_of_output file))

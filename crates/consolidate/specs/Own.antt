@@ -4,8 +4,10 @@ use Rattle.std.specs.Prelude as bytes
 use Rattle.work_terms.specs.Disk.{Files}
 use Rattle.opening.specs.Own as opening
 use Rattle.opening.specs.Own.{IsOfOpening}
+use Rattle.markfile.specs.declared.fault.MarksFault.{MarksFault}
+use Rattle.markfile.specs.declared.fault.MarksFault.TheVariants as marks
 use Rattle.consolidate.specs.declared.fault.OutputFile.{OutputFile}
-use Rattle.consolidate.specs.declared.fault.OutputFile.TheVariants.{Rendering, Medium, List}
+use Rattle.consolidate.specs.declared.fault.OutputFile.TheVariants.{Rendering, Marks, Medium, List}
 use Rattle.consolidate.specs.declared.fault.Fault.{Fault}
 use Rattle.consolidate.specs.declared.fault.Fault.TheVariants as fault
 
@@ -21,7 +23,13 @@ IsFirst text files _ = ⊤
 
 abbrev pub IsRenderedFile : OutputFile → Type 0
 IsRenderedFile Rendering = ⊤
+IsRenderedFile Marks = ⊤
 IsRenderedFile _ = ⊥
+
+-- no memory for new marks
+abbrev pub IsOfFresh : MarksFault → Type 0
+IsOfFresh marks.Memory = ⊤
+IsOfFresh _ = ⊥
 
 -- or one of rendering it
 abbrev pub IsOfRendering : bytes.List ℕ → Fault → Type 0
@@ -30,9 +38,15 @@ IsOfRendering text fault.Intervals = ⊤
 IsOfRendering text fault.RenderMemory = ⊤
 IsOfRendering text fault.EmptyRange = ⊤
 IsOfRendering text fault.BoardMemory = ⊤
+IsOfRendering text (fault.Marks of) = IsOfFresh of
 IsOfRendering text (fault.GivenUp job) = ⊤
 IsOfRendering text (fault.Output file) = IsRenderedFile file
 IsOfRendering text _ = ⊥
+
+-- or one of going on with its marks
+abbrev pub IsOfResuming : bytes.List ℕ → Fault → Type 0
+IsOfResuming text (fault.Marks of) = ⊤
+IsOfResuming text of = IsOfRendering text of
 
 -- or one of the schedule of a rendering, whose workers take memory as they come
 abbrev pub IsOfRenderSchedule : bytes.List ℕ → Fault → Type 0

@@ -32,7 +32,7 @@ pub record RendersInRounds (project : ListProject) (binding : Binding) (values :
   pub renders : IsRenderingOf project binding values work
   pub order : List ℕ
   pub is_order : IsOrder (blocks.work_of work).count order
-  pub run : RunsInRounds false (jobs_over (blocks.work_of work) sources) (λ _. rendering_of (range_of project values) (project_mix sources project binding))
+  pub run : RunsInRounds true (jobs_over (blocks.work_of work) sources) (λ _. rendering_of (range_of project values) (project_mix sources project binding))
       order shelf_old bench_old shelf_new bench_new written ended
 
 -- of the project of an accepted list

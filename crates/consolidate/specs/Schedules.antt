@@ -4,7 +4,7 @@ use Rattle.std.specs.List.{range_with_len}
 use Rattle.shelf.specs.declared.source.Shelf as source
 use Rattle.shelf.specs.declared.bench.Bench as output
 use Rattle.sound_terms.specs.Render.{rendering_of}
-use Rattle.work_terms.specs.Disk.{Files, IsDurable}
+use Rattle.work_terms.specs.Disk.{Files, IsDurable, LeavesOnly}
 use Rattle.work_terms.specs.Refusals.{Answers}
 use Rattle.job_terms.specs.declared.BoardEvent.{BoardEvent}
 use Rattle.job_terms.specs.declared.Progress.{Progress}
@@ -13,7 +13,10 @@ use Rattle.list_terms.specs.Accepted.{OptionValues, range_of}
 use Rattle.list_terms.specs.Binding.{Binding}
 use Rattle.list_terms.specs.Heard.{IsAccepted, project_mix}
 use Rattle.list_terms.specs.Project.{ListProject}
+use Rattle.markfile.specs.Format.{marks_name}
+use Rattle.markfile.specs.Started.{NoneStarted}
 use Rattle.schedule.specs.Events.{RunsEvents}
+use Rattle.rendering.specs.Marked.{IsOther}
 use Rattle.rendering.specs.Planned.{IsRenderingOf}
 use Rattle.rendering.specs.Rendering as rendering
 use Rattle.rendering.specs.Work.{RenderWork, work_of}
@@ -27,6 +30,7 @@ use Rattle.consolidation.specs.Work.{SoundsTheSame}
 use Rattle.consolidation.specs.declared.written.Written.{Written}
 use Rattle.consolidate.specs.Commands.{KeepsStores, RefusesBadList, RefusesBadText, RefusesByWork, render_refusal}
 use Rattle.consolidate.specs.Fault.{refusal_of}
+use Rattle.consolidate.specs.Marks.{AreBothDurable, HasAllMarks, IsLeftByRendering, IsLeftOf}
 use Rattle.consolidate.specs.Own.{IsFirst, IsOfConsolidationSchedule, IsOfRenderSchedule}
 use Rattle.consolidate.specs.declared.fault.Fault.{Fault}
 use Rattle.consolidate.specs.declared.fault.Fault.TheVariants as fault
@@ -47,7 +51,7 @@ pub record SchedulesProject (project : ListProject) (binding : Binding) (values 
   pub renders : IsRenderingOf project binding values work
   pub order : List ℕ
   pub is_order : IsOrder (work_of work).count order
-  pub run : RunsEvents false (jobs_over (work_of work) sources) (λ _. rendering_of (range_of project values) (project_mix sources project binding))
+  pub run : RunsEvents true (jobs_over (work_of work) sources) (λ _. rendering_of (range_of project values) (project_mix sources project binding))
       order events shelf_old bench_old shelf_new bench_new written told ended
 
 -- of the project of an accepted list
@@ -120,13 +124,21 @@ module _ {S B : Type 0} (shelf : source.Ghosts S) (bench : output.Ghosts B) wher
     pub finished : IsTrue (shelf.honest shelf_old) → IsTrue (bench.honest bench_old) → IfOk result (λ told.
         IsTrue told.finished → HasRendering list values (shelf.stored shelf_old) (bench.stored bench_new))
     pub durable : IsTrue (bench.honest bench_old) → IfOk result (λ told. IsTrue told.finished
-        → IsDurable (codes "render.wav") (bench.stored bench_new) (bench.may_leave bench_new))
+        → AreBothDurable (bench.stored bench_new) (bench.may_leave bench_new))
+    pub marked : IsTrue (shelf.honest shelf_old) → IsTrue (bench.honest bench_old) → IfOk result (λ told.
+        IsTrue told.finished → HasAllMarks list values (bench.stored bench_new marks_name))
+    pub any_moment : IsTrue (shelf.honest shelf_old) → IsTrue (bench.honest bench_old)
+        → NoneStarted (bench.may_leave bench_old)
+        → LeavesOnly bench.moment bench.left_since bench_old bench_new (IsLeftOf list values (shelf.stored shelf_old))
+    pub left : IsTrue (shelf.honest shelf_old) → IsTrue (bench.honest bench_old)
+        → NoneStarted (bench.may_leave bench_old)
+        → IsLeftByRendering list values (shelf.stored shelf_old) (bench.may_leave bench_new)
     pub refusals : IsTrue (shelf.honest shelf_old)
         → Answers refusal_of result (render_refusal list values (shelf.stored shelf_old))
     pub bad_text : RefusesBadText list result
     pub own : IfErr result (IsOfRenderSchedule list)
     pub in_turn : IsTrue (shelf.honest shelf_old) → IfErr result (IsFirst list (shelf.stored shelf_old))
-    pub named : IsTrue (bench.honest bench_old) → (n : List ℕ) → n ≢ codes "render.wav"
+    pub named : IsTrue (bench.honest bench_old) → (n : List ℕ) → IsOther n
         → bench.stored bench_new n ≡ bench.stored bench_old n
     pub stores : KeepsStores shelf bench shelf_old shelf_new bench_old bench_new result
 

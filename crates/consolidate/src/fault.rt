@@ -10,6 +10,7 @@ ghost use Rattle.consolidate.specs.declared.fault.Fault.TheVariants as told;
 ghost use Rattle.consolidate.specs.Fault.{IsOpenedIn, NamesOpened, file_of, name_of_output, refusal_of};
 
 use consolidation::{ConsolidationFault, WriteFault};
+use markfile::MarksFault;
 use mediaset::RunFault;
 use passes::PassFault;
 use projectcheck::Checked;
@@ -23,6 +24,8 @@ use thiserror::Error;
 pub enum OutputFile {
     /// `render.wav`
     Rendering,
+    /// `render.marks`
+    Marks,
     /// The medium of this number, from 1: `M00001.wav` and so on.
     Medium(u32),
     /// `consolidated.adl`
@@ -35,6 +38,7 @@ impl fmt::Display for OutputFile {
     fn fmt<W: fmt::Write>(&self, f: &mut fmt::Formatter<W>) -> fmt::Result {
         match self {
             OutputFile::Rendering => f.write_str("render.wav"),
+            OutputFile::Marks => f.write_str("render.marks"),
             OutputFile::Medium(number) => write!(f, "M{number:05}.wav"),
             OutputFile::List => f.write_str("consolidated.adl"),
         }
@@ -72,6 +76,11 @@ pub enum Fault {
     /// 60: no memory was left for the board of the jobs, or for the bytes of one.
     #[error("out of memory")]
     BoardMemory,
+    /// The marks that an earlier rendering left: the device of the output failed at them or at the rendered file (62),
+    /// they belong to another rendering (67), or they are broken, or the rendered file isn't theirs (68). 69: no memory
+    /// was left for marks.
+    #[error("{0}")]
+    Marks(MarksFault),
     /// 60: no memory was left for what a worker holds, or for the bytes of its job. What is written is unfinished.
     #[error("out of memory")]
     WorkerMemory,
@@ -98,6 +107,7 @@ impl Fault {
             Fault::RenderMemory => 57,
             Fault::EmptyRange => 58,
             Fault::BoardMemory | Fault::WorkerMemory => 60,
+            Fault::Marks(fault) => fault.number(),
             Fault::GivenUp { .. } => 66,
             Fault::Output(_) => 62,
         }

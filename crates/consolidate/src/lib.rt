@@ -4,9 +4,11 @@
 mod checking;
 mod consolidated;
 mod fault;
+mod marked;
 mod opened;
 mod remade;
 mod rendered;
+mod resumed;
 mod scheduled;
 mod schedules;
 
@@ -16,7 +18,9 @@ pub use consolidation::Sizes;
 pub use fault::{Fault, OutputFile};
 pub use job_terms::{BoardEvent, Progress};
 pub use list_terms::Notice;
+pub use markfile::MarksFault;
 pub use opening::Accepted;
 pub use rendered::{Rendered, render};
 pub use rendering::{Depth, Options, Order};
+pub use resumed::{Resumed, resume};
 pub use schedules::{Work, run_schedule};

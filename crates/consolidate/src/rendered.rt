@@ -1,29 +1,25 @@
 // Renders a list to one sound file.
-ghost use Rattle.std.specs.Prelude.{◌≡◌, ◌≢◌, IfErr, IfOk, IsTrue, List, None, OnOk, codes, false, replicate, true, ℕ};
-ghost use Rattle.work_terms.specs.Disk.{IsDurable};
-ghost use Rattle.work_terms.specs.Refusals.{Answers, IsDue};
-ghost use Rattle.job_terms.specs.Board.{fresh_job};
-ghost use Rattle.job_terms.specs.Workers.{Nothing, jobs_over};
-ghost use Rattle.list_terms.specs.Accepted.{OptionValues, range_of};
-ghost use Rattle.list_terms.specs.Binding.{Binding};
-ghost use Rattle.list_terms.specs.Project.{ListProject};
-ghost use Rattle.schedule.specs.Run.{HasRoom};
+ghost use Rattle.std.specs.Prelude.{◌≡◌, IfErr, IfOk, IsTrue, List, OnOk, Some, codes, ℕ};
+ghost use Rattle.work_terms.specs.Disk.{LeavesOnly};
+ghost use Rattle.work_terms.specs.Refusals.{Answers};
+ghost use Rattle.list_terms.specs.Accepted.{range_of};
+ghost use Rattle.markfile.specs.Format.{marks_name};
+ghost use Rattle.markfile.specs.Started.{NoneStarted};
+ghost use Rattle.rendering.specs.Marked.{IsLeftByRun, IsOther, IsResumable, full_marks, run_of};
 ghost use Rattle.rendering.specs.Rendering as spec;
-ghost use Rattle.rendering.specs.Planned.{IsRenderingOf};
 ghost use Rattle.rendering.specs.Rendering.{HasRange, HaveChannels, render_fault, values_of};
-ghost use Rattle.rendering.specs.Work.{whole_of, work_of};
 ghost use Rattle.consolidate.specs.Commands.{IsRendering, KeepsStores};
 ghost use Rattle.consolidate.specs.Fault.{refusal_of};
+ghost use Rattle.consolidate.specs.Marks.{AreBothDurable, list_marking};
 ghost use Rattle.consolidate.specs.Own.{IsOfRendering};
 ghost use Rattle.consolidate.specs.Rounds.{EndsOf, RendersInRounds};
-ghost use Rattle.schedule.specs.Rounds.{RunsInRounds};
 
+use crate::Fault;
+use crate::marked::render_anew;
 use crate::opened::{Opened, open};
-use crate::{Fault, OutputFile};
 use list_terms::Notice;
 use projectcheck::Checked;
-use rendering::{Options, Rendering};
-use schedule::{JobFault, Start, fresh_start, from_start};
+use rendering::{MarkedRendering, Options};
 use shelf::{Bench, Shelf, Watch};
 use std::alloc::Global;
 
@@ -35,54 +31,10 @@ pub struct Rendered {
     pub notices: Vec<Notice>,
 }
 
-/// Lays the rendered file out, does all its jobs, and makes it durable.
-fn write_rendering<S: Shelf, B: Bench, W: Watch>(
-    rendering: &mut Rendering,
-    start: &mut Start,
-    shelf: &mut S,
-    bench: &mut B,
-    watch: &mut W,
-) -> Result<(), Fault>
-    requires board { start.old.board.jobs ≡ replicate (work_of rendering.old).count fresh_job }
-    requires empty { start.old.worker.hand ≡ Nothing }
-    requires room { HasRoom (work_of rendering.old) start.old.worker.room }
-    ensures rounds { IsTrue (S.honest shelf.old) → IsTrue (B.honest bench.old)
-        → (project : ListProject) (binding : Binding) (values : OptionValues)
-        → IsRenderingOf project binding values rendering.old
-        → EndsOf result (RunsInRounds false (jobs_over (work_of rendering.old) (S.stored shelf.old))
-        (λ _. whole_of rendering.old (S.stored shelf.old)) start.old.board.order (S.failures shelf.old)
-        (B.failures bench.old) (S.failures shelf.new) (B.failures bench.new) (B.stored bench.new)) }
-    ensures rendered { IsTrue (S.honest shelf.old) → IsTrue (B.honest bench.old)
-        → (project : ListProject) (binding : Binding) (values : OptionValues)
-        → IsRenderingOf project binding values rendering.old → OnOk result (spec.IsRendered project binding values
-        (S.stored shelf.old) (B.stored bench.new (codes "render.wav"))) }
-    ensures durable { IsTrue (B.honest bench.old)
-        → OnOk result (IsDurable (codes "render.wav") (B.stored bench.new) (B.may_leave bench.new)) }
-    ensures own { (text : List ℕ) → IfErr result (IsOfRendering text) }
-    ensures late { IfErr result (λ fault. (refusal_of fault).late ≡ true) }
-    ensures due { IfErr result (λ fault. IsDue (refusal_of fault) None) }
-    ensures named { IsTrue (B.honest bench.old) → (n : List ℕ) → n ≢ codes "render.wav"
-        → B.stored bench.new n ≡ B.stored bench.old n }
-    ensures stores { KeepsStores S.Shelf B.Bench shelf.old shelf.new bench.old bench.new result }
-{
-    match rendering.lay_out(bench) {
-        Ok(()) => {}
-        Err(_) => return Err(Fault::Output(OutputFile::Rendering)),
-    }
-    match from_start(rendering, start, shelf, bench, watch) {
-        Ok(()) => {}
-        Err(JobFault::GivenUp { job }) => return Err(Fault::GivenUp { job }),
-        Err(JobFault::Mark) => return Err(Fault::Output(OutputFile::Rendering)),
-    }
-    match rendering.finish(bench) {
-        Ok(()) => return Ok(()),
-        Err(_) => return Err(Fault::Output(OutputFile::Rendering)),
-    }
-}
-
-/// Renders an opened project.
+/// Renders an opened project of this list.
 fn render_checked<S: Shelf, B: Bench, W: Watch>(
     alloc: Global,
+    list: &[u8],
     checked: &Checked,
     options: &Options,
     shelf: &mut S,
@@ -97,30 +49,40 @@ fn render_checked<S: Shelf, B: Bench, W: Watch>(
     ensures rendered { IsTrue (S.honest shelf.old) → IsTrue (B.honest bench.old)
         → OnOk result (spec.IsRendered checked.now.project checked.now.bound
         (values_of options.now) (S.stored shelf.old) (B.stored bench.new (codes "render.wav"))) }
+    ensures marked { IsTrue (S.honest shelf.old) → IsTrue (B.honest bench.old)
+        → OnOk result (B.stored bench.new marks_name ≡ Some (full_marks (run_of list.now
+        (range_of checked.now.project (values_of options.now))))) }
     ensures durable { IsTrue (B.honest bench.old)
-        → OnOk result (IsDurable (codes "render.wav") (B.stored bench.new) (B.may_leave bench.new)) }
+        → OnOk result (AreBothDurable (B.stored bench.new) (B.may_leave bench.new)) }
+    ensures left { IsTrue (S.honest shelf.old) → IsTrue (B.honest bench.old) → NoneStarted (B.may_leave bench.old)
+        → IsLeftByRun (list_marking list.now (values_of options.now) (S.stored shelf.old) checked.now.project
+        checked.now.bound) (B.may_leave bench.new) }
+    ensures any_moment { IsTrue (S.honest shelf.old) → IsTrue (B.honest bench.old)
+        → NoneStarted (B.may_leave bench.old) → LeavesOnly B.moment B.left_since bench.old bench.new
+        (IsResumable (list_marking list.now (values_of options.now) (S.stored shelf.old) checked.now.project
+        checked.now.bound)) }
     ensures report { IfOk result
         (λ rendered. HasRange rendered (range_of checked.now.project (values_of options.now))) }
     ensures refusals { Answers refusal_of result (render_fault checked.now.project (values_of options.now)) }
     ensures own { (text : List ℕ) → IfErr result (IsOfRendering text) }
-    ensures named { IsTrue (B.honest bench.old) → (n : List ℕ) → n ≢ codes "render.wav"
+    ensures named { IsTrue (B.honest bench.old) → (n : List ℕ) → IsOther n
         → B.stored bench.new n ≡ B.stored bench.old n }
     ensures stores { KeepsStores S.Shelf B.Bench shelf.old shelf.new bench.old bench.new result }
 {
-    let mut rendering = match Rendering::plan(alloc, checked, options) {
+    let mut rendering = match MarkedRendering::plan(alloc, checked, options, list) {
         Ok(rendering) => rendering,
         Err(fault) => return Err(Fault::of_rendering(fault)),
     };
-    let order = match rendering.order(alloc, checked, options.order) {
-        Ok(order) => order,
-        Err(_) => return Err(Fault::BoardMemory),
-    };
-    let mut start = match fresh_start(alloc, &rendering, order) {
-        Ok(start) => start,
-        Err(_) => return Err(Fault::BoardMemory),
-    };
     let rendered = rendering.rendered();
-    match write_rendering(&mut rendering, &mut start, shelf, bench, watch) {
+    match render_anew(
+        alloc,
+        &mut rendering,
+        checked,
+        options.order,
+        shelf,
+        bench,
+        watch,
+    ) {
         Ok(()) => return Ok(rendered),
         Err(fault) => return Err(fault),
     }
@@ -131,11 +93,14 @@ fn render_checked<S: Shelf, B: Bench, W: Watch>(
 /// halves up, and clipped. A chosen number of channels has to be 1 to 64.
 ///
 /// The list is refused first, then a file in the order of the source index, then an entry in the order of the list,
-/// then an empty range, and want of memory. All of these come before the first write, and no memory is
-/// taken behind it. The file is laid out at its full length; then its stretches are jobs, done by one worker in the chosen order. A
-/// job whose device fails is done again; the third time it is given up (66), and what is written is unfinished. Outside
-/// the jobs a device that fails ends the call at once (62). Memory doesn't grow with the range. The watch is told
-/// behind each job how many frames are there.
+/// then an empty range, and want of memory. All of these come before the first write, and no memory is taken behind it.
+///
+/// The file is laid out at its full length and synced; then `render.marks` is begun, which has one byte for each block of
+/// 4,096 frames (the last may be shorter). Stretches of blocks are jobs, done by one worker in the chosen order: a job's
+/// bytes are written at their place and synced, and then its blocks are marked, and the marks synced. So `resume` goes on
+/// with a rendering that was stopped. A job whose device fails is done again; the third time it is given up (66), and
+/// what is written is unfinished. Outside the jobs, and where a mark isn't written, a device that fails ends the call at
+/// once (62). The watch is told behind each job how many frames are there.
 pub fn render<S: Shelf, B: Bench, W: Watch>(
     alloc: Global,
     list: &[u8],
@@ -149,7 +114,7 @@ pub fn render<S: Shelf, B: Bench, W: Watch>(
         (values_of options.now) shelf.old shelf.new bench.old bench.new result }
 {
     let Opened { checked, notices } = open(alloc, list, shelf)?;
-    let rendered = render_checked(alloc, &checked, options, shelf, bench, watch)?;
+    let rendered = render_checked(alloc, list, &checked, options, shelf, bench, watch)?;
     Ok(Rendered {
         frames: rendered.frames,
         channels: rendered.channels,

@@ -5,7 +5,7 @@ use crate::meanings::{Meaning, Spot, meaning_at};
 use crate::names::PrintedName;
 use crate::remedies::{SystemWord, remedy_by};
 use adlread::{AdlFault, rate_of};
-use consolidate::{Fault, OutputFile};
+use consolidate::{Fault, MarksFault, OutputFile};
 use list_terms::{Location, TextFault};
 use percent_encoding::percent_encode_byte;
 use sampletime::Rate;
@@ -20,23 +20,29 @@ const SHOWN_BYTES: usize = 160;
 const STOOD_BYTES: usize = 60;
 
 /// What a command found where it refused: the line at fault, a file that the place doesn't name, what lies in a folder,
-/// a file there whose name is nearly that of the missing one, what the system said, and what is unfinished.
+/// whether that is the folder of the media, a file there whose name is nearly that of the missing one, what the system
+/// said, and what is unfinished.
 #[derive(Clone, Copy)]
 struct Findings<'a> {
     line: Option<LineAtFault<'a>>,
     file: Option<&'a str>,
     inside: Option<&'a str>,
+    is_media: bool,
     similar: Option<&'a str>,
     reason: Option<Error>,
     unfinished: Option<Unfinished>,
 }
 
-/// What lies unfinished in the output.
+/// What lies unfinished in the output: a file, a rendering with its marks, or all of it.
 #[derive(Clone, Copy)]
 enum Unfinished {
     File(OutputFile),
+    Rendering,
     Whole,
 }
+
+/// The marks of a rendering, by which it goes on.
+const MARKS: &str = "render.marks";
 
 /// What a refusal of a list by a fault means: its number, what it names, and what was found.
 impl<'a> Explanation<'a> {
@@ -51,6 +57,7 @@ impl<'a> Explanation<'a> {
         Explanation {
             number: fault.number(),
             spot: spot_of(fault),
+            is_rendering: false,
             findings: Findings::of(fault, list, source, output),
         }
     }
@@ -61,6 +68,7 @@ impl<'a> Explanation<'a> {
         Explanation {
             number,
             spot: Spot::File,
+            is_rendering: false,
             findings: Findings::by(reason, inside),
         }
     }
@@ -77,15 +85,40 @@ impl<'a> Explanation<'a> {
         }
     }
 
+    /// The same, of an output that is the folder of the media.
+    pub fn in_media(self) -> Explanation<'a> {
+        Explanation {
+            findings: Findings {
+                is_media: true,
+                ..self.findings
+            },
+            ..self
+        }
+    }
+
+    /// The same, of a fault of a rendering, which goes on from what lies unfinished in the output.
+    pub fn of_rendering(self) -> Explanation<'a> {
+        Explanation {
+            is_rendering: true,
+            ..self
+        }
+    }
+
     /// What to do: by what was found in the folder, by what the system said, or else by the number.
     fn remedy(&self, meaning: Meaning) -> &'static str {
         if self.findings.similar.is_some() {
             return "rename that file, or write its name in the list as it is in the folder";
         }
-        match self.findings.reason {
-            Some(error) => remedy_by(self.number, error.kind()).unwrap_or(meaning.remedy),
-            None => meaning.remedy,
+        if self.findings.is_media {
+            return "name the folder of the rendering that was stopped";
         }
+        if self.findings.inside == Some(MARKS) {
+            return "if that rendering is unfinished, go on with adlcons resume and its words; \
+                    else make an empty folder and name that";
+        }
+        let goes_on = self.is_rendering && self.findings.unfinished.is_some();
+        let kind = self.findings.reason.map(|reason| reason.kind());
+        remedy_by(self.number, kind, goes_on).unwrap_or(meaning.remedy)
     }
 }
 
@@ -93,7 +126,7 @@ impl<'a> Explanation<'a> {
 fn spot_of(fault: &Fault) -> Spot {
     match fault {
         Fault::Project(fault) => project_spot(fault),
-        Fault::Output(_) => Spot::File,
+        Fault::Output(_) | Fault::Marks(MarksFault::Sound | MarksFault::Marks) => Spot::File,
         Fault::GivenUp { .. } => Spot::Job,
         _ => Spot::Nowhere,
     }
@@ -123,6 +156,7 @@ impl<'a> Findings<'a> {
             line: None,
             file: None,
             inside,
+            is_media: false,
             similar: None,
             reason,
             unfinished: None,
@@ -143,6 +177,7 @@ impl<'a> Findings<'a> {
                 _ => None,
             },
             inside: None,
+            is_media: false,
             similar: None,
             reason: reason_of(fault, source, output).map(|reason| reason.error),
             unfinished: unfinished_after(fault, output),
@@ -155,7 +190,7 @@ fn reason_of(fault: &Fault, source: Option<Reason>, output: Option<Reason>) -> O
     match fault {
         Fault::Project(opening::Fault::Media { .. }) | Fault::Silence { .. } => source,
         Fault::GivenUp { .. } => source.or(output),
-        Fault::Output(_) => output,
+        Fault::Output(_) | Fault::Marks(_) => output,
         _ => None,
     }
 }
@@ -211,9 +246,21 @@ fn passes(time: &[u8], rate: Rate) -> bool {
 /// What the fault leaves unfinished. An output that wasn't made, or is gone, isn't there.
 fn unfinished_after(fault: &Fault, output: Option<Reason>) -> Option<Unfinished> {
     match fault {
-        Fault::GivenUp { .. } => Some(Unfinished::Whole),
-        Fault::Output(_) if output.is_some_and(|reason| !is_left(reason)) => None,
-        Fault::Output(file) => Some(Unfinished::File(*file)),
+        Fault::GivenUp { .. }
+        | Fault::WorkerMemory
+        | Fault::Marks(MarksFault::Sound | MarksFault::Marks) => Some(Unfinished::Whole),
+        Fault::Output(file) => unfinished_at(*file, output),
+        _ => None,
+    }
+}
+
+/// What is unfinished where the device failed at this file. Marks are made behind their rendering.
+fn unfinished_at(file: OutputFile, output: Option<Reason>) -> Option<Unfinished> {
+    let is_there = output.is_none_or(is_left);
+    match file {
+        OutputFile::Marks if is_there => Some(Unfinished::Rendering),
+        OutputFile::Marks => Some(Unfinished::File(OutputFile::Rendering)),
+        _ if is_there => Some(Unfinished::File(file)),
         _ => None,
     }
 }
@@ -235,6 +282,7 @@ fn line_of(list: &[u8], number: u64) -> Option<&[u8]> {
 pub struct Explanation<'a> {
     number: u8,
     spot: Spot,
+    is_rendering: bool,
     findings: Findings<'a>,
 }
 
@@ -266,6 +314,9 @@ impl fmt::Display for Findings<'_> {
             let name = PrintedName(name);
             write!(f, "; in it lies: {name}")?;
         }
+        if self.is_media {
+            f.write_str("; it is the folder of the media")?;
+        }
         if let Some(name) = self.similar {
             let name = PrintedName(name);
             write!(
@@ -279,6 +330,9 @@ impl fmt::Display for Findings<'_> {
         }
         match self.unfinished {
             Some(Unfinished::File(file)) => write!(f, "; unfinished in the output: {file}"),
+            Some(Unfinished::Rendering) => {
+                f.write_str("; unfinished in the output: render.wav and render.marks")
+            }
             Some(Unfinished::Whole) => f.write_str("; what lies in the output is unfinished"),
             None => Ok(()),
         }

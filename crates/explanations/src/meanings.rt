@@ -455,9 +455,9 @@ pub static MEANINGS: [Meaning; 55] = [
         number: 67,
         spot: Spot::Nowhere,
         meaning: "the output belongs to another rendering",
-        cause: "its marks are those of another list or of other options",
-        remedy: "resume with the list and the options of that rendering, or render into an empty folder",
-        is_answered: false,
+        cause: "its marks are of another list, range, number of channels or depth; which of them differs can't be told",
+        remedy: "give adlcons resume the list and the words of that rendering, or render into an empty folder",
+        is_answered: true,
     },
     Meaning {
         number: 68,
@@ -465,7 +465,7 @@ pub static MEANINGS: [Meaning; 55] = [
         meaning: "the marks of the output are damaged",
         cause: "render.marks or render.wav was changed or is of another length",
         remedy: "render into an empty folder",
-        is_answered: false,
+        is_answered: true,
     },
     Meaning {
         number: 69,
@@ -473,7 +473,7 @@ pub static MEANINGS: [Meaning; 55] = [
         meaning: "out of memory for the marks",
         cause: "there are more blocks than free memory can hold",
         remedy: "free memory, and resume again",
-        is_answered: false,
+        is_answered: true,
     },
 ];
 

@@ -13,20 +13,35 @@ impl fmt::Display for SystemWord {
             (None, ErrorKind::InvalidInput) => f.write_str("it isn't a plain file"),
             (None, ErrorKind::InvalidData) => f.write_str("it was changed meanwhile"),
             (None, ErrorKind::UnexpectedEof) => f.write_str("it is shorter than it was"),
+            (None, ErrorKind::NotFound) => f.write_str("it is gone"),
             _ => write!(f, "the system says: {error}"),
         }
     }
 }
 
-/// What to do about a refusal of this number where a call failed in this way; none where that says no more than the
-/// number.
-pub fn remedy_by(number: u8, kind: ErrorKind) -> Option<&'static str> {
+/// What to do about a refusal of this number, where a call failed in this way or a rendering may go on from what is
+/// unfinished; none where that says no more than the number.
+pub fn remedy_by(number: u8, kind: Option<ErrorKind>, goes_on: bool) -> Option<&'static str> {
     match number {
-        20 => output_folder_remedy(kind),
-        21 => list_remedy(kind),
-        22 | 52 => source_remedy(kind),
-        62 => Some(output_remedy(kind)),
+        20 => output_folder_remedy(kind?),
+        21 => list_remedy(kind?),
+        22 | 52 => source_remedy(kind?),
+        60 if goes_on => Some("free memory, and go on with adlcons resume and the same words"),
+        62 if goes_on => Some(unfinished_remedy(kind?)),
+        62 => Some(output_remedy(kind?)),
+        66 if goes_on => Some(unfinished_job_remedy(kind)),
         _ => None,
+    }
+}
+
+/// What to do about a rendering of which a piece of work failed three times. One whose files are others by now can't go
+/// on.
+fn unfinished_job_remedy(kind: Option<ErrorKind>) -> &'static str {
+    match kind {
+        Some(ErrorKind::NotFound | ErrorKind::InvalidData | ErrorKind::UnexpectedEof) => {
+            "leave the sources and the output alone while the command runs, and run again into an empty folder"
+        }
+        _ => "check the devices, and go on with adlcons resume and the same words",
     }
 }
 
@@ -62,6 +77,25 @@ fn source_remedy(kind: ErrorKind) -> Option<&'static str> {
     }
 }
 
+/// What to do about a rendering that is unfinished since its output can't be written.
+fn unfinished_remedy(kind: ErrorKind) -> &'static str {
+    match kind {
+        ErrorKind::StorageFull | ErrorKind::QuotaExceeded => {
+            "make room, and go on with adlcons resume and the same words"
+        }
+        ErrorKind::PermissionDenied => {
+            "get permission to write there, and go on with adlcons resume and the same words"
+        }
+        ErrorKind::ReadOnlyFilesystem
+        | ErrorKind::FileTooLarge
+        | ErrorKind::AlreadyExists
+        | ErrorKind::NotFound
+        | ErrorKind::InvalidData
+        | ErrorKind::UnexpectedEof => output_remedy(kind),
+        _ => "check the device, and go on with adlcons resume and the same words",
+    }
+}
+
 /// What to do about an output that can't be written.
 fn output_remedy(kind: ErrorKind) -> &'static str {
     match kind {
@@ -73,7 +107,10 @@ fn output_remedy(kind: ErrorKind) -> &'static str {
         ErrorKind::ReadOnlyFilesystem => "name an empty folder on a disk that may be written",
         ErrorKind::FileTooLarge =>
             "name an empty folder on a file system that takes such long files",
-        ErrorKind::AlreadyExists | ErrorKind::NotFound | ErrorKind::InvalidData => {
+        ErrorKind::AlreadyExists
+        | ErrorKind::NotFound
+        | ErrorKind::InvalidData
+        | ErrorKind::UnexpectedEof => {
             "run again into an empty folder that nothing else uses meanwhile"
         }
         _ => "check the device, and run again into an empty folder",

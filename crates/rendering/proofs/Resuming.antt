@@ -22,7 +22,7 @@ use Rattle.markfile.specs.Format.{AreFresh, fresh_marks, head_of, marks_name, ru
 use Rattle.markfile.specs.Opened.{AreFound, AreSettled, IsSettledAs, front_fault, opened_by, opened_of, told}
 use Rattle.markfile.specs.Started.{LeavesStart, NoneStarted, is_started}
 use Rattle.schedule.specs.Filled.{AreFilled, IsFilled, IsFixedIn}
-use Rattle.schedule.specs.Marking.{HoldsIn, IsNoOutput, IsRunning, Leaves, Marking, done_of, is_marked}
+use Rattle.schedule.specs.Marking.{AreTrueMarks, AreTrueOfAll, HoldsIn, IsNoOutput, IsRunning, Leaves, Marking, done_of, is_marked}
 use Rattle.rendering.specs.Marked.{HoldsMarked, IsAllMarked, IsLeftByRun, IsOther, IsResumable, IsRunOf, MarkedWork, block_end, block_place, file_length, full_marks, marking_of, run_of}
 use Rattle.rendering.specs.Work.{IsRenderWork, RenderWork, done_before, no_stretch, stretch_at, whole_of, work_of}
 use Rattle.rendering.proofs.BlockMarks.{job_block, job_own, names_apart}
@@ -135,15 +135,24 @@ module _ (marked : MarkedWork) (sources : Files) (is : IsRenderWork marked.work)
       }
 
       -- or are being made
-      pub starts_resumable : (mid : Files → Type 0) → IsDurable sound_name files mid → (c : Files)
-          → LeavesStart marked.run mid c → IsResumable m c
-      starts_resumable mid durable c left started = let d = stays_beside mid marks_name sound_name c names_apart
-          left.beside in record {
+      starts_true : (mid : Files → Type 0) → IsDurable sound_name files mid → (c d : Files)
+          → LeavesStart marked.run mid c → LeavesStart marked.run mid d → is_started (c marks_name) ≡ true
+          → AreTrueMarks m c d
+      starts_true mid durable c d left other started = let was = stays_beside mid marks_name sound_name d names_apart
+          other.beside in record {
             marks = fresh_marks marked.run;
             there = left.fresh started;
             ours = record { front = fresh.ours.front; size = fresh.ours.size };
-            sound = sound_left c (d.2 ∙ durable d.0 d.1);
+            sound = sound_left d (was.2 ∙ durable was.0 was.1);
           }
+
+      pub starts_resumable : (mid : Files → Type 0) → IsDurable sound_name files mid → (c : Files)
+          → LeavesStart marked.run mid c → IsResumable m c
+      starts_resumable mid durable c left = starts_true mid durable c c left left
+
+      pub starts_left : (mid now : Files → Type 0) → IsDurable sound_name files mid
+          → ((c : Files) → now c → LeavesStart marked.run mid c) → IsLeftByRun m now
+      starts_left mid now durable each c d at other = starts_true mid durable c d (each c at) (each d other)
 
     -- nothing is started
     pub none_resumable : (c : Files) → is_started (c marks_name) ≡ false → IsResumable m c
@@ -311,13 +320,9 @@ leaves_as m done now c same left = record {
   wave = left.wave;
 }
 
-pub leaves_true : (m : Marking) (done : ℕ → Bool) (c : Files) → Leaves m done c → IsResumable m c
-leaves_true m done c left started = record {
-  marks = left.marks;
-  there = left.there;
-  ours = left.ours;
-  sound = left.wave;
-}
+-- marks that are true of all that a crash leaves
+pub true_left : (m : Marking) (o : Files → Type 0) → AreTrueOfAll m o → IsLeftByRun m o
+true_left m o all c d at other started = all c d at other
 
 -- ---- marks that are found
 
@@ -357,7 +362,7 @@ module _ (was is : RenderWork) (marks_run : RunId) (sources : Files) (whole : Is
         sym (found.each b (omega (arith, to, inside.1, run.blocks))) ∙ uniform job no_stretch lt b from to;
     kept = kept;
     wave = λ c at.
-        let true_marks = left c (back c at) (ap is_started (kept c at)
+        let true_marks = left c c (back c at) (back c at) (ap is_started (kept c at)
         ∙ started_by found.marks (head_of marks_run) found.ours.front (omega (arith, found.ours.size))) in
         holds_now (is_marked found.marks) (c sound_name) (subst (λ x. HoldsIn before (is_marked x) (c sound_name))
         (some_same true_marks.marks found.marks (sym true_marks.there ∙ kept c at)) true_marks.sound);

@@ -11,7 +11,7 @@ use Rattle.markfile.specs.Started.{is_started}
 use Rattle.markfile.specs.declared.fault.MarksFault.{MarksFault}
 use Rattle.markfile.specs.declared.fault.MarksFault.TheVariants as fault
 use Rattle.markfile.specs.declared.run.RunId.{RunId}
-use Rattle.schedule.specs.Marking.{HoldsIn, IsMarkFile, Marking, is_marked}
+use Rattle.schedule.specs.Marking.{AreTrueMarks, HoldsIn, Marking, is_marked}
 use Rattle.rendering.specs.declared.fault.LayFault.{LayFault}
 use Rattle.rendering.specs.declared.fault.LayFault.TheVariants.{Sound, Marks}
 use Rattle.rendering.specs.Work.{RenderWork, bytes_for, stretch_at, whole_of}
@@ -64,13 +64,6 @@ marking_of marked sources = record {
   head = head_of marked.run;
 }
 
--- whole marks of the run, over a file in which each marked block stands, and all that is outside the blocks
-pub record AreTrueMarks (m : Marking) (c : Files) : Type 0 where
-  pub marks : List ℕ
-  pub there : c m.marks ≡ Some marks
-  pub ours : IsMarkFile m marks
-  pub sound : HoldsIn m (is_marked marks) (c m.name)
-
 -- the marks of a run that is done
 pub record IsAllMarked (run : RunId) (file : Option (List ℕ)) : Type 0 where
   pub marks : List ℕ
@@ -88,13 +81,14 @@ IsFoundAs (Err fault.Memory) due = IsOk due
 IsFoundAs (Err fault.Sound) due = ⊤
 IsFoundAs (Err fault.Marks) due = ⊤
 
--- what a run may leave: marks that aren't started, or true ones
+-- what a crash may leave of a run: marks that aren't started, or true ones
 abbrev pub IsResumable : Marking → Files → Type 0
-IsResumable m c = is_started (c m.marks) ≡ true → AreTrueMarks m c
+IsResumable m c = is_started (c m.marks) ≡ true → AreTrueMarks m c c
 
--- the same of each outcome of a crash
+-- what a run may leave: marks that are started in one outcome of a crash are true of the output of each
 abbrev pub IsLeftByRun : Marking → (Files → Type 0) → Type 0
-IsLeftByRun m outcomes = (c : Files) → outcomes c → IsResumable m c
+IsLeftByRun m outcomes =
+    (c d : Files) → outcomes c → outcomes d → is_started (c m.marks) ≡ true → AreTrueMarks m c d
 
 -- each block that these marks tell stands in the rendered file
 abbrev pub HoldsMarked : Marking → List ℕ → Files → Type 0

@@ -463,6 +463,9 @@ impl<'a> MarkedRendering<'a> {
             → IsRunning (marking_of self.old (S.stored shelf.old)) (done_before self.old.work) (B.may_leave bench.old)
             → LeavesOnly B.moment B.left_since bench.old bench.new
             (Leaves (marking_of self.old (S.stored shelf.old)) (done_before self.old.work)) }
+        ensures left { IsTrue (S.honest shelf.old) → IsTrue (B.honest bench.old)
+            → IsRunning (marking_of self.old (S.stored shelf.old)) (done_before self.old.work) (B.may_leave bench.old)
+            → IsLeftByRun (marking_of self.old (S.stored shelf.old)) (B.may_leave bench.new) }
         ensures finished { IsTrue (S.honest shelf.old) → IsTrue (B.honest bench.old)
             → IsRunning (marking_of self.old (S.stored shelf.old)) (done_before self.old.work) (B.may_leave bench.old)
             → IfOk result (λ told. IsTrue told.finished

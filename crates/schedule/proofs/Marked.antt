@@ -13,7 +13,8 @@ use Rattle.job_terms.specs.Workers as words
 use Rattle.job_terms.specs.Workers.{End, Jobs, Hand, Made, State, after_fault}
 use Rattle.schedule.specs.declared.fault.RunFault.{RunFault}
 use Rattle.schedule.specs.declared.fault.RunFault.TheVariants.{GivenUp, Mark, Memory}
-use Rattle.schedule.specs.Marking.{Marking, IsRunningBy, IsRight, LeavesBy, RunsOn, with_done, done_of}
+use Rattle.schedule.specs.Marking.{AreTrueOfAllBy, Marking, IsRunningBy, IsRight, LeavesBy, RunsOn, with_done, done_of}
+use Rattle.schedule.specs.MarkingLaws.{running_true}
 use Rattle.schedule.specs.Ends.{Steps}
 
 pub running-as : (m : Option Marking) (done now : ℕ → Bool) (o : Files → Type 0) → ((k : ℕ) → done k ≡ now k)
@@ -108,14 +109,21 @@ pub runs-on : {X : Type 0} (result : Result X RunFault) (m : Option Marking) (do
     → ((ended : Option End) → P ended → IsRunningBy m done o) → Steps result P → Steps result (RunsOn m done o)
 runs-on (Ok x) m done o P f h = f None h
 runs-on (Err (GivenUp job)) m done o P f h = f (Some (words.GivenUp job)) h
-runs-on (Err Mark) m done o P f h = tt
+runs-on (Err Mark) m done o P f h = running_true m done o (f (Some words.MarkFailed) h)
 runs-on (Err Memory) m done o P f h = tt
 
 pub runs-ended : (ended : Option End) (m : Option Marking) (done : ℕ → Bool) (o : Files → Type 0) → IsRunningBy m done
     o → RunsOn m done o ended
 runs-ended None m done o h = h
 runs-ended (Some (words.GivenUp job)) m done o h = h
-runs-ended (Some words.MarkFailed) m done o h = tt
+runs-ended (Some words.MarkFailed) m done o h = running_true m done o h
+
+-- where no memory was left nothing was written
+pub steps-true : (X : Type 0) (fault : RunFault) (m : Option Marking) (done : ℕ → Bool) (o : Files → Type 0)
+    → Steps {X = X} (Err fault) (RunsOn m done o) → (fault ≡ Memory → AreTrueOfAllBy m o) → AreTrueOfAllBy m o
+steps-true X (GivenUp job) m done o h idle = running_true m done o h
+steps-true X Mark m done o h idle = h
+steps-true X Memory m done o h idle = idle refl
 
 pub right-made : (jobs : Jobs) (hand : Hand) (t : Ticket) (bytes : List ℕ) → hand ≡ Made t bytes → IsRight jobs hand →
     bytes ≡ jobs.bytes t.job

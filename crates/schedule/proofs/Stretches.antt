@@ -4,7 +4,7 @@ use Rattle.std.proofs.lemmas.Bool.{cases_lt}
 use Rattle.std.proofs.lemmas.Bool.Decides.{eqb_tells}
 use Rattle.std.proofs.lemmas.List.{append_assoc, drop_at, ext_get_or, get_or-take, get_or-drop, take_at}
 use Rattle.work_terms.specs.Disk.{Files, Changes, HasTornRange, IsTorn, IsWritten}
-use Rattle.schedule.specs.Marking.{HoldsIn, IsFixed, IsMarkFile, IsRunning, Leaves, Marking, is_marked, with_done}
+use Rattle.schedule.specs.Marking.{AreTrueOfAll, HoldsIn, IsFixed, IsMarkFile, IsRunning, Leaves, Marking, is_marked, with_done}
 use Rattle.schedule.specs.Placed.{IsStretchOf, IsTornFrom}
 use Rattle.schedule.proofs.Filling.{written-in}
 
@@ -229,6 +229,16 @@ module _ (m : Marking) (done : ℕ → Bool) (job at mark_at : ℕ) (name bytes 
       still = λ j b lt from to on. r.beside b (outside b (elsewhere j b lt (λ e. apart (sym on ∙ ap done e ∙
           open_job)) from to)) ∙ run.tell j b lt from to ∙ on;
       wave = marks-wave c t (is_marked r.now) (λ b out. r.beside b (outside b out));
+    }
+
+    -- where they aren't written: any of them may be set
+    pub marks-true : (o2 : Files → Type 0)
+        → ((c : Files) → o2 c → IsTornFrom o1 marks_name mark_at (length ones) c) → AreTrueOfAll m o2
+    marks-true o2 torn2 c d at other = let r = beside-of c (torn2 c at) in record {
+      marks = r.now;
+      there = r.there;
+      ours = r.ours;
+      sound = marks-wave d (torn2 d other) (is_marked r.now) (λ b out. r.beside b (outside b out));
     }
 
     -- the marks once they are written

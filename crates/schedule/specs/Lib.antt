@@ -5,6 +5,7 @@ pub mod Filled
 pub mod Held
 pub mod Laws
 pub mod Marking
+pub mod MarkingLaws
 pub mod Placed
 pub mod Run
 pub mod Rounds

@@ -8,8 +8,7 @@ use Rattle.schedule.specs.declared.fault.PlaceFault.{PlaceFault}
 use Rattle.schedule.specs.declared.fault.PlaceFault.TheVariants.{Write, Mark}
 
 -- an output that is marked block by block: its name, all its bytes, and the span of each block; how many jobs there
--- are,
--- and the blocks of each, from one on up to, and without, another; the marks' name and the bytes 1 to 43
+-- are, and the blocks of each, from one on up to, and without, another; the marks' name and the bytes 1 to 43
 pub record Marking : Type 0 where
   pub name : List ℕ
   pub whole : List ℕ
@@ -43,14 +42,25 @@ pub record IsMarkFile (m : Marking) (marks : List ℕ) : Type 0 where
   pub size : length marks ≡ 44 + m.count
 
 -- between two events: nothing is pending in the marks, which tell just the blocks of jobs that are done; what is
--- pending
--- in the output lies in the others
+-- pending in the output lies in the others
 pub record IsRunning (m : Marking) (done : ℕ → Bool) (outcomes : Files → Type 0) : Type 0 where
   pub marks : List ℕ
   pub ours : IsMarkFile m marks
   pub tell : (job b : ℕ) → job < m.jobs → m.from job ≤ b → b < m.behind job → is_marked marks b ≡ done job
   pub kept : (c : Files) → outcomes c → c m.marks ≡ Some marks
   pub wave : (c : Files) → outcomes c → HoldsIn m (is_marked marks) (c m.name)
+
+-- the marks of one outcome of a crash are whole marks of the run, and true of another's output: each block that they
+-- mark stands there, and all that is outside the blocks
+pub record AreTrueMarks (m : Marking) (c d : Files) : Type 0 where
+  pub marks : List ℕ
+  pub there : c m.marks ≡ Some marks
+  pub ours : IsMarkFile m marks
+  pub sound : HoldsIn m (is_marked marks) (d m.name)
+
+-- those of each outcome are true of the output of every outcome
+abbrev pub AreTrueOfAll : Marking → (Files → Type 0) → Type 0
+AreTrueOfAll m outcomes = (c d : Files) → outcomes c → outcomes d → AreTrueMarks m c d
 
 -- at each moment: the marks are this run's and true of the output, and those of done jobs are set
 pub record Leaves (m : Marking) (done : ℕ → Bool) (c : Files) : Type 0 where
@@ -66,6 +76,10 @@ abbrev pub IsRunningBy : Option Marking → (ℕ → Bool) → (Files → Type 0
 IsRunningBy None done outcomes = ⊤
 IsRunningBy (Some m) done outcomes = IsRunning m done outcomes
 
+abbrev pub AreTrueOfAllBy : Option Marking → (Files → Type 0) → Type 0
+AreTrueOfAllBy None outcomes = ⊤
+AreTrueOfAllBy (Some m) outcomes = AreTrueOfAll m outcomes
+
 abbrev pub LeavesBy : Option Marking → (ℕ → Bool) → Files → Type 0
 LeavesBy None done c = ⊤
 LeavesBy (Some m) done c = Leaves m done c
@@ -79,11 +93,12 @@ pub record IsNoOutput (work : JobsBy) (marking : Files → Option Marking) (name
 abbrev pub with_done : (ℕ → Bool) → ℕ → ℕ → Bool
 with_done done job k = cond (k == job) true (done k)
 
--- with the job done, or as before where it couldn't be written; nothing is said where its mark failed
+-- with the job done, or as before where it couldn't be written; where its mark failed the blocks of the job stand, and
+-- any of them may be marked
 abbrev pub GoesOn : {X : Type 0} → Option Marking → (ℕ → Bool) → ℕ → (Files → Type 0) → Result X PlaceFault → Type 0
 GoesOn m done job outcomes (Ok _) = IsRunningBy m (with_done done job) outcomes
 GoesOn m done job outcomes (Err Write) = IsRunningBy m done outcomes
-GoesOn m done job outcomes (Err Mark) = ⊤
+GoesOn m done job outcomes (Err Mark) = AreTrueOfAllBy m outcomes
 
 abbrev pub done_of : Board → ℕ → Bool
 done_of board k = is_done (job_at board k).standing
@@ -94,8 +109,8 @@ IsRight jobs Nothing = ⊤
 IsRight jobs (words.Holds ticket) = ⊤
 IsRight jobs (Made ticket bytes) = bytes ≡ jobs.bytes ticket.job
 
--- after an event, also where it ended the run by a third fault; nothing is said where a mark failed
+-- after an event, also where it ended the run by a third fault; where a mark failed, what is marked still stands
 abbrev pub RunsOn : Option Marking → (ℕ → Bool) → (Files → Type 0) → Option End → Type 0
 RunsOn m done outcomes None = IsRunningBy m done outcomes
 RunsOn m done outcomes (Some (words.GivenUp job)) = IsRunningBy m done outcomes
-RunsOn m done outcomes (Some words.MarkFailed) = ⊤
+RunsOn m done outcomes (Some words.MarkFailed) = AreTrueOfAllBy m outcomes

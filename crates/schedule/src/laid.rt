@@ -7,7 +7,7 @@ ghost use Rattle.schedule.specs.Events as spec;
 ghost use Rattle.schedule.specs.Events.{EndsIn, RunsEvents};
 ghost use Rattle.schedule.specs.Filled.{AreApart, AreFilled, AreParts};
 ghost use Rattle.schedule.specs.Ends.{Steps};
-ghost use Rattle.schedule.specs.Marking.{IsNoOutput, IsRunningBy, LeavesBy, Marking, RunsOn, done_of};
+ghost use Rattle.schedule.specs.Marking.{AreTrueOfAllBy, IsNoOutput, IsRunningBy, LeavesBy, Marking, RunsOn, done_of};
 ghost use Rattle.schedule.specs.declared.fault.RunFault.TheVariants as run_fault;
 
 use crate::running::run;
@@ -61,6 +61,9 @@ pub fn run_laid<J: JobMaker, S: Shelf, B: Bench>(
     ensures running { IsTrue (S.honest shelf.old) → IsTrue (B.honest bench.old) → IsRunningBy (J.marking maker.old
         (S.stored shelf.old)) (done_of board.old) (B.may_leave bench.old)
         → Steps result (RunsOn (J.marking maker.old (S.stored shelf.old)) (done_of board.new) (B.may_leave bench.new)) }
+    ensures left { IsTrue (S.honest shelf.old) → IsTrue (B.honest bench.old) → IsRunningBy (J.marking maker.old
+        (S.stored shelf.old)) (done_of board.old) (B.may_leave bench.old)
+        → AreTrueOfAllBy (J.marking maker.old (S.stored shelf.old)) (B.may_leave bench.new) }
     ensures any_moment { IsTrue (S.honest shelf.old) → IsTrue (B.honest bench.old) → IsRunningBy (J.marking maker.old
         (S.stored shelf.old)) (done_of board.old) (B.may_leave bench.old)
         → LeavesOnly B.moment B.left_since bench.old bench.new (LeavesBy (J.marking maker.old (S.stored shelf.old))

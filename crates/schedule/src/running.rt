@@ -3,7 +3,7 @@ ghost use Rattle.std.specs.Prelude.{◌≡◌, ◌<◌, ◌≤◌, ◌+◌, ◌^
 ghost use Rattle.work_terms.specs.Disk.{Files, LeavesOnly, Rises};
 ghost use Rattle.job_terms.specs.Workers.{BoardRun, BoardStep, Hand, Nothing, jobs_over};
 ghost use Rattle.schedule.specs.Filled.{AreFilled, AreParts};
-ghost use Rattle.schedule.specs.Marking.{IsNoOutput, IsRight, IsRunningBy, LeavesBy, RunsOn, done_of, Marking};
+ghost use Rattle.schedule.specs.Marking.{AreTrueOfAllBy, IsNoOutput, IsRight, IsRunningBy, LeavesBy, RunsOn, done_of, Marking};
 ghost use Rattle.schedule.specs.Held.{hands_in};
 ghost use Rattle.schedule.specs.Ends.{Steps};
 ghost use Rattle.schedule.specs.Events.{RanSome, end_of};
@@ -115,6 +115,9 @@ pub fn run<J: JobMaker, S: Shelf, B: Bench>(
     ensures running { IsTrue (S.honest shelf.old) → IsTrue (B.honest bench.old) → IsRunningBy (J.marking maker.old
         (S.stored shelf.old)) (done_of board.old) (B.may_leave bench.old)
         → Steps result (RunsOn (J.marking maker.old (S.stored shelf.old)) (done_of board.new) (B.may_leave bench.new)) }
+    ensures left { IsTrue (S.honest shelf.old) → IsTrue (B.honest bench.old) → IsRunningBy (J.marking maker.old
+        (S.stored shelf.old)) (done_of board.old) (B.may_leave bench.old)
+        → AreTrueOfAllBy (J.marking maker.old (S.stored shelf.old)) (B.may_leave bench.new) }
     ensures any_moment { IsTrue (S.honest shelf.old) → IsTrue (B.honest bench.old) → IsRunningBy (J.marking maker.old
         (S.stored shelf.old)) (done_of board.old) (B.may_leave bench.old)
         → LeavesOnly B.moment B.left_since bench.old bench.new (LeavesBy (J.marking maker.old (S.stored shelf.old))

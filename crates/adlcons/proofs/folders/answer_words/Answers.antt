@@ -1,7 +1,7 @@
 use Rattle.std.proofs.Common.{◌≡◌, Some, refl, rules}
-use Rattle.commandline.specs.CommandLine.{Consolidate, Render}
+use Rattle.commandline.specs.CommandLine.{Consolidate, Render, Resume}
 use Rattle.commandline.specs.Request.{chosen_of}
-use Rattle.adlcons.proofs.Requests.{consolidate_fields, render_fields}
+use Rattle.adlcons.proofs.Requests.{consolidate_fields, render_fields, resume_fields}
 use Rattle.adlcons.proofs.folders.answer_words.Goals as goal
 
 pub returns-in-Render-clause-rendered : goal.returns-in-Render-clause-rendered
@@ -18,6 +18,21 @@ returns-in-Render-clause-rendered g c = λ list media target chosen request.
     rw (← the_list, ← the_media, ← the_target, ← the_choice)
     (λ some. c.work_in_folders.ensures.rendered places.list.now places.media.now places.out.now
     (chosen_of c.in-Render.chosen) refl some)
+
+pub returns-in-Resume-clause-resumed : goal.returns-in-Resume-clause-resumed
+returns-in-Resume-clause-resumed g c = λ list media target chosen request.
+    let places = c.in-Resume.places in
+    let same : Some (Resume places.list.now places.media.now places.out.now (chosen_of c.in-Resume.chosen))
+    ≡ Some (Resume list media target chosen) = search rules in
+    let parts = resume_fields places.list.now places.media.now places.out.now (chosen_of c.in-Resume.chosen)
+    list media target chosen same in
+    let the_list : places.list.now ≡ list = parts.0 in
+    let the_media : places.media.now ≡ media = parts.1 in
+    let the_target : places.out.now ≡ target = parts.2 in
+    let the_choice : chosen_of c.in-Resume.chosen ≡ chosen = parts.3 in
+    rw (← the_list, ← the_media, ← the_target, ← the_choice)
+    (λ some. c.work_in_folders-in-Resume.ensures.resumed places.list.now places.media.now places.out.now
+    (chosen_of c.in-Resume.chosen) refl some)
 
 pub returns-in-Consolidate-clause-consolidated : goal.returns-in-Consolidate-clause-consolidated
 returns-in-Consolidate-clause-consolidated g c = λ list media target handle request.

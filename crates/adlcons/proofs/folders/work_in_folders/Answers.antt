@@ -5,6 +5,10 @@ pub returns-in-Ok-clause-rendered : goal.returns-in-Ok-clause-rendered
 returns-in-Ok-clause-rendered g c = λ list media target chosen request told.
     inr (c.in-Ok.ensures.rendered list media target chosen request told)
 
+pub returns-in-Ok-clause-resumed : goal.returns-in-Ok-clause-resumed
+returns-in-Ok-clause-resumed g c = λ list media target chosen request told.
+    inr (c.in-Ok.ensures.resumed list media target chosen request told)
+
 pub returns-in-Ok-clause-consolidated : goal.returns-in-Ok-clause-consolidated
 returns-in-Ok-clause-consolidated g c = λ list media target handle request.
     inr (c.in-Ok.ensures.consolidated list media target handle request)

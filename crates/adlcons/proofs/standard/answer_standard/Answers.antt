@@ -38,6 +38,7 @@ returns-in_ok-passes-in-Consolidate-clause-consolidated g c place media target h
 pub returns-in-Check : goal.returns-in-Check
 returns-in-Check g c = record {
   rendered = c.answer-in-Check.ensures.rendered;
+  resumed = c.answer-in-Check.ensures.resumed;
   consolidated = λ place media target handle request. absurd (elim c.in-Check.is [
     | inl check ↦ let other = ap asked_of (sym check.2) ∙ request in cc
     | inr rest ↦ elim rest [
@@ -45,10 +46,13 @@ returns-in-Check g c = record {
       | inr rest ↦ elim rest [
         | inl render ↦ let other = ap asked_of (sym render.2) ∙ request in cc
         | inr rest ↦ elim rest [
-          | inl show ↦ let other = ap asked_of (sym show.3) ∙ request in cc
+          | inl resume ↦ let other = ap asked_of (sym resume.2) ∙ request in cc
           | inr rest ↦ elim rest [
-            | inl explain ↦ let other = ap asked_of (sym explain.1) ∙ request in cc
-            | inr notice ↦ let other = ap asked_of (sym notice.1) ∙ request in cc
+            | inl show ↦ let other = ap asked_of (sym show.3) ∙ request in cc
+            | inr rest ↦ elim rest [
+              | inl explain ↦ let other = ap asked_of (sym explain.1) ∙ request in cc
+              | inr notice ↦ let other = ap asked_of (sym notice.1) ∙ request in cc
+            ]
           ]
         ]
       ]

@@ -4,6 +4,7 @@ use Rattle.std.specs.Prelude.{codes, false}
 use Rattle.job_terms.specs.Workers.{GivenUp, jobs_over}
 use Rattle.consolidation.specs.Jobs.{whole_of, work_of}
 use Rattle.schedule.specs.Ends.{ended_of}
+use Rattle.schedule.specs.Events.{fresh_board}
 use Rattle.schedule.specs.Rounds.{RunsInRounds}
 use Rattle.schedule.specs.declared.fault.JobFault.{JobFault}
 use Rattle.consolidation.specs.declared.written.Written as consolidation
@@ -21,9 +22,11 @@ returns-in-Err-GivenUp-clause-rounds g c honest right leave project binding hand
   planned = planned;
   media = (g.B.Bench.stored c.from_start.new.bench);
   behind = λ n other. refl;
-  run = rounds_between (jobs_over (work_of c.args.consolidation.now) (g.S.Shelf.stored c.args.shelf.now))
+  run = rounds_between false (jobs_over (work_of c.args.consolidation.now) (g.S.Shelf.stored c.args.shelf.now))
       (whole_of c.args.consolidation.now (g.S.Shelf.stored c.args.shelf.now))
-      (range_with_len 0 (work_of c.args.consolidation.now).count) (g.S.Shelf.failures c.args.shelf.now)
+      (fresh_board (work_of c.args.consolidation.now).count (range_with_len 0 (work_of
+      c.args.consolidation.now).count))
+      (g.S.Shelf.failures c.args.shelf.now)
       (g.B.Bench.failures c.args.bench.now) (g.B.Bench.failures c.lay_out.new.bench) (g.S.Shelf.failures
       c.from_start.new.shelf) (g.B.Bench.failures c.from_start.new.bench) (g.B.Bench.failures
       c.from_start.new.bench) (g.B.Bench.stored c.from_start.new.bench) (g.B.Bench.stored
@@ -36,7 +39,8 @@ returns-in-Err-GivenUp-clause-rounds g c honest right leave project binding hand
       c.from_start.new.shelf) (g.B.Bench.failures c.from_start.new.bench) (g.B.Bench.stored
       c.from_start.new.bench) (ended_of {X = Unit {0}} (Err f)))
       c.in-Err-GivenUp.field-0-is
-      (lent_rounds c.args.consolidation.now c.pieces-pieces.result c.args.start.now.board.order (g.S.Shelf.stored c.args.shelf.now)
+      (lent_rounds c.args.consolidation.now c.pieces-pieces.result c.args.start.now.board.order (g.S.Shelf.stored
+      c.args.shelf.now)
       (g.B.Bench.stored c.lay_out.new.bench) (g.B.Bench.stored c.from_start.new.bench) (g.S.Shelf.failures
       c.args.shelf.now) (g.B.Bench.failures c.lay_out.new.bench) (g.S.Shelf.failures c.from_start.new.shelf)
       (g.B.Bench.failures c.from_start.new.bench) (ended_of {X = Unit {0}} (Err c.in-Err-GivenUp.field-0))
@@ -54,15 +58,18 @@ returns-in-Ok-finish-clause-rounds g c honest right leave project binding handle
   media = (g.B.Bench.stored c.from_start.new.bench);
   behind = λ n other. c.in-Ok-finish.ensures.only_writes.others (subst IsTrue (sym (c.from_start.ensures.same_bench ∙
       c.in-Ok.ensures.only_writes.honest_same)) right) n other;
-  run = rounds_between (jobs_over (work_of c.args.consolidation.now) (g.S.Shelf.stored c.args.shelf.now))
+  run = rounds_between false (jobs_over (work_of c.args.consolidation.now) (g.S.Shelf.stored c.args.shelf.now))
       (whole_of c.args.consolidation.now (g.S.Shelf.stored c.args.shelf.now))
-      (range_with_len 0 (work_of c.args.consolidation.now).count) (g.S.Shelf.failures c.args.shelf.now)
+      (fresh_board (work_of c.args.consolidation.now).count (range_with_len 0 (work_of
+      c.args.consolidation.now).count))
+      (g.S.Shelf.failures c.args.shelf.now)
       (g.B.Bench.failures c.args.bench.now) (g.B.Bench.failures c.lay_out.new.bench) (g.S.Shelf.failures
       c.from_start.new.shelf) (g.B.Bench.failures c.from_start.new.bench) (g.B.Bench.failures
       c.finish.new.bench) (g.B.Bench.stored c.from_start.new.bench) (g.B.Bench.stored
       c.from_start.new.bench) None
       (c.in-Ok.ensures.only_writes.cause.left tt) (c.in-Ok-finish.ensures.only_writes.cause.left tt) refl
-      (lent_rounds c.args.consolidation.now c.pieces-pieces.result c.args.start.now.board.order (g.S.Shelf.stored c.args.shelf.now)
+      (lent_rounds c.args.consolidation.now c.pieces-pieces.result c.args.start.now.board.order (g.S.Shelf.stored
+      c.args.shelf.now)
       (g.B.Bench.stored c.lay_out.new.bench) (g.B.Bench.stored c.from_start.new.bench) (g.S.Shelf.failures
       c.args.shelf.now) (g.B.Bench.failures c.lay_out.new.bench) (g.S.Shelf.failures c.from_start.new.shelf)
       (g.B.Bench.failures c.from_start.new.bench) None c.pieces-pieces.ensures.lent

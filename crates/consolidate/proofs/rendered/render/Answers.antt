@@ -1,4 +1,4 @@
-use Rattle.std.proofs.Common.{◌∙◌, IsTrue, Ok, Err, None, rules, subst, sym}
+use Rattle.std.proofs.Common.{◌∙◌, IsTrue, Ok, Err, None, Some, ap, rules, subst, sym}
 use Rattle.std.proofs.lemmas.Result.{err_from_is_err_and}
 use Rattle.rendering.specs.Rendering.{values_of}
 use Rattle.rendering.specs.declared.work.Rendered as rendering
@@ -9,6 +9,12 @@ use Rattle.consolidate.proofs.Due.{opening_due, range_due}
 use Rattle.consolidate.proofs.First.{rendered_first}
 use Rattle.consolidate.proofs.Rounds.{ends_map, none_ended, renders_list}
 use Rattle.consolidate.proofs.Stores.{answered_as, opened_before, refused_as, stopped_early}
+use Rattle.list_terms.specs.Accepted.{range_of}
+use Rattle.list_terms.specs.Project.{ListProject}
+use Rattle.rendering.specs.Marked.{full_marks, run_of}
+use Rattle.consolidate.specs.Marks.{IsLeftOf}
+use Rattle.consolidate.proofs.Crashes.{idle}
+use Rattle.consolidate.proofs.Listed.{left_list, moments_list, same_spelt, unstarted_left, unstarted_outcomes}
 use Rattle.consolidate.proofs.rendered.render.Goals as goal
 
 pub returns-in_err-checked : goal.returns-in_err-checked
@@ -19,6 +25,14 @@ returns-in_err-checked g c =
     rw (p.1, p.2) (record {
       rendered = search rules;
       durable = search rules;
+      marked = search rules;
+      any_moment = λ honest right none. idle g.B.Bench.moment g.B.Bench.left_since c.args.bench.now
+          (IsLeftOf c.args.list.now (values_of c.args.options.now) (g.S.Shelf.stored c.args.shelf.now))
+          (λ x left. unstarted_left c.args.list.now (values_of c.args.options.now) (g.S.Shelf.stored
+          c.args.shelf.now) x
+          (none x (g.met.B.Bench.only_now c.args.bench.now x left)));
+      left = λ honest right none. unstarted_outcomes c.args.list.now (values_of c.args.options.now)
+          (g.S.Shelf.stored c.args.shelf.now) (g.B.Bench.may_leave c.args.bench.now) none;
       report = tt;
       refusals = λ honest. opening_due (refusal_of fault) c.args.list.now (values_of c.args.options.now)
           (g.S.Shelf.stored c.args.shelf.now) told.turn (told.refusals honest);
@@ -46,6 +60,15 @@ returns-in_err-rendered g c =
     rw (p.1, p.2) (record {
       rendered = search rules;
       durable = search rules;
+      marked = search rules;
+      any_moment = λ honest right none. moments_list c.args.list.now checked.project checked.bound values
+          (g.S.Shelf.stored c.args.shelf.now) (g.S.Shelf.stored c.open.new.shelf) opened.only_reads.same
+          (opened.accepted honest) g.B.Bench.moment g.B.Bench.left_since c.args.bench.now c.render_checked.new.bench
+          (told.any_moment (subst IsTrue (sym opened.only_reads.honest_same) honest) right none);
+      left = λ honest right none. left_list c.args.list.now checked.project checked.bound values
+          (g.S.Shelf.stored c.args.shelf.now) (g.S.Shelf.stored c.open.new.shelf) opened.only_reads.same
+          (opened.accepted honest) (g.B.Bench.may_leave c.render_checked.new.bench)
+          (told.left (subst IsTrue (sym opened.only_reads.honest_same) honest) right none);
       report = tt;
       refusals = λ honest.
           rw (range_due c.args.list.now values (g.S.Shelf.stored c.args.shelf.now) _ _ (opened.accepted honest))
@@ -83,8 +106,27 @@ returns g c =
     let checked = c.in_ok-checked.field-0.checked in
     let values = values_of c.args.options.now in
     record {
-      rendered = search rules;
-      durable = search rules;
+      rendered = λ honest right. record {
+        project = checked.project;
+        binding = checked.bound;
+        spelled = opened.spelled;
+        accepted = opened.accepted honest;
+        file = rw (← opened.only_reads.same)
+            (told.rendered (subst IsTrue (sym opened.only_reads.honest_same) honest) right);
+        notices = opened.notices;
+      };
+      durable = told.durable;
+      marked = λ honest right p is. told.marked (subst IsTrue (sym opened.only_reads.honest_same) honest) right
+          ∙ ap (λ (q : ListProject). Some (full_marks (run_of c.args.list.now (range_of q values))))
+          (same_spelt checked.project p _ opened.spelt is);
+      any_moment = λ honest right none. moments_list c.args.list.now checked.project checked.bound values
+          (g.S.Shelf.stored c.args.shelf.now) (g.S.Shelf.stored c.open.new.shelf) opened.only_reads.same
+          (opened.accepted honest) g.B.Bench.moment g.B.Bench.left_since c.args.bench.now c.render_checked.new.bench
+          (told.any_moment (subst IsTrue (sym opened.only_reads.honest_same) honest) right none);
+      left = λ honest right none. left_list c.args.list.now checked.project checked.bound values
+          (g.S.Shelf.stored c.args.shelf.now) (g.S.Shelf.stored c.open.new.shelf) opened.only_reads.same
+          (opened.accepted honest) (g.B.Bench.may_leave c.render_checked.new.bench)
+          (told.left (subst IsTrue (sym opened.only_reads.honest_same) honest) right none);
       report = search rules;
       refusals = search rules;
       bad_text = search rules;

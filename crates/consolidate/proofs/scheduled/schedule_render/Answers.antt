@@ -1,4 +1,4 @@
-use Rattle.std.proofs.Common.{◌≡◌, ◌∙◌, IsTrue, None, Some, Ok, Err, rules, subst, sym}
+use Rattle.std.proofs.Common.{◌≡◌, ◌∙◌, IsTrue, None, Some, Ok, Err, ap, rules, subst, sym}
 use Rattle.std.proofs.lemmas.Result.{err_from_is_err_and}
 use Rattle.job_terms.specs.declared.Progress.{Progress}
 use Rattle.rendering.specs.Rendering.{values_of}
@@ -8,6 +8,12 @@ use Rattle.consolidate.proofs.Due.{opening_due, range_due}
 use Rattle.consolidate.proofs.Events.{events_map, none_done, schedules_list}
 use Rattle.consolidate.proofs.First.{scheduled_first}
 use Rattle.consolidate.proofs.Stores.{opened_before, stopped_early}
+use Rattle.list_terms.specs.Accepted.{range_of}
+use Rattle.list_terms.specs.Project.{ListProject}
+use Rattle.rendering.specs.Marked.{full_marks, run_of}
+use Rattle.consolidate.specs.Marks.{IsLeftOf}
+use Rattle.consolidate.proofs.Crashes.{idle}
+use Rattle.consolidate.proofs.Listed.{left_list, moments_list, same_spelt, unstarted_left, unstarted_outcomes}
 use Rattle.consolidate.proofs.scheduled.schedule_render.Goals as goal
 
 pub returns-in_err-checked : goal.returns-in_err-checked
@@ -23,6 +29,14 @@ returns-in_err-checked g c =
           (g.B.Bench.failures c.args.bench.now) (g.B.Bench.stored c.args.bench.now)) told.own;
       finished = search rules;
       durable = search rules;
+      marked = search rules;
+      any_moment = λ honest right none. idle g.B.Bench.moment g.B.Bench.left_since c.args.bench.now
+          (IsLeftOf c.args.list.now (values_of c.args.options.now) (g.S.Shelf.stored c.args.shelf.now))
+          (λ x left. unstarted_left c.args.list.now (values_of c.args.options.now) (g.S.Shelf.stored
+          c.args.shelf.now) x
+          (none x (g.met.B.Bench.only_now c.args.bench.now x left)));
+      left = λ honest right none. unstarted_outcomes c.args.list.now (values_of c.args.options.now)
+          (g.S.Shelf.stored c.args.shelf.now) (g.B.Bench.may_leave c.args.bench.now) none;
       refusals = λ honest. opening_due (refusal_of fault) c.args.list.now (values_of c.args.options.now)
           (g.S.Shelf.stored c.args.shelf.now) told.turn (told.refusals honest);
       bad_text = told.bad_text;
@@ -59,6 +73,15 @@ returns-in-Err g c =
           (told.ran (subst IsTrue (sym opened.only_reads.honest_same) honest) right);
       finished = λ honest right. tt;
       durable = λ right. tt;
+      marked = λ honest right. tt;
+      any_moment = λ honest right none. moments_list c.args.list.now checked.project checked.bound values
+          (g.S.Shelf.stored c.args.shelf.now) (g.S.Shelf.stored c.open.new.shelf) opened.only_reads.same
+          (opened.accepted honest) g.B.Bench.moment g.B.Bench.left_since c.args.bench.now c.schedule_checked.new.bench
+          (told.any_moment (subst IsTrue (sym opened.only_reads.honest_same) honest) right none);
+      left = λ honest right none. left_list c.args.list.now checked.project checked.bound values
+          (g.S.Shelf.stored c.args.shelf.now) (g.S.Shelf.stored c.open.new.shelf) opened.only_reads.same
+          (opened.accepted honest) (g.B.Bench.may_leave c.schedule_checked.new.bench)
+          (told.left (subst IsTrue (sym opened.only_reads.honest_same) honest) right none);
       refusals = λ honest.
           rw (range_due c.args.list.now values (g.S.Shelf.stored c.args.shelf.now) _ _ (opened.accepted honest))
           told.refusals;
@@ -92,6 +115,18 @@ returns-in-Ok g c =
             right finished);
       };
       durable = told.durable;
+      marked = λ honest right finished p is.
+          told.marked (subst IsTrue (sym opened.only_reads.honest_same) honest) right finished
+          ∙ ap (λ (q : ListProject). Some (full_marks (run_of c.args.list.now (range_of q values))))
+          (same_spelt checked.project p _ opened.spelt is);
+      any_moment = λ honest right none. moments_list c.args.list.now checked.project checked.bound values
+          (g.S.Shelf.stored c.args.shelf.now) (g.S.Shelf.stored c.open.new.shelf) opened.only_reads.same
+          (opened.accepted honest) g.B.Bench.moment g.B.Bench.left_since c.args.bench.now c.schedule_checked.new.bench
+          (told.any_moment (subst IsTrue (sym opened.only_reads.honest_same) honest) right none);
+      left = λ honest right none. left_list c.args.list.now checked.project checked.bound values
+          (g.S.Shelf.stored c.args.shelf.now) (g.S.Shelf.stored c.open.new.shelf) opened.only_reads.same
+          (opened.accepted honest) (g.B.Bench.may_leave c.schedule_checked.new.bench)
+          (told.left (subst IsTrue (sym opened.only_reads.honest_same) honest) right none);
       refusals = search rules;
       bad_text = search rules;
       own = tt;

@@ -3,7 +3,7 @@ use Rattle.schedule.specs.Marking.{Leaves}
 use Rattle.schedule.specs.Placed.{IsTornFrom}
 use Rattle.std.specs.Prelude.{length}
 use Rattle.schedule.proofs.Rounds.{joined, weaker}
-use Rattle.schedule.proofs.Stretches.{marks-leaves, marks-run, sound-leaves, sound-runs}
+use Rattle.schedule.proofs.Stretches.{marks-leaves, marks-run, marks-true, sound-leaves, sound-runs}
 use Rattle.schedule.proofs.placing.place_marked.Goals as goal
 
 pub returns-in-Err-clause-goes_on : goal.returns-in-Err-clause-goes_on
@@ -62,3 +62,11 @@ returns-in-Err-write_synced-clause-any_moment g c honest m done job s off run =
     (sound-leaves m done job c.args.at c.args.mark_at c.args.name.now c.args.bytes.now c.args.marks.now
     c.args.ones.now s off (g.B.Bench.may_leave c.args.bench.now) run) c.in-Ok.ensures.moments)
     c.in-Err-write_synced.ensures.moments
+
+pub returns-in-Err-write_synced-clause-goes_on : goal.returns-in-Err-write_synced-clause-goes_on
+returns-in-Err-write_synced-clause-goes_on g c honest m done job s off run =
+    marks-true m done job c.args.at c.args.mark_at c.args.name.now c.args.bytes.now c.args.marks.now c.args.ones.now s
+    off (g.B.Bench.may_leave c.args.bench.now) run
+    (g.B.Bench.stored c.args.bench.now) (g.B.Bench.stored c.write_synced.new.bench) (c.in-Ok.ensures.written honest)
+    (g.B.Bench.may_leave c.write_synced.new.bench) c.in-Ok.ensures.torn (c.in-Ok.ensures.durable honest)
+    (g.B.Bench.may_leave c.write_synced-2.new.bench) c.in-Err-write_synced.ensures.torn

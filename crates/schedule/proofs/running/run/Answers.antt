@@ -19,7 +19,8 @@ use Rattle.std.proofs.Common.{inl}
 use Rattle.work_terms.specs.Disk.{Files}
 use Rattle.job_terms.specs.Workers.{JobsBy}
 use Rattle.schedule.specs.Marking.{IsRight, IsRunningBy, LeavesBy, Marking, RunsOn, done_of}
-use Rattle.schedule.proofs.Marked.{leaves-as, running-leaves}
+use Rattle.schedule.specs.MarkingLaws.{running_true}
+use Rattle.schedule.proofs.Marked.{leaves-as, running-leaves, steps-true}
 use Rattle.schedule.proofs.Rights.{leads-right}
 use Rattle.schedule.proofs.Rounds.{by-same, joined, leads-keeps, leads-none}
 use Rattle.schedule.proofs.running.run.Goals as goal
@@ -281,6 +282,21 @@ returns-in-Err-clause-running g c honest whole run = by-same (λ (m : Option Mar
     c.loop-event.shelf) (sym
     c.loop-event.invariant.same_marking) (sym c.loop-event.invariant.same_shelf) (c.loop-event.invariant.running
     honest whole run)))
+
+pub returns-clause-left : goal.returns-clause-left
+returns-clause-left g c honest whole run =
+    running_true (g.J.JobMaker.marking c.args.maker.now (g.S.Shelf.stored c.args.shelf.now))
+    (done_of c.loop-event.board) (g.B.Bench.may_leave c.loop-event.bench)
+    (c.loop-event.invariant.running honest whole run)
+
+pub returns-in-Err-clause-left : goal.returns-in-Err-clause-left
+returns-in-Err-clause-left g c honest whole run =
+    let m = g.J.JobMaker.marking c.args.maker.now (g.S.Shelf.stored c.args.shelf.now) in
+    steps-true (Unit {0}) c.in-Err.fault m (done_of c.step.new.board) (g.B.Bench.may_leave c.step.new.bench)
+    (returns-in-Err-clause-running g c honest whole run)
+    (λ is. rw ((c.in-Err.ensures.memory (ap Err is)).0)
+    (running_true m (done_of c.loop-event.board) (g.B.Bench.may_leave c.loop-event.bench)
+    (c.loop-event.invariant.running honest whole run)))
 
 pub loop-event-init : goal.loop-event-init
 loop-event-init g c = record {

@@ -138,6 +138,20 @@ returns-in-Err-Write-clause-running g c honest sources right run =
     (g.B.Bench.failures c.place.new.bench) None) c.in-Some.ticket (sym c.is_current.ensures ∙
     c.if-not-is_current.false) j)) now)
 
+pub returns-in-Err-Mark-clause-running : goal.returns-in-Err-Mark-clause-running
+returns-in-Err-Mark-clause-running g c honest sources right run =
+    let goes = c.in-Err-Mark.ensures.goes_on honest sources (done_of c.args.board.now)
+    ((ap (λ (x : List ℕ). take c.worker.inside.size x) c.deref.ensures.value) ∙ right-made
+    (jobs_over (g.J.JobMaker.work c.args.maker.now) sources) c.args.worker.now.hand c.in-Some.ticket
+    (take c.worker.inside.size c.worker.inside.bytes.items) (ap {B = Hand} (λ (d : Desk). d.hand)
+    (sym c.worker.view_is) ∙ hand-is c.worker.inside.ticket c.in-Some.ticket c.worker.inside.made true
+    (take c.worker.inside.size c.worker.inside.bytes.items) c.in-Some.is c.if-not-worker.false)
+    right) (current-open c.args.board.now c.in-Some.ticket (sym c.is_current.ensures ∙
+    c.if-not-is_current.false)) run in
+    subst (λ (f : PlaceFault). GoesOn {X = Unit {0}} (g.J.JobMaker.marking c.args.maker.now sources)
+    (done_of c.args.board.now) c.in-Some.ticket.job (g.B.Bench.may_leave c.place.new.bench) (Err f))
+    c.in-Err-Mark.field-0-is goes
+
 pub returns-in-Err-Write-clause-turn : goal.returns-in-Err-Write-clause-turn
 returns-in-Err-Write-clause-turn g c ticket bytes made current = turned-as c.failed.result c.args.board.now
     c.failed.new.board c.in-Some.ticket ticket

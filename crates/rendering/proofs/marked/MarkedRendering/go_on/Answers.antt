@@ -1,11 +1,13 @@
-use Rattle.std.proofs.Common.{◌∙◌, IsTrue, None, sym, subst, refl}
+use Rattle.std.proofs.Common.{◌∙◌, IsTrue, None, Some, Ok, Err, sym, subst, refl}
 use Rattle.markfile.specs.Format.{marks_name}
+use Rattle.schedule.specs.Ends.{ended_of}
 use Rattle.schedule.specs.Marking.{Leaves, done_of}
+use Rattle.schedule.specs.MarkingLaws.{runs_true}
 use Rattle.rendering.specs.Marked.{HoldsMarked, IsRunOf, MarkedWork, marking_of}
 use Rattle.rendering.specs.Work.{IsRenderWork, done_before, whole_of}
 use Rattle.rendering.proofs.Beside.{weaker}
 use Rattle.rendering.proofs.Parts.{are_apart, are_parts}
-use Rattle.rendering.proofs.Resuming.{ends_marked, ends_whole, filled_running, full_of, leaves_as, leaves_marked, leaves_true, other_output, running_as}
+use Rattle.rendering.proofs.Resuming.{ends_marked, ends_whole, filled_running, full_of, leaves_as, leaves_marked, other_output, running_as, true_left}
 use Rattle.rendering.proofs.marked.MarkedRendering.go_on.Goals as goal
 
 pub returns-in-Ok-clause-any_moment : goal.returns-in-Ok-clause-any_moment
@@ -28,12 +30,23 @@ returns-in-Err-clause-any_moment g c honest right run =
     (c.in-Err.ensures.any_moment honest right
     (running_as m before first (g.B.Bench.may_leave c.args.bench.now) c.requires.done run))
 
-pub returns-in-Err-clause-left : goal.returns-in-Err-clause-left
-returns-in-Err-clause-left g c honest right run x left =
+pub returns-in-Ok-clause-left : goal.returns-in-Ok-clause-left
+returns-in-Ok-clause-left g c honest right run =
     let m = marking_of c.args.self.now (g.S.Shelf.stored c.args.shelf.now) in
-    let moments = returns-in-Err-clause-any_moment g c honest right run in
-    leaves_true m (done_before c.args.self.now.work) x (moments.each x
-    (g.met.B.Bench.counts_now c.alone.new.bench (g.B.Bench.moment c.args.bench.now) x moments.later left))
+    let first = done_of c.args.start.now.board in
+    true_left m (g.B.Bench.may_leave c.alone.new.bench) (runs_true (ended_of {X = Unit {0}} (Ok tt)) (Some m)
+    (done_of c.alone.new.board) (g.B.Bench.may_leave c.alone.new.bench)
+    (c.in-Ok.ensures.running honest right (running_as m (done_before c.args.self.now.work) first
+    (g.B.Bench.may_leave c.args.bench.now) c.requires.done run)))
+
+pub returns-in-Err-clause-left : goal.returns-in-Err-clause-left
+returns-in-Err-clause-left g c honest right run =
+    let m = marking_of c.args.self.now (g.S.Shelf.stored c.args.shelf.now) in
+    let first = done_of c.args.start.now.board in
+    true_left m (g.B.Bench.may_leave c.alone.new.bench) (runs_true (ended_of {X = Unit {0}} (Err c.in-Err.fault)) (Some m)
+    (done_of c.alone.new.board) (g.B.Bench.may_leave c.alone.new.bench)
+    (c.in-Err.ensures.running honest right (running_as m (done_before c.args.self.now.work) first
+    (g.B.Bench.may_leave c.args.bench.now) c.requires.done run)))
 
 pub returns-in-Ok-clause-rendered : goal.returns-in-Ok-clause-rendered
 returns-in-Ok-clause-rendered g c honest right run =

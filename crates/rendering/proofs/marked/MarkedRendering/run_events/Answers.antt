@@ -5,7 +5,7 @@ use Rattle.rendering.specs.Marked.{IsRunOf, MarkedWork, marking_of}
 use Rattle.rendering.specs.Work.{IsRenderWork, done_before, whole_of, work_of}
 use Rattle.rendering.proofs.Beside.{weaker}
 use Rattle.rendering.proofs.Parts.{are_apart, are_parts}
-use Rattle.rendering.proofs.Resuming.{ends_marked, ends_whole, filled_none, filled_running, full_of, leaves_as, none_before, other_output, running_as}
+use Rattle.rendering.proofs.Resuming.{ends_marked, ends_whole, filled_none, filled_running, full_of, leaves_as, none_before, other_output, running_as, true_left}
 use Rattle.rendering.proofs.marked.MarkedRendering.run_events.Goals as goal
 
 pub returns-in-Ok-clause-events : goal.returns-in-Ok-clause-events
@@ -103,3 +103,23 @@ returns-in-Ok-clause-marked g c honest right run finished =
 pub returns-in-Err-clause-failed : goal.returns-in-Err-clause-failed
 returns-in-Err-clause-failed g c of =
     c.in-Err.ensures.failed of (λ _. None) (marking_of c.args.self.now (λ _. None)) refl
+
+pub returns-in-Ok-clause-left : goal.returns-in-Ok-clause-left
+returns-in-Ok-clause-left g c honest right run =
+    let m = marking_of c.args.self.now (g.S.Shelf.stored c.args.shelf.now) in
+    let first = done_of c.args.board.now in
+    let before = done_before c.args.self.now.work in
+    true_left m (g.B.Bench.may_leave c.run_laid.new.bench) (c.in-Ok.ensures.left honest right
+    (running_as m before first (g.B.Bench.may_leave c.args.bench.now)
+    (λ k lt. none_before (work_of c.args.self.now.work).count c.args.board.now c.requires.board k lt
+    ∙ sym (c.requires.none k)) run))
+
+pub returns-in-Err-clause-left : goal.returns-in-Err-clause-left
+returns-in-Err-clause-left g c honest right run =
+    let m = marking_of c.args.self.now (g.S.Shelf.stored c.args.shelf.now) in
+    let first = done_of c.args.board.now in
+    let before = done_before c.args.self.now.work in
+    true_left m (g.B.Bench.may_leave c.run_laid.new.bench) (c.in-Err.ensures.left honest right
+    (running_as m before first (g.B.Bench.may_leave c.args.bench.now)
+    (λ k lt. none_before (work_of c.args.self.now.work).count c.args.board.now c.requires.board k lt
+    ∙ sym (c.requires.none k)) run))

@@ -7,12 +7,12 @@ use Rattle.markfile.specs.declared.run.RunId.{RunId}
 use Rattle.markfile.specs.Started.{LeavesStart, NoneStarted}
 use Rattle.schedule.specs.Filled.{AreFilled}
 use Rattle.schedule.specs.Marking.{IsRunning}
-use Rattle.rendering.specs.Marked.{IsOther, IsResumable, MarkedWork, marking_of}
+use Rattle.rendering.specs.Marked.{IsLeftByRun, IsOther, IsResumable, MarkedWork, marking_of}
 use Rattle.rendering.specs.Work.{done_before, whole_of, work_of}
 use Rattle.rendering.proofs.Beside.{joined, weaker}
 use Rattle.rendering.proofs.BlockMarks.{names_apart}
 use Rattle.rendering.proofs.Calls.{fewer_stay, writes_both}
-use Rattle.rendering.proofs.Resuming.{apart, beside_unstarted, filled_as, starts_resumable, starts_running}
+use Rattle.rendering.proofs.Resuming.{apart, beside_unstarted, filled_as, starts_left, starts_resumable, starts_running}
 use Rattle.rendering.proofs.marked.MarkedRendering.start.Goals as goal
 
 pub returns-in-Ok-start-clause-running : goal.returns-in-Ok-start-clause-running
@@ -68,21 +68,23 @@ returns-in-Ok-start-clause-any_moment g c honest none sources =
     c.start.new.bench (LeavesStart r mid)) run_is (c.in-Ok-start.ensures.any_moment still none_mid)))
 
 pub returns-in-Ok-start-clause-left : goal.returns-in-Ok-start-clause-left
-returns-in-Ok-start-clause-left g c honest none sources x left =
+returns-in-Ok-start-clause-left g c honest none sources =
     let run_is : c.args.fresh.now ≡ c.self.inside.run =
     c.requires ∙ ap (λ (x : MarkedWork). x.run) (sym c.self.view_is) in
     let still : IsTrue (g.B.Bench.honest c.lay_out_synced.new.bench) =
     subst IsTrue (sym c.in-Ok.ensures.only_writes.honest_same) honest in
     let old = g.B.Bench.may_leave c.args.bench.now in
     let mid = g.B.Bench.may_leave c.lay_out_synced.new.bench in
+    let now = g.B.Bench.may_leave c.start.new.bench in
     let files = g.B.Bench.stored c.lay_out_synced.new.bench in
     let beside = c.in-Ok.ensures.beside in
     let none_mid : NoneStarted mid = λ y at. beside_unstarted old y none (beside.now y at) in
-    subst (λ (y : MarkedWork). IsResumable (marking_of y sources) x) c.self.view_is
-    (starts_resumable (record { work = c.self.inside.rendering; run = c.self.inside.run }) sources c.self.invariant.0
-    c.self.invariant.1 files (c.in-Ok.ensures.filled honest sources) (subst (λ (r : RunId). AreFresh r (fresh_marks r)) run_is c.in-Ok-start.ensures.fresh) mid
-    (c.in-Ok.ensures.durable honest) x (subst (λ (r : RunId). LeavesStart r mid x) run_is
-    (c.in-Ok-start.ensures.crash still none_mid x left)))
+    subst (λ (y : MarkedWork). IsLeftByRun (marking_of y sources) now) c.self.view_is
+    (starts_left (record { work = c.self.inside.rendering; run = c.self.inside.run }) sources c.self.invariant.0
+    c.self.invariant.1 files (c.in-Ok.ensures.filled honest sources)
+    (subst (λ (r : RunId). AreFresh r (fresh_marks r)) run_is c.in-Ok-start.ensures.fresh) mid now
+    (c.in-Ok.ensures.durable honest)
+    (λ x left. subst (λ (r : RunId). LeavesStart r mid x) run_is (c.in-Ok-start.ensures.crash still none_mid x left)))
 
 pub returns-in-Err-start-clause-any_moment : goal.returns-in-Err-start-clause-any_moment
 returns-in-Err-start-clause-any_moment g c honest none sources =
@@ -111,21 +113,23 @@ returns-in-Err-start-clause-any_moment g c honest none sources =
     c.start.new.bench (LeavesStart r mid)) run_is (c.in-Err-start.ensures.any_moment still none_mid)))
 
 pub returns-in-Err-start-clause-left : goal.returns-in-Err-start-clause-left
-returns-in-Err-start-clause-left g c honest none sources x left =
+returns-in-Err-start-clause-left g c honest none sources =
     let run_is : c.args.fresh.now ≡ c.self.inside.run =
     c.requires ∙ ap (λ (x : MarkedWork). x.run) (sym c.self.view_is) in
     let still : IsTrue (g.B.Bench.honest c.lay_out_synced.new.bench) =
     subst IsTrue (sym c.in-Ok.ensures.only_writes.honest_same) honest in
     let old = g.B.Bench.may_leave c.args.bench.now in
     let mid = g.B.Bench.may_leave c.lay_out_synced.new.bench in
+    let now = g.B.Bench.may_leave c.start.new.bench in
     let files = g.B.Bench.stored c.lay_out_synced.new.bench in
     let beside = c.in-Ok.ensures.beside in
     let none_mid : NoneStarted mid = λ y at. beside_unstarted old y none (beside.now y at) in
-    subst (λ (y : MarkedWork). IsResumable (marking_of y sources) x) c.self.view_is
-    (starts_resumable (record { work = c.self.inside.rendering; run = c.self.inside.run }) sources c.self.invariant.0
-    c.self.invariant.1 files (c.in-Ok.ensures.filled honest sources) (subst (λ (r : RunId). AreFresh r (fresh_marks r)) run_is c.in-Err-start.ensures.fresh) mid
-    (c.in-Ok.ensures.durable honest) x (subst (λ (r : RunId). LeavesStart r mid x) run_is
-    (c.in-Err-start.ensures.crash still none_mid x left)))
+    subst (λ (y : MarkedWork). IsLeftByRun (marking_of y sources) now) c.self.view_is
+    (starts_left (record { work = c.self.inside.rendering; run = c.self.inside.run }) sources c.self.invariant.0
+    c.self.invariant.1 files (c.in-Ok.ensures.filled honest sources)
+    (subst (λ (r : RunId). AreFresh r (fresh_marks r)) run_is c.in-Err-start.ensures.fresh) mid now
+    (c.in-Ok.ensures.durable honest)
+    (λ x left. subst (λ (r : RunId). LeavesStart r mid x) run_is (c.in-Err-start.ensures.crash still none_mid x left)))
 
 pub returns-in-Ok-start-clause-marks : goal.returns-in-Ok-start-clause-marks
 returns-in-Ok-start-clause-marks g c honest =

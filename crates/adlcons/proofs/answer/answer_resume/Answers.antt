@@ -1,0 +1,11 @@
+use Rattle.std.proofs.Common.{Ok, refl, rules, true}
+use Rattle.adlcons.proofs.answer.answer_resume.Goals as goal
+
+pub returns-in-Ok-clause-answered : goal.returns-in-Ok-clause-answered
+returns-in-Ok-clause-answered g c = record {
+  outcome = Ok c.in-Ok.resumed;
+  called = c.in-Ok.ensures;
+  status_is = refl;
+  is_named = true;
+  printed = search rules;
+}

@@ -1,0 +1,77 @@
+-- What going on with a rendering answers, and what it leaves.
+use Rattle.std.specs.Prelude.{◌≡◌, ◌-◌, ℕ, true, IsTrue, Option, Some, List, Result, Ok, IfErr, IfOk, OnOk, codes}
+use Rattle.shelf.specs.declared.source.Shelf as source
+use Rattle.shelf.specs.declared.bench.Bench as output
+use Rattle.work_terms.specs.Disk.{Files, LeavesOnly}
+use Rattle.work_terms.specs.Refusals.{Answers, Refusal}
+use Rattle.list_terms.specs.Accepted.{OptionValues, first_fault, range_of}
+use Rattle.list_terms.specs.Binding.{Binding}
+use Rattle.list_terms.specs.Heard.{IsAccepted}
+use Rattle.list_terms.specs.Project.{ListProject}
+use Rattle.list_terms.specs.Text.{text_value}
+use Rattle.adlread.specs.Spells.{Spells}
+use Rattle.markfile.specs.Format.{marks_name}
+use Rattle.markfile.specs.Opened.{opened_of}
+use Rattle.markfile.specs.Started.{is_started}
+use Rattle.rendering.specs.Marked.{IsOther, run_of}
+use Rattle.rendering.specs.Rendering as rendering
+use Rattle.consolidate.specs.Commands.{KeepsStores, RefusesBadText, all_notices, render_refusal}
+use Rattle.consolidate.specs.Fault.{refusal_of}
+use Rattle.consolidate.specs.Marks.{AreBothDurable, HasAllMarks, HoldsMarked, IsLeftByRendering, IsLeftOf, count_in, marks_refusal}
+use Rattle.consolidate.specs.Own.{IsFirst, IsOfResuming}
+use Rattle.consolidate.specs.declared.fault.Fault.{Fault}
+use Rattle.consolidate.specs.declared.resumed.Resumed.{Resumed}
+
+-- The list is accepted, and its rendering is there: that of the exact sums, rounded and clipped, and it reads back so.
+pub record IsResumed (text : List ℕ) (values : OptionValues) (sources written : Files) (told : Resumed) : Type 0 where
+  pub project : ListProject
+  pub binding : Binding
+  pub spelled : Spells text project
+  pub accepted : IsAccepted text sources project binding
+  pub file : rendering.IsRendered project binding values sources (written (codes "render.wav"))
+  pub notices : told.notices.items ≡ all_notices project binding
+
+-- the first fault of going on with a rendering: of rendering it, and then of the marks that are there
+abbrev pub resume_refusal : List ℕ → OptionValues → Files → Files → Option Refusal
+resume_refusal text values files outputs =
+    first_fault (render_refusal text values files) (marks_refusal text values outputs (text_value text))
+
+module _ {S B : Type 0} (shelf : source.Ghosts S) (bench : output.Ghosts B) where
+  -- the bench is as a rendering of this list left it, which ended in any way or was stopped
+  abbrev pub IsLeft : List ℕ → OptionValues → S → B → Type 0
+  IsLeft list values sources left = IsLeftByRendering list values (shelf.stored sources) (bench.may_leave left)
+
+  -- the rendering of the list was gone on with over these stores, with this outcome
+  pub record IsResuming (list : List ℕ) (values : OptionValues) (shelf_old shelf_new : S) (bench_old bench_new : B)
+      (result : Result Resumed Fault) : Type 0 where
+    pub rendered : IsTrue (shelf.honest shelf_old) → IsTrue (bench.honest bench_old)
+        → IsLeft list values shelf_old bench_old
+        → IfOk result (IsResumed list values (shelf.stored shelf_old) (bench.stored bench_new))
+    pub durable : IsTrue (bench.honest bench_old)
+        → OnOk result (AreBothDurable (bench.stored bench_new) (bench.may_leave bench_new))
+    pub marked : IsTrue (bench.honest bench_old) → (project : ListProject) → text_value list ≡ Ok project
+        → IfOk result (λ told. told.marked ≡ count_in (opened_of (run_of list (range_of project values))
+        (bench.stored bench_old)))
+    pub all_marked : IsTrue (shelf.honest shelf_old) → IsTrue (bench.honest bench_old)
+        → IsLeft list values shelf_old bench_old
+        → OnOk result (HasAllMarks list values (bench.stored bench_new marks_name))
+    pub any_moment : IsTrue (shelf.honest shelf_old) → IsTrue (bench.honest bench_old)
+        → IsLeft list values shelf_old bench_old
+        → LeavesOnly bench.moment bench.left_since bench_old bench_new (IsLeftOf list values (shelf.stored shelf_old))
+    pub left : IsTrue (shelf.honest shelf_old) → IsTrue (bench.honest bench_old)
+        → IsLeft list values shelf_old bench_old → IsLeft list values shelf_old bench_new
+    pub keeps_marked : IsTrue (shelf.honest shelf_old) → IsTrue (bench.honest bench_old)
+        → IsLeft list values shelf_old bench_old
+        → (marks : List ℕ) → bench.stored bench_old marks_name ≡ Some marks → is_started (Some marks) ≡ true
+        → LeavesOnly bench.moment bench.left_since bench_old bench_new
+        (HoldsMarked list values (shelf.stored shelf_old) marks)
+    pub report : (project : ListProject) → text_value list ≡ Ok project
+        → IfOk result (λ told. told.frames ≡ (range_of project values).to - (range_of project values).from)
+    pub refusals : IsTrue (shelf.honest shelf_old) → IsTrue (bench.honest bench_old)
+        → Answers refusal_of result (resume_refusal list values (shelf.stored shelf_old) (bench.stored bench_old))
+    pub bad_text : RefusesBadText list result
+    pub own : IfErr result (IsOfResuming list)
+    pub in_turn : IsTrue (shelf.honest shelf_old) → IfErr result (IsFirst list (shelf.stored shelf_old))
+    pub named : IsTrue (bench.honest bench_old) → (n : List ℕ) → IsOther n
+        → bench.stored bench_new n ≡ bench.stored bench_old n
+    pub stores : KeepsStores shelf bench shelf_old shelf_new bench_old bench_new result

@@ -1,0 +1,363 @@
+"""Renderings that are stopped at any moment and gone on with: the bytes of an unbroken one.
+
+A kill takes the process alone, and not what it wrote: what a disk may lose besides is tested over memory.
+"""
+
+import random
+import re
+import shutil
+import signal
+import subprocess
+import time
+from pathlib import Path
+
+import model
+from harness import (
+    EXPLANATION, LIST, MEDIA, OUT, TIMEOUT, Mismatch, Outcome, Scene, Skipped, Suite, same, same_bytes, same_files,
+    same_outcome, same_shape,
+)
+from model import BLOCK, FRONT
+from tables import format_chunk, riff_file, wave
+
+SEED = 27
+# How many renderings are killed, and how many of them again once they are gone on with.
+KILLS, KILLS_AGAIN = 100, 50
+MIDNIGHT = b"00.00.00.00/0000"
+SOUND, MARKS = "render.wav", "render.marks"
+RENDER, RESUME = (("render", LIST, MEDIA, OUT), ("resume", LIST, MEDIA, OUT))
+
+# How a written file without CodingHistory begins, and a mono one of 16 bits.
+HEAD = 690
+FRAME = 2
+
+
+class Long:
+    """A list that plays all of a file of so many blocks, the last of which is short, at 32 bits; its jobs are of several
+    blocks where there are more than 64."""
+
+    def __init__(self, channels: int, blocks: int):
+        self.channels = channels
+        self.frames = BLOCK * blocks - 7
+        self.words = ("--depth", "32")
+
+    def put(self, scene: Scene) -> None:
+        end = model.time_text(self.frames)
+        last = str(self.channels).encode()
+        both = last if self.channels == 1 else b"1~" + last
+        entry = model.entry_line(1, 1, MIDNIGHT, MIDNIGHT, end, both, both)
+        samples = random.Random(SEED).randbytes(2 * self.channels * self.frames)
+        data = b"data" + len(samples).to_bytes(4, "little") + samples
+        scene.put(
+            model.list_text([model.source_line(1, "A.wav", MIDNIGHT)], [entry]),
+            {"A.wav": riff_file(format_chunk(channels=self.channels, bits=16), data)})
+
+
+def marked_in(scene: Scene) -> int:
+    """How many blocks are marked in the output, where its marks are started."""
+    path = scene.folder / OUT / MARKS
+    marks = path.read_bytes() if path.exists() else b""
+    return marks[FRONT:].count(1) if len(marks) >= FRONT and marks[0] == 1 else 0
+
+
+def stopped(scene: Scene, words: tuple, after: float) -> bool:
+    """Runs the program and kills it after so many seconds; whether it was still at work."""
+    with subprocess.Popen(
+            [scene.program, *words], cwd=scene.folder, stdout=subprocess.DEVNULL, stderr=subprocess.DEVNULL) as process:
+        try:
+            process.wait(after)
+        except subprocess.TimeoutExpired:
+            process.send_signal(signal.SIGKILL)
+        process.wait(TIMEOUT)
+    return process.returncode == -signal.SIGKILL
+
+
+def expect_resumed(scene: Scene, long: Long, whole: dict) -> int:
+    """The rendering is gone on with from the marks that are there, to the very bytes; how many there were."""
+    marked = marked_in(scene)
+    got = scene.run(*RESUME, *long.words)
+    same_outcome(got, 0, f"resumed {long.frames} frames {marked} blocks were marked")
+    same_files(scene.files(), whole)
+    return marked
+
+
+def killed(long: Long):
+    """At a random moment each, and some of them again; then they are gone on with to their end."""
+    def body(scene: Scene) -> None:
+        long.put(scene)
+        began = time.monotonic()
+        same_outcome(scene.run(*RENDER, *long.words), 0, f"rendered {long.frames} frames {long.channels} channels")
+        length = time.monotonic() - began
+        whole = scene.files()
+        blocks = len(whole[MARKS]) - FRONT
+        moments, kills, again, broken = random.Random(SEED), 0, 0, 0
+        while kills < KILLS or again < KILLS_AGAIN:
+            scene.empty_out()
+            kills += stopped(scene, (*RENDER, *long.words), moments.uniform(0, length))
+            if again < KILLS_AGAIN:
+                left = length * (blocks - marked_in(scene)) / blocks
+                again += stopped(scene, (*RESUME, *long.words), moments.uniform(0, left))
+            marked = expect_resumed(scene, long, whole)
+            broken += 0 < marked < blocks
+        if broken < KILLS // 4:
+            raise Mismatch(f"only {broken} of {kills} and {again} kills came between the first mark and the last")
+    return body
+
+
+def plain(blocks: int) -> tuple:
+    """A list that plays a mono file of so many blocks from its first frame on, and the file."""
+    frames = BLOCK * blocks
+    entry = model.entry_line(1, 1, MIDNIGHT, MIDNIGHT, model.time_text(frames))
+    text = model.list_text([model.source_line(1, "A.wav", MIDNIGHT)], [entry])
+    return text, {"A.wav": wave([1 + place * 7 % 30_000 for place in range(frames)])}
+
+
+AT_16_BITS = model.Options(depth=16)
+DEPTH = ("--depth", "16")
+
+
+def put_stopped(scene: Scene, blocks: int, marked: set) -> dict:
+    """A rendering that was stopped with these blocks marked. The samples of all the others are wrong in it."""
+    text, media = plain(blocks)
+    scene.put(text, media)
+    files = model.answer("render", text, media, AT_16_BITS).files
+    sound, marks = bytearray(files[SOUND]), bytearray(files[MARKS])
+    for block in set(range(blocks)) - marked:
+        at = HEAD + FRAME * BLOCK * block
+        sound[at:at + FRAME * BLOCK] = b"\x55" * (FRAME * BLOCK)
+        marks[FRONT + block] = 0
+    scene.put_out({SOUND: bytes(sound), MARKS: bytes(marks)})
+    return files
+
+
+def ranges_of(trace: str, call: str, name: str) -> list:
+    """The places and ends of these calls on the file of this name."""
+    found = re.findall(rf"^{call}\(\d+<[^>]*/{re.escape(name)}>, .*, (\d+), (\d+)\) = \d+$", trace, re.M)
+    return [(int(at), int(at) + int(size)) for size, at in found]
+
+
+def half_done(blocks: int, marked: set):
+    """No sample under a marked block is read, and no byte of it is written."""
+    def body(scene: Scene) -> None:
+        if not shutil.which("strace"):
+            raise Skipped("strace isn't installed (Debian package strace)")
+        whole = put_stopped(scene, blocks, marked)
+        trace = scene.folder / "trace"
+        done = subprocess.run(
+            ["strace", "-y", "-qq", "-s", "0", "-o", trace, "-e", "trace=pread64,pwrite64,read,write",
+             scene.program, *RESUME, *DEPTH], cwd=scene.folder, capture_output=True, timeout=TIMEOUT)
+        line = f"resumed {BLOCK * blocks} frames {len(marked)} blocks were marked"
+        same_outcome(Outcome(done.returncode, done.stdout, done.stderr), 0, line)
+        same_files(scene.files(), whole)
+        calls = trace.read_text()
+        for call, name, head in (("pread64", "A.wav", 44), ("pwrite64", SOUND, HEAD), ("pread64", SOUND, 0)):
+            for at, end in ranges_of(calls, call, name):
+                touched = set(range(max(at - head, 0) // (FRAME * BLOCK), (end - head - 1) // (FRAME * BLOCK) + 1))
+                if end > head + 1024 and touched & marked:
+                    raise Mismatch(f"{call} of {name} from {at} to {end} lies in marked blocks")
+        wanted = {HEAD + FRAME * BLOCK * block for block in set(range(blocks)) - marked}
+        same("where blocks are written", {at for at, _ in ranges_of(calls, "pwrite64", SOUND)} - wanted, set())
+        if not ranges_of(calls, "pread64", "A.wav"):
+            raise Mismatch("no read of the source is seen")
+    return body
+
+
+def done_already(scene: Scene) -> None:
+    """All blocks are marked: neither file is touched, and both stay."""
+    whole = put_stopped(scene, 5, set(range(5)))
+    paths = [scene.folder / OUT / name for name in whole]
+    before = [path.stat().st_mtime_ns for path in paths]
+    same_outcome(scene.run(*RESUME, *DEPTH), 0, f"resumed {5 * BLOCK} frames 5 blocks were marked")
+    same_files(scene.files(), whole)
+    same("when they were written", [path.stat().st_mtime_ns for path in paths], before)
+
+
+def another_order(scene: Scene) -> None:
+    """The order isn't of the run: a rendering by source goes on by time."""
+    whole = put_stopped(scene, 5, {1, 3})
+    same_outcome(scene.run(*RESUME, *DEPTH, "--order", "source"), 0, f"resumed {5 * BLOCK} frames 2 blocks were marked")
+    same_files(scene.files(), whole)
+
+
+def the_same_range(scene: Scene) -> None:
+    """A range that is told is the same as one that is left out."""
+    whole = put_stopped(scene, 5, {1, 3})
+    told = ("--from", "00.00.00.00/0000", "--to", "00.00.00.10/1280", "--channels", "1")
+    same_outcome(scene.run(*RESUME, *DEPTH, *told), 0, f"resumed {5 * BLOCK} frames 2 blocks were marked")
+    same_files(scene.files(), whole)
+
+
+def from_standard_input(scene: Scene) -> None:
+    whole = put_stopped(scene, 5, {0})
+    got = scene.run("resume", "-", MEDIA, OUT, *DEPTH, given=(scene.folder / LIST).read_bytes())
+    same_outcome(got, 0, f"resumed {5 * BLOCK} frames 1 blocks were marked")
+    same_files(scene.files(), whole)
+
+
+def not_started(change):
+    """Without marks that were started it begins anew, whatever lies there."""
+    def body(scene: Scene) -> None:
+        whole = put_stopped(scene, 5, {1, 3})
+        files = change(scene.files())
+        scene.put_out(files)
+        same_outcome(scene.run(*RESUME, *DEPTH), 0, f"resumed {5 * BLOCK} frames 0 blocks were marked")
+        same_files(scene.files(), whole)
+    return body
+
+
+UNSTARTED = {
+    "an empty folder": lambda files: {},
+    "no marks": lambda files: {SOUND: files[SOUND]},
+    "empty marks": lambda files: {**files, MARKS: b""},
+    "marks of a byte": lambda files: {**files, MARKS: b"\1"},
+    "marks without their blocks": lambda files: {**files, MARKS: files[MARKS][:43]},
+    "a gate that is shut": lambda files: {**files, MARKS: b"\0" + files[MARKS][1:]},
+    "a gate of another byte": lambda files: {**files, MARKS: b"\2" + files[MARKS][1:]},
+    "another rendered file, and no marks": lambda files: {SOUND: b"RIFF" * 100},
+}
+
+
+def broken(number: int, line_words: tuple, change, words: tuple = DEPTH, text: bytes = b""):
+    """It is refused, says what to do, and changes nothing."""
+    def body(scene: Scene) -> None:
+        put_stopped(scene, 5, {1, 3})
+        files = change(scene.files())
+        scene.put_out(files)
+        if text:
+            (scene.folder / LIST).write_bytes((scene.folder / LIST).read_bytes() + text)
+        got = scene.run(*RESUME, *words)
+        same_outcome(got, 1, f"refused {number}")
+        for word in line_words:
+            if word.encode() not in got.error:
+                raise Mismatch(f"standard error says {got.error!r} and not {word!r}")
+        same_files(scene.files(), files)
+    return body
+
+
+def kept(files: dict) -> dict:
+    return files
+
+
+def with_byte(at: int, value: int):
+    """The marks with another byte at a place."""
+    def change(files: dict) -> dict:
+        marks = bytearray(files[MARKS])
+        marks[at] = value
+        return {**files, MARKS: bytes(marks)}
+    return change
+
+
+ANOTHER = ("another list, range, number of channels or depth", "which of them differs can't be told", "adlcons resume")
+DAMAGED = ("render.marks or render.wav", "empty folder")
+
+OTHERS = {
+    "another list": (kept, DEPTH, b"\n"),
+    "another range": (kept, (*DEPTH, "--to", "00.00.00.10/1279"), b""),
+    "another first sample": (kept, (*DEPTH, "--from", "00.00.00.00/0001"), b""),
+    "other channels": (kept, (*DEPTH, "--channels", "2"), b""),
+    "another depth": (kept, (), b""),
+    "marks of another digest": (with_byte(8, 7), DEPTH, b""),
+}
+
+BROKEN = {
+    "another magic": with_byte(7, ord("2")),
+    "marks of another count": with_byte(40, 4),
+    "marks a byte too short": lambda files: {**files, MARKS: files[MARKS][:-1]},
+    "marks a byte too long": lambda files: {**files, MARKS: files[MARKS] + b"\0"},
+    "no rendered file": lambda files: {MARKS: files[MARKS]},
+    "a rendered file a byte too short": lambda files: {**files, SOUND: files[SOUND][:-1]},
+    "a rendered file a byte too long": lambda files: {**files, SOUND: files[SOUND] + b"\0"},
+}
+
+
+def no_folder(scene: Scene) -> None:
+    """An output that isn't there is 62 at its first file, and never 20."""
+    text, media = plain(2)
+    scene.put(text, media)
+    for name in ("none", LIST):
+        same_outcome(scene.run("resume", LIST, MEDIA, name), 1, f"refused 62 at file {SOUND}")
+
+
+def links(scene: Scene) -> None:
+    """Neither file is followed where it is a link, and what is behind one stays as it is."""
+    for name in (SOUND, MARKS):
+        put_stopped(scene, 5, {1, 3})
+        path, other = scene.folder / OUT / name, scene.folder / "other"
+        path.replace(other)
+        before = other.read_bytes()
+        path.symlink_to("../other")
+        got = scene.run(*RESUME, *DEPTH)
+        same_outcome(got, 1, f"refused 62 at file {name}")
+        same_bytes("what is behind the link", other.read_bytes(), before)
+
+
+def beside_others(scene: Scene) -> None:
+    """Other files in the folder stay."""
+    whole = put_stopped(scene, 5, {1, 3})
+    (scene.folder / OUT / "notes.txt").write_bytes(b"mine")
+    same_outcome(scene.run(*RESUME, *DEPTH), 0, f"resumed {5 * BLOCK} frames 2 blocks were marked")
+    same_files(scene.files(), {**whole, "notes.txt": b"mine"})
+
+
+def told_where_to_go_on(scene: Scene) -> None:
+    """A render into a folder with an unfinished rendering is refused, and told of resume."""
+    put_stopped(scene, 5, {1, 3})
+    got = scene.run(*RENDER, *DEPTH)
+    same_outcome(got, 1, f"refused 20 at file {OUT}")
+    if b"adlcons resume" not in got.error:
+        raise Mismatch(f"standard error says {got.error!r}")
+
+
+def among_media(scene: Scene) -> None:
+    """A source that has the name of the rendered file isn't replaced."""
+    text, media = plain(2)
+    text, media = text.replace(b"A.wav", SOUND.encode()), {SOUND: media["A.wav"]}
+    scene.put(text, media)
+    (scene.folder / "link").symlink_to(MEDIA)
+    for name in (MEDIA, f"{OUT}/../{MEDIA}/", "link"):
+        got = scene.run("resume", LIST, MEDIA, name)
+        same_outcome(got, 1, f"refused 20 at file {name}")
+        if b"; it is the folder of the media; name the folder of the rendering" not in got.error:
+            raise Mismatch(f"standard error says {got.error!r}")
+        same_files(scene.files(MEDIA), media)
+
+
+def refused_list(scene: Scene) -> None:
+    """Faults of the list come before those of the marks, and change nothing."""
+    put_stopped(scene, 5, {1, 3})
+    files = with_byte(7, 0)(scene.files())
+    scene.put_out(files)
+    (scene.folder / LIST).write_bytes(b"no list")
+    same_outcome(scene.run(*RESUME, *DEPTH), 1, "refused 03 at line 1")
+    same_files(scene.files(), files)
+
+
+def bad_time(scene: Scene) -> None:
+    put_stopped(scene, 5, {1, 3})
+    files = scene.files()
+    got = scene.run(*RESUME, "--from", "1")
+    same("status and output", (got.status, got.output, got.error.splitlines()[0]), (2, b"", b"bad time: --from"))
+    same_files(scene.files(), files)
+
+
+def run(suite: Suite) -> None:
+    suite.case("kills of a rendering whose jobs are blocks", killed(Long(1, 24)))
+    suite.case("kills of a rendering whose jobs are several blocks", killed(Long(4, 200)))
+    suite.case("no marked block is read or written", half_done(12, {1, 2, 5, 11}))
+    suite.case("no marked block of a stretch is read or written", half_done(700, set(range(40, 350)) | {699}))
+    suite.case("a rendering that is done", done_already)
+    suite.case("another order", another_order)
+    suite.case("the same range", the_same_range)
+    suite.case("a list on standard input", from_standard_input)
+    for name, change in UNSTARTED.items():
+        suite.case(f"begun anew: {name}", not_started(change))
+    for name, (change, words, text) in OTHERS.items():
+        suite.case(f"another rendering: {name}", broken(67, ANOTHER, change, words, text))
+    for name, change in BROKEN.items():
+        suite.case(f"damaged: {name}", broken(68, DAMAGED, change))
+    suite.case("no folder", no_folder)
+    suite.case("links in the output", links)
+    suite.case("other files in the output", beside_others)
+    suite.case("where an unfinished rendering lies", told_where_to_go_on)
+    suite.case("an output among the media", among_media)
+    suite.case("a list that is refused", refused_list)
+    suite.case("a time that can't be read", bad_time)
