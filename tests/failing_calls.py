@@ -1,13 +1,15 @@
-"""Each system call on a file of a project fails once, and three times in a row: strace answers EIO in its place."""
+"""Each system call on a file of a project fails once, and three times in a row: strace answers EIO in its place. A
+rendering is killed at each, too, and gone on with."""
 
 import re
 import shutil
+import signal
 import subprocess
 from pathlib import Path
 from typing import NamedTuple
 
 import model
-from harness import LIST, MEDIA, OUT, Mismatch, Outcome, Scene, Skipped, Suite, same, same_files
+from harness import LIST, MEDIA, OUT, Mismatch, Outcome, Scene, Skipped, Suite, preloaded, same, same_files
 from tables import wave
 
 FRAMES = 9_000
@@ -76,10 +78,12 @@ def refusals_of(call: Call) -> set:
     if folder == MEDIA:
         # 52 names its file on standard error alone
         return {(52, ""), *((number, name) for name in ([file] if file else SOURCES) for number in (21, 22))}
-    return {(62, file)} if file else {(20, OUT), (62, "render.wav"), (62, "M00001.wav"), (62, "consolidated.adl")}
+    if file:
+        return {(62, file)}
+    return {(20, OUT), *((62, name) for name in ("render.wav", "render.marks", "M00001.wav", "consolidated.adl"))}
 
 
-def check_failed(got: Outcome, failed: list, times: int, written: dict, whole: tuple) -> None:
+def check_failed(got: Outcome, failed: list, times: int, written: dict, begun: dict, whole: tuple) -> None:
     """It is done all the same, with the same files, or refused for this file, with no list beside unfinished media."""
     if got.status == 0:
         same("what is printed", got.output, whole[0])
@@ -92,32 +96,89 @@ def check_failed(got: Outcome, failed: list, times: int, written: dict, whole: t
     wanted = set().union(*map(refusals_of, failed), {(66, "")} if times == 3 else set())
     if (number, name) not in wanted:
         raise Mismatch(f"refused {number} for {name!r}, where one of {sorted(wanted)} was expected")
-    if number in (20, 21, 52):
-        same("what stands in the output", sorted(written), [])
+    if number in (20, 21, 22, 52):
+        same_files(written, begun)
     if name != "consolidated.adl":
         same("whether a list is there", "consolidated.adl" in written, False)
 
 
-def each_call(command: str, times: int):
+def nothing(_: Scene) -> dict:
+    """A command begins with an empty output."""
+    return {}
+
+
+def stopped(scene: Scene) -> dict:
+    """The files of a rendering whose disk fails once its first block is marked."""
+    environment = preloaded(scene)
+    for writes in range(1, 100):
+        scene.run("render", LIST, MEDIA, OUT, env={**environment, "WRITE_FAILS": str(writes)})
+        files = scene.files()
+        scene.empty_out()
+        if b"\1" in files.get("render.marks", b"")[44:]:
+            return files
+    raise Mismatch("no block is ever marked")
+
+
+def injected(scene: Scene, command: str, call: Call, what: str, times: int = 1) -> Outcome:
+    """The command, with this in the place of the call and of those of its name behind it, so many in all."""
+    last = call.number + times - 1
+    return traced(scene, command, "-e", f"inject={call.name}:{what}:when={call.number}..{last}")
+
+
+def calls_of(scene: Scene, command: str) -> tuple:
+    """What an unbroken command prints and leaves, and its calls."""
+    if not shutil.which("strace"):
+        raise Skipped("strace isn't installed (Debian package strace)")
+    done = traced(scene, command)
+    same("the status of the unbroken command", done.status, 0)
+    calls = calls_in((scene.folder / "trace").read_text(), scene.folder)
+    if len(calls) < 20:
+        raise Mismatch(f"only {len(calls)} calls on files of the project: {calls}")
+    return (done.output, scene.files()), calls
+
+
+def expect_whole(scene: Scene, files: dict) -> None:
+    """What is left of a rendering is gone on with, now that nothing fails."""
+    same("the status once nothing fails", scene.run("resume", LIST, MEDIA, OUT).status, 0)
+    same_files(scene.files(), files)
+
+
+def each_call(command: str, times: int, before=nothing):
+    """It fails so often in a row; a rendering is gone on with then."""
     def body(scene: Scene) -> None:
-        if not shutil.which("strace"):
-            raise Skipped("strace isn't installed (Debian package strace)")
         put_project(scene)
-        done = traced(scene, command)
-        same("the status of the unbroken command", done.status, 0)
-        whole = (done.output, scene.files())
-        calls = calls_in((scene.folder / "trace").read_text(), scene.folder)
-        if len(calls) < 20:
-            raise Mismatch(f"only {len(calls)} calls on files of the project: {calls}")
+        begun = before(scene)
+        scene.put_out(begun)
+        whole, calls = calls_of(scene, command)
         for call in calls:
-            scene.empty_out()
-            last = call.number + times - 1
-            got = traced(scene, command, "-e", f"inject={call.name}:error=EIO:when={call.number}..{last}")
-            failed = [other for other in calls if other.name == call.name and call.number <= other.number <= last]
+            scene.put_out(begun)
+            got = injected(scene, command, call, "error=EIO", times)
+            behind = range(call.number, call.number + times)
+            failed = [other for other in calls if other.name == call.name and other.number in behind]
             try:
-                check_failed(got, failed, times, scene.files(), whole)
+                check_failed(got, failed, times, scene.files(), begun, whole)
+                if got.status and command != "consolidate":
+                    expect_whole(scene, whole[1])
             except Mismatch as fault:
                 raise Mismatch(f"{call.name} {call.number} on {call.file} failed: {fault}") from fault
+    return body
+
+
+def killed_at_each_call(command: str, before=nothing):
+    """A rendering that is killed there is gone on with."""
+    def body(scene: Scene) -> None:
+        put_project(scene)
+        begun = before(scene)
+        scene.put_out(begun)
+        whole, calls = calls_of(scene, command)
+        for call in calls:
+            scene.put_out(begun)
+            got = injected(scene, command, call, "signal=KILL")
+            try:
+                same("the status of a killed command", got.status, -signal.SIGKILL)
+                expect_whole(scene, whole[1])
+            except Mismatch as fault:
+                raise Mismatch(f"killed at {call.name} {call.number} on {call.file}: {fault}") from fault
     return body
 
 
@@ -125,3 +186,7 @@ def run(suite: Suite) -> None:
     for command in model.WRITING:
         suite.case(f"each call of {command} fails once", each_call(command, 1))
         suite.case(f"each call of {command} fails three times in a row", each_call(command, 3))
+    suite.case("each call of resume fails once", each_call("resume", 1, stopped))
+    suite.case("each call of resume fails three times in a row", each_call("resume", 3, stopped))
+    suite.case("render is killed at each call", killed_at_each_call("render"))
+    suite.case("resume is killed at each call", killed_at_each_call("resume", stopped))

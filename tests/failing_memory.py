@@ -10,22 +10,28 @@ from harness import TIMEOUT, Mismatch, Outcome, Scene, Skipped, Suite, preloaded
 from tables import data_chunk, format_chunk, riff_file, wave
 
 MIDNIGHT = b"00.00.00.00/0000"
+OPTIONS = model.Options(handle=0, depth=16)
 # The refusals for want of memory, of which a command meets those for what it makes: the text of a list and a file; the
 # pieces of its entries; a pass over them, the runs of kept frames and the new list, or a rendering; the jobs.
 MEMORY = {18, 31, 45, 47, 51, 54, 56, 57, 60, 63, 69}
 MET = {
     "check": {18, 31},
     "consolidate": {18, 31, 47, 51, 54, 56, 60},
-    "render": {18, 31, 47, 57, 60},
+    "render": {18, 31, 47, 57, 60, 69},
+    "resume": {18, 31, 47, 57, 60, 69},
 }
 # A device that has no memory for a name fails.
 DEVICES = {20: b" at file OUT", 22: b" at index 1 file A.wav", 52: b"", 62: b" at file "}
 REFUSED = re.compile(rb"refused (\d\d)([^\n]*)\n")
+# How a written file without CodingHistory begins, and a mono block of 16 bits.
+HEAD = 690
+BLOCK = 8_192
 # The tests of the libraries, as they are built, of which those of memory make something by events.
 TRIALS = Path(__file__).resolve().parent.parent / "crates/trials_faults/out/trials_faults_tests"
 BY_EVENTS = {
     "a_consolidation_by_events": {18, 31, 47, 51, 54, 56, 60, 62},
-    "a_rendering_by_events": {18, 31, 47, 57, 60, 62},
+    "a_rendering_by_events": {18, 31, 47, 57, 60, 62, 69},
+    "a_rendering_that_goes_on": {18, 31, 47, 57, 60, 62, 69},
 }
 
 
@@ -45,7 +51,22 @@ def three_blocks(scene: Scene) -> None:
     scene.put(model.list_text([model.source_line(1, "A.wav", MIDNIGHT)], [entry]), {"A.wav": wave(range(12_000))})
 
 
-def number_of(got: Outcome, written: dict, whole: tuple) -> int:
+def nothing(_: Scene) -> dict:
+    """A command begins with an empty output."""
+    return {}
+
+
+def half_done(scene: Scene) -> dict:
+    """The files of a rendering whose first block is marked, and whose others are still zero."""
+    scene.run(*words_of("render", OPTIONS))
+    files = scene.files()
+    sound, marks = bytearray(files["render.wav"]), bytearray(files["render.marks"])
+    sound[HEAD + BLOCK:] = bytes(len(sound) - HEAD - BLOCK)
+    marks[45:] = bytes(len(marks) - 45)
+    return {"render.wav": bytes(sound), "render.marks": bytes(marks)}
+
+
+def number_of(got: Outcome, written: dict, begun: dict, whole: tuple) -> int:
     """The number of the refusal, or 0 where it is done all the same; 2 where the words find no memory."""
     if got.status == 0:
         same("what is printed", got.output, whole[0])
@@ -62,28 +83,30 @@ def number_of(got: Outcome, written: dict, whole: tuple) -> int:
     elif number not in {2} | MEMORY:
         raise Mismatch(f"refused {number}{place.decode()}")
     if number != 62:
-        same("what stands in the output", sorted(written), [])
+        same_files(written, begun)
     elif place != b" at file consolidated.adl":
         same("whether a list is there", "consolidated.adl" in written, False)
     return number
 
 
-def each_allocation(command: str, put):
+def each_allocation(command: str, put, before=nothing):
     def body(scene: Scene) -> None:
         put(scene)
+        begun = before(scene)
+        scene.put_out(begun)
         log = scene.folder / "log"
-        words = words_of(command, model.Options(handle=0, depth=16))
+        words = [command, *words_of("render" if command == "resume" else command, OPTIONS)[1:]]
         done = scene.run(*words)
         same("the status of the unbroken command", done.status, 0)
         whole = (done.output, scene.files())
         environment = preloaded(scene, ALLOC_LOG=str(log))
         numbers = []
         for fails in count(1):
-            scene.empty_out()
+            scene.put_out(begun)
             log.unlink(missing_ok=True)
             got = scene.run(*words, env={**environment, "ALLOC_FAILS": str(fails)})
             try:
-                numbers.append(number_of(got, scene.files(), whole))
+                numbers.append(number_of(got, scene.files(), begun, whole))
             except Mismatch as fault:
                 raise Mismatch(f"allocation {fails} of {command} failed: {fault}") from fault
             if not log.exists():
@@ -118,5 +141,6 @@ def run(suite: Suite) -> None:
     suite.case("each allocation of check fails", each_allocation("check", fading))
     suite.case("each allocation of consolidate fails", each_allocation("consolidate", fading))
     suite.case("each allocation of render fails", each_allocation("render", three_blocks))
+    suite.case("each allocation of resume fails", each_allocation("resume", three_blocks, half_done))
     for name, met in BY_EVENTS.items():
         suite.case(f"each allocation of {name.replace('_', ' ')} fails", each_allocation_of_test(name, met))

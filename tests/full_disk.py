@@ -6,7 +6,7 @@ from contextlib import contextmanager
 from itertools import count
 
 import model
-from harness import OUT, Mismatch, Scene, Skipped, Suite, same, same_files, words_of
+from harness import LIST, MEDIA, OUT, Mismatch, Outcome, Scene, Skipped, Suite, same, same_files, words_of
 from tables import wave
 
 PAGE = 4_096
@@ -64,8 +64,25 @@ def check_full(got, written: dict) -> None:
         same("whether a list is there", "consolidated.adl" in written, False)
 
 
+def marked_in(files: dict) -> int:
+    """How many blocks are marked, where the marks are started."""
+    marks = files.get("render.marks", b"")
+    return marks[44:].count(1) if len(marks) >= 44 and marks[0] == 1 else 0
+
+
+def goes_on(scene: Scene, command: str, whole: Outcome) -> None:
+    """A rendering is gone on with from its marks, now that there is room; a consolidation is begun again."""
+    if command == "render":
+        line = f"resumed {FRAMES - 1} frames {marked_in(scene.files())} blocks were marked\n"
+        got = scene.run("resume", LIST, MEDIA, OUT, *EXACT.words("render"))
+        same("what is printed once there is room", (got.status, got.output), (0, line.encode()))
+    else:
+        scene.empty_out()
+        same("what is printed once there is room", scene.run(*words_of(command, EXACT)), whole)
+
+
 def each_size(command: str, measure: str):
-    """The command on each disk that is too small by this measure, and done again once there is room."""
+    """The command on each disk that is too small by this measure, and gone on with once there is room."""
     def body(scene: Scene) -> None:
         put_cuts(scene)
         words = words_of(command, EXACT)
@@ -79,8 +96,7 @@ def each_size(command: str, measure: str):
                 if got.status != 0:
                     check_full(got, scene.files())
                     make_room(scene)
-                    scene.empty_out()
-                    same("what is printed once there is room", scene.run(*words), whole)
+                    goes_on(scene, command, whole)
                 same_files(scene.files(), files)
             if got.status == 0:
                 break

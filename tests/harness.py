@@ -65,6 +65,12 @@ class Scene:
         for path in (self.folder / OUT).iterdir():
             path.unlink()
 
+    def put_out(self, files: dict) -> None:
+        """Leaves just these files in the output."""
+        self.empty_out()
+        for name, data in files.items():
+            (self.folder / OUT / name).write_bytes(data)
+
 
 def brief(value) -> str:
     text = repr(value)

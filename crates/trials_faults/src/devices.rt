@@ -1,8 +1,8 @@
 // Each call of the sources and of the output fails in turn: once, twice in a row, and three times.
-use crate::works::{CONSOLIDATED as TEXT, Call, Job, is_untouched};
+use crate::works::{CONSOLIDATED as TEXT, Call, Job};
 use adlread::read;
 use adlwrite::{WriteFault, write};
-use consolidate::{Fault, OutputFile};
+use consolidate::{Fault, MarksFault, OutputFile};
 use shelf::Bench;
 use std::process::Abort;
 use std::test::Fail;
@@ -33,6 +33,8 @@ impl Ended {
                 if source.number() == 1 && fault.number() == 22 => { Ended::Unread }
             Fault::Silence { name } if name.as_str() == "A.wav" => Ended::Unheard,
             Fault::Output(file) => Ended::Unwritten(*file),
+            Fault::Marks(MarksFault::Sound) => Ended::Unwritten(OutputFile::Rendering),
+            Fault::Marks(MarksFault::Marks) => Ended::Unwritten(OutputFile::Marks),
             Fault::GivenUp { job } => Ended::GivenUp(*job),
             _ => Ended::Otherwise(fault.number()),
         }
@@ -42,7 +44,7 @@ impl Ended {
     fn agrees(self, job: &Job, bench: &MemoryBench) -> bool {
         match self {
             Ended::Done => job.is_whole(bench),
-            Ended::Unread | Ended::Unheard => is_untouched(bench),
+            Ended::Unread | Ended::Unheard => job.is_untouched(bench),
             Ended::Unwritten(OutputFile::List) => true,
             _ => bench.bytes("consolidated.adl").is_none(),
         }
@@ -85,6 +87,8 @@ impl Part {
 
 const RENDERING: Part = Part::Write(OutputFile::Rendering);
 
+const MARKS: Part = Part::Write(OutputFile::Marks);
+
 const FIRST: Part = Part::Write(OutputFile::Medium(1));
 
 const SECOND: Part = Part::Write(OutputFile::Medium(2));
@@ -103,15 +107,66 @@ const RENDERED_FROM: [Part; 8] = [
     Part::Job(2),
 ];
 
-/// The calls of its output: the file is made and laid out, the blocks are written, and it is synced.
-const RENDERED: [Part; 7] = [
+/// The calls of its output: the file is made, laid out and synced, then its marks are, the gate of which is opened last.
+/// Each block is written and synced, and then marked; at the end both are synced.
+const RENDERED: [Part; 26] = [
     RENDERING,
     RENDERING,
     RENDERING,
+    RENDERING,
+    MARKS,
+    MARKS,
+    MARKS,
+    MARKS,
+    MARKS,
+    MARKS,
+    MARKS,
+    MARKS,
     Part::Job(0),
+    Part::Job(0),
+    MARKS,
+    MARKS,
+    Part::Job(1),
+    Part::Job(1),
+    MARKS,
+    MARKS,
+    Part::Job(2),
+    Part::Job(2),
+    MARKS,
+    MARKS,
+    RENDERING,
+    MARKS,
+];
+
+/// The calls of the sources where the rendering goes on behind its first block.
+const RESUMED_FROM: [Part; 7] = [
+    Part::Open,
+    Part::Open,
+    Part::Open,
+    Part::Open,
+    Part::Open,
     Part::Job(1),
     Part::Job(2),
+];
+
+/// The calls of its output: both files are asked for their lengths and synced, and the marks are read; then it goes on.
+const RESUMED: [Part; 16] = [
     RENDERING,
+    RENDERING,
+    MARKS,
+    MARKS,
+    MARKS,
+    MARKS,
+    Part::Job(1),
+    Part::Job(1),
+    MARKS,
+    MARKS,
+    Part::Job(2),
+    Part::Job(2),
+    MARKS,
+    MARKS,
+    RENDERING,
+    MARKS,
 ];
 
 /// The calls of the sources of the consolidation: both fades and what lies between them are asked for silence.
@@ -149,7 +204,7 @@ const CONSOLIDATED: [Part; 13] = [
 /// Does a job over sources of whose calls so many fail behind so many; tells how it ended, and how many failed.
 fn fail_sources(rt: &impl Abort, job: &Job, from: u64, times: u64) -> Result<(Ended, u64), Fail> {
     let mut shelf = job.shelf(from, times)?;
-    let mut bench = MemoryBench::new(job.alloc);
+    let mut bench = job.bench()?;
     let ended = Ended::of(&job.run(&mut shelf, &mut bench)?);
     assert!(rt; ended.agrees(job, &bench), "{from}, {times}");
     Ok((ended, shelf.failures()))
@@ -158,7 +213,7 @@ fn fail_sources(rt: &impl Abort, job: &Job, from: u64, times: u64) -> Result<(En
 /// The same of the calls of the output.
 fn fail_output(rt: &impl Abort, job: &Job, from: u64, times: u64) -> Result<(Ended, u64), Fail> {
     let mut shelf = job.shelf(0, 0)?;
-    let mut bench = MemoryBench::new(job.alloc).failing(from, times);
+    let mut bench = job.bench()?.failing(from, times);
     let ended = Ended::of(&job.run(&mut shelf, &mut bench)?);
     assert!(rt; ended.agrees(job, &bench), "{from}, {times}");
     Ok((ended, bench.failures()))
@@ -207,6 +262,15 @@ fn each_call_of_a_rendering_fails(rt: HostRuntime) -> Result<(), Fail> {
         for times in 1..4 {
             fail_each(&rt, &job, times, &RENDERED_FROM, &RENDERED)?;
         }
+    }
+    Ok(())
+}
+
+#[test]
+fn each_call_of_a_rendering_that_goes_on_fails(rt: HostRuntime) -> Result<(), Fail> {
+    let job = Job::half_done(rt.alloc())?;
+    for times in 1..4 {
+        fail_each(&rt, &job, times, &RESUMED_FROM, &RESUMED)?;
     }
     Ok(())
 }

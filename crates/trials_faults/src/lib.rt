@@ -1,4 +1,4 @@
-//! Tests of stores that fail at a chosen call, each call in turn, and of files that end early.
+//! Tests of stores that fail or stop at a chosen call, each call in turn, and of files that end early.
 #![tactic(auto)]
 
 #[cfg(test)]
@@ -7,5 +7,11 @@ mod devices;
 mod memory;
 #[cfg(test)]
 mod prefixes;
+#[cfg(test)]
+mod recorded;
+#[cfg(test)]
+mod resumed;
+#[cfg(test)]
+mod stops;
 #[cfg(test)]
 mod works;

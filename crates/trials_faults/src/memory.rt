@@ -1,15 +1,13 @@
 // Works that find memory for all, or else are refused. The tests of the built program run these again, with each
 // allocation failing in turn.
-use crate::works::{Call, Job, is_untouched};
-use std::alloc::Global;
+use crate::works::{Call, Job};
+use consolidate::Fault;
 use std::test::Fail;
-use stores::MemoryBench;
 
 /// Does a work: `None` where it is done, and else the number of its refusal, where nothing was written by then.
-fn refusal(alloc: Global, call: Call) -> Result<Option<u8>, Fail> {
-    let job = Job::new(alloc, call)?;
+fn refusal(job: &Job) -> Result<Option<u8>, Fail> {
     let mut shelf = job.shelf(0, 0)?;
-    let mut bench = MemoryBench::new(alloc);
+    let mut bench = job.bench()?;
     let Err(fault) = job.run(&mut shelf, &mut bench)? else {
         return if job.is_whole(&bench) {
             Ok(None)
@@ -19,7 +17,8 @@ fn refusal(alloc: Global, call: Call) -> Result<Option<u8>, Fail> {
     };
     let number = fault.number();
     // a worker's memory is taken as it comes, and the bench takes memory for what it is given
-    if is_untouched(&bench) || matches!(number, 60 | 62) {
+    let is_late = matches!(fault, Fault::WorkerMemory | Fault::Output(_));
+    if is_late || job.is_unchanged(bench)? {
         Ok(Some(number))
     } else {
         Err("something was written".into())
@@ -32,7 +31,7 @@ fn a_rendering_by_events(rt: HostRuntime) -> Result<(), Fail> {
         is_rendering: true,
         rounds: 5,
     };
-    if let Some(number) = refusal(rt.alloc(), call)? {
+    if let Some(number) = refusal(&Job::new(rt.alloc(), call)?)? {
         println!(rt; "refused {number}")?;
     }
     Ok(())
@@ -44,7 +43,15 @@ fn a_consolidation_by_events(rt: HostRuntime) -> Result<(), Fail> {
         is_rendering: false,
         rounds: 4,
     };
-    if let Some(number) = refusal(rt.alloc(), call)? {
+    if let Some(number) = refusal(&Job::new(rt.alloc(), call)?)? {
+        println!(rt; "refused {number}")?;
+    }
+    Ok(())
+}
+
+#[test]
+fn a_rendering_that_goes_on(rt: HostRuntime) -> Result<(), Fail> {
+    if let Some(number) = refusal(&Job::half_done(rt.alloc())?)? {
         println!(rt; "refused {number}")?;
     }
     Ok(())

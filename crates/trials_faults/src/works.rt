@@ -1,9 +1,13 @@
 // Works over files in memory, each call of the product that does one, and the files that it has to leave.
+ghost use Rattle.rendering.specs.Rendering.{HaveChannels};
+
+use crate::recorded::Recorded;
 use consolidate::{
-    BoardEvent, Depth, Fault, Options, Order, Work, consolidate, render, run_schedule,
+    BoardEvent, Depth, Fault, Options, Order, Progress, Resumed, Work, consolidate, render, resume,
+    run_schedule,
 };
 use passes::{DropSilent, JoinCuts, Pass, Regroup, SplitFades};
-use shelf::Unwatched;
+use shelf::{Bench, Shelf, Unwatched};
 use sound_terms::Bext;
 use std::alloc::{AllocError, Global};
 use std::test::Fail;
@@ -12,6 +16,13 @@ use wavwrite::{SoundInfo, header};
 
 /// The frames of a rendering of three blocks.
 pub(crate) const FRAMES: u64 = 12_000;
+
+/// The bytes of a block of 4,096 frames of one channel of 16 bits.
+pub(crate) const BLOCK: u64 = 8_192;
+
+pub(crate) const SOUND: &str = "render.wav";
+
+pub(crate) const MARKS: &str = "render.marks";
 
 /// A list with one entry, which plays all frames of `A.wav` where they stand, from midnight on.
 pub(crate) const THREE_BLOCKS: &[u8] = b"<ADL>
@@ -24,6 +35,24 @@ pub(crate) const THREE_BLOCKS: &[u8] = b"<ADL>
 </SOURCE_INDEX>
 <EVENT_LIST>
 (Entry) 1 (Cut) I 1 1 1 00.00.00.00/0000 00.00.00.00/0000 00.00.00.06/0480
+</EVENT_LIST>
+</ADL>
+";
+
+/// The frames of 200 blocks.
+const MANY_FRAMES: u64 = 819_200;
+
+/// A list with one entry, which plays as many frames so.
+const MANY_BLOCKS: &[u8] = b"<ADL>
+<SEQUENCE>
+(SEQ_SAMPLE_RATE) S48000
+(SEQ_FRAME_RATE) 25
+</SEQUENCE>
+<SOURCE_INDEX>
+(Index) 1 (F) \"URL:file://localhost/A.wav\" _ 00.00.00.00/0000 _
+</SOURCE_INDEX>
+<EVENT_LIST>
+(Entry) 1 (Cut) I 1 1 1 00.00.00.00/0000 00.00.00.00/0000 00.00.17.01/1280
 </EVENT_LIST>
 </ADL>
 ";
@@ -66,8 +95,8 @@ pub(crate) const CONSOLIDATED: &[u8] = b"<ADL>\r
 
 /// All files that these works write.
 const OUTPUTS: [&str; 6] = [
-    "render.wav",
-    "render.marks",
+    SOUND,
+    MARKS,
     "M00001.wav",
     "M00002.wav",
     "M00003.wav",
@@ -77,28 +106,26 @@ const OUTPUTS: [&str; 6] = [
 /// Four frames of two channels of which the second alone sounds.
 const LOUD: [u8; 16] = [0, 0, 100, 0, 0, 0, 100, 0, 0, 0, 100, 0, 0, 0, 100, 0];
 
-pub(crate) const OPTIONS: Options = Options {
-    from: None,
-    to: None,
-    channels: Some(1),
-    depth: Depth::Sixteen,
-    order: Order::ByTime,
-};
-
-/// The header of a file of 16 bits whose first frame stands at this time.
-fn head_at(alloc: Global, channels: u8, frames: u64, time: u64) -> Result<Vec<u8>, Fail> {
+/// The header of a file whose first frame stands at this time.
+fn head_of(
+    alloc: Global,
+    channels: u8,
+    depth: Depth,
+    frames: u64,
+    time: u64,
+) -> Result<Vec<u8>, Fail> {
     let bext = Bext {
         text: [0; 338],
         time_reference: time,
     };
     let texts = Vec::new(alloc);
-    let info = SoundInfo::new(channels, Depth::Sixteen, frames, bext, texts).ok_or("no info")?;
+    let info = SoundInfo::new(channels, depth, frames, bext, texts).ok_or("no info")?;
     Ok(header(alloc, &info)?)
 }
 
 /// The header of the three blocks.
 pub(crate) fn head(alloc: Global) -> Result<Vec<u8>, Fail> {
-    head_at(alloc, 1, FRAMES, 0)
+    head_of(alloc, 1, Depth::Sixteen, FRAMES, 0)
 }
 
 /// A file of three blocks whose samples all differ: what is rendered of the list over it, too.
@@ -110,9 +137,33 @@ pub(crate) fn three_blocks(alloc: Global) -> Result<Vec<u8>, Fail> {
     Ok(file)
 }
 
+/// The two bytes of a sample of 200 blocks. They come again after a prime number of samples.
+fn sample(place: u64) -> [u8; 2] {
+    ((place % 65_521) as u16).to_le_bytes()
+}
+
+/// A file of 200 blocks.
+fn many_blocks(alloc: Global) -> Result<Vec<u8>, Fail> {
+    let mut file = head_of(alloc, 1, Depth::Sixteen, MANY_FRAMES, 0)?;
+    for place in 0..MANY_FRAMES {
+        file.extend_from_slice(&sample(place))?;
+    }
+    Ok(file)
+}
+
+/// What is rendered of it: the first channel sounds.
+fn many_rendered(alloc: Global) -> Result<Vec<u8>, Fail> {
+    let mut file = head_of(alloc, 2, Depth::TwentyFour, MANY_FRAMES, 0)?;
+    for place in 0..MANY_FRAMES {
+        let [low, high] = sample(place);
+        file.extend_from_slice(&[0, low, high, 0, 0, 0])?;
+    }
+    Ok(file)
+}
+
 /// A file of 12 frames of two channels, whose middle is silent.
 fn silent_middle(alloc: Global) -> Result<Vec<u8>, Fail> {
-    let mut file = head_at(alloc, 2, 12, 0)?;
+    let mut file = head_of(alloc, 2, Depth::Sixteen, 12, 0)?;
     for frames in [LOUD, [0; 16], LOUD] {
         file.extend_from_slice(&frames)?;
     }
@@ -121,7 +172,7 @@ fn silent_middle(alloc: Global) -> Result<Vec<u8>, Fail> {
 
 /// The medium of its four frames from this one on.
 fn medium(alloc: Global, first: u64) -> Result<Vec<u8>, Fail> {
-    let mut file = head_at(alloc, 2, 4, first)?;
+    let mut file = head_of(alloc, 2, Depth::Sixteen, 4, first)?;
     file.extend_from_slice(&LOUD)?;
     Ok(file)
 }
@@ -152,6 +203,8 @@ fn rounds(alloc: Global, count: usize) -> Result<Vec<BoardEvent>, AllocError> {
 pub(crate) enum Call {
     Consolidate,
     Render,
+    /// Of a rendering that was stopped once its first block was marked.
+    Resume,
     /// By so many rounds of one worker.
     Schedule { is_rendering: bool, rounds: usize },
 }
@@ -160,40 +213,100 @@ impl Call {
     fn is_rendering(self) -> bool {
         match self {
             Call::Consolidate => false,
-            Call::Render => true,
+            Call::Render | Call::Resume => true,
             Call::Schedule { is_rendering, .. } => is_rendering,
         }
     }
 }
 
-/// A list over `A.wav`, a call that makes something of it, and the files that this leaves.
+/// Files by their names.
+type Files = Vec<(&'static str, Vec<u8>)>;
+
+/// A list over `A.wav`, a call that makes something of it, the files that are there before, and those that it leaves.
 #[derive(Drop)]
 pub(crate) struct Job {
     pub(crate) alloc: Global,
     call: Call,
     list: &'static [u8],
+    /// How many channels are rendered, two or one, and how deep.
+    is_wide: bool,
+    depth: Depth,
     source: Vec<u8>,
-    wanted: Vec<(&'static str, Vec<u8>)>,
+    /// How many frames the source has.
+    frames: u64,
+    before: Files,
+    wanted: Files,
 }
 
 impl Job {
     /// The rendering of three blocks, or the consolidation without handles of an entry with a silent middle.
     pub(crate) fn new(alloc: Global, call: Call) -> Result<Self, Fail> {
+        if !call.is_rendering() {
+            return Job::consolidation(alloc, call);
+        }
         let mut wanted = Vec::new(alloc);
-        let (list, source) = if call.is_rendering() {
-            wanted.push(("render.wav", three_blocks(alloc)?))?;
-            (THREE_BLOCKS, three_blocks(alloc)?)
-        } else {
-            wanted.push(("M00001.wav", medium(alloc, 0)?))?;
-            wanted.push(("M00002.wav", medium(alloc, 8)?))?;
-            wanted.push(("consolidated.adl", CONSOLIDATED.to_vec(alloc)?))?;
-            (SILENT_MIDDLE, silent_middle(alloc)?)
-        };
+        wanted.push((SOUND, three_blocks(alloc)?))?;
         Ok(Job {
             alloc,
             call,
-            list,
-            source,
+            list: THREE_BLOCKS,
+            is_wide: false,
+            depth: Depth::Sixteen,
+            source: three_blocks(alloc)?,
+            frames: FRAMES,
+            before: Vec::new(alloc),
+            wanted,
+        })
+    }
+
+    fn consolidation(alloc: Global, call: Call) -> Result<Self, Fail> {
+        let mut wanted = Vec::new(alloc);
+        wanted.push(("M00001.wav", medium(alloc, 0)?))?;
+        wanted.push(("M00002.wav", medium(alloc, 8)?))?;
+        wanted.push(("consolidated.adl", CONSOLIDATED.to_vec(alloc)?))?;
+        Ok(Job {
+            alloc,
+            call,
+            list: SILENT_MIDDLE,
+            is_wide: false,
+            depth: Depth::Sixteen,
+            source: silent_middle(alloc)?,
+            frames: 12,
+            before: Vec::new(alloc),
+            wanted,
+        })
+    }
+
+    /// The rendering of three blocks is gone on with, of which the first is marked: 12 calls make the files, and 4 write
+    /// and mark a block.
+    pub(crate) fn half_done(alloc: Global) -> Result<Self, Fail> {
+        let mut job = Job::new(alloc, Call::Resume)?;
+        let mut bench = MemoryBench::new(alloc).stop_at(16, 0);
+        let _ = job.run_by(Call::Render, &mut job.shelf(0, 0)?, &mut bench)?;
+        // it is so where memory is there
+        if marks_on(&bench) != [1, 0, 0].as_slice() {
+            Err(AllocError)?;
+        }
+        for name in [SOUND, MARKS] {
+            let bytes = bench.bytes(name).ok_or("no file")?;
+            job.before.push((name, bytes.to_vec(alloc)?))?;
+        }
+        Ok(job)
+    }
+
+    /// The rendering of 200 blocks of two channels of 24 bits, of which 170 make a job of 4 MiB.
+    pub(crate) fn of_many_blocks(alloc: Global) -> Result<Self, Fail> {
+        let mut wanted = Vec::new(alloc);
+        wanted.push((SOUND, many_rendered(alloc)?))?;
+        Ok(Job {
+            alloc,
+            call: Call::Render,
+            list: MANY_BLOCKS,
+            is_wide: true,
+            depth: Depth::TwentyFour,
+            source: many_blocks(alloc)?,
+            frames: MANY_FRAMES,
+            before: Vec::new(alloc),
             wanted,
         })
     }
@@ -204,47 +317,223 @@ impl Job {
         Ok(shelf.failing(from, count))
     }
 
-    /// Does it.
-    pub(crate) fn run(
+    /// The output with the files that are there before.
+    pub(crate) fn bench(&self) -> Result<MemoryBench, Fail> {
+        let mut bench = MemoryBench::new(self.alloc);
+        for (name, bytes) in &self.before {
+            put(&mut bench, name, bytes.as_slice())?;
+        }
+        Ok(bench.after_crash(0, 0)?)
+    }
+
+    /// The sources, which keep what is read of them.
+    pub(crate) fn recorded(&self) -> Result<Recorded, Fail> {
+        let samples = self.frames.saturating_mul(2);
+        let head = (self.source.len() as u64).saturating_sub(samples);
+        Ok(Recorded::new(self.shelf(0, 0)?, head))
+    }
+
+    /// Between which bytes of samples a rendering reads that has so many of its blocks; `None` where it has all.
+    pub(crate) fn range_behind(&self, marked: u64) -> Option<(u64, u64)> {
+        let first = marked.saturating_mul(BLOCK);
+        let behind = self.frames.saturating_mul(2);
+        if first < behind {
+            Some((first, behind))
+        } else {
+            None
+        }
+    }
+
+    /// The same work at another depth.
+    pub(crate) fn at_depth(mut self, depth: Depth) -> Self {
+        self.depth = depth;
+        self
+    }
+
+    /// All that sounds.
+    fn options(&self) -> Options
+        ensures { HaveChannels result }
+    {
+        Options {
+            from: None,
+            to: None,
+            channels: Some(if self.is_wide { 2 } else { 1 }),
+            depth: self.depth,
+            order: Order::ByTime,
+        }
+    }
+
+    fn render<S: Shelf>(&self, shelf: &mut S, bench: &mut MemoryBench) -> Result<(), Fault> {
+        match render(
+            self.alloc,
+            self.list,
+            &self.options(),
+            shelf,
+            bench,
+            &mut Unwatched,
+        ) {
+            Ok(_) => Ok(()),
+            Err(fault) => Err(fault),
+        }
+    }
+
+    /// Goes on with it.
+    pub(crate) fn resume<S: Shelf>(
         &self,
-        shelf: &mut MemoryShelf,
+        shelf: &mut S,
+        bench: &mut MemoryBench,
+    ) -> Result<Resumed, Fault> {
+        resume(
+            self.alloc,
+            self.list,
+            &self.options(),
+            shelf,
+            bench,
+            &mut Unwatched,
+        )
+    }
+
+    fn consolidate<S: Shelf>(
+        &self,
+        passes: Vec<Box<dyn Pass>>,
+        shelf: &mut S,
+        bench: &mut MemoryBench,
+    ) -> Result<(), Fault> {
+        let mut watch = Unwatched;
+        match consolidate(self.alloc, self.list, 0, passes, shelf, bench, &mut watch) {
+            Ok(_) => Ok(()),
+            Err(fault) => Err(fault),
+        }
+    }
+
+    /// Renders by these events.
+    pub(crate) fn render_by<S: Shelf>(
+        &self,
+        events: &[BoardEvent],
+        shelf: &mut S,
+        bench: &mut MemoryBench,
+    ) -> Result<Progress, Fault> {
+        let options = self.options();
+        let work = Work::Rendering { options };
+        run_schedule(self.alloc, work, self.list, events, shelf, bench)
+    }
+
+    fn consolidate_by<S: Shelf>(
+        &self,
+        events: &[BoardEvent],
+        passes: Vec<Box<dyn Pass>>,
+        shelf: &mut S,
+        bench: &mut MemoryBench,
+    ) -> Result<Progress, Fault> {
+        let work = Work::Consolidation { handle: 0, passes };
+        run_schedule(self.alloc, work, self.list, events, shelf, bench)
+    }
+
+    /// Does it.
+    pub(crate) fn run<S: Shelf>(
+        &self,
+        shelf: &mut S,
         bench: &mut MemoryBench,
     ) -> Result<Result<(), Fault>, AllocError> {
-        let alloc = self.alloc;
-        let mut watch = Unwatched;
-        let done = match self.call {
-            Call::Render => {
-                render(alloc, self.list, &OPTIONS, shelf, bench, &mut watch).map(|_| ())
-            }
+        self.run_by(self.call, shelf, bench)
+    }
+
+    /// Does it by a call.
+    pub(crate) fn run_by<S: Shelf>(
+        &self,
+        call: Call,
+        shelf: &mut S,
+        bench: &mut MemoryBench,
+    ) -> Result<Result<(), Fault>, AllocError> {
+        match call {
+            Call::Render => Ok(self.render(shelf, bench)),
+            Call::Resume => Ok(self.resume(shelf, bench).map(|_| ())),
             Call::Consolidate => {
-                let passes = standard(alloc)?;
-                consolidate(alloc, self.list, 0, passes, shelf, bench, &mut watch).map(|_| ())
+                let passes = standard(self.alloc)?;
+                Ok(self.consolidate(passes, shelf, bench))
             }
             Call::Schedule {
-                is_rendering,
+                is_rendering: true,
                 rounds: count,
             } => {
-                let events = rounds(alloc, count)?;
-                let work = if is_rendering {
-                    Work::Rendering { options: OPTIONS }
-                } else {
-                    let passes = standard(alloc)?;
-                    Work::Consolidation { handle: 0, passes }
-                };
-                let events = events.as_slice();
-                run_schedule(alloc, work, self.list, events, shelf, bench).map(|_| ())
+                let events = rounds(self.alloc, count)?;
+                Ok(self.render_by(events.as_slice(), shelf, bench).map(|_| ()))
             }
-        };
-        Ok(done)
+            Call::Schedule { rounds: count, .. } => {
+                let events = rounds(self.alloc, count)?;
+                let passes = standard(self.alloc)?;
+                let done = self.consolidate_by(events.as_slice(), passes, shelf, bench);
+                Ok(done.map(|_| ()))
+            }
+        }
     }
 
     /// Whether the files are there that it has to leave.
     pub(crate) fn is_whole(&self, bench: &MemoryBench) -> bool {
         self.wanted.iter().all(|(name, bytes)| bench.bytes(name) == Some(bytes.as_slice()))
     }
+
+    /// Whether each of its blocks is marked.
+    pub(crate) fn is_marked(&self, bench: &MemoryBench) -> bool {
+        let blocks = marks_on(bench);
+        blocks.len() as u64 == self.frames.div_ceil(4_096) && blocks.iter().all(|block| *block == 1)
+    }
+
+    /// Whether the files are as they were before.
+    fn are_as_before(&self, bench: &MemoryBench) -> bool {
+        OUTPUTS
+            .iter()
+            .all(|name| bench.bytes(name) == bytes_in(&self.before, name))
+    }
+
+    /// Whether nothing was done to the disk.
+    pub(crate) fn is_untouched(&self, bench: &MemoryBench) -> bool {
+        bench.calls() == 0 && self.are_as_before(bench)
+    }
+
+    /// Whether the files are as they were before, also once a crash has spoilt all that isn't on the disk yet.
+    pub(crate) fn is_unchanged(&self, bench: MemoryBench) -> Result<bool, AllocError> {
+        Ok(self.are_as_before(&bench) && self.are_as_before(&bench.after_crash(0, 7)?))
+    }
 }
 
-/// Whether no file was made, nor anything else done to the disk.
-pub(crate) fn is_untouched(bench: &MemoryBench) -> bool {
-    bench.calls() == 0 && OUTPUTS.iter().all(|name| bench.bytes(name).is_none())
+/// The bytes of the file of a name.
+fn bytes_in<'a>(files: &'a Files, name: &str) -> Option<&'a [u8]> {
+    let (_, bytes) = files.iter().find(|(other, _)| *other == name)?;
+    Some(bytes.as_slice())
+}
+
+/// Puts a file on the disk. Want of memory is the only error.
+fn put(bench: &mut MemoryBench, name: &str, bytes: &[u8]) -> Result<(), AllocError> {
+    if bench.create(name).is_err()
+        || bench.append(name, bytes).is_err()
+        || bench.sync(name).is_err()
+    {
+        return Err(AllocError);
+    }
+    Ok(())
+}
+
+/// The output with the files of a rendering, where they are there.
+pub(crate) fn bench_of(
+    alloc: Global,
+    sound: Option<&[u8]>,
+    marks: Option<&[u8]>,
+) -> Result<MemoryBench, Fail> {
+    let mut bench = MemoryBench::new(alloc);
+    if let Some(bytes) = sound {
+        put(&mut bench, SOUND, bytes)?;
+    }
+    if let Some(bytes) = marks {
+        put(&mut bench, MARKS, bytes)?;
+    }
+    Ok(bench)
+}
+
+/// The marks of the blocks, one a byte.
+pub(crate) fn marks_on(bench: &MemoryBench) -> &[u8] {
+    match bench.bytes(MARKS) {
+        Some(marks) => marks.get(44..).unwrap_or(&[]),
+        None => &[],
+    }
 }

@@ -25,8 +25,9 @@ const OPTIONS: Options = Options {
 };
 
 /// All files that these works write.
-const OUTPUTS: [&str; 5] = [
+const OUTPUTS: [&str; 6] = [
     "render.wav",
+    "render.marks",
     "M00001.wav",
     "M00002.wav",
     "M00003.wav",
@@ -329,5 +330,5 @@ fn any_schedule_that_ends_gives_the_same_file(rt: HostRuntime) -> Result<(), Fai
 #[test]
 fn devices_that_fail_leave_right_files(rt: HostRuntime) -> Result<(), Fail> {
     let alloc = rt.alloc();
-    assert_right_files(&rt, alloc, &Project::rendering(alloc)?, 17, 20)
+    assert_right_files(&rt, alloc, &Project::rendering(alloc)?, 17, 40)
 }
