@@ -39,12 +39,12 @@ def whole_range(text: bytes, media: dict, options: model.Options) -> model.Optio
 
 
 def rendered_by(scene: Scene, options: model.Options) -> bytes:
-    """The rendered file alone: its marks are those of its list."""
+    """The rendered file alone, since its marks are those of its list; nothing where the range is empty."""
     scene.empty_out()
     scene.run(*words_of("render", options))
     files = scene.files()
     scene.empty_out()
-    return files["render.wav"]
+    return files.get("render.wav", b"")
 
 
 def consolidated_again(scene: Scene, text: bytes, media: dict, options: model.Options) -> None:
