@@ -287,9 +287,29 @@ def columns(scene: Scene) -> None:
         (with_line_after(10, b"(Gain) 0.00 _ -3.00"), 11, b"-3.00"),
         (with_line_after(10, b" (Mute) 1"), 11, b"(Mute)"),
         (system(b"(SYS_GAIN) 1.0"), 3, b"1.0"),
+        (system(b"  <SEQUENCE>"), 3, b"<SEQUENCE>"),
+        (system(b'(SYS_SRC_OFFSET) _ "open'), 3, b'"open'),
+        (changed(3, b"(SEQ_SAMPLE_RATE)  S44100 _"), 3, b"S44100"),
+        (changed(3, b"(SEQ_SAMPLE_RATE) \t"), 3, None),
+        (changed(7, SOURCE.replace(b"(Index) 0001", b"(Index) +1")), 7, b"+1"),
+        (changed(7, SOURCE.replace(b"(F)", b"F")), 7, b"F"),
+        (changed(7, b"(Index) 1 "), 7, None),
+        (changed(10, ENTRY.replace(b"I 0001", b"I 0000001")), 10, b"0000001"),
+        (changed(10, ENTRY.replace(b" 1 1 ", b" 1~2~3 1~2 ")), 10, b"1~2~3"),
+        (changed(9, b" <EVENTS"), 9, b"<EVENTS"),
+        (with_line_after(9, b"\t(Gain) 0"), 10, b"(Gain)"),
+        (with_line_after(10, b"(Gain) 0 0.- 0"), 11, b"0.-"),
+        (with_line_after(10, b"(Infade) _ LIN\n (Infade) _ LIN"), 12, b"(Infade)"),
+        (with_line_after(8, b"<PAN>\n  all of 1\n</PAN>"), 10, b"all"),
+        (with_line_after(5, b"  <SEQUENCE>"), 6, b"<SEQUENCE>"),
+        (b"<ADL>\n  </ADL>", 2, b"</ADL>"),
+        (without(4), 11, b"</ADL>"),
+        (b"\n".join(LINES[:-1]), 11, b"</EVENT_LIST>"),
+        (b"\xef\xbb\xbf ADL\n", 1, b"ADL"),
+        (b"", 1, None),
     ):
         scene.put(text, MEDIA)
-        whole = text.split(b"\n")[line - 1]
+        whole = text.removeprefix(b"\xef\xbb\xbf").split(b"\n")[line - 1]
         wanted = f"; the line ends at column {len(whole) + 1};"
         if at is not None:
             shown = at.decode().replace("\x01", "%01")

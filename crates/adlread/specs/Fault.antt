@@ -1,6 +1,7 @@
 -- The refusal that each fault of a list tells.
 use Rattle.std.specs.Prelude.{◌≡◌, ℕ, false, Option, None, Some, Result, Ok, Err, ⊤}
 use Rattle.work_terms.specs.Refusals.{Refusal, Nowhere}
+use Rattle.adltoken.specs.declared.tokens.Span.{Span}
 use Rattle.list_terms.specs.declared.Location.{Location}
 use Rattle.list_terms.specs.declared.Location.TheVariants as location
 use Rattle.list_terms.specs.declared.TextFault.{TextFault}
@@ -11,7 +12,7 @@ use Rattle.adlread.specs.declared.fault.LineFault.{LineFault}
 use Rattle.adlread.specs.declared.fault.LineFault.TheVariants as line
 
 abbrev pub refusal : AdlFault → Refusal
-refusal (Text fault location) = text_refusal (record { fault = fault; location = location })
+refusal (Text fault location stood) = text_refusal (record { fault = fault; location = location })
 refusal Memory = record { number = 18; place = Nowhere; late = false }
 
 abbrev pub line_of_location : Location → ℕ
@@ -31,21 +32,21 @@ index_of_location (location.Index line index) = Some index
 
 -- the line that is at fault; 0 where there was no memory
 abbrev pub line_of : AdlFault → ℕ
-line_of (Text fault location) = line_of_location location
+line_of (Text fault location stood) = line_of_location location
 line_of Memory = 0
 
 abbrev pub entry_of : AdlFault → Option ℕ
-entry_of (Text fault location) = entry_of_location location
+entry_of (Text fault location stood) = entry_of_location location
 entry_of Memory = None
 
 abbrev pub index_of : AdlFault → Option ℕ
-index_of (Text fault location) = index_of_location location
+index_of (Text fault location stood) = index_of_location location
 index_of Memory = None
 
 -- what a list says so far, or its fault and where it stands; out of memory may come in place of either
 abbrev pub Reads : {X V : Type 0} → (X → V) → Result X AdlFault → Result V LocatedFault → Type 0
 Reads view (Ok x) reading = reading ≡ Ok (view x)
-Reads view (Err (Text fault location)) reading = reading ≡ Err (record { fault = fault; location = location })
+Reads view (Err (Text fault location stood)) reading = reading ≡ Err (record { fault = fault; location = location })
 Reads view (Err Memory) reading = ⊤
 
 -- what a line says, or its fault; out of memory may come in place of either
@@ -54,7 +55,7 @@ Says view (Ok x) reading = reading ≡ Ok (view x)
 Says view (Err (line.Text fault)) reading = reading ≡ Err fault
 Says view (Err line.Memory) reading = ⊤
 
--- the fault of a line, at this place
-abbrev pub located : Location → LineFault → AdlFault
-located location (line.Text fault) = Text fault location
-located location line.Memory = Memory
+-- the fault of a line, at this place, where this stood
+abbrev pub located : Location → Span → LineFault → AdlFault
+located location stood (line.Text fault) = Text fault location stood
+located location stood line.Memory = Memory

@@ -3,11 +3,12 @@ ghost use Rattle.std.specs.Prelude.{◌≡◌, ◌&&◌, IfOk, IsTrue, Ok, is_so
 ghost use Rattle.sampletime.specs.FrameRate.{frames_per_second};
 ghost use Rattle.list_terms.specs.Text as text;
 ghost use Rattle.list_terms.specs.Text.{nothing_read};
+ghost use Rattle.list_terms.specs.Tokens.{trimmed};
 ghost use Rattle.adlread.specs.Fault.{Reads};
 ghost use Rattle.adlread.specs.Context.{context_of};
 ghost use Rattle.adlread.specs.SoFar.{IsSoFar};
 
-use crate::fault::{AdlFault, located};
+use crate::fault::{AdlFault, at_line, first_in, located};
 use crate::fields::{end_line, is_keyword, number_field};
 use crate::header::{HeaderSoFar, is_tag};
 use crate::sections::{EventList, SourceIndex};
@@ -72,8 +73,8 @@ impl<'a> Draft<'a> {
         ensures { Reads (λ _. context_of self.new) result (text.with_line (frames_per_second rate) (context_of self.old) number line.now) }
     {
         match self.stage {
-            Stage::Before => self.before_list(trimmed(line), number),
-            Stage::Outside => self.outside(alloc, trimmed(line), number),
+            Stage::Before => self.before_list(line, number),
+            Stage::Outside => self.outside(alloc, line, number),
             Stage::Inside(section) => {
                 if is_end(self.name, trimmed(line)) {
                     self.stage = Stage::Outside;
@@ -89,44 +90,52 @@ impl<'a> Draft<'a> {
     /// Reads a line before the list: a blank one, or `<ADL>`.
     #[tactic(auto, unfolding(list_terms::specs::Text::before_list))]
     fn before_list(&mut self, line: &[u8], number: u64) -> Result<(), AdlFault>
-        ensures { Reads (λ _. context_of self.new) result (text.before_list (context_of self.old) number line.now) }
+        ensures { Reads (λ _. context_of self.new) result (text.before_list (context_of self.old) number (trimmed line.now)) }
     {
-        if line.is_empty() {
+        let tag = trimmed(line);
+        if tag.is_empty() {
             return Ok(());
         }
-        if is_list_begin(line) {
+        if is_list_begin(tag) {
             self.stage = Stage::Outside;
             return Ok(());
         }
-        Err(at_line(TextFault::SectionMismatch, number))
+        Err(at_line(TextFault::SectionMismatch, number, first_in(line)))
     }
 
     /// Reads a line between sections: a blank one, `</ADL>`, or one that opens a section.
     #[tactic(auto, unfolding(list_terms::specs::Text::outside))]
     fn outside(&mut self, alloc: Global, line: &'a [u8], number: u64) -> Result<(), AdlFault>
-        ensures { Reads (λ _. context_of self.new) result (text.outside (context_of self.old) number line.now) }
+        ensures { Reads (λ _. context_of self.new) result (text.outside (context_of self.old) number (trimmed line.now)) }
     {
-        if line.is_empty() {
+        let tag = trimmed(line);
+        if tag.is_empty() {
             return Ok(());
         }
-        if is_end(b"ADL", line) {
+        if is_end(b"ADL", tag) {
             self.stage = Stage::Behind;
             return Ok(());
         }
-        match opened_name(line) {
-            Some(name) => self.open(alloc, name, number),
-            None => Err(at_line(TextFault::SectionMismatch, number)),
+        match opened_name(tag) {
+            Some(name) => self.open(alloc, name, line, number),
+            None => Err(at_line(TextFault::SectionMismatch, number, first_in(line))),
         }
     }
 
-    /// Opens the section of this name.
+    /// Opens the section of this name, which this line says.
     #[tactic(auto, unfolding(list_terms::specs::Text::opened))]
-    fn open(&mut self, alloc: Global, name: &'a [u8], number: u64) -> Result<(), AdlFault>
+    fn open(
+        &mut self,
+        alloc: Global,
+        name: &'a [u8],
+        line: &[u8],
+        number: u64,
+    ) -> Result<(), AdlFault>
         ensures { Reads (λ _. context_of self.new) result (text.opened (context_of self.old) number name.now) }
     {
         let section = section_of(name);
         if self.is_opened(section) {
-            return Err(at_line(TextFault::RepeatedSection, number));
+            return Err(at_line(TextFault::RepeatedSection, number, first_in(line)));
         }
         self.begin(alloc, section, number)?;
         self.stage = Stage::Inside(section);
@@ -216,9 +225,10 @@ impl<'a> Draft<'a> {
         ensures { Reads (λ _. context_of self.new) result
             (text.in_header (frames_per_second rate) (context_of self.old) number line.now section) }
     {
-        match self.header.keep(alloc, section, line, rate) {
+        let mut tokens = Tokens::new(line);
+        match self.header.keep(alloc, section, &mut tokens, rate) {
             Ok(()) => Ok(()),
-            Err(fault) => Err(fault.at(Location::Line { line: number })),
+            Err(fault) => Err(fault.at(Location::Line { line: number }, tokens.stood())),
         }
     }
 
@@ -235,10 +245,11 @@ impl<'a> Draft<'a> {
             (text.in_source_index (frames_per_second rate) (context_of self.old) number line.now) }
     {
         if is_tag(line) {
-            return Err(at_line(TextFault::SectionMismatch, number));
+            return Err(at_line(TextFault::SectionMismatch, number, first_in(line)));
         }
+        let location = Location::Line { line: number };
         let mut tokens = Tokens::new(line);
-        let Some(token) = located(tokens.next_token(), Location::Line { line: number })? else {
+        let Some(token) = located(tokens.next_token(), location, tokens.stood())? else {
             return Ok(());
         };
         if is_keyword(b"Index", &token) {
@@ -260,13 +271,18 @@ impl<'a> Draft<'a> {
         ensures { Reads (λ _. context_of self.new) result
             (text.index_line (frames_per_second rate) (context_of self.old) line tokens.old.rest.now) }
     {
-        let number = located(number_field(tokens), Location::Line { line })?;
+        let number = located(
+            number_field(tokens),
+            Location::Line { line },
+            tokens.stood(),
+        )?;
+        let location = Location::Index {
+            line,
+            index: number,
+        };
         match self.index.add(alloc, number, tokens, rate) {
             Ok(()) => Ok(()),
-            Err(fault) => Err(fault.at(Location::Index {
-                line,
-                index: number,
-            })),
+            Err(fault) => Err(fault.at(location, tokens.stood())),
         }
     }
 
@@ -276,7 +292,7 @@ impl<'a> Draft<'a> {
         ensures { Reads (λ _. context_of self.new) result
             (text.dropped_line (context_of self.old) line tokens.old.rest.now) }
     {
-        located(end_line(tokens), Location::Line { line })?;
+        located(end_line(tokens), Location::Line { line }, tokens.stood())?;
         self.note(2, line)
     }
 
@@ -287,17 +303,18 @@ impl<'a> Draft<'a> {
             (text.in_event_list (frames_per_second rate) (context_of self.old) number line.now) }
     {
         if is_tag(line) {
-            return Err(at_line(TextFault::SectionMismatch, number));
+            return Err(at_line(TextFault::SectionMismatch, number, first_in(line)));
         }
         let location = location_in(number, self.events.entry);
         let mut tokens = Tokens::new(line);
-        let Some(token) = located(tokens.next_token(), location)? else {
+        let Some(token) = located(tokens.next_token(), location, tokens.stood())? else {
             return Ok(());
         };
         if is_keyword(b"Entry", &token) {
             self.entry_line(&mut tokens, number, rate)
         } else {
-            located(self.events.add_further(&token, &mut tokens, rate), location)
+            let said = self.events.add_further(&token, &mut tokens, rate);
+            located(said, location, tokens.stood())
         }
     }
 
@@ -307,42 +324,47 @@ impl<'a> Draft<'a> {
         ensures { Reads (λ _. context_of self.new) result
             (text.entry_line (frames_per_second rate) (context_of self.old) line tokens.old.rest.now) }
     {
-        let number = located(number_field(tokens), Location::Line { line })?;
+        let number = located(
+            number_field(tokens),
+            Location::Line { line },
+            tokens.stood(),
+        )?;
+        let location = Location::Entry {
+            line,
+            entry: number,
+        };
         match self.events.add(number, tokens, rate) {
             Ok(()) => Ok(()),
-            Err(fault) => Err(fault.at(Location::Entry {
-                line,
-                entry: number,
-            })),
+            Err(fault) => Err(fault.at(location, tokens.stood())),
         }
     }
 
     /// The project, behind `</ADL>`: three sections have to be there, and both rates.
     #[tactic(auto, unfolding(list_terms::specs::Text::finished))]
-    pub fn finish(self, line: u64, rate: Rate) -> Result<Project, AdlFault>
+    pub fn finish(self, line: &[u8], number: u64, rate: Rate) -> Result<Project, AdlFault>
         requires { IsSoFar (frames_per_second rate) (context_of self) }
-        ensures { Reads (λ project. project) result (text.finished (frames_per_second rate) (context_of self.entry) line) }
+        ensures { Reads (λ project. project) result (text.finished (frames_per_second rate) (context_of self.entry) number) }
     {
         if !self.has_sections() {
-            return Err(at_line(TextFault::MissingSection, line));
+            return Err(at_line(TextFault::MissingSection, number, first_in(line)));
         }
         let rates = self.header.rates;
         if !(rates.sample_rate && rates.frame_rate) {
-            return Err(at_line(TextFault::MissingSequence, line));
+            return Err(at_line(TextFault::MissingSequence, number, first_in(line)));
         }
         self.project(rate)
     }
 
     /// What a list lacks that ends at this line: a section, or a rate.
-    pub fn missing(&self, line: u64) -> Option<AdlFault> {
+    pub fn missing(&self, line: &[u8], number: u64) -> Option<AdlFault> {
         if !self.has_sections() {
-            return Some(at_line(TextFault::MissingSection, line));
+            return Some(at_line(TextFault::MissingSection, number, first_in(line)));
         }
         let rates = self.header.rates;
         if rates.sample_rate && rates.frame_rate {
             None
         } else {
-            Some(at_line(TextFault::MissingSequence, line))
+            Some(at_line(TextFault::MissingSequence, number, first_in(line)))
         }
     }
 
@@ -388,7 +410,7 @@ fn in_unsupported(line: &[u8], number: u64) -> Result<(), AdlFault>
     if trimmed(line).is_empty() {
         Ok(())
     } else {
-        Err(at_line(TextFault::Unsupported, number))
+        Err(at_line(TextFault::Unsupported, number, first_in(line)))
     }
 }
 
@@ -402,15 +424,5 @@ fn location_in(line: u64, entry: Option<OpenEntry>) -> Location
             entry: entry.event.number,
         },
         None => Location::Line { line },
-    }
-}
-
-/// A fault at a line.
-fn at_line(fault: TextFault, line: u64) -> AdlFault
-    ensures { result ≡ AdlFault.Text fault (Location.Line line) }
-{
-    AdlFault::Text {
-        fault,
-        location: Location::Line { line },
     }
 }

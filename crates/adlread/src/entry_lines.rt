@@ -231,22 +231,21 @@ pub fn remark(token: &Token<'_>, tokens: &mut Tokens<'_>) -> Result<(), TextFaul
 
 /// Which rates SEQUENCE told, with what one more line says. Lines that tell none aren't interpreted.
 #[tactic(auto, unfolding(list_terms::specs::EntryLines::sequence_line, list_terms::specs::Forms::reads_line, list_terms::specs::Forms::reads, list_terms::specs::Fields::end_line))]
-pub fn sequence_line(rates: Rates, line: &[u8], rate: Rate) -> Result<Rates, TextFault>
-    ensures { result ≡ spec.sequence_line (frames_per_second rate) rates line.now }
+pub fn sequence_line(rates: Rates, tokens: &mut Tokens<'_>, rate: Rate) -> Result<Rates, TextFault>
+    ensures { result ≡ spec.sequence_line (frames_per_second rate) rates tokens.old.rest.now }
 {
-    let mut tokens = Tokens::new(line);
     let Some(token) = tokens.next_token()? else {
         return Ok(rates);
     };
     let mut rates = rates;
     if is_keyword(b"SEQ_SAMPLE_RATE", &token) {
-        sample_rate_field(&mut tokens)?;
+        sample_rate_field(tokens)?;
         rates.sample_rate = true;
     } else if is_keyword(b"SEQ_FRAME_RATE", &token) {
-        frame_rate_field(&mut tokens, rate)?;
+        frame_rate_field(tokens, rate)?;
         rates.frame_rate = true;
     }
-    end_line(&mut tokens)?;
+    end_line(tokens)?;
     Ok(rates)
 }
 
@@ -291,19 +290,18 @@ fn tells_rate(text: &[u8], rate: Rate) -> bool
 
 /// Reads a line of SYSTEM: no offset of the sources and no gain may be told. Other lines aren't interpreted.
 #[tactic(auto, unfolding(list_terms::specs::EntryLines::system_line, list_terms::specs::Forms::reads_line, list_terms::specs::Forms::reads, list_terms::specs::Fields::end_line))]
-pub fn system_line(line: &[u8], rate: Rate) -> Result<(), TextFault>
-    ensures { ok_map (λ _. tt) result ≡ spec.system_line (frames_per_second rate) line.now }
+pub fn system_line(tokens: &mut Tokens<'_>, rate: Rate) -> Result<(), TextFault>
+    ensures { ok_map (λ _. tt) result ≡ spec.system_line (frames_per_second rate) tokens.old.rest.now }
 {
-    let mut tokens = Tokens::new(line);
     let Some(token) = tokens.next_token()? else {
         return Ok(());
     };
     if is_keyword(b"SYS_SRC_OFFSET", &token) {
-        offset_setting(&mut tokens, rate)
+        offset_setting(tokens, rate)
     } else if is_keyword(b"SYS_GAIN", &token) {
-        gain_setting(&mut tokens)
+        gain_setting(tokens)
     } else {
-        end_line(&mut tokens)
+        end_line(tokens)
     }
 }
 

@@ -1,11 +1,13 @@
 // Why a list isn't read.
-ghost use Rattle.std.specs.Prelude.{◌≡◌, Ok, Err, MatchResult};
+ghost use Rattle.std.specs.Prelude.{◌≡◌, ◌≤◌, ◌+◌, Ok, Err, MatchResult, length};
 ghost use Rattle.list_terms.specs.Text as text;
+ghost use Rattle.list_terms.specs.declared.Location.TheVariants as location;
 ghost use Rattle.adlread.specs.Fault.{entry_of, index_of, line_of, refusal};
 ghost use Rattle.adlread.specs.Fault as spec;
 ghost use Rattle.adlread.specs.declared.fault.AdlFault.TheVariants.{Text, Memory};
 ghost use Rattle.adlread.specs.declared.fault.LineFault.TheVariants as line;
 
+use adltoken::{Span, Tokens};
 use list_terms::{Location, TextFault};
 use std::alloc::{AllocError, AllocFailed};
 use thiserror::Error;
@@ -13,11 +15,14 @@ use thiserror::Error;
 /// Why the text of a list isn't read as a project.
 #[derive(Clone, Copy, Debug, PartialEq, Eq, Error)]
 pub enum AdlFault {
-    /// 1 to 17: what is wrong with the text, and where.
+    /// 1 to 17: what is wrong with the text, at which line, and what stood there in the line: the token that the fault
+    /// is about, the first one where it is about the whole line, all that follows where no token can be cut, or nothing
+    /// at the line's end where a token is missing. A byte order mark in front of the list is no part of its first line.
     #[error("the text of the list is at fault")]
     Text {
         fault: TextFault,
         location: Location,
+        stood: Span,
     },
     /// 18: there was no memory.
     #[error("out of memory")]
@@ -113,25 +118,55 @@ pub enum LineFault {
 }
 
 impl LineFault {
-    /// The fault, at this place.
-    pub fn at(self, location: Location) -> AdlFault
-        ensures { result ≡ spec.located location self }
+    /// The fault, at this place, where this stood.
+    pub fn at(self, location: Location, stood: Span) -> AdlFault
+        ensures { result ≡ spec.located location stood self }
     {
         match self {
-            LineFault::Text(fault) => AdlFault::Text { fault, location },
+            LineFault::Text(fault) => AdlFault::Text {
+                fault,
+                location,
+                stood,
+            },
             LineFault::Memory => AdlFault::Memory,
         }
     }
 }
 
-/// What a line says, with the place of its fault.
-pub fn located<T>(said: Result<T, TextFault>, location: Location) -> Result<T, AdlFault>
-    ensures { MatchResult said (λ x. result ≡ Ok x) (λ fault. result ≡ Err (Text fault location)) }
+/// What a line says, with the place of its fault, where this stood.
+pub fn located<T>(
+    said: Result<T, TextFault>,
+    location: Location,
+    stood: Span,
+) -> Result<T, AdlFault>
+    ensures { MatchResult said (λ x. result ≡ Ok x) (λ fault. result ≡ Err (Text fault location stood)) }
 {
     match said {
         Ok(value) => Ok(value),
-        Err(fault) => Err(AdlFault::Text { fault, location }),
+        Err(fault) => Err(AdlFault::Text {
+            fault,
+            location,
+            stood,
+        }),
     }
+}
+
+/// A fault at the line of this number, where this stood.
+pub fn at_line(fault: TextFault, number: u64, stood: Span) -> AdlFault
+    ensures { result ≡ Text fault (location.Line number) stood }
+{
+    AdlFault::Text {
+        fault,
+        location: Location::Line { line: number },
+        stood,
+    }
+}
+
+/// What stands first in a line.
+pub fn first_in(line: &[u8]) -> Span
+    ensures inside { result.at + result.length ≤ length line.now }
+{
+    Tokens::new(line).stood()
 }
 
 impl From<TextFault> for LineFault {

@@ -2,7 +2,7 @@
 ghost use Rattle.std.specs.Prelude.{◌≡◌};
 
 use crate::draft::Draft;
-use crate::fault::AdlFault;
+use crate::fault::{AdlFault, at_line, first_in};
 use crate::fields::is_keyword;
 use crate::header::is_tag;
 use crate::outline::{Outline, UNTOLD, rate_of};
@@ -19,6 +19,8 @@ use std::alloc::{AllocError, Global};
 pub struct Faults<'a> {
     draft: Draft<'a>,
     lines: Lines<'a>,
+    /// The line that was read last.
+    last: &'a [u8],
     rate: Rate,
     /// The rate of frames behind the first fault.
     further_rate: Rate,
@@ -33,6 +35,7 @@ impl<'a> Faults<'a> {
         Ok(Faults {
             draft: Draft::new(alloc)?,
             lines: Lines::new(text),
+            last: &[],
             rate: rate_of(text),
             further_rate: rate_beside_faults(text),
             is_in_faulty_entry: false,
@@ -46,18 +49,15 @@ impl<'a> Faults<'a> {
             return None;
         }
         'lines: while let Some(line) = self.lines.next_line() {
+            self.last = line;
             let fault = self.fault_of(alloc, line);
             if fault.is_some() || self.is_over {
                 return self.told(fault, line);
             }
         }
         self.is_over = true;
-        Some(AdlFault::Text {
-            fault: TextFault::SectionMismatch,
-            location: Location::Line {
-                line: self.lines.number().max(1),
-            },
-        })
+        let number = self.lines.number().max(1);
+        Some(at_line(TextFault::SectionMismatch, number, first_in(self.last)))
     }
 
     /// Reads a line, unless it belongs to an entry at fault. With `</ADL>` the list is over, and what it lacks is told.
@@ -77,7 +77,7 @@ impl<'a> Faults<'a> {
             return None;
         }
         self.is_over = true;
-        self.draft.missing(number)
+        self.draft.missing(line, number)
     }
 
     /// A fault that this line has, if it has one. What stands behind it can be told where it is a fault of a line of its
@@ -114,7 +114,12 @@ fn rate_beside_faults(text: &[u8]) -> Rate {
 
 /// Whether what stands behind the line at fault can be told without that line.
 fn is_of_its_own(fault: AdlFault) -> bool {
-    let AdlFault::Text { fault, location } = fault else {
+    let AdlFault::Text {
+        fault,
+        location,
+        ..
+    } = fault
+    else {
         return false;
     };
     match location {

@@ -10,7 +10,7 @@ ghost use Rattle.adlread.specs.HeaderSoFar.{header_so_far};
 use crate::entry_lines::{sequence_line, system_line};
 use crate::fault::LineFault;
 use adlmodel::{Header, KeptLines};
-use adltoken::{TextFault, skip_blanks};
+use adltoken::{TextFault, Tokens, skip_blanks};
 use list_terms::{Rates, Section};
 use sampletime::Rate;
 use std::alloc::{AllocError, Global};
@@ -47,22 +47,24 @@ impl HeaderSoFar {
         }
     }
 
-    /// Keeps a line of this section, where it says nothing that isn't supported.
+    /// Keeps the line of these tokens in this section, where it says nothing that isn't supported.
     #[tactic(auto, unfolding(list_terms::specs::Text::kept_line))]
     pub fn keep(
         &mut self,
         alloc: Global,
         section: Section,
-        line: &[u8],
+        tokens: &mut Tokens<'_>,
         rate: Rate,
     ) -> Result<(), LineFault>
         ensures { Says (λ _. header_so_far self.new) result
-            (kept_line (header_so_far self.old) section line.now (rates_with (frames_per_second rate) section self.old.rates line.now)) }
+            (kept_line (header_so_far self.old) section tokens.old.rest.now
+            (rates_with (frames_per_second rate) section self.old.rates tokens.old.rest.now)) }
     {
         if self.kept >= MOST_LINES {
             return Err(LineFault::Text(TextFault::TooMany));
         }
-        let rates = rates_with(section, self.rates, line, rate)?;
+        let line = tokens.rest;
+        let rates = rates_with(section, self.rates, tokens, rate)?;
         keep_line(alloc, section, line, &mut self.lines)?;
         self.kept += 1;
         self.rates = rates;
@@ -70,23 +72,28 @@ impl HeaderSoFar {
     }
 }
 
-/// The rates that the header told, with a line of this section.
-fn rates_with(section: Section, rates: Rates, line: &[u8], rate: Rate) -> Result<Rates, TextFault>
-    ensures { result ≡ text.rates_with (frames_per_second rate) section rates line.now }
+/// The rates that the header told, with the line of these tokens in this section.
+fn rates_with(
+    section: Section,
+    rates: Rates,
+    tokens: &mut Tokens<'_>,
+    rate: Rate,
+) -> Result<Rates, TextFault>
+    ensures { result ≡ text.rates_with (frames_per_second rate) section rates tokens.old.rest.now }
 {
     match section {
         Section::System => {
-            if is_tag(line) {
+            if is_tag(tokens.rest) {
                 return Err(TextFault::SectionMismatch);
             }
-            system_line(line, rate)?;
+            system_line(tokens, rate)?;
             Ok(rates)
         }
         Section::Sequence => {
-            if is_tag(line) {
+            if is_tag(tokens.rest) {
                 return Err(TextFault::SectionMismatch);
             }
-            sequence_line(rates, line, rate)
+            sequence_line(rates, tokens, rate)
         }
         _ => Ok(rates),
     }

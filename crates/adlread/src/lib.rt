@@ -28,10 +28,12 @@ mod taken;
 
 pub use adlmodel::Project;
 use adltoken::Lines;
+pub use adltoken::Span;
 use draft::Draft;
 pub use fault::AdlFault;
+use fault::{at_line, first_in};
 pub use faults::Faults;
-use list_terms::{Location, TextFault};
+use list_terms::TextFault;
 pub use outline::rate_of;
 use sampletime::Rate;
 use std::alloc::Global;
@@ -58,16 +60,17 @@ fn read_lines(alloc: Global, text: &[u8], rate: Rate) -> Result<Project, AdlFaul
 {
     let mut draft = Draft::new(alloc)?;
     let mut lines = Lines::new(text);
+    let mut last: &[u8] = &[];
     'lines: while let Some(line) = lines.next_line() {
         draft.add(alloc, line, lines.number(), rate)?;
         if draft.is_behind() {
-            return draft.finish(lines.number(), rate);
+            return draft.finish(line, lines.number(), rate);
         }
+        last = line;
     }
-    Err(AdlFault::Text {
-        fault: TextFault::SectionMismatch,
-        location: Location::Line {
-            line: lines.number().max(1),
-        },
-    })
+    Err(at_line(
+        TextFault::SectionMismatch,
+        lines.number().max(1),
+        first_in(last),
+    ))
 }

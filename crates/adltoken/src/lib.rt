@@ -13,4 +13,4 @@ pub use blanks::{is_blank, skip_blanks, trimmed};
 pub use lines::Lines;
 pub use list_terms::{TextFault, TokenKind};
 pub use names::{behind_byte, is_same_name, length_before, starts_in_any_case};
-pub use tokens::{Token, Tokens};
+pub use tokens::{Span, Token, Tokens};

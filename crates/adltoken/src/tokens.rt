@@ -1,6 +1,7 @@
 // The tokens of a line, one after another.
 ghost use Rattle.std.specs.Prelude.{◌≡◌, ◌≤◌, ◌<◌, ◌+◌, ◌^◌, ◌++◌, ℕ, List, IfOk, IfSome, Some, length, option_map};
 ghost use Rattle.std.specs.List.{prefix_len};
+ghost use Rattle.std.proofs.Props.{props};
 ghost use Rattle.list_terms.specs.Steps.{ok_map};
 ghost use Rattle.list_terms.specs.Tokens as spec;
 ghost use Rattle.list_terms.specs.Tokens.{token_text};
@@ -19,21 +20,22 @@ pub struct Token<'a> {
     pub at: usize,
 }
 
-impl Token<'_> {
-    /// The place of its first byte in the line, and its length.
-    pub fn span(&self) -> (usize, usize)
-        ensures { result ≡ (self.now.at, length self.now.text.now) }
-    {
-        (self.at, self.text.len())
-    }
+/// Where a part of a line stands: how many bytes of the line stand before it, and its length in bytes.
+#[derive(Clone, Copy, Debug, PartialEq, Eq)]
+pub struct Span {
+    pub at: usize,
+    pub length: usize,
 }
 
-/// What is left of a line, and how many of its bytes were cut off.
+/// What is left of a line, how many of its bytes were cut off, and where the token stands that was asked for last, if
+/// one was.
 #[derive(Drop)]
 pub struct Tokens<'a> {
     pub rest: &'a [u8],
     pub at: usize,
+    pub last: Option<Span>,
     ghost fits: { at + length rest.now < 2 ^ 64 },
+    ghost inside: { IfSome last (λ span. span.at + span.length ≤ at + length rest.now) } by { Prim.hlevel props },
 }
 
 impl<'a> Tokens<'a> {
@@ -42,7 +44,23 @@ impl<'a> Tokens<'a> {
         ensures rest { result.rest.now ≡ line.now }
         ensures at { result.at ≡ 0 }
     {
-        Tokens { rest: line, at: 0 }
+        Tokens {
+            rest: line,
+            at: 0,
+            last: None,
+        }
+    }
+
+    /// Where the reader of the line stands: the token that was asked for last, or the first one where none was. Where
+    /// none can be cut there, it is all that is left, and where the line ends, nothing at its end.
+    pub fn stood(&self) -> Span
+        ensures last { IfSome self.now.last (λ span. result ≡ span) }
+        ensures inside { result.at + result.length ≤ self.now.at + length self.now.rest.now }
+    {
+        match self.last {
+            Some(span) => span,
+            None => span_of_first(self.rest, self.at),
+        }
     }
 
     /// The next token; `None` where only spaces and tabs are left. Nothing is cut off where there is none or a fault.
@@ -55,16 +73,25 @@ impl<'a> Tokens<'a> {
         ensures whole { IfOk result (λ next. IfSome next (λ token. token.text.now ≡ token_text (token_view token))) }
         ensures place { IfOk result (λ next. IfSome next (λ token.
             (token.at + length token.text.now ≡ self.new.at)
-            × (self.new.at + length self.new.rest.now ≡ self.old.at + length self.old.rest.now))) }
+            × (self.new.last ≡ Some (record { at = token.at; length = length token.text.now })))) }
+        ensures line { self.new.at + length self.new.rest.now ≡ self.old.at + length self.old.rest.now }
     {
         let line = skip_blanks(self.rest);
+        let at = self.at + (self.rest.len() - line.len());
+        self.last = Some(Span {
+            at,
+            length: line.len(),
+        });
         let Some(cut) = first_token(line)? else {
             return Ok(None);
         };
-        let at = self.at + (self.rest.len() - line.len());
         let text = without_end(line, cut.rest);
         self.rest = cut.rest;
         self.at = at + text.len();
+        self.last = Some(Span {
+            at,
+            length: text.len(),
+        });
         Ok(Some(Token {
             kind: cut.kind,
             content: cut.content,
@@ -72,6 +99,21 @@ impl<'a> Tokens<'a> {
             at,
         }))
     }
+}
+
+/// Where the first token of this part of a line stands, behind so many bytes: all of it but the blanks in front where
+/// none can be cut, nothing at its end where there is none.
+fn span_of_first(rest: &[u8], before: usize) -> Span
+    requires { before + length rest.now < 2 ^ 64 }
+    ensures inside { result.at + result.length ≤ before + length rest.now }
+{
+    let line = skip_blanks(rest);
+    let at = before + (rest.len() - line.len());
+    let length = match first_token(line) {
+        Ok(Some(cut)) => line.len() - cut.rest.len(),
+        Ok(None) | Err(_) => line.len(),
+    };
+    Span { at, length }
 }
 
 /// The line without what follows its first token.

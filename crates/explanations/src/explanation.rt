@@ -1,5 +1,5 @@
 // What is told of a refusal beside its line: what its number means there, what was found, and what to do.
-use crate::column::{Stood, stood_in};
+use crate::column::{Stood, stood_at};
 use crate::hints::hint_at;
 use crate::meanings::{Meaning, Spot, meaning_at};
 use crate::names::PrintedName;
@@ -207,7 +207,16 @@ struct LineAtFault<'a> {
 
 /// The line at which the fault stands.
 fn line_at_fault<'a>(fault: &Fault, list: &'a [u8]) -> Option<LineAtFault<'a>> {
-    let Fault::Project(opening::Fault::List(AdlFault::Text { fault, location })) = fault else {
+    let Fault::Project(
+        opening::Fault::List(
+            AdlFault::Text {
+                fault,
+                location,
+                stood,
+            },
+        ),
+    ) = fault
+    else {
         return None;
     };
     let number = match *location {
@@ -217,7 +226,7 @@ fn line_at_fault<'a>(fault: &Fault, list: &'a [u8]) -> Option<LineAtFault<'a>> {
     };
     let line = line_of(list, number)?;
     let rate = rate_of(list);
-    let stood = stood_in(line, *fault, rate);
+    let stood = stood_at(line, *stood);
     let passed = if *fault == TextFault::BadTime && passes(stood.text, rate) {
         Some(rate)
     } else {
@@ -270,8 +279,9 @@ fn is_left(reason: Reason) -> bool {
     reason.has_file && reason.error.kind() != ErrorKind::NotFound
 }
 
-/// The line of this number, counted from 1, without its end.
+/// The line of this number, counted from 1, without its end. A byte order mark in front of the list is no part of it.
 fn line_of(list: &[u8], number: u64) -> Option<&[u8]> {
+    let list = list.strip_prefix(b"\xEF\xBB\xBF").unwrap_or(list);
     let place = usize::try_from(number.checked_sub(1)?).ok()?;
     let line = list.split(|byte| *byte == b'\n').nth(place)?;
     Some(line.strip_suffix(b"\r").unwrap_or(line))

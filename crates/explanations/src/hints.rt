@@ -1,8 +1,18 @@
 // What else helps at a fault of the text, by what stands there.
-use crate::column::{LineKind, kind_of_line};
-use adltoken::starts_in_any_case;
+use adltoken::{Tokens, starts_in_any_case};
 use list_terms::TextFault;
 use percent_encoding::percent_decode;
+
+/// What a line says, by its keyword.
+#[derive(Clone, Copy, Debug, PartialEq, Eq)]
+enum LineKind {
+    Index,
+    Entry,
+    Fade,
+    Gain,
+    Setting,
+    Other,
+}
 
 /// What else helps where a list has this fault at this text of this line.
 pub fn hint_at(fault: TextFault, stood: &[u8], line: &[u8], list: &[u8]) -> Option<&'static str> {
@@ -25,6 +35,33 @@ fn form_read(kind: LineKind) -> Option<&'static str> {
         LineKind::Gain => Some("of gains only zero is read"),
         LineKind::Setting => Some("only zero is read there"),
         LineKind::Other => None,
+    }
+}
+
+/// What a line says, by its first token.
+fn kind_of_line(line: &[u8]) -> LineKind {
+    match Tokens::new(line).next_token() {
+        Ok(Some(token)) => kind_of(token.content),
+        _ => LineKind::Other,
+    }
+}
+
+/// What a line of this keyword says.
+fn kind_of(keyword: &[u8]) -> LineKind {
+    if keyword.eq_ignore_ascii_case(b"Index") {
+        LineKind::Index
+    } else if keyword.eq_ignore_ascii_case(b"Entry") {
+        LineKind::Entry
+    } else if keyword.eq_ignore_ascii_case(b"Infade") || keyword.eq_ignore_ascii_case(b"Outfade") {
+        LineKind::Fade
+    } else if keyword.eq_ignore_ascii_case(b"Gain") {
+        LineKind::Gain
+    } else if keyword.eq_ignore_ascii_case(b"SYS_GAIN")
+        || keyword.eq_ignore_ascii_case(b"SYS_SRC_OFFSET")
+    {
+        LineKind::Setting
+    } else {
+        LineKind::Other
     }
 }
 

@@ -39,7 +39,7 @@ gives_from_reads :
     (result : Result ListProject AdlFault) (reading : Result ListProject LocatedFault) → Reads (λ p. p) result reading
     → Gives (λ p. p) refusal (λ r. r.number) result (err_map text_refusal reading)
 gives_from_reads (Ok project) reading h = ap (err_map text_refusal) h
-gives_from_reads (Err (Text fault location)) reading h =
+gives_from_reads (Err (Text fault location stood)) reading h =
     rw not_excused (ap (err_map text_refusal) h)
 gives_from_reads (Err Memory) reading h = tt
 
@@ -72,7 +72,7 @@ faulty_from_reads :
     → ⊥)
 unfolding text_value
 faulty_from_reads text (Ok project) h = tt
-faulty_from_reads text (Err (Text fault location)) h = λ _ project spells.
+faulty_from_reads text (Err (Text fault location stood)) h = λ _ project spells.
     let value = value_of text project spells in
     let fault : ◌≡◌ {A = Result ListProject Refusal}
     (Err (text_refusal (record { fault = fault; location = location }))) (Ok project) =
