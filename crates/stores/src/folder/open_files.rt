@@ -52,6 +52,8 @@ where
     handles: LruCache<String, Handle<R::File>>,
     /// How each source was when it was first opened.
     first_states: BTreeMap<String, State>,
+    /// How long each output is that was synced since it was last written to.
+    synced: BTreeMap<String, u64>,
     /// The open folder of outputs, for its syncs. It is a handle in reserve too, for the first output.
     open_folder: Option<R::File>,
     /// Files were created since the folder was synced.
@@ -82,6 +84,7 @@ where
             access,
             handles: LruCache::new(alloc, NonZeroUsize::new(OPEN_FILES).unwrap())?,
             first_states: BTreeMap::new(alloc),
+            synced: BTreeMap::new(alloc),
             open_folder,
             has_new_names: false,
             is_made: false,
@@ -112,6 +115,7 @@ where
     pub fn write_at(&mut self, name: &str, at: u64, bytes: &[u8]) -> io::Result<()>
         ensures no_name { is_file_name name.now ≡ false → IsErr result }
     {
+        self.synced.remove(name);
         let outcome = self.handle_there(name)?.write_at(at, bytes);
         self.closed_if_failed(name, outcome)
     }
@@ -120,6 +124,7 @@ where
     pub fn append(&mut self, name: &str, bytes: &[u8]) -> io::Result<()>
         ensures no_name { is_file_name name.now ≡ false → IsErr result }
     {
+        self.synced.remove(name);
         let outcome = self.handle_there(name)?.append(bytes);
         self.closed_if_failed(name, outcome)
     }
@@ -129,18 +134,30 @@ where
     pub fn sync(&mut self, name: &str) -> io::Result<()>
         ensures no_name { is_file_name name.now ≡ false → IsErr result }
     {
-        let handle = self.handle_there(name)?;
-        let length = handle.length();
-        let outcome = handle.sync();
+        require_file_name(name)?;
+        let synced = match self.synced.get(name) {
+            Some(length) => Ok(*length),
+            None => self.sync_bytes(name),
+        };
         self.handles.pop(name);
         self.hold_folder();
-        outcome?;
+        let length = synced?;
         if self.has_new_names {
             // A crash can take away a file that was synced, while its folder wasn't.
             self.sync_folder()?;
             self.has_new_names = false;
         }
         self.require_whole(name, length)
+    }
+
+    /// Waits until the file's bytes are on the disk. Tells how many they are.
+    fn sync_bytes(&mut self, name: &str) -> io::Result<u64>
+        requires { IsTrue (is_file_name name.now) }
+    {
+        let handle = self.handle_there(name)?;
+        let length = handle.length();
+        handle.sync()?;
+        Ok(length)
     }
 
     /// Fails where the name isn't that of a file of this length.
@@ -178,6 +195,7 @@ where
         ensures no_name { is_file_name name.now ≡ false → IsErr result }
     {
         require_file_name(name)?;
+        self.synced.remove(name);
         self.handles.pop(name);
         self.has_new_names = true;
         self.is_made = false;
@@ -224,13 +242,23 @@ where
     /// Closes the file that wasn't used for the longest time, or else the folder. It is false where none is open.
     fn close_one(&mut self) -> io::Result<bool> {
         match self.handles.pop_lru() {
-            Some((_, handle)) if self.access != Access::Read => {
-                handle.sync()?;
+            Some((name, handle)) if self.access != Access::Read => {
+                self.sync_closed(name, &handle)?;
                 Ok(true)
             }
             Some(_) => Ok(true),
             None => Ok(self.open_folder.take().is_some()),
         }
+    }
+
+    /// Waits until the bytes of a file that is closed are on the disk, so that its own sync needn't open it again. Where
+    /// no memory is left for that, it is synced again.
+    fn sync_closed(&mut self, name: String, handle: &Handle<R::File>) -> io::Result<()> {
+        if !self.synced.contains_key(&name) {
+            handle.sync()?;
+            let _ = self.synced.insert(name, handle.length());
+        }
+        Ok(())
     }
 
     /// The open file of the name. It fails where no file has the name.
