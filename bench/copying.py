@@ -33,8 +33,8 @@ def sox_cutting(source: Path, target: Path) -> list:
     return ["sox", source, target, "trim", "0", f"{CUT_FRAMES}s", ":", "newfile", ":", "restart"]
 
 
-def thousand_cuts(bench: Bench) -> tuple:
-    """One source of 100 MB in 1,000 media, each of which leaves out a frame; and the seconds that a sync takes."""
+def thousand_jobs(bench: Bench) -> dict:
+    """One source of 100 MB in 1,000 media, each of which leaves out a frame."""
     block = block_of(CUT_FRAMES, 1, 16)
     source = bench.media() / "A.wav"
     make_sound(source, block, CUTS)
@@ -42,12 +42,17 @@ def thousand_cuts(bench: Bench) -> tuple:
         Cut(CUT_FRAMES * place, CUT_FRAMES * place, CUT_FRAMES - 1) for place in range(CUTS)))
     look = look_at_media({medium(number): (block[:-2], 1) for number in range(1, CUTS + 1)})
     words = bench.words("consolidate", text, "--handle", "0")
-    costs = bench.costs_of({
+    return {
         "cp": copy_of(source, bench.out() / "copy.wav"),
         "sox": Job(sox_cutting(source, bench.out() / "S.wav")),
         "synced": Job(words, look),
         "unsynced": Job([*bench.unsynced, *words], look),
-    })
+    }
+
+
+def thousand_cuts(bench: Bench) -> tuple:
+    """What these jobs cost; and the seconds that a sync takes."""
+    costs = bench.costs_of(thousand_jobs(bench))
     price = costs["synced"].seconds / costs["unsynced"].seconds
     peers = costs["cp"], costs["sox"]
     each = (costs["synced"].seconds - costs["unsynced"].seconds) / (2 * CUTS)
@@ -59,36 +64,46 @@ def thousand_cuts(bench: Bench) -> tuple:
     ]
 
 
-def half_hour(bench: Bench) -> list:
+def half_hour_jobs(bench: Bench) -> dict:
     """One medium of 30 minutes, stereo, 24 bits: some 500 MB."""
     block = block_of(SECOND, 2, 24)
     source = bench.media() / "A.wav"
     make_sound(source, block, SECONDS, 2, 24)
     text = bench.put(list_text([Cut(0, 0, SECOND * SECONDS)], channels="1~2"))
-    costs = bench.costs_of({
+    return {
         "cp": copy_of(source, bench.out() / "copy.wav"),
         "consolidate": Job(bench.words("consolidate", text), look_at_media({medium(1): (block, SECONDS)})),
-    })
+    }
+
+
+def half_hour(bench: Bench) -> list:
+    costs = bench.costs_of(half_hour_jobs(bench))
     return [
         line("`consolidate`: 30 minutes, stereo, 24 bits", costs["consolidate"], (costs["cp"], None)),
         line("`cp` of the source", costs["cp"], (None, None)),
     ]
 
 
+# As many entries as there may be.
+KINDS = {
+    "that join to one": [Cut(4 * place, 4 * place, 4) for place in range(MANY)],
+    "that never join": [Cut(4 * place, 5 * place, 4) for place in range(MANY)],
+    "on one moment": [Cut(4 * place, 0, 4) for place in range(MANY)],
+    "with fades": [Cut(4 * place, 5 * place, 4, 1, 1) for place in range(MANY)],
+}
+
+
+def make_short_sound(bench: Bench) -> None:
+    """What these entries play."""
+    make_sound(bench.media() / "A.wav", block_of(4 * MANY, 1, 16), 1)
+
+
 def many_entries(bench: Bench, sync_seconds: float) -> list:
-    """As many entries as there may be: that join to one, lie apart, lie on one moment, or make as many media; and the
-    memory of each entry beyond a list of one."""
-    frames = 4 * MANY
-    block = block_of(frames, 1, 16)
-    make_sound(bench.media() / "A.wav", block, 1)
-    kinds = {
-        "that join to one": [Cut(4 * place, 4 * place, 4) for place in range(MANY)],
-        "that never join": [Cut(4 * place, 5 * place, 4) for place in range(MANY)],
-        "on one moment": [Cut(4 * place, 0, 4) for place in range(MANY)],
-        "with fades": [Cut(4 * place, 5 * place, 4, 1, 1) for place in range(MANY)],
-    }
+    """Entries that join to one, lie apart, lie on one moment, or make as many media; and the memory of each beyond a
+    list of one."""
+    make_short_sound(bench)
     least = cost_over(bench, [Cut(0, 0, 4)]).kilobytes
-    lines = [entries_line(kind, cost_over(bench, cuts), least) for kind, cuts in kinds.items()]
+    lines = [entries_line(kind, cost_over(bench, cuts), least) for kind, cuts in KINDS.items()]
     return lines + many_media(bench, least, sync_seconds)
 
 
@@ -101,10 +116,13 @@ def silent_entries(bench: Bench) -> str:
     return line("`consolidate`: 32,767 entries over ten minutes of zeros", cost, (None, None))
 
 
+def job_over(bench: Bench, cuts: list) -> Job:
+    """A consolidation of these cuts to one medium."""
+    return Job(bench.words("consolidate", bench.put(list_text(cuts)), "--handle", "48000"), look_at_count(1))
+
+
 def cost_over(bench: Bench, cuts: list):
-    """The cost of a consolidation of these cuts to one medium."""
-    words = bench.words("consolidate", bench.put(list_text(cuts)), "--handle", "48000")
-    return bench.costs_of({"one": Job(words, look_at_count(1))})["one"]
+    return bench.costs_of({"one": job_over(bench, cuts)})["one"]
 
 
 def entries_line(kind: str, cost, least: int) -> str:
@@ -112,20 +130,24 @@ def entries_line(kind: str, cost, least: int) -> str:
     return line(f"`consolidate`: 32,767 entries {kind}, {each} bytes each", cost, (None, None))
 
 
-def many_media(bench: Bench, least: int, sync_seconds: float) -> list:
-    """Each entry in a medium of its own. It runs once, with syncs not at all where these take too long."""
+def media_job(bench: Bench) -> Job:
+    """Each entry in a medium of its own."""
     text = bench.put(list_text(Cut(4 * place, 5 * place, 3) for place in range(MANY)))
-    words = bench.words("consolidate", text, "--handle", "0")
+    return Job(bench.words("consolidate", text, "--handle", "0"), look_at_count(MANY))
+
+
+def many_media(bench: Bench, least: int, sync_seconds: float) -> list:
+    """It runs once, with syncs not at all where these take too long."""
+    job = media_job(bench)
     log = bench.folder / "syncs"
-    look = look_at_count(MANY)
-    unsynced = bench.cost_of(Job(["env", f"SYNC_LOG={log}", *bench.unsynced, *words], look))
+    unsynced = bench.cost_of(job._replace(words=["env", f"SYNC_LOG={log}", *bench.unsynced, *job.words]))
     syncs = sum(told.startswith("sync ") for told in log.read_text().splitlines())
     lines = [entries_line("in as many media, without syncs", unsynced, least)]
     if syncs * sync_seconds > MOST_SECONDS:
         more = f"some {syncs * sync_seconds:.0f} seconds more at this disk's pace"
         told = f"the same with {syncs:,} syncs, left out: {more}"
         return [*lines, f"| {told} |  |  |  |  |"]
-    return [*lines, entries_line(f"in as many media, {syncs:,} syncs", bench.cost_of(Job(words, look)), least)]
+    return [*lines, entries_line(f"in as many media, {syncs:,} syncs", bench.cost_of(job), least)]
 
 
 def look_at_count(media: int):

@@ -15,9 +15,13 @@ SIZES = 400_000
 SIZED_CHUNKS = 600_000
 
 
+def check_job(bench: Bench, text: str, status: int = 0) -> Job:
+    """One check of this list."""
+    return Job(bench.words("check", bench.put(text)), None, status)
+
+
 def checked(bench: Bench, text: str, status: int = 0):
-    """The cost of one check of this list."""
-    return bench.costs_of({"one": Job(bench.words("check", bench.put(text)), None, status)})["one"]
+    return bench.costs_of({"one": check_job(bench, text, status)})["one"]
 
 
 def entries(count: int) -> str:
@@ -68,12 +72,21 @@ def sized_chunks(bench: Bench) -> None:
         b"RF64\xff\xff\xff\xffWAVEds64" + struct.pack("<I", len(told)) + told + chunks)
 
 
+def garbage() -> dict:
+    """Long texts that are no list."""
+    dice = random.Random(1)
+    return {
+        "50 MB of no list": "".join(dice.choices("<ADL> \n\x01\x7f(", k=1000)) * (GARBAGE // 1000),
+        "50 MB of one line": "<ADL>\n<SEQUENCE>\n" + "x " * (GARBAGE // 2),
+        "50 MB of sections": "<ADL>\n" + "<X>\nx\n</X>\n" * (GARBAGE // 11),
+    }
+
+
 def rows(bench: Bench) -> list:
     block = block_of(200, 1, 16)
     make_sound(bench.media() / "A.wav", block, 1)
     for number in range(FILES):
         make_sound(bench.media() / f"S{number:05d}.wav", block, 1)
-    dice = random.Random(1)
     return [
         ("32,767 entries over one file", checked(bench, entries(MANY))),
         ("16,383 entries over one file", checked(bench, entries(HALF))),
@@ -81,9 +94,7 @@ def rows(bench: Bench) -> list:
         (f"10,000 entries over 10,000 files, of each of which {read_of_each(bench)} bytes are read",
          checked(bench, over_files(FILES, FILES))),
         ("32,767 entries, 32,767 indexes, 65,535 kept lines", checked(bench, longest_list())),
-        ("50 MB of no list", checked(bench, "".join(dice.choices("<ADL> \n\x01\x7f(", k=1000)) * (GARBAGE // 1000), 1)),
-        ("50 MB of one line", checked(bench, "<ADL>\n<SEQUENCE>\n" + "x " * (GARBAGE // 2), 1)),
-        ("50 MB of sections", checked(bench, "<ADL>\n" + "<X>\nx\n</X>\n" * (GARBAGE // 11), 1)),
+        *((name, checked(bench, text, 1)) for name, text in garbage().items()),
     ]
 
 

@@ -101,7 +101,7 @@ def jobs_of(bench: Bench, mix: Mix, source: Path, block: bytes) -> dict:
     return jobs
 
 
-def many_entries(bench: Bench) -> str:
+def many_job(bench: Bench) -> Job:
     """As many entries as there may be, one behind the other in 1,000 blocks, from places all over their file."""
     frames = SHORT * MANY
     block = block_of(frames, 1, 16)
@@ -112,15 +112,24 @@ def many_entries(bench: Bench) -> str:
         expect_size(out / "render.wav", HEAD + 2 * frames)
         expect_mix(out / "render.wav", cuts, block, 1, 16)
 
-    words = bench.words("render", bench.put(list_text(cuts)), "--depth", "16")
-    cost = bench.costs_of({"one": Job(words, look)})["one"]
+    return Job(bench.words("render", bench.put(list_text(cuts)), "--depth", "16"), look)
+
+
+def many_entries(bench: Bench) -> str:
+    cost = bench.costs_of({"one": many_job(bench)})["one"]
     return line("32,767 entries in 1,000 blocks: 85 seconds, mono, 16 bits", cost, (None, None, None))
 
 
-def lines(bench: Bench) -> list:
+def make_half_hour(bench: Bench) -> tuple:
+    """30 minutes, and the second that they repeat."""
     block = block_of(SECOND, 2, 24)
     source = bench.media() / "A.wav"
     make_sound(source, block, SECONDS, 2, 24)
+    return source, block
+
+
+def lines(bench: Bench) -> list:
+    source, block = make_half_hour(bench)
     rows = table(
         "`render`, 30 minutes, stereo, 24 bits", "Seconds", "Peak memory, KB", "Time to `cp`", "Time to `sox`",
         "Time to `ffmpeg`")
