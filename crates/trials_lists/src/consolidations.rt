@@ -3,7 +3,7 @@ use crate::flat_cut::FlatCut;
 use crate::renderings::head;
 use crate::whole_lists::list;
 use adlread::read;
-use consolidate::consolidate;
+use consolidate::{Written, consolidate};
 use passes::{DropSilent, JoinCuts, Pass, Regroup, SplitFades};
 use shelf::Unwatched;
 use sound_terms::Depth;
@@ -63,26 +63,38 @@ fn entries_of(alloc: Global, bench: &MemoryBench) -> Result<Vec<(u64, u64)>, Fai
     Ok(entries)
 }
 
-/// Consolidates a list over this file without handles, by these passes.
+/// Consolidates a list over this file without handles, by these passes: what is told, and what is written.
+fn written(
+    alloc: Global,
+    file: &[u8],
+    text: &str,
+    passes: Vec<Box<dyn Pass>>,
+) -> Result<(Written, MemoryBench), Fail> {
+    let mut shelf = MemoryShelf::new(alloc).with_file("A.wav", file)?;
+    let mut bench = MemoryBench::new(alloc);
+    let text = text.as_bytes();
+    match consolidate(
+        alloc,
+        text,
+        0,
+        passes,
+        &mut shelf,
+        &mut bench,
+        &mut Unwatched,
+    ) {
+        Ok(written) => Ok((written, bench)),
+        Err(_) => Err("it is refused".into()),
+    }
+}
+
+/// What a consolidation by these passes wrote, which is as many media and entries as it tells.
 fn consolidated(
     alloc: Global,
     file: &[u8],
     text: &str,
     passes: Vec<Box<dyn Pass>>,
 ) -> Result<Told, Fail> {
-    let mut shelf = MemoryShelf::new(alloc).with_file("A.wav", file)?;
-    let mut bench = MemoryBench::new(alloc);
-    let Ok(written) = consolidate(
-        alloc,
-        text.as_bytes(),
-        0,
-        passes,
-        &mut shelf,
-        &mut bench,
-        &mut Unwatched,
-    ) else {
-        return Err("it is refused".into());
-    };
+    let (written, bench) = written(alloc, file, text, passes)?;
     let told = Told {
         media: frames_of(alloc, &bench)?,
         entries: entries_of(alloc, &bench)?,

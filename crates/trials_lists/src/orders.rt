@@ -4,7 +4,7 @@ ghost use Rattle.rendering.specs.Rendering.{HaveChannels};
 use crate::renderings::head;
 use crate::schedules::round;
 use crate::whole_lists::list;
-use consolidate::{Depth, Options, Order, Work, render, run_schedule};
+use consolidate::{Depth, Options, Order, Progress, Work, render, run_schedule};
 use sampletime::SampleTime;
 use shelf::Unwatched;
 use std::alloc::Global;
@@ -45,22 +45,32 @@ fn ones(alloc: Global) -> Result<MemoryShelf, Fail> {
     Ok(MemoryShelf::new(alloc).with_file("A.wav", file.as_slice())?)
 }
 
+/// What one round of one worker leaves of the rendering of a list: how far the jobs are, and the file.
+fn behind_one_round(
+    alloc: Global,
+    text: &str,
+    order: Order,
+) -> Result<(Progress, MemoryBench), Fail> {
+    let events = round(1);
+    let mut shelf = ones(alloc)?;
+    let mut bench = MemoryBench::new(alloc);
+    let work = Work::Rendering { options: by(order) };
+    let text = text.as_bytes();
+    let progress = run_schedule(alloc, work, text, events.as_slice(), &mut shelf, &mut bench)?;
+    Ok((progress, bench))
+}
+
 #[test]
 fn one_round_does_the_first_job_of_the_order(rt: HostRuntime) -> Result<(), Fail> {
     let alloc = rt.alloc();
     let header = head(alloc, 1, Depth::Sixteen, 8_192)?;
-    let events = round(1);
     for (entries, order, block) in [
         (ENTRIES, Order::ByTime, 0),
         (ENTRIES, Order::BySource, 1),
         (LATE, Order::BySource, 1),
     ] {
         let text = list(alloc, SOURCE, entries)?;
-        let mut shelf = ones(alloc)?;
-        let mut bench = MemoryBench::new(alloc);
-        let work = Work::Rendering { options: by(order) };
-        let text = text.as_bytes();
-        let progress = run_schedule(alloc, work, text, events.as_slice(), &mut shelf, &mut bench)?;
+        let (progress, bench) = behind_one_round(alloc, text.as_str(), order)?;
         assert_eq!(rt; (progress.idle, progress.done), (1, 1));
         let file = bench.bytes("render.wav").ok_or("no file")?;
         let samples = file.get(header.len()..).ok_or("no samples")?;
@@ -73,30 +83,30 @@ fn one_round_does_the_first_job_of_the_order(rt: HostRuntime) -> Result<(), Fail
     Ok(())
 }
 
+/// The rendering of a list in this order, and how many frames it is told to have.
+fn rendered_by(alloc: Global, text: &str, order: Order) -> Result<(u64, MemoryBench), Fail> {
+    let mut shelf = ones(alloc)?;
+    let mut bench = MemoryBench::new(alloc);
+    let text = text.as_bytes();
+    let rendered = render(
+        alloc,
+        text,
+        &by(order),
+        &mut shelf,
+        &mut bench,
+        &mut Unwatched,
+    )?;
+    Ok((rendered.frames, bench))
+}
+
 #[test]
 fn both_orders_make_one_file(rt: HostRuntime) -> Result<(), Fail> {
-    let alloc = rt.alloc();
-    let text = list(alloc, SOURCE, ENTRIES)?;
-    let mut files = Vec::new(alloc);
-    for order in [Order::ByTime, Order::BySource] {
-        let mut shelf = ones(alloc)?;
-        let mut bench = MemoryBench::new(alloc);
-        let options = by(order);
-        let rendered = render(
-            alloc,
-            text.as_bytes(),
-            &options,
-            &mut shelf,
-            &mut bench,
-            &mut Unwatched,
-        )?;
-        assert_eq!(rt; rendered.frames, 8_192);
-        let file = bench.bytes("render.wav").ok_or("no file")?;
-        files.push(Vec::from_slice(alloc, file)?)?;
-    }
-    let [by_time, by_source] = files.as_slice() else {
-        return Err("other files".into());
-    };
-    assert!(rt; by_time == by_source);
+    let text = list(rt.alloc(), SOURCE, ENTRIES)?;
+    let (frames, by_time) = rendered_by(rt.alloc(), text.as_str(), Order::ByTime)?;
+    assert_eq!(rt; frames, 8_192);
+    let (frames, by_source) = rendered_by(rt.alloc(), text.as_str(), Order::BySource)?;
+    assert_eq!(rt; frames, 8_192);
+    let file = by_time.bytes("render.wav").ok_or("no file")?;
+    assert!(rt; by_source.bytes("render.wav").ok_or("no file")? == file);
     Ok(())
 }

@@ -3,6 +3,7 @@ ghost use Rattle.std.specs.Prelude.{◌≤◌};
 
 use crate::whole_lists::list;
 use opening::open_project;
+use projectcheck::Checked;
 use rendering::{Options, Order, Rendered, Rendering};
 use schedule::JobMaker;
 use shelf::DeviceFault;
@@ -84,6 +85,32 @@ fn do_all(
     Ok(most)
 }
 
+/// The project of a list over the file `A.wav`.
+fn opened(alloc: Global, file: &[u8], text: &str) -> Result<(MemoryShelf, Checked), Fail> {
+    let mut shelf = MemoryShelf::new(alloc).with_file("A.wav", file)?;
+    let checked = open_project(alloc, text.as_bytes(), &mut shelf)?;
+    Ok((shelf, checked))
+}
+
+/// The rendering of all that sounds of a project, on so many channels.
+fn planned(
+    alloc: Global,
+    checked: &Checked,
+    channels: u8,
+    depth: Depth,
+) -> Result<Rendering<'_>, Fail>
+    requires { (1 ≤ channels) × (channels ≤ 64) }
+{
+    let options = Options {
+        from: None,
+        to: None,
+        channels: Some(channels),
+        depth,
+        order: Order::ByTime,
+    };
+    Ok(Rendering::plan(alloc, checked, &options)?)
+}
+
 /// Renders all that sounds of a list over the file `A.wav`, on so many channels.
 fn rendered(
     alloc: Global,
@@ -95,16 +122,8 @@ fn rendered(
 ) -> Result<Told, Fail>
     requires { (1 ≤ channels) × (channels ≤ 64) }
 {
-    let mut shelf = MemoryShelf::new(alloc).with_file("A.wav", file)?;
-    let checked = open_project(alloc, text.as_bytes(), &mut shelf)?;
-    let options = Options {
-        from: None,
-        to: None,
-        channels: Some(channels),
-        depth,
-        order: Order::ByTime,
-    };
-    let mut rendering = Rendering::plan(alloc, &checked, &options)?;
+    let (mut shelf, checked) = opened(alloc, file, text)?;
+    let mut rendering = planned(alloc, &checked, channels, depth)?;
     rendering.lay_out(bench)?;
     let most = do_all(alloc, &mut rendering, &mut shelf, bench)?;
     rendering.finish(bench)?;
@@ -209,16 +228,8 @@ fn a_file_is_laid_out_by_few_writes(rt: HostRuntime) -> Result<(), Fail> {
     let alloc = rt.alloc();
     let file = sound(alloc, 2, 49_153)?;
     let text = whole(alloc, "1~2", "00.00.01.00/1153")?;
-    let mut shelf = MemoryShelf::new(alloc).with_file("A.wav", file.as_slice())?;
-    let checked = open_project(alloc, text.as_bytes(), &mut shelf)?;
-    let options = Options {
-        from: None,
-        to: None,
-        channels: Some(2),
-        depth: Depth::Sixteen,
-        order: Order::ByTime,
-    };
-    let rendering = Rendering::plan(alloc, &checked, &options)?;
+    let (_shelf, checked) = opened(alloc, file.as_slice(), text.as_str())?;
+    let rendering = planned(alloc, &checked, 2, Depth::Sixteen)?;
     // it is made, its header is appended, and then its samples in steps of at most 65,536 bytes
     for call in 0..6 {
         let mut bench = MemoryBench::new(alloc).failing(call, 1);
