@@ -20,16 +20,13 @@ use crate::reading::{ReadFault, read_list};
 use crate::standard::answer_standard;
 use commandline::{Places, Request, parse};
 use console::{Console, Place, Refusal, put_refusal};
-use consolidate::check_project;
+use consolidate::{MARKS, check_project};
 use explanations::Explanation;
 use std::alloc::AllocError;
 use std::fs::Files;
 use std::os::unix::fs::{FileExt, MetadataExt};
 use std::{fs, io};
 use stores::{FolderBench, FolderShelf, MemoryBench, Overwrite};
-
-/// The marks of a rendering.
-const MARKS: &str = "render.marks";
 
 /// Why a command didn't come to its stores.
 #[derive(Clone, Copy, Debug)]

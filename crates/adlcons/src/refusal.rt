@@ -13,7 +13,7 @@ ghost use Rattle.adlcons.specs.Answers.{place_told};
 use adlmodel::{Source, place_of};
 use adlread::AdlFault;
 use console::{Console, Place, Refusal, put_place, put_refusal, put_refused};
-use consolidate::{Fault, MarksFault, OutputFile};
+use consolidate::{Fault, LIST, MARKS, MarksFault, OutputFile, SOUND};
 use list_terms::Location;
 use std::alloc::Global;
 
@@ -68,10 +68,10 @@ fn output_place(file: OutputFile) -> Place<'static>
     ensures { where_of result ≡ File (name_of_output file) }
 {
     match file {
-        OutputFile::Rendering => Place::File("render.wav"),
-        OutputFile::Marks => Place::File("render.marks"),
+        OutputFile::Rendering => Place::File(SOUND),
+        OutputFile::Marks => Place::File(MARKS),
         OutputFile::Medium(number) => Place::Medium(number),
-        OutputFile::List => Place::File("consolidated.adl"),
+        OutputFile::List => Place::File(LIST),
     }
 }
 
@@ -80,8 +80,8 @@ fn marks_place(fault: MarksFault) -> Place<'static>
     ensures { where_of result ≡ place_of_marks fault }
 {
     match fault {
-        MarksFault::Sound => Place::File("render.wav"),
-        MarksFault::Marks => Place::File("render.marks"),
+        MarksFault::Sound => Place::File(SOUND),
+        MarksFault::Marks => Place::File(MARKS),
         MarksFault::OtherRun | MarksFault::BadMarks | MarksFault::Memory => Place::Nowhere,
     }
 }

@@ -1,7 +1,7 @@
 // The stored run: the example over memory.
 use crate::example;
 use anyhow::{Context, Result};
-use consolidate::{Depth, Options, Order, render};
+use consolidate::{Depth, Options, Order, SOUND, render};
 use shelf::Unwatched;
 use stores::{MemoryBench, MemoryShelf};
 
@@ -25,7 +25,7 @@ pub fn run_stored(rt: &(impl AllocGlobal + Print)) -> Result<()> {
         &mut bench,
         &mut Unwatched,
     )?;
-    let file = bench.bytes("render.wav").context("there is no file")?;
+    let file = bench.bytes(SOUND).context("there is no file")?;
     print!(rt; "{} bytes:", file.len())?;
     let samples = file.get(example::SAMPLES_AT..).unwrap_or(&[]);
     for sample in samples.chunks_exact(2) {

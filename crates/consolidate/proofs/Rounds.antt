@@ -1,5 +1,5 @@
 -- The jobs of a command, from what its parts leave.
-use Rattle.std.proofs.Common.{Bool, true, IsTrue, ◌≡◌, ◌∙◌, ℕ, ◌<◌, ◌≤◌, arith, length, false, Option, Some, None, Err, List, replicate, sym, subst, refl}
+use Rattle.std.proofs.Common.{Bool, true, IsTrue, ◌≡◌, ◌∙◌, ℕ, ◌<◌, ◌≤◌, arith, length, false, Option, Some, None, Result, Ok, Err, List, replicate, sym, subst, refl}
 use Rattle.sound_terms.specs.Render.{ReadsBack}
 use Rattle.work_terms.specs.Disk.{Files}
 use Rattle.job_terms.specs.Workers.{End, GivenUp, Jobs, jobs_over}
@@ -26,8 +26,12 @@ use Rattle.consolidation.specs.There.{AreThere}
 use Rattle.sound_terms.specs.Sounds.{SoundFacts}
 use Rattle.rendering.specs.Planned.{IsRenderingOf}
 use Rattle.rendering.specs.Rendering as rendering
-use Rattle.rendering.specs.Work.{RenderWork, whole_of, work_of}
-use Rattle.consolidate.specs.Rounds.{ConsolidatesInRounds, ConsolidatesList, EndsOf, RendersInRounds, RendersList}
+use Rattle.markfile.specs.Opened.{opened_of}
+use Rattle.markfile.specs.declared.fault.MarksFault.{MarksFault}
+use Rattle.rendering.specs.Marked.{MarkedWork, run_of}
+use Rattle.rendering.specs.Work.{AreCutBy, RenderWork, whole_of, work_of}
+use Rattle.consolidate.specs.Marks.{IsMarkedFor}
+use Rattle.consolidate.specs.Rounds.{ConsolidatesInRounds, ConsolidatesList, DoesLeft, EndsOf, RendersInRounds, RendersList, ResumesInRounds, ResumesList}
 use Rattle.consolidate.specs.Own.{IsOfProject}
 use Rattle.consolidate.specs.declared.fault.Fault.{Fault}
 use Rattle.consolidate.specs.declared.fault.Fault.TheVariants as told
@@ -83,6 +87,43 @@ renders_in_rounds project binding values work order sources shelf_old bench_old 
           shelf_old bench_old shelf_new bench_new written ended) (of.whole sources) run;
     }
 
+-- where no marks are started, the jobs are those of a plan as it was made
+pub resumes_anew : (project : ListProject) (binding : Binding) (values : OptionValues) (was is : MarkedWork)
+    (due : Result (Option (List Bool)) MarksFault) (sources : Files)
+    (shelf_old bench_old opened shelf_new bench_new : ℕ) (written : Files) (ended : Option End)
+    → is ≡ was → IsRenderingOf project binding values was.work → due ≡ Ok None → opened ≡ bench_old
+    → ((order : List ℕ) × IsOrder (work_of is.work).count order × RunsInRounds true (jobs_over (work_of is.work)
+    sources) (λ _. whole_of is.work sources) order shelf_old opened shelf_new bench_new written ended)
+    → ResumesInRounds project binding values due sources shelf_old bench_old shelf_new bench_new written ended
+resumes_anew project binding values was is due sources shelf_old bench_old opened shelf_new bench_new written ended
+    same of none quiet run =
+    subst (λ (d : Result (Option (List Bool)) MarksFault). ResumesInRounds project binding values d sources shelf_old
+    bench_old shelf_new bench_new written ended) (sym none)
+    (subst (λ (n : ℕ). RendersInRounds project binding values sources shelf_old n shelf_new bench_new written ended)
+    quiet (renders_in_rounds project binding values is.work run.0 sources shelf_old opened shelf_new bench_new written
+    ended (subst (λ (m : MarkedWork). IsRenderingOf project binding values m.work) (sym same) of) run.1 run.2))
+
+-- where marks are found, they are what these leave
+pub resumes_marked : (text : List ℕ) (project : ListProject) (binding : Binding) (values : OptionValues)
+    (is : MarkedWork) (due : Result (Option (List Bool)) MarksFault) (sources : Files)
+    (shelf_old bench_old opened shelf_new bench_new : ℕ) (written : Files) (ended : Option End)
+    → IsMarkedFor text project binding values is
+    → ((marked : List Bool) × (due ≡ Ok (Some marked)) × AreCutBy marked is.work) → opened ≡ bench_old
+    → DoesLeft is.work (whole_of is.work sources) sources shelf_old opened shelf_new bench_new written ended
+    → ResumesInRounds project binding values due sources shelf_old bench_old shelf_new bench_new written ended
+resumes_marked text project binding values is due sources shelf_old bench_old opened shelf_new bench_new written ended
+    of found quiet run =
+    subst (λ (d : Result (Option (List Bool)) MarksFault). ResumesInRounds project binding values d sources shelf_old
+    bench_old shelf_new bench_new written ended) (sym found.1) (record {
+      work = is.work;
+      range = of.range;
+      cut = found.2;
+      run = subst (λ (w : List ℕ). DoesLeft is.work w sources shelf_old bench_old shelf_new bench_new written ended)
+          (of.whole sources)
+          (subst (λ (n : ℕ). DoesLeft is.work (whole_of is.work sources) sources shelf_old n shelf_new bench_new
+          written ended) quiet run);
+    })
+
 -- a refusal tells of its jobs what one of its parts told
 pub ends_map : (X Y : Type 0) (fault : Fault) (P Q : Option End → Type 0) → ((ended : Option End) → P ended → Q ended)
     → EndsOf {X = X} (Err fault) P → EndsOf {X = Y} (Err fault) Q
@@ -118,6 +159,26 @@ renders_list text values project binding sources opened shelf_old shelf_mid benc
           (subst (λ (n : ℕ). RendersInRounds project binding values opened n bench_old shelf_new bench_new written
           ended)
           quiet run);
+    }
+
+pub resumes_list : (text : List ℕ) (values : OptionValues) (project : ListProject) (binding : Binding)
+    (sources opened outputs : Files) (shelf_old shelf_mid bench_old shelf_new bench_new : ℕ) (written : Files)
+    (ended : Option End)
+    → opened ≡ sources → shelf_mid ≡ shelf_old → IsAccepted text sources project binding
+    → ResumesInRounds project binding values (opened_of (run_of text (range_of project values)) outputs) opened
+    shelf_mid bench_old shelf_new bench_new written ended
+    → ResumesList text values sources outputs shelf_old bench_old shelf_new bench_new written ended
+resumes_list text values project binding sources opened outputs shelf_old shelf_mid bench_old shelf_new bench_new
+    written ended same quiet accepted run =
+    let due = opened_of (run_of text (range_of project values)) outputs in
+    record {
+      project = project;
+      binding = binding;
+      accepted = accepted;
+      run = subst (λ (f : Files). ResumesInRounds project binding values due f shelf_old bench_old shelf_new bench_new
+          written ended) same
+          (subst (λ (n : ℕ). ResumesInRounds project binding values due opened n bench_old shelf_new bench_new written
+          ended) quiet run);
     }
 
 pub consolidates_list : (leave : Leaving) (text : List ℕ) (handle : ℕ) (project : ListProject) (binding : Binding)

@@ -19,6 +19,7 @@ use Rattle.consolidate.specs.Commands.{KeepsStores, RefusesBadText, all_notices,
 use Rattle.consolidate.specs.Fault.{refusal_of}
 use Rattle.consolidate.specs.Marks.{AreBothDurable, HasAllMarks, HoldsMarked, IsLeftByRendering, IsLeftOf, count_in, marks_refusal}
 use Rattle.consolidate.specs.Own.{IsFirst, IsOfResuming}
+use Rattle.consolidate.specs.Rounds.{EndsOf, ResumesList}
 use Rattle.consolidate.specs.declared.fault.Fault.{Fault}
 use Rattle.consolidate.specs.declared.resumed.Resumed.{Resumed}
 
@@ -65,6 +66,11 @@ module _ {S B : Type 0} (shelf : source.Ghosts S) (bench : output.Ghosts B) wher
         → (marks : List ℕ) → bench.stored bench_old marks_name ≡ Some marks → is_started (Some marks) ≡ true
         → LeavesOnly bench.moment bench.left_since bench_old bench_new
         (HoldsMarked list values (shelf.stored shelf_old) marks)
+    pub rounds : IsTrue (shelf.honest shelf_old) → IsTrue (bench.honest bench_old)
+        → IsLeft list values shelf_old bench_old
+        → EndsOf result (ResumesList list values (shelf.stored shelf_old) (bench.stored bench_old)
+        (shelf.failures shelf_old) (bench.failures bench_old) (shelf.failures shelf_new) (bench.failures bench_new)
+        (bench.stored bench_new))
     pub report : (project : ListProject) → text_value list ≡ Ok project
         → IfOk result (λ told. told.frames ≡ (range_of project values).to - (range_of project values).from)
     pub refusals : IsTrue (shelf.honest shelf_old) → IsTrue (bench.honest bench_old)

@@ -9,8 +9,8 @@ ghost use Rattle.consolidate.specs.Own.{IsOfConsolidation, IsOfRendering};
 ghost use Rattle.consolidate.specs.declared.fault.Fault.TheVariants as told;
 ghost use Rattle.consolidate.specs.Fault.{IsOpenedIn, NamesOpened, file_of, name_of_output, refusal_of};
 
-use consolidation::{ConsolidationFault, WriteFault};
-use markfile::MarksFault;
+use consolidation::{ConsolidationFault, LIST, WriteFault};
+use markfile::{MARKS, MarksFault, SOUND};
 use mediaset::RunFault;
 use passes::PassFault;
 use projectcheck::Checked;
@@ -37,10 +37,10 @@ impl fmt::Display for OutputFile {
 
     fn fmt<W: fmt::Write>(&self, f: &mut fmt::Formatter<W>) -> fmt::Result {
         match self {
-            OutputFile::Rendering => f.write_str("render.wav"),
-            OutputFile::Marks => f.write_str("render.marks"),
+            OutputFile::Rendering => f.write_str(SOUND),
+            OutputFile::Marks => f.write_str(MARKS),
             OutputFile::Medium(number) => write!(f, "M{number:05}.wav"),
-            OutputFile::List => f.write_str("consolidated.adl"),
+            OutputFile::List => f.write_str(LIST),
         }
     }
 }

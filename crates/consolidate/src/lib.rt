@@ -14,11 +14,11 @@ mod schedules;
 
 pub use checking::check_project;
 pub use consolidated::{Written, consolidate};
-pub use consolidation::Sizes;
+pub use consolidation::{LIST, Sizes};
 pub use fault::{Fault, OutputFile};
 pub use job_terms::{BoardEvent, Progress};
 pub use list_terms::Notice;
-pub use markfile::MarksFault;
+pub use markfile::{MARKS, MarksFault, SOUND};
 pub use opening::Accepted;
 pub use rendered::{Rendered, render};
 pub use rendering::{Depth, Options, Order};

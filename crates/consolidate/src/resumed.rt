@@ -16,6 +16,7 @@ ghost use Rattle.consolidate.specs.Resuming.{IsResuming};
 ghost use Rattle.consolidate.specs.Fault.{refusal_of};
 ghost use Rattle.consolidate.specs.Marks.{AreBothDurable, count_in, fault_in, list_marking};
 ghost use Rattle.consolidate.specs.Own.{IsOfRendering, IsOfResuming};
+ghost use Rattle.consolidate.specs.Rounds.{DoesLeft, EndsOf, ResumesInRounds};
 
 use crate::Fault;
 use crate::marked::{go_on, render_anew};
@@ -60,6 +61,12 @@ fn go_on_marked<S: Shelf, B: Bench, W: Watch>(
         → IsRunning (marking_of rendering.old (S.stored shelf.old)) (done_before rendering.old.work)
         (B.may_leave bench.old)
         → OnOk result (B.stored bench.new marks_name ≡ Some (full_marks rendering.old.run)) }
+    ensures rounds { IsTrue (S.honest shelf.old) → IsTrue (B.honest bench.old)
+        → IsRunning (marking_of rendering.old (S.stored shelf.old)) (done_before rendering.old.work)
+        (B.may_leave bench.old)
+        → EndsOf result (DoesLeft rendering.old.work (whole_of rendering.old.work (S.stored shelf.old))
+        (S.stored shelf.old) (S.failures shelf.old) (B.failures bench.old) (S.failures shelf.new)
+        (B.failures bench.new) (B.stored bench.new)) }
     ensures durable { IsTrue (B.honest bench.old)
         → OnOk result (AreBothDurable (B.stored bench.new) (B.may_leave bench.new)) }
     ensures left { IsTrue (S.honest shelf.old) → IsTrue (B.honest bench.old)
@@ -136,6 +143,13 @@ fn resume_checked<S: Shelf, B: Bench, W: Watch>(
         → LeavesOnly B.moment B.left_since bench.old bench.new
         (HoldsMarked (list_marking list.now (values_of options.now) (S.stored shelf.old) checked.now.project
         checked.now.bound) marks) }
+    ensures rounds { IsTrue (S.honest shelf.old) → IsTrue (B.honest bench.old)
+        → IsLeftByRun (list_marking list.now (values_of options.now) (S.stored shelf.old) checked.now.project
+        checked.now.bound) (B.may_leave bench.old)
+        → EndsOf result (ResumesInRounds checked.now.project checked.now.bound (values_of options.now) (opened_of
+        (run_of list.now (range_of checked.now.project (values_of options.now))) (B.stored bench.old))
+        (S.stored shelf.old) (S.failures shelf.old) (B.failures bench.old) (S.failures shelf.new)
+        (B.failures bench.new) (B.stored bench.new)) }
     ensures report { IfOk result (λ found. found.frames
         ≡ (range_of checked.now.project (values_of options.now)).to
         - (range_of checked.now.project (values_of options.now)).from) }

@@ -6,7 +6,7 @@ ghost use Rattle.shelf.specs.Frame.{OnlyWrites};
 use shelf::{Bench, DeviceFault};
 
 /// The name of the list that is written.
-const LIST: &str = "consolidated.adl";
+pub const LIST: &str = "consolidated.adl";
 
 /// Writes the list of this text, and syncs it.
 pub fn write_list<B: Bench>(bench: &mut B, text: &[u8]) -> Result<(), DeviceFault>

@@ -5,7 +5,7 @@ use crate::meanings::{Meaning, Spot, meaning_at};
 use crate::names::PrintedName;
 use crate::remedies::{SystemWord, remedy_by};
 use adlread::{AdlFault, rate_of};
-use consolidate::{Fault, MarksFault, OutputFile};
+use consolidate::{Fault, MARKS, MarksFault, OutputFile};
 use list_terms::{Location, TextFault};
 use percent_encoding::percent_encode_byte;
 use sampletime::Rate;
@@ -40,9 +40,6 @@ enum Unfinished {
     Rendering,
     Whole,
 }
-
-/// The marks of a rendering, by which it goes on.
-const MARKS: &str = "render.marks";
 
 /// What a refusal of a list by a fault means: its number, what it names, and what was found.
 impl<'a> Explanation<'a> {

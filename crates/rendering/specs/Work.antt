@@ -13,7 +13,7 @@ use Rattle.renderplan.specs.Planned.{IsPlan, Planned}
 use Rattle.wavwrite.specs.Info.{Fits}
 use Rattle.job_terms.specs.Workers.{JobsBy}
 use Rattle.blockcut.specs.declared.stretch.Stretch.{Stretch}
-use Rattle.blockcut.specs.Cut.{AreEven, IsCut, IsShort, blocks_at_once}
+use Rattle.blockcut.specs.Cut.{AreEven, IsCut, IsShort, IsUniform, blocks_at_once}
 use Rattle.rendering.specs.Written.{bytes_of_blocks, frames_before}
 
 -- a plan over opened files
@@ -38,6 +38,12 @@ pub record IsRenderWork (work : RenderWork) : Type 0 where
   pub cut : IsCut 0 work.stretches (block_count work.planned.range)
   pub short : All (IsShort 1024) work.stretches
   pub fits : Fits (render_info work.planned.range)
+
+-- these are all its blocks, not too many in one stretch, each of them marked whole or not at all
+pub record AreCutBy (marked : List Bool) (work : RenderWork) : Type 0 where
+  pub cut : IsCut 0 work.stretches (block_count work.planned.range)
+  pub short : All (IsShort 1024) work.stretches
+  pub uniform : All (IsUniform marked) work.stretches
 
 -- what the plan's pieces sound like over these sources
 abbrev pub heard : Planned → List SoundFacts → Files → ℕ → ℕ → ℤ

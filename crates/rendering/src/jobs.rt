@@ -4,7 +4,7 @@ ghost use Rattle.rendering.specs.Work.{work_of};
 
 use crate::Rendering;
 use crate::blocks::BLOCK_LENGTH;
-use crate::layout::RENDERED;
+use markfile::SOUND;
 use schedule::{JobMaker, PlaceFault};
 use shelf::{Bench, DeviceFault, Shelf};
 
@@ -44,7 +44,7 @@ impl<'a> JobMaker for Rendering<'a> {
         let first = self.stretches[job as usize].first;
         let block = self.blocks.length_of(BLOCK_LENGTH) as u64;
         let at = self.head.len() as u64 + u64::from(first) * block;
-        match bench.write_at(RENDERED, at, bytes) {
+        match bench.write_at(SOUND, at, bytes) {
             Ok(()) => return Ok(()),
             Err(_) => return Err(PlaceFault::Write),
         }

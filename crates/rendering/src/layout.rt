@@ -9,10 +9,8 @@ ghost use Rattle.rendering.specs.Work.{whole_of, work_of};
 ghost use Rattle.rendering.specs.Written.{WritesRendering};
 
 use crate::Rendering;
+use markfile::SOUND;
 use shelf::{Bench, DeviceFault};
-
-/// The name of the file that is rendered.
-pub const RENDERED: &str = "render.wav";
 
 /// Adds so many zeros at the end of the rendered file.
 fn append_zeros<B: Bench>(bench: &mut B, count: u64) -> Result<(), DeviceFault>
@@ -26,7 +24,7 @@ fn append_zeros<B: Bench>(bench: &mut B, count: u64) -> Result<(), DeviceFault>
     let mut left = count;
     while left > 0 {
         let more = left.min(65536);
-        match bench.append(RENDERED, &block[..more as usize]) {
+        match bench.append(SOUND, &block[..more as usize]) {
             Ok(()) => {}
             Err(fault) => return Err(fault),
         }
@@ -42,11 +40,11 @@ fn begin<B: Bench>(bench: &mut B, head: &[u8], count: u64) -> Result<(), DeviceF
     ensures beside { LeavesOthers B.may_leave B.moment B.left_since (codes "render.wav") bench.old bench.new }
     ensures only_writes { WritesRendering B.Bench bench.old bench.new result (λ _. ⊤) }
 {
-    match bench.create(RENDERED) {
+    match bench.create(SOUND) {
         Ok(()) => {}
         Err(fault) => return Err(fault),
     }
-    match bench.append(RENDERED, head) {
+    match bench.append(SOUND, head) {
         Ok(()) => {}
         Err(fault) => return Err(fault),
     }
@@ -78,6 +76,6 @@ impl<'a> Rendering<'a> {
         ensures beside { LeavesOthers B.may_leave B.moment B.left_since (codes "render.wav") bench.old bench.new }
         ensures only_writes { WritesRendering B.Bench bench.old bench.new result (λ _. ⊤) }
     {
-        bench.sync(RENDERED)
+        bench.sync(SOUND)
     }
 }

@@ -1,5 +1,5 @@
 // A rendering whose blocks are marked as they come to stand on the disk.
-ghost use Rattle.std.specs.Prelude.{◌≡◌, ◌+◌, ◌<◌, ◌≤◌, ℕ, IfErr, IfOk, IfSome, IsTrue, List, None, OnOk, Some, codes, false, length, map, true, ◌^◌, ⊤, IsErrOf, replicate};
+ghost use Rattle.std.specs.Prelude.{◌≡◌, ◌+◌, ◌<◌, ◌≤◌, ℕ, Bool, IfErr, IfOk, IfSome, IsTrue, List, None, Ok, OnOk, Some, codes, false, length, map, true, ◌^◌, ⊤, IsErrOf, replicate};
 ghost use Rattle.std.specs.List.{All, count_by};
 ghost use Rattle.sha2.specs.Sha256.{sha256};
 ghost use Rattle.sound_terms.specs.Blocks.{block_count};
@@ -23,7 +23,7 @@ ghost use Rattle.schedule.specs.declared.fault.JobFault.TheVariants as job_fault
 ghost use Rattle.schedule.specs.declared.fault.RunFault.TheVariants as run_fault;
 ghost use Rattle.workboard.specs.Indexed.{IsOrder};
 ghost use Rattle.rendering.specs.Marked.{HoldsMarked, IsAllMarked, IsFoundAs, IsLeftByRun, IsOther, IsResumable, file_length, full_marks, lay_name, marking_of, run_of};
-ghost use Rattle.rendering.specs.Work.{IsRenderWork, done_before, place_of, stretch_at, whole_of, work_of};
+ghost use Rattle.rendering.specs.Work.{AreCutBy, IsRenderWork, done_before, place_of, stretch_at, whole_of, work_of};
 ghost use Rattle.rendering.specs.Written.{WritesRendering};
 ghost use Rattle.rendering.specs.Fault.{refusal_of};
 ghost use Rattle.rendering.specs.Planned.{IsRenderingOf};
@@ -308,6 +308,8 @@ impl<'a> MarkedRendering<'a> {
             → NoneStarted (B.may_leave bench.new)) }
         ensures found { IsTrue (B.honest bench.old)
             → IsFoundAs result (opened_of self.old.run (B.stored bench.old)) }
+        ensures cut { IsTrue (B.honest bench.old) → IfOk result (λ found. IfSome found (λ _. (marked : List Bool)
+            × (opened_of self.old.run (B.stored bench.old) ≡ Ok (Some marked)) × AreCutBy marked self.new.work)) }
         ensures unchanged { IfOk result (λ found. found ≡ None → self.new ≡ self.old) }
         ensures planned { self.new.work.planned ≡ self.old.work.planned }
         ensures sounds { self.new.work.sounds ≡ self.old.work.sounds }

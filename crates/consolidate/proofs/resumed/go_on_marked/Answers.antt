@@ -1,6 +1,11 @@
 use Rattle.consolidate.proofs.Crashes.{idle}
+use Rattle.std.specs.Prelude.{true}
+use Rattle.job_terms.specs.Workers.{jobs_over}
+use Rattle.schedule.specs.Rounds.{RoundsFrom}
 use Rattle.rendering.specs.Marked.{HoldsMarked, IsResumable, marking_of}
-use Rattle.rendering.specs.Work.{done_before}
+use Rattle.rendering.specs.Work.{done_before, whole_of, work_of}
+use Rattle.consolidate.specs.Rounds.{DoesLeft}
+use Rattle.consolidate.proofs.Rounds.{ends_map}
 use Rattle.consolidate.proofs.Resumes.{running_holds, running_left, running_resumable}
 use Rattle.consolidate.proofs.resumed.go_on_marked.Goals as goal
 
@@ -23,3 +28,35 @@ pub returns-in-Err-clause-left : goal.returns-in-Err-clause-left
 returns-in-Err-clause-left g c honest right run =
     running_left (marking_of c.args.rendering.now (g.S.Shelf.stored c.args.shelf.now))
     (done_before c.args.rendering.now.work) (g.B.Bench.may_leave c.args.bench.now) run
+
+pub returns-in-Ok-go_on-clause-rounds : goal.returns-in-Ok-go_on-clause-rounds
+returns-in-Ok-go_on-clause-rounds g c honest right run = record {
+  board = c.in-Ok.start.board;
+  jobs = c.in-Ok.ensures.jobs;
+  rest = c.in-Ok.ensures.rest;
+  done = c.in-Ok.ensures.done;
+  is_order = c.in-Ok.ensures.order;
+  run = c.in-Ok-go_on.ensures.rounds honest right run;
+}
+
+pub returns-in-Err-go_on-clause-rounds : goal.returns-in-Err-go_on-clause-rounds
+returns-in-Err-go_on-clause-rounds g c honest right run =
+    let work = c.args.rendering.now.work in
+    let sources = g.S.Shelf.stored c.args.shelf.now in
+    ends_map (Unit {0}) (Unit {0}) c.in-Err-go_on.fault
+    (RoundsFrom true (jobs_over (work_of work) sources) (λ _. whole_of work sources) c.in-Ok.start.board
+    (g.S.Shelf.failures c.args.shelf.now) (g.B.Bench.failures c.args.bench.now)
+    (g.S.Shelf.failures c.go_on.new.shelf) (g.B.Bench.failures c.go_on.new.bench)
+    (g.B.Bench.stored c.go_on.new.bench))
+    (DoesLeft work (whole_of work sources) sources (g.S.Shelf.failures c.args.shelf.now)
+    (g.B.Bench.failures c.args.bench.now) (g.S.Shelf.failures c.go_on.new.shelf)
+    (g.B.Bench.failures c.go_on.new.bench) (g.B.Bench.stored c.go_on.new.bench))
+    (λ ended ran. record {
+      board = c.in-Ok.start.board;
+      jobs = c.in-Ok.ensures.jobs;
+      rest = c.in-Ok.ensures.rest;
+      done = c.in-Ok.ensures.done;
+      is_order = c.in-Ok.ensures.order;
+      run = ran;
+    })
+    (c.in-Err-go_on.ensures.rounds honest right run)

@@ -1,4 +1,4 @@
-use Rattle.std.proofs.Common.{◌≡◌, ◌∙◌, ◌-◌, ℕ, IsTrue, Ok, Err, Some, ap, rules, subst, sym}
+use Rattle.std.proofs.Common.{◌≡◌, ◌∙◌, ◌-◌, ℕ, IsTrue, Ok, Err, None, Some, ap, rules, subst, sym}
 use Rattle.std.proofs.lemmas.Result.{err_from_is_err_and}
 use Rattle.work_terms.specs.Disk.{Files}
 use Rattle.list_terms.specs.Accepted.{range_of}
@@ -13,6 +13,8 @@ use Rattle.consolidate.specs.declared.resumed.Resumed.{Resumed}
 use Rattle.consolidate.proofs.Crashes.{idle}
 use Rattle.consolidate.proofs.First.{resumed_first}
 use Rattle.consolidate.proofs.Listed.{held_list, left_list, left_opened, moments_list, now_left, same_spelt}
+use Rattle.consolidate.specs.Rounds.{ResumesInRounds, ResumesList}
+use Rattle.consolidate.proofs.Rounds.{ends_map, none_ended, resumes_list}
 use Rattle.consolidate.proofs.Resumes.{left_holds, opening_due_of_resuming, resuming_due}
 use Rattle.consolidate.proofs.Stores.{answered_as, opened_before, refused_as, stopped_early}
 use Rattle.consolidate.proofs.resumed.resume.Goals as goal
@@ -40,6 +42,11 @@ returns-in_err-checked g c =
           (g.B.Bench.stored c.args.bench.now) marks (left p b accepted)
           (g.met.B.Bench.reads_now c.args.bench.now right) there started x
           (g.met.B.Bench.only_now c.args.bench.now x at));
+      rounds = λ honest right left. none_ended Resumed c.args.list.now fault
+          (ResumesList c.args.list.now (values_of c.args.options.now) (g.S.Shelf.stored c.args.shelf.now)
+          (g.B.Bench.stored c.args.bench.now) (g.S.Shelf.failures c.args.shelf.now)
+          (g.B.Bench.failures c.args.bench.now) (g.S.Shelf.failures c.open.new.shelf)
+          (g.B.Bench.failures c.args.bench.now) (g.B.Bench.stored c.args.bench.now)) told.own;
       report = λ project is. tt;
       refusals = λ honest right. opening_due_of_resuming (refusal_of fault) c.args.list.now
           (values_of c.args.options.now) (g.S.Shelf.stored c.args.shelf.now) (g.B.Bench.stored c.args.bench.now)
@@ -89,6 +96,27 @@ returns-in_err-found g c =
           (g.S.Shelf.stored c.args.shelf.now) (g.S.Shelf.stored c.open.new.shelf) opened.only_reads.same
           (opened.accepted honest) (g.B.Bench.may_leave c.args.bench.now) left)
           marks there started);
+      rounds = λ honest right left. ends_map Found Resumed fault
+          (ResumesInRounds checked.project checked.bound values
+          (opened_of (run_of c.args.list.now (range_of checked.project values)) (g.B.Bench.stored c.args.bench.now))
+          (g.S.Shelf.stored c.open.new.shelf) (g.S.Shelf.failures c.open.new.shelf)
+          (g.B.Bench.failures c.args.bench.now) (g.S.Shelf.failures c.resume_checked.new.shelf)
+          (g.B.Bench.failures c.resume_checked.new.bench) (g.B.Bench.stored c.resume_checked.new.bench))
+          (ResumesList c.args.list.now values (g.S.Shelf.stored c.args.shelf.now)
+          (g.B.Bench.stored c.args.bench.now) (g.S.Shelf.failures c.args.shelf.now)
+          (g.B.Bench.failures c.args.bench.now) (g.S.Shelf.failures c.resume_checked.new.shelf)
+          (g.B.Bench.failures c.resume_checked.new.bench) (g.B.Bench.stored c.resume_checked.new.bench))
+          (λ ended run. resumes_list c.args.list.now values checked.project checked.bound
+          (g.S.Shelf.stored c.args.shelf.now) (g.S.Shelf.stored c.open.new.shelf)
+          (g.B.Bench.stored c.args.bench.now) (g.S.Shelf.failures c.args.shelf.now)
+          (g.S.Shelf.failures c.open.new.shelf) (g.B.Bench.failures c.args.bench.now)
+          (g.S.Shelf.failures c.resume_checked.new.shelf) (g.B.Bench.failures c.resume_checked.new.bench)
+          (g.B.Bench.stored c.resume_checked.new.bench) ended
+          opened.only_reads.same (opened.only_reads.cause.left tt) (opened.accepted honest) run)
+          (told.rounds (subst IsTrue (sym opened.only_reads.honest_same) honest) right
+          (left_opened c.args.list.now checked.project checked.bound values
+          (g.S.Shelf.stored c.args.shelf.now) (g.S.Shelf.stored c.open.new.shelf) opened.only_reads.same
+          (opened.accepted honest) (g.B.Bench.may_leave c.args.bench.now) left));
       report = λ project is. tt;
       refusals = λ honest right. rw (resuming_due c.args.list.now values (g.S.Shelf.stored c.args.shelf.now)
           (g.B.Bench.stored c.args.bench.now)
@@ -157,6 +185,17 @@ returns g c =
           (g.S.Shelf.stored c.args.shelf.now) (g.S.Shelf.stored c.open.new.shelf) opened.only_reads.same
           (opened.accepted honest) (g.B.Bench.may_leave c.args.bench.now) left)
           marks there started);
+      rounds = λ honest right left. resumes_list c.args.list.now values checked.project checked.bound
+          (g.S.Shelf.stored c.args.shelf.now) (g.S.Shelf.stored c.open.new.shelf)
+          (g.B.Bench.stored c.args.bench.now) (g.S.Shelf.failures c.args.shelf.now)
+          (g.S.Shelf.failures c.open.new.shelf) (g.B.Bench.failures c.args.bench.now)
+          (g.S.Shelf.failures c.resume_checked.new.shelf) (g.B.Bench.failures c.resume_checked.new.bench)
+          (g.B.Bench.stored c.resume_checked.new.bench) None
+          opened.only_reads.same (opened.only_reads.cause.left tt) (opened.accepted honest)
+          (told.rounds (subst IsTrue (sym opened.only_reads.honest_same) honest) right
+          (left_opened c.args.list.now checked.project checked.bound values
+          (g.S.Shelf.stored c.args.shelf.now) (g.S.Shelf.stored c.open.new.shelf) opened.only_reads.same
+          (opened.accepted honest) (g.B.Bench.may_leave c.args.bench.now) left));
       report = λ p is. told.report
           ∙ ap (λ (q : ListProject). (range_of q values).to - (range_of q values).from)
           (same_spelt checked.project p _ opened.spelt is);

@@ -1,5 +1,5 @@
 use Rattle.std.proofs.Common.{◌≡◌, ◌∙◌, ℕ, Bool, Option, None, Some, Ok, Err, IsTrue, List, Result, ap, subst, sym}
-use Rattle.std.specs.Prelude.{IfOk, IfSome, codes, false}
+use Rattle.std.specs.Prelude.{IfOk, IfSome, codes, false, true}
 use Rattle.work_terms.specs.Disk.{Files}
 use Rattle.work_terms.specs.Refusals.{IsDue, Refusal}
 use Rattle.list_terms.specs.Accepted.{first_fault, range_of}
@@ -10,7 +10,12 @@ use Rattle.markfile.specs.declared.run.RunId.{RunId}
 use Rattle.schedule.specs.Marking.{IsRunning, Marking}
 use Rattle.rendering.specs.Marked.{HoldsMarked, IsFoundAs, IsResumable, MarkedWork, marking_of, run_of}
 use Rattle.rendering.specs.Rendering.{render_fault, values_of}
-use Rattle.rendering.specs.Work.{done_before}
+use Rattle.job_terms.specs.Workers.{jobs_over}
+use Rattle.schedule.specs.Rounds.{RunsInRounds}
+use Rattle.workboard.specs.Indexed.{IsOrder}
+use Rattle.rendering.specs.Work.{AreCutBy, done_before, whole_of, work_of}
+use Rattle.consolidate.specs.Rounds.{DoesLeft, ResumesInRounds}
+use Rattle.consolidate.proofs.Rounds.{ends_map, resumes_anew, resumes_marked}
 use Rattle.consolidate.specs.Fault.{refusal_of, refusal_of_marks}
 use Rattle.consolidate.specs.Marks.{IsMarkedFor, count_in, fault_in, list_marking}
 use Rattle.consolidate.specs.declared.resumed.Found.{Found}
@@ -586,5 +591,112 @@ returns-in-Err-go_on_marked-clause-left g c honest right left =
     left_as_list list project binding values c.open.new.self of sources (g.B.Bench.may_leave c.go_on_marked.new.bench)
     (c.in-Err-go_on_marked.ensures.left honest now (subst (λ (f : Option ℕ). IfSome f (λ _. IsRunning
     (marking_of c.open.new.self sources) (done_before c.open.new.self.work)
+    (g.B.Bench.may_leave c.open.new.bench))) c.in-Some.is (c.in-Ok-open.ensures.running right sources
+    (from_list list project binding values c.in-Ok.rendering was sources (g.B.Bench.may_leave c.args.bench.now) left))))
+
+pub returns-in-Ok-render_anew-clause-rounds : goal.returns-in-Ok-render_anew-clause-rounds
+returns-in-Ok-render_anew-clause-rounds g c honest right left =
+    let list = c.args.list.now in
+    let project = c.args.checked.now.project in
+    let binding = c.args.checked.now.bound in
+    let values = values_of c.args.options.now in
+    let sources = g.S.Shelf.stored c.args.shelf.now in
+    let due = opened_of (run_of list (range_of project values)) (g.B.Bench.stored c.args.bench.now) in
+    let was = marked_for list project binding values c.in-Ok.rendering c.in-Ok.ensures.planned c.in-Ok.ensures.run in
+    let now = subst IsTrue (sym c.in-Ok-open.ensures.only_reads.honest_same) right in
+    resumes_anew project binding values c.in-Ok.rendering c.open.new.self due sources
+    (g.S.Shelf.failures c.args.shelf.now) (g.B.Bench.failures c.args.bench.now)
+    (g.B.Bench.failures c.open.new.bench) (g.S.Shelf.failures c.render_anew.new.shelf) (g.B.Bench.failures c.render_anew.new.bench)
+    (g.B.Bench.stored c.render_anew.new.bench) None (c.in-Ok-open.ensures.unchanged c.in-None.is) c.in-Ok.ensures.planned
+    (subst (λ (r : RunId). opened_of r (g.B.Bench.stored c.args.bench.now) ≡ Ok None) was.run
+    (subst (λ (f : Option ℕ). IsFoundAs (Ok f) (opened_of c.in-Ok.rendering.run (g.B.Bench.stored c.args.bench.now)))
+    c.in-None.is (c.in-Ok-open.ensures.found right)))
+    (c.in-Ok-open.ensures.only_reads.cause.left tt) (c.in-Ok-render_anew.ensures.rounds honest now)
+
+pub returns-in-Err-render_anew-clause-rounds : goal.returns-in-Err-render_anew-clause-rounds
+returns-in-Err-render_anew-clause-rounds g c honest right left =
+    let list = c.args.list.now in
+    let project = c.args.checked.now.project in
+    let binding = c.args.checked.now.bound in
+    let values = values_of c.args.options.now in
+    let sources = g.S.Shelf.stored c.args.shelf.now in
+    let due = opened_of (run_of list (range_of project values)) (g.B.Bench.stored c.args.bench.now) in
+    let was = marked_for list project binding values c.in-Ok.rendering c.in-Ok.ensures.planned c.in-Ok.ensures.run in
+    let now = subst IsTrue (sym c.in-Ok-open.ensures.only_reads.honest_same) right in
+    ends_map (Unit {0}) Found c.in-Err-render_anew.fault
+    (λ ended. (order : List ℕ) × IsOrder (work_of c.open.new.self.work).count order × RunsInRounds true
+    (jobs_over (work_of c.open.new.self.work) sources) (λ _. whole_of c.open.new.self.work sources) order
+    (g.S.Shelf.failures c.args.shelf.now) (g.B.Bench.failures c.open.new.bench)
+    (g.S.Shelf.failures c.render_anew.new.shelf) (g.B.Bench.failures c.render_anew.new.bench) (g.B.Bench.stored c.render_anew.new.bench) ended)
+    (ResumesInRounds project binding values due sources
+    (g.S.Shelf.failures c.args.shelf.now) (g.B.Bench.failures c.args.bench.now)
+    (g.S.Shelf.failures c.render_anew.new.shelf) (g.B.Bench.failures c.render_anew.new.bench) (g.B.Bench.stored c.render_anew.new.bench))
+    (λ ended run. resumes_anew project binding values c.in-Ok.rendering c.open.new.self due sources
+    (g.S.Shelf.failures c.args.shelf.now) (g.B.Bench.failures c.args.bench.now)
+    (g.B.Bench.failures c.open.new.bench) (g.S.Shelf.failures c.render_anew.new.shelf) (g.B.Bench.failures c.render_anew.new.bench)
+    (g.B.Bench.stored c.render_anew.new.bench) ended (c.in-Ok-open.ensures.unchanged c.in-None.is) c.in-Ok.ensures.planned
+    (subst (λ (r : RunId). opened_of r (g.B.Bench.stored c.args.bench.now) ≡ Ok None) was.run
+    (subst (λ (f : Option ℕ). IsFoundAs (Ok f) (opened_of c.in-Ok.rendering.run (g.B.Bench.stored c.args.bench.now)))
+    c.in-None.is (c.in-Ok-open.ensures.found right)))
+    (c.in-Ok-open.ensures.only_reads.cause.left tt) run)
+    (c.in-Err-render_anew.ensures.rounds honest now)
+
+pub returns-in-Ok-go_on_marked-clause-rounds : goal.returns-in-Ok-go_on_marked-clause-rounds
+returns-in-Ok-go_on_marked-clause-rounds g c honest right left =
+    let list = c.args.list.now in
+    let project = c.args.checked.now.project in
+    let binding = c.args.checked.now.bound in
+    let values = values_of c.args.options.now in
+    let sources = g.S.Shelf.stored c.args.shelf.now in
+    let due = opened_of (run_of list (range_of project values)) (g.B.Bench.stored c.args.bench.now) in
+    let was = marked_for list project binding values c.in-Ok.rendering c.in-Ok.ensures.planned c.in-Ok.ensures.run in
+    let of = reopened list project binding values c.in-Ok.rendering c.open.new.self was c.in-Ok-open.ensures.planned
+    c.in-Ok-open.ensures.sounds c.in-Ok-open.ensures.run in
+    let now = subst IsTrue (sym c.in-Ok-open.ensures.only_reads.honest_same) right in
+    resumes_marked list project binding values c.open.new.self due sources
+    (g.S.Shelf.failures c.args.shelf.now) (g.B.Bench.failures c.args.bench.now)
+    (g.B.Bench.failures c.open.new.bench) (g.S.Shelf.failures c.go_on_marked.new.shelf) (g.B.Bench.failures c.go_on_marked.new.bench)
+    (g.B.Bench.stored c.go_on_marked.new.bench) None of
+    (subst (λ (r : RunId). (marked : List Bool) × (opened_of r (g.B.Bench.stored c.args.bench.now) ≡ Ok (Some marked))
+    × AreCutBy marked c.open.new.self.work) was.run
+    (subst (λ (f : Option ℕ). IfSome f (λ _. (marked : List Bool) × (opened_of c.in-Ok.rendering.run
+    (g.B.Bench.stored c.args.bench.now) ≡ Ok (Some marked)) × AreCutBy marked c.open.new.self.work)) c.in-Some.is
+    (c.in-Ok-open.ensures.cut right)))
+    (c.in-Ok-open.ensures.only_reads.cause.left tt) (c.in-Ok-go_on_marked.ensures.rounds honest now (subst (λ (f : Option ℕ). IfSome f (λ _. IsRunning (marking_of
+    c.open.new.self sources) (done_before c.open.new.self.work)
+    (g.B.Bench.may_leave c.open.new.bench))) c.in-Some.is (c.in-Ok-open.ensures.running right sources
+    (from_list list project binding values c.in-Ok.rendering was sources (g.B.Bench.may_leave c.args.bench.now) left))))
+
+pub returns-in-Err-go_on_marked-clause-rounds : goal.returns-in-Err-go_on_marked-clause-rounds
+returns-in-Err-go_on_marked-clause-rounds g c honest right left =
+    let list = c.args.list.now in
+    let project = c.args.checked.now.project in
+    let binding = c.args.checked.now.bound in
+    let values = values_of c.args.options.now in
+    let sources = g.S.Shelf.stored c.args.shelf.now in
+    let due = opened_of (run_of list (range_of project values)) (g.B.Bench.stored c.args.bench.now) in
+    let was = marked_for list project binding values c.in-Ok.rendering c.in-Ok.ensures.planned c.in-Ok.ensures.run in
+    let of = reopened list project binding values c.in-Ok.rendering c.open.new.self was c.in-Ok-open.ensures.planned
+    c.in-Ok-open.ensures.sounds c.in-Ok-open.ensures.run in
+    let now = subst IsTrue (sym c.in-Ok-open.ensures.only_reads.honest_same) right in
+    ends_map (Unit {0}) Found c.in-Err-go_on_marked.fault
+    (DoesLeft c.open.new.self.work (whole_of c.open.new.self.work sources) sources
+    (g.S.Shelf.failures c.args.shelf.now) (g.B.Bench.failures c.open.new.bench)
+    (g.S.Shelf.failures c.go_on_marked.new.shelf) (g.B.Bench.failures c.go_on_marked.new.bench) (g.B.Bench.stored c.go_on_marked.new.bench))
+    (ResumesInRounds project binding values due sources
+    (g.S.Shelf.failures c.args.shelf.now) (g.B.Bench.failures c.args.bench.now)
+    (g.S.Shelf.failures c.go_on_marked.new.shelf) (g.B.Bench.failures c.go_on_marked.new.bench) (g.B.Bench.stored c.go_on_marked.new.bench))
+    (λ ended run. resumes_marked list project binding values c.open.new.self due sources
+    (g.S.Shelf.failures c.args.shelf.now) (g.B.Bench.failures c.args.bench.now)
+    (g.B.Bench.failures c.open.new.bench) (g.S.Shelf.failures c.go_on_marked.new.shelf) (g.B.Bench.failures c.go_on_marked.new.bench)
+    (g.B.Bench.stored c.go_on_marked.new.bench) ended of
+    (subst (λ (r : RunId). (marked : List Bool) × (opened_of r (g.B.Bench.stored c.args.bench.now) ≡ Ok (Some marked))
+    × AreCutBy marked c.open.new.self.work) was.run
+    (subst (λ (f : Option ℕ). IfSome f (λ _. (marked : List Bool) × (opened_of c.in-Ok.rendering.run
+    (g.B.Bench.stored c.args.bench.now) ≡ Ok (Some marked)) × AreCutBy marked c.open.new.self.work)) c.in-Some.is
+    (c.in-Ok-open.ensures.cut right)))
+    (c.in-Ok-open.ensures.only_reads.cause.left tt) run)
+    (c.in-Err-go_on_marked.ensures.rounds honest now (subst (λ (f : Option ℕ). IfSome f (λ _. IsRunning (marking_of
+    c.open.new.self sources) (done_before c.open.new.self.work)
     (g.B.Bench.may_leave c.open.new.bench))) c.in-Some.is (c.in-Ok-open.ensures.running right sources
     (from_list list project binding values c.in-Ok.rendering was sources (g.B.Bench.may_leave c.args.bench.now) left))))

@@ -6,6 +6,7 @@ use Rattle.markfile.specs.declared.opening.Marks.{Marks}
 use Rattle.work_terms.specs.Disk.{Files}
 use Rattle.markfile.specs.Opened.{Answers, AreFound, AreSettled, opened_of}
 use Rattle.rendering.specs.Marked.{IsFoundAs, IsLeftByRun, MarkedWork, marking_of}
+use Rattle.rendering.specs.Work.{AreCutBy}
 use Rattle.rendering.proofs.Resuming.{goes_on_running, same_run}
 use Rattle.rendering.proofs.marked.MarkedRendering.open.Goals as goal
 
@@ -49,6 +50,25 @@ returns-in-Ok-cut_by-clause-found g c honest =
       c.in-Some.marks.marked.items,
       found,
       c.count_of.ensures ∙ ap (count_by (λ mark. mark)) c.as_slice-in-Ok-cut_by.ensures.value,
+    )
+
+pub returns-in-Ok-cut_by-clause-cut : goal.returns-in-Ok-cut_by-clause-cut
+returns-in-Ok-cut_by-clause-cut g c honest =
+    let cut = c.in-Ok-cut_by.ensures in
+    let files = g.B.Bench.stored c.args.bench.now in
+    let found : opened_of c.self.inside.run files ≡ Ok (Some c.in-Some.marks.marked.items) =
+    subst (λ (f : Option Marks). Answers (Ok f) (opened_of c.self.inside.run files)) c.in-Some.is
+    (c.in-Ok.ensures.found honest) in
+    subst (λ (x : MarkedWork). (marked : List Bool) × (opened_of x.run files ≡ Ok (Some marked))
+    × AreCutBy marked c.cut_by.new.self) c.self.view_is (
+      c.in-Some.marks.marked.items,
+      found,
+      record {
+        cut = cut.whole.cut;
+        short = cut.whole.short;
+        uniform = subst (λ (x : List Bool). All (IsUniform x) c.cut_by.new.self.stretches) c.as_slice.ensures.value
+            cut.uniform;
+      },
     )
 
 pub returns-in-Err-cut_by-clause-found : goal.returns-in-Err-cut_by-clause-found
