@@ -18,5 +18,6 @@ pub mod SourceLines
 pub mod SpelledLists
 pub mod Stages
 pub mod TokenRun
+pub mod Untold
 pub mod Walk
 pub mod WalkedSections

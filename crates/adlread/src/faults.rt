@@ -5,7 +5,8 @@ use crate::draft::Draft;
 use crate::fault::{AdlFault, at_line, first_in};
 use crate::fields::is_keyword;
 use crate::header::is_tag;
-use crate::outline::{Outline, UNTOLD, rate_of};
+use crate::outline::{Outline, UNTOLD};
+use crate::rate::{has_rate_keyword, rate_of};
 use adltoken::{Lines, Tokens};
 use list_terms::{Location, TextFault};
 use sampletime::Rate;
@@ -17,13 +18,14 @@ use std::alloc::{AllocError, Global};
 /// a fault of a section, of a header or of a rate, since what stands behind that can't be told.
 #[derive(Drop)]
 pub struct Faults<'a> {
+    text: &'a [u8],
     draft: Draft<'a>,
     lines: Lines<'a>,
     /// The line that was read last.
     last: &'a [u8],
+    /// The rate of frames of the list, and behind its first fault of the list without its lines at fault.
     rate: Rate,
-    /// The rate of frames behind the first fault.
-    further_rate: Rate,
+    is_behind_first: bool,
     /// The lines that are read belong to an entry whose own line is at fault.
     is_in_faulty_entry: bool,
     is_over: bool,
@@ -32,12 +34,31 @@ pub struct Faults<'a> {
 impl<'a> Faults<'a> {
     /// The faults of this text.
     pub fn new(alloc: Global, text: &'a [u8]) -> Result<Self, AllocError> {
+        Faults::at_rate(alloc, text, rate_of(text))
+    }
+
+    /// The faults of this text behind its first one, which [`crate::read`] told. Where that one ends them the text isn't
+    /// read again.
+    pub fn behind(alloc: Global, text: &'a [u8], first: AdlFault) -> Result<Self, AllocError> {
+        if is_of_its_own(first) {
+            let mut faults = Faults::new(alloc, text)?;
+            let _ = faults.next_fault(alloc);
+            return Ok(faults);
+        }
+        let mut none = Faults::at_rate(alloc, text, UNTOLD)?;
+        none.is_over = true;
+        Ok(none)
+    }
+
+    /// The faults of this text, whose times are read at this rate up to the first one.
+    fn at_rate(alloc: Global, text: &'a [u8], rate: Rate) -> Result<Self, AllocError> {
         Ok(Faults {
+            text,
             draft: Draft::new(alloc)?,
             lines: Lines::new(text),
             last: &[],
-            rate: rate_of(text),
-            further_rate: rate_beside_faults(text),
+            rate,
+            is_behind_first: false,
             is_in_faulty_entry: false,
             is_over: false,
         })
@@ -84,9 +105,9 @@ impl<'a> Faults<'a> {
     /// own.
     fn told(&mut self, fault: Option<AdlFault>, line: &[u8]) -> Option<AdlFault> {
         let fault = fault?;
-        self.rate = self.further_rate;
         if is_of_its_own(fault) {
             self.is_in_faulty_entry = opens_entry(line);
+            self.go_behind_first();
         } else {
             self.is_over = true;
         }
@@ -95,10 +116,21 @@ impl<'a> Faults<'a> {
             AdlFault::Text { .. } => Some(fault),
         }
     }
+
+    /// Takes the rate of frames that the list has without its lines at fault, behind the first one of them.
+    fn go_behind_first(&mut self) {
+        if !self.is_behind_first {
+            self.rate = rate_beside_faults(self.text);
+            self.is_behind_first = true;
+        }
+    }
 }
 
 /// The rate of frames of a list of which lines may be at fault: as [`crate::rate_of`] says it of the list without them.
 fn rate_beside_faults(text: &[u8]) -> Rate {
+    if !has_rate_keyword(text) {
+        return UNTOLD;
+    }
     let mut outline = Outline::new();
     let mut lines = Lines::new(text);
     'lines: while let Some(line) = lines.next_line() {

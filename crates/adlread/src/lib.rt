@@ -22,6 +22,7 @@ mod fields;
 mod header;
 mod numbers;
 mod outline;
+mod rate;
 mod sections;
 mod tags;
 mod taken;
@@ -34,7 +35,7 @@ pub use fault::AdlFault;
 use fault::{at_line, first_in};
 pub use faults::Faults;
 use list_terms::TextFault;
-pub use outline::rate_of;
+pub use rate::rate_of;
 use sampletime::Rate;
 use std::alloc::Global;
 

@@ -17,12 +17,9 @@ use sampletime::Rate;
 /// The rate of a list that tells none.
 pub const UNTOLD: Rate = Rate::Frames25;
 
-/// The rate of frames of a list: the first one that a line of SEQUENCE tells behind `(SEQ_FRAME_RATE)`, 24, 25 or 30.
-///
-/// It is 25 where none does, or where an earlier line can't stand where it stands or isn't cut into tokens. What a line
-/// says beyond that plays no part: a list that [`crate::read`] refuses has a rate too.
+/// The rate of frames of a list, for which its lines are passed up to the one that tells it.
 #[tactic(auto, unfolding(list_terms::specs::Text::rate_from, list_terms::specs::Text::rate_of))]
-pub fn rate_of(text: &[u8]) -> Rate
+pub fn rate_in_lines(text: &[u8]) -> Rate
     ensures { frames_per_second result ≡ spec.rate_of text.now }
 {
     let mut outline = Outline::new();

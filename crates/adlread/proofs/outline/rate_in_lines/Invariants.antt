@@ -1,7 +1,7 @@
 use Rattle.std.proofs.Common.{◌≡◌, length}
 use Rattle.list_terms.specs.Text.{rate_from, rate_of}
 use Rattle.adlread.specs.Outline.{outline_of}
-use Rattle.adlread.proofs.outline.rate_of.Given as goal
+use Rattle.adlread.proofs.outline.rate_in_lines.Given as goal
 
 -- the lines that are left, behind those that were passed, have the rate of the whole text
 abbrev pub invariant-lines : goal.invariant-lines
