@@ -15,6 +15,7 @@ from tables import wave
 FRAMES = 9_000
 SOURCES = ("A.wav", "B.wav")
 TIMEOUT = 60
+MEDIA_COUNT = 40
 # Calls that ask a device for something. `close` comes behind a sync, and `lseek` asks no device.
 CALLS = "openat,read,pread64,write,pwrite64,fstat,newfstatat,statx,fsync,fdatasync,ftruncate,fallocate,getdents64"
 REFUSED = re.compile(rb"refused (20|21|22|52|62|66)((?: at index \d+)?(?: at job \d+)?)(?: file ([^\n]*)| at file ([^\n]*))?\n")
@@ -41,11 +42,12 @@ def put_project(scene: Scene) -> None:
     scene.put(model.list_text(sources, lines), {name: wave(values) for name, values in samples.items()})
 
 
-def traced(scene: Scene, command: str, *options: str) -> Outcome:
-    """The command under strace, which writes its trace beside the list."""
-    words = ["strace", "-y", "-qq", "-o", scene.folder / "trace", "-e", f"trace={CALLS}", *options, scene.program]
+def traced(scene: Scene, command: str, *options: str, words: tuple = ()) -> Outcome:
+    """The command with further words under strace, which writes its trace beside the list."""
+    strace = ["strace", "-y", "-qq", "-o", scene.folder / "trace", "-e", f"trace={CALLS}", *options]
     done = subprocess.run(
-        [*words, command, LIST, MEDIA, OUT], cwd=scene.folder, capture_output=True, timeout=TIMEOUT)
+        [*strace, scene.program, command, LIST, MEDIA, OUT, *words], cwd=scene.folder, capture_output=True,
+        timeout=TIMEOUT)
     return Outcome(done.returncode, done.stdout, done.stderr)
 
 
@@ -182,7 +184,32 @@ def killed_at_each_call(command: str, before=nothing):
     return body
 
 
+def synced_before_the_list(scene: Scene) -> None:
+    """Of more media than stay open each is synced behind its last write, twice in all, before the list is made."""
+    if not shutil.which("strace"):
+        raise Skipped("strace isn't installed (Debian package strace)")
+    spans = [(5 * place, 4 * place, 4 * place + 4) for place in range(MEDIA_COUNT)]
+    lines = [model.entry_line(number, 1, *map(model.time_text, span)) for number, span in enumerate(spans, 1)]
+    sources = [model.source_line(1, "A.wav", b"00.00.00.00/0000")]
+    scene.put(model.list_text(sources, lines), {"A.wav": wave([7] * (5 * MEDIA_COUNT))})
+    same("the status", traced(scene, "consolidate", words=("--handle", "0")).status, 0)
+    syncs: dict = {}
+    unsynced = set()
+    for call in calls_in((scene.folder / "trace").read_text(), scene.folder):
+        if call.file == f"{OUT}/consolidated.adl":
+            break
+        if call.name in ("write", "pwrite64", "ftruncate"):
+            unsynced.add(call.file)
+        elif call.name == "fsync":
+            unsynced.discard(call.file)
+            syncs[call.file] = syncs.get(call.file, 0) + 1
+    same("media that aren't synced when the list is made", unsynced, set())
+    media = {f"{OUT}/M{number:05d}.wav": 2 for number in range(1, MEDIA_COUNT + 1)}
+    same("syncs of each medium, and of their folder", syncs, {**media, OUT: 1})
+
+
 def run(suite: Suite) -> None:
+    suite.case("each medium is synced before the list", synced_before_the_list)
     for command in model.WRITING:
         suite.case(f"each call of {command} fails once", each_call(command, 1))
         suite.case(f"each call of {command} fails three times in a row", each_call(command, 3))
