@@ -53,7 +53,8 @@ def traced(scene: Scene, command: str, *options: str, words: tuple = ()) -> Outc
 
 def file_of(line: str, folder: Path) -> str:
     """The project's file that a call is on, from the folder of the list on; nothing where it is on none."""
-    asked = line.rpartition(") = ")[0]
+    # short lines are padded before the equals sign
+    asked = re.split(r"\) += ", line)[0]
     by_handle = re.search(rf"<{re.escape(str(folder))}/([^>]*)>", asked)
     by_name = re.search(r'"([^"]*)"', asked) if line.startswith(("openat", "newfstatat", "statx")) else None
     names = [found[1] for found in (by_handle, by_name) if found and found[1] not in ("", ".")]
