@@ -5,7 +5,7 @@ use Rattle.std.proofs.lemmas.Bool.{cases_lt}
 use Rattle.std.proofs.lemmas.Bool.Decides.{nat_tests}
 use Rattle.sound_terms.specs.declared.block.Stretch.{Stretch}
 use Rattle.sound_terms.specs.declared.piece.Shape.{Shape}
-use Rattle.sound_terms.specs.Sounds.{SoundFacts}
+use Rattle.sound_terms.specs.Sounds.{SoundFacts, reading_by}
 use Rattle.sound_terms.specs.Media.{frame_length}
 use Rattle.sound_terms.specs.Waves.{sample_of}
 use Rattle.sound_terms.specs.Mix.{Reading, full_scale}
@@ -13,7 +13,6 @@ use Rattle.sound_terms.specs.Passes.{shape_behind}
 use Rattle.sound_terms.specs.GroupLaws.{fraction_behind}
 use Rattle.sound_terms.specs.Blocks.{held, share_at, sums_with}
 use Rattle.work_terms.specs.Disk.{Files}
-use Rattle.list_terms.specs.Heard.{reading_by}
 use Rattle.shelf.specs.declared.fault.ShelfFault.{ShelfFault}
 use Rattle.shelf.specs.declared.fault.ShelfFault.TheVariants as shelf
 use Rattle.wavread.specs.Facts.{AreFrames}

@@ -7,7 +7,7 @@ ghost use Rattle.sound_terms.specs.declared.block.Instruction.TheVariants as ins
 ghost use Rattle.sound_terms.specs.Depth.{bits_of};
 ghost use Rattle.pcm.specs.Samples.{FitsDepth};
 ghost use Rattle.sound_terms.specs.Blocks.{BlockState, IsBlockProgram, IsFormed, AddsOne, LiesInFiles, PlaysFull, executed, executed_all};
-ghost use Rattle.list_terms.specs.Heard.{reading_by};
+ghost use Rattle.sound_terms.specs.Sounds.{reading_by};
 ghost use Rattle.shelf.specs.Frame.{OnlyReads};
 ghost use Rattle.blockmachine.specs.Fault.{FailsAt, IsSource};
 ghost use Rattle.blockmachine.specs.Sums.{AreSums};

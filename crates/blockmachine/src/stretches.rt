@@ -1,11 +1,10 @@
 // Stretches of files, read and added.
 ghost use Rattle.std.specs.Prelude.{◌≡◌, ◌+◌, ◌*◌, ◌^◌, ◌<◌, ◌≤◌, ℕ, ℤ, IsTrue, IfErr, OnOk, Some, slice_get, length};
 ghost use Rattle.std.specs.List.{All};
-ghost use Rattle.sound_terms.specs.Sounds.{SoundFacts};
+ghost use Rattle.sound_terms.specs.Sounds.{SoundFacts, reading_by};
 ghost use Rattle.sound_terms.specs.Media.{LiesInFile};
 ghost use Rattle.sound_terms.specs.Groups.{IsRamp};
 ghost use Rattle.sound_terms.specs.Blocks.{FitsBlock, IsFull, sums_with};
-ghost use Rattle.list_terms.specs.Heard.{reading_by};
 ghost use Rattle.shelf.specs.Frame.{OnlyReads};
 ghost use Rattle.blockmachine.specs.Fault.{FailsAt, IsSource};
 ghost use Rattle.pcm.specs.Samples.{FitsDepth};

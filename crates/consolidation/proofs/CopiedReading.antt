@@ -8,11 +8,10 @@ use Rattle.sound_terms.specs.declared.piece.Home.{Home}
 use Rattle.sound_terms.specs.declared.piece.Run.{Run}
 use Rattle.sound_terms.specs.Media.{CopiesRuns, sound_at}
 use Rattle.sound_terms.specs.Mix.{full_scale}
-use Rattle.sound_terms.specs.Sounds.{SoundFacts}
+use Rattle.sound_terms.specs.Sounds.{SoundFacts, reading_by}
 use Rattle.sound_terms.specs.Waves.{sample_at}
 use Rattle.work_terms.specs.Disk.{Files}
 use Rattle.list_terms.specs.Binding.{OpenedFile}
-use Rattle.list_terms.specs.Heard.{reading_by}
 use Rattle.list_terms.specs.Renewed.{numbered}
 use Rattle.consolidation.specs.Work.{HasMedia, opened_medium}
 

@@ -1,8 +1,7 @@
 -- What a list sounds like over files, which list is accepted, and the first fault of every other.
-use Rattle.std.specs.Prelude.{◌≡◌, ℕ, ◌&&◌, nat_lt, nat_le, List, map, Option, None, Some, Result, Ok, Err, if◌then◌else◌, slice_get, ℤ, pos}
-use Rattle.sound_terms.specs.Mix.{Reading, full_scale, mix_at}
-use Rattle.sound_terms.specs.Waves.{sample_at}
-use Rattle.sound_terms.specs.Sounds.{SoundFacts}
+use Rattle.std.specs.Prelude.{◌≡◌, ℕ, List, map, Option, None, Some, Result, Ok, Err, ℤ}
+use Rattle.sound_terms.specs.Mix.{Reading, mix_at}
+use Rattle.sound_terms.specs.Sounds.{SoundFacts, reading_by}
 use Rattle.work_terms.specs.Disk.{Files}
 use Rattle.work_terms.specs.Refusals.{Refusal}
 use Rattle.list_terms.specs.Project.{ListProject}
@@ -10,20 +9,6 @@ use Rattle.list_terms.specs.Binding.{Binding}
 use Rattle.list_terms.specs.Bound.{binding_of}
 use Rattle.list_terms.specs.Accepted.{event_fault}
 use Rattle.list_terms.specs.Text.{text_value}
-
--- the samples of opened files at full scale, by the file's place among them; zero outside their channels and frames
-abbrev pub reading_by : Files → List SoundFacts → Reading
-reading_by files sounds file channel frame = of_sound (slice_get sounds file) where
-  of_bytes : SoundFacts → Option (List ℕ) → ℤ
-  of_bytes facts None = pos 0
-  of_bytes facts (Some bytes) =
-      if nat_lt frame facts.frames && (nat_le 1 channel && nat_le channel facts.channels)
-      then full_scale facts.depth (sample_at bytes facts.place facts.channels facts.depth frame channel)
-      else pos 0
-
-  of_sound : Option SoundFacts → ℤ
-  of_sound None = pos 0
-  of_sound (Some facts) = of_bytes facts (files facts.name)
 
 -- the opened files of a binding
 abbrev pub sounds_of : Binding → List SoundFacts

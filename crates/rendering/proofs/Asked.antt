@@ -6,11 +6,11 @@ use Rattle.std.proofs.lemmas.List.{get_or_past}
 use Rattle.sound_terms.specs.Blocks.{block_count}
 use Rattle.sound_terms.specs.Groups.{sum_of}
 use Rattle.sound_terms.specs.Render.{Range, rendering_of}
-use Rattle.sound_terms.specs.Sounds.{SoundFacts}
+use Rattle.sound_terms.specs.Sounds.{SoundFacts, reading_by}
 use Rattle.work_terms.specs.Disk.{Files}
 use Rattle.list_terms.specs.Accepted.{OptionValues, range_of}
 use Rattle.list_terms.specs.Binding.{Binding}
-use Rattle.list_terms.specs.Heard.{project_mix, reading_by, reading_of}
+use Rattle.list_terms.specs.Heard.{project_mix, reading_of}
 use Rattle.list_terms.specs.Project.{ListProject}
 use Rattle.blockcut.specs.declared.stretch.Stretch.{Stretch}
 use Rattle.blockcut.specs.Laws.{cut-covers}

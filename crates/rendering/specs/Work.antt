@@ -5,10 +5,9 @@ use Rattle.sound_terms.specs.Blocks.{block_count, block_length}
 use Rattle.sound_terms.specs.Groups.{sum_of}
 use Rattle.sound_terms.specs.Media.{IsPieceOf}
 use Rattle.sound_terms.specs.Render.{Range, render_info, rendering_of}
-use Rattle.sound_terms.specs.Sounds.{SoundFacts}
+use Rattle.sound_terms.specs.Sounds.{SoundFacts, reading_by}
 use Rattle.sound_terms.specs.Waves.{header_of}
 use Rattle.work_terms.specs.Disk.{Files}
-use Rattle.list_terms.specs.Heard.{reading_by}
 use Rattle.renderplan.specs.Planned.{IsPlan, Planned}
 use Rattle.wavwrite.specs.Info.{Fits}
 use Rattle.job_terms.specs.Workers.{JobsBy}

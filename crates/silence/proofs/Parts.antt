@@ -4,9 +4,8 @@ use Rattle.std.specs.Prelude.{pos, ◌↔◌, min, nat_le, nat_lt}
 use Rattle.std.proofs.lemmas.Bool.{cases_lt}
 use Rattle.std.proofs.lemmas.Bool.Decides.{nat_tests}
 use Rattle.facts.specs.Tests.{otherwise}
-use Rattle.sound_terms.specs.Sounds.{SoundFacts}
+use Rattle.sound_terms.specs.Sounds.{SoundFacts, reading_by}
 use Rattle.work_terms.specs.Disk.{Files}
-use Rattle.list_terms.specs.Heard.{reading_by}
 use Rattle.silence.specs.declared.part.Part.{Part}
 use Rattle.silence.specs.Zero.{IsZero, sound_by}
 

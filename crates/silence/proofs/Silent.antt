@@ -2,9 +2,8 @@
 use Rattle.std.proofs.Common.{◌≡◌, ℕ, ◌+◌, ◌-◌, Bool, true, false, List, None, Some, refl, sym, ◌∙◌, IsTrue, arith}
 use Rattle.std.specs.Prelude.{◌↔◌, slice_get}
 use Rattle.sound_terms.specs.declared.piece.Piece.{Piece}
-use Rattle.sound_terms.specs.Sounds.{SoundFacts}
+use Rattle.sound_terms.specs.Sounds.{SoundFacts, reading_by}
 use Rattle.work_terms.specs.Disk.{Files}
-use Rattle.list_terms.specs.Heard.{reading_by}
 use Rattle.passes.specs.Silent.{is_silent_in}
 use Rattle.passes.specs.Laws.{silent_is}
 use Rattle.shelf.specs.declared.fault.ShelfFault.{ShelfFault}

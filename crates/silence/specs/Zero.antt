@@ -1,9 +1,8 @@
 -- What is zero of an opened file.
 use Rattle.std.specs.Prelude.{◌≡◌, ℕ, ◌+◌, ◌*◌, ◌-◌, ◌<◌, ◌≤◌, List, [], ◌∷◌, Option, None, Some, ℤ, pos, get_or}
-use Rattle.sound_terms.specs.Sounds.{SoundFacts}
+use Rattle.sound_terms.specs.Sounds.{SoundFacts, reading_by}
 use Rattle.sound_terms.specs.declared.piece.Piece.{Piece}
 use Rattle.work_terms.specs.Disk.{Files}
-use Rattle.list_terms.specs.Heard.{reading_by}
 use Rattle.silence.specs.declared.part.Part.{Part}
 
 -- the samples of one opened file, by channel from 1 and frame

@@ -1,8 +1,7 @@
 // What is known of the silence of a file.
 ghost use Rattle.std.specs.Prelude.{◌≡◌, ◌*◌, ◌≤◌, is_some, length, slice_get, unwrap_or, List, IsErrOf, IfOk, IsTrue, Some};
 ghost use Rattle.sound_terms.specs.Mix.{Reading};
-ghost use Rattle.sound_terms.specs.Sounds.{SoundFacts};
-ghost use Rattle.list_terms.specs.Heard.{reading_by};
+ghost use Rattle.sound_terms.specs.Sounds.{SoundFacts, reading_by};
 ghost use Rattle.shelf.specs.Frame.{OnlyReads};
 ghost use Rattle.silence.specs.Known.{IsSo, Reaches, Tells};
 ghost use Rattle.silence.specs.Zero.{LiesIn};

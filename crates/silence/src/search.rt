@@ -2,7 +2,7 @@
 ghost use Rattle.std.specs.Prelude.{◌≡◌, IfOk, IsTrue, OnOk, OnErr};
 ghost use Rattle.sound_terms.specs.Groups.{IsPiece};
 ghost use Rattle.sound_terms.specs.Mix.{Reading};
-ghost use Rattle.list_terms.specs.Heard.{reading_by};
+ghost use Rattle.sound_terms.specs.Sounds.{reading_by};
 ghost use Rattle.passes.specs.Silent.{IsDevice, is_silent_in};
 ghost use Rattle.shelf.specs.Frame.{OnlyReads};
 ghost use Rattle.silence.specs.Fault.{FailsAt};

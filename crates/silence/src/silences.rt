@@ -4,7 +4,7 @@ ghost use Rattle.std.specs.List.{All, Contains};
 ghost use Rattle.sound_terms.specs.Groups as groups;
 ghost use Rattle.sound_terms.specs.Groups.{Agrees, IsPiece};
 ghost use Rattle.sound_terms.specs.Passes.{silences};
-ghost use Rattle.list_terms.specs.Heard.{reading_by};
+ghost use Rattle.sound_terms.specs.Sounds.{reading_by};
 ghost use Rattle.passes.specs.Silent.{IsDevice, silences_of};
 ghost use Rattle.shelf.specs.Frame.{OnlyReads};
 ghost use Rattle.silence.specs.Fault.{FailsAt};

@@ -2,7 +2,7 @@
 ghost use Rattle.std.specs.Prelude.{◌≡◌, ℕ, [], IfOk, IsTrue, if◌then◌else◌};
 ghost use Rattle.sound_terms.specs.Groups.{are_whole, mix_of, reads};
 ghost use Rattle.sound_terms.specs.Passes.{in_turn, silences, standard_groups};
-ghost use Rattle.list_terms.specs.Heard.{reading_by};
+ghost use Rattle.sound_terms.specs.Sounds.{reading_by};
 ghost use Rattle.passes.specs.Silent.{IsDevice};
 ghost use Rattle.passes.specs.Standard.{AreStandard, reads_sounding};
 ghost use Rattle.shelf.specs.Frame.{OnlyReads};

@@ -1,10 +1,13 @@
 -- What is known of a sound file as a whole: its format, its samples, and what its `bext` tells.
-use Rattle.std.specs.Prelude.{ℕ, ◌+◌, ◌*◌, ◌/◌, ◌&&◌, nat_lt, nat_le, Bool, not, List, length, take, drop, Option, None, Some, is_some, if◌then◌else◌}
+use Rattle.std.specs.Prelude.{ℕ, ◌+◌, ◌*◌, ◌/◌, ◌&&◌, nat_lt, nat_le, Bool, not, ℤ, pos, List, length, take, drop, slice_get, Option, None, Some, is_some, if◌then◌else◌}
 use Rattle.sound_terms.specs.declared.Span.{Span}
 use Rattle.sound_terms.specs.declared.Chunks.{Chunks}
 use Rattle.sound_terms.specs.declared.Format.{Format}
 use Rattle.sound_terms.specs.Depth.{bits_of}
 use Rattle.sound_terms.specs.Chunks.{number_at}
+use Rattle.sound_terms.specs.Mix.{Reading, full_scale}
+use Rattle.sound_terms.specs.Waves.{sample_at}
+use Rattle.work_terms.specs.Disk.{Files}
 
 -- all that a sound file says: `place` is where its samples begin; `text`, `time_reference` and `history` are of
 -- its `bext`; `short_bext`, `history_cut` and `others` tell what of the file is not carried along
@@ -47,3 +50,17 @@ facts_with name chunks format bext =
       history_cut = nat_lt (602 + history_limit) (length bext);
       others = chunks.others;
     }
+
+-- the samples of opened files at full scale, by the file's place among them; zero outside their channels and frames
+abbrev pub reading_by : Files → List SoundFacts → Reading
+reading_by files sounds file channel frame = of_sound (slice_get sounds file) where
+  of_bytes : SoundFacts → Option (List ℕ) → ℤ
+  of_bytes facts None = pos 0
+  of_bytes facts (Some bytes) =
+      if nat_lt frame facts.frames && (nat_le 1 channel && nat_le channel facts.channels)
+      then full_scale facts.depth (sample_at bytes facts.place facts.channels facts.depth frame channel)
+      else pos 0
+
+  of_sound : Option SoundFacts → ℤ
+  of_sound None = pos 0
+  of_sound (Some facts) = of_bytes facts (files facts.name)

@@ -6,9 +6,9 @@ use Rattle.sound_terms.specs.declared.block.Instruction.TheVariants.{Start}
 use Rattle.sound_terms.specs.Mix.{Reading}
 use Rattle.sound_terms.specs.Blocks.{BlockState, executed, executed_all, PlaysFull}
 use Rattle.work_terms.specs.Disk.{Files}
-use Rattle.list_terms.specs.Heard.{reading_by}
 use Rattle.blockmachine.specs.Sums.{AreSums}
 use Rattle.sound_terms.specs.BlockLaws.{executed_all-append}
+use Rattle.sound_terms.specs.Sounds.{reading_by}
 use Rattle.blockmachine.proofs.machine.add_all.Goals as goal
 
 pub loop-line-preserved : goal.loop-line-preserved

@@ -1,11 +1,10 @@
 use Rattle.std.proofs.Common.{◌≡◌, ℕ, All, Some, length, arith, rules, refl, sym, ap, ◌∙◌, subst}
 use Rattle.std.specs.Prelude.{slice_get}
 use Rattle.std.proofs.lemmas.Option.{same_Some, slice_get_read, slice_get_within}
-use Rattle.sound_terms.specs.Sounds.{SoundFacts}
+use Rattle.sound_terms.specs.Sounds.{SoundFacts, reading_by}
 use Rattle.sound_terms.specs.Depth.{bits_of}
 use Rattle.sound_terms.specs.Mix.{Reading}
 use Rattle.pcm.specs.Samples.{FitsDepth}
-use Rattle.list_terms.specs.Heard.{reading_by}
 use Rattle.blockmachine.specs.Playing.{Plays}
 use Rattle.blockmachine.proofs.stretches.add_part.Goals as goal
 

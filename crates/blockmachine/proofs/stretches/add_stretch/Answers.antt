@@ -4,8 +4,8 @@ use Rattle.sound_terms.specs.declared.block.Stretch.{Stretch}
 use Rattle.sound_terms.specs.Mix.{Reading}
 use Rattle.sound_terms.specs.Passes.{shape_behind}
 use Rattle.sound_terms.specs.Blocks.{sums_with, IsFull}
+use Rattle.sound_terms.specs.Sounds.{reading_by}
 use Rattle.work_terms.specs.Disk.{Files}
-use Rattle.list_terms.specs.Heard.{reading_by}
 use Rattle.blockmachine.specs.Sums.{AreSums}
 use Rattle.blockmachine.proofs.Full.{full_more}
 use Rattle.blockmachine.proofs.Played.{part_more}

@@ -1,7 +1,7 @@
 use Rattle.std.proofs.Common.{◌≡◌, ℕ, ◌-◌, ◌≤◌, IsTrue}
 use Rattle.std.specs.Prelude.{ℤ}
 use Rattle.sound_terms.specs.Blocks.{sums_with, IsFull}
-use Rattle.list_terms.specs.Heard.{reading_by}
+use Rattle.sound_terms.specs.Sounds.{reading_by}
 use Rattle.shelf.specs.Frame.{IsQuiet}
 use Rattle.blockmachine.specs.Sums.{AreSums}
 use Rattle.blockmachine.proofs.stretches.add_stretch.Given as goal

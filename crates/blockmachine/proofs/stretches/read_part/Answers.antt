@@ -1,8 +1,7 @@
 use Rattle.std.proofs.Common.{◌≡◌, ◌*◌, ℕ, All, Some, Err, length, refl, sym, ap, ◌∙◌, subst}
 use Rattle.std.specs.Prelude.{slice_get}
 use Rattle.std.proofs.lemmas.Option.{same_Some, slice_get_read, slice_get_within}
-use Rattle.sound_terms.specs.Sounds.{SoundFacts}
-use Rattle.list_terms.specs.Heard.{reading_by}
+use Rattle.sound_terms.specs.Sounds.{SoundFacts, reading_by}
 use Rattle.pcm.specs.Samples.{FitsDepth}
 use Rattle.sound_terms.specs.Mix.{Reading}
 use Rattle.blockmachine.specs.Playing.{Plays}

@@ -1,5 +1,5 @@
 use Rattle.std.proofs.Common.{arith}
-use Rattle.list_terms.specs.Heard.{reading_by}
+use Rattle.sound_terms.specs.Sounds.{reading_by}
 use Rattle.silence.specs.Zero.{IsZeroAt, sound_by}
 use Rattle.silence.proofs.Knowing.{looked, tells_then}
 use Rattle.silence.proofs.Silent.{heard_there}

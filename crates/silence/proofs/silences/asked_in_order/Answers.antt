@@ -1,6 +1,6 @@
 use Rattle.std.proofs.Common.{◌≡◌, length, rules, arith}
 use Rattle.std.proofs.lemmas.Grind.{common_steps}
-use Rattle.list_terms.specs.Heard.{reading_by}
+use Rattle.sound_terms.specs.Sounds.{reading_by}
 use Rattle.passes.specs.Silent.{is_silent_in}
 use Rattle.silence.proofs.Answered.{all_right}
 use Rattle.silence.proofs.silences.asked_in_order.Goals as goal

@@ -1,5 +1,5 @@
 use Rattle.std.proofs.Common.{◌≡◌, length, IsTrue}
-use Rattle.list_terms.specs.Heard.{reading_by}
+use Rattle.sound_terms.specs.Sounds.{reading_by}
 use Rattle.passes.specs.Silent.{is_silent_in}
 use Rattle.shelf.specs.Frame.{IsQuiet}
 use Rattle.silence.specs.Known.{IsSo}

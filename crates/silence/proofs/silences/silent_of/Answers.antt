@@ -1,10 +1,10 @@
 use Rattle.std.proofs.Common.{◌∙◌, ap}
 use Rattle.std.specs.Prelude.{map}
-use Rattle.list_terms.specs.Heard.{reading_by}
 use Rattle.passes.specs.Laws.{agrees}
 use Rattle.passes.specs.Silent.{is_silent_in}
 use Rattle.sound_terms.specs.GroupLaws.{all_pieces}
 use Rattle.sound_terms.specs.Groups.{IsPiece}
+use Rattle.sound_terms.specs.Sounds.{reading_by}
 use Rattle.silence.proofs.silences.silent_of.Goals as goal
 
 pub asked_in_order-requires-clause-pieces : goal.asked_in_order-requires-clause-pieces

@@ -1,7 +1,7 @@
 use Rattle.std.proofs.lemmas.Result.{IfOk-weaker}
-use Rattle.list_terms.specs.Heard.{reading_by}
 use Rattle.passes.specs.Laws.{agrees_none}
 use Rattle.sound_terms.specs.Groups.{pieces_of}
+use Rattle.sound_terms.specs.Sounds.{reading_by}
 use Rattle.silence.proofs.turns.asked.Goals as goal
 
 pub returns-else-looks-clause-keeps_mix : goal.returns-else-looks-clause-keeps_mix

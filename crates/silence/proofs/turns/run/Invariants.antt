@@ -2,7 +2,7 @@ use Rattle.std.proofs.Common.{◌≡◌, ℕ, IsTrue}
 use Rattle.std.specs.Vec.Iter.{into_iter_items}
 use Rattle.sound_terms.specs.Groups.{are_whole, mix_of, reads}
 use Rattle.sound_terms.specs.Passes.{in_turn, silences}
-use Rattle.list_terms.specs.Heard.{reading_by}
+use Rattle.sound_terms.specs.Sounds.{reading_by}
 use Rattle.shelf.specs.Frame.{IsQuiet}
 use Rattle.silence.proofs.turns.run.Given as goal
 

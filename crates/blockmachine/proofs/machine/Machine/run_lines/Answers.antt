@@ -12,7 +12,7 @@ use Rattle.sound_terms.specs.Depth.{bits_of}
 use Rattle.sound_terms.specs.Mix.{Reading}
 use Rattle.sound_terms.specs.Blocks.{BlockState, LiesInFiles, block_samples, executed_all}
 use Rattle.sound_terms.specs.BlockLaws.{executed_all-append, frames_kept}
-use Rattle.list_terms.specs.Heard.{reading_by}
+use Rattle.sound_terms.specs.Sounds.{reading_by}
 use Rattle.pcm.specs.Samples.{FitsDepth}
 use Rattle.blockmachine.specs.Alone.{filling}
 use Rattle.blockmachine.specs.Playing.{Plays}

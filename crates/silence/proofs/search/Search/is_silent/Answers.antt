@@ -2,7 +2,7 @@ use Rattle.std.proofs.Common.{◌≡◌, Err, length, refl, ap, arith}
 use Rattle.std.specs.Prelude.{Some, slice_get}
 use Rattle.std.proofs.lemmas.Option.{slice_get_past, slice_get_read}
 use Rattle.std.proofs.lemmas.Bool.Decides.{nat_tests}
-use Rattle.list_terms.specs.Heard.{reading_by}
+use Rattle.sound_terms.specs.Sounds.{reading_by}
 use Rattle.silence.proofs.Knowing.{told}
 use Rattle.silence.proofs.Silent.{device_of, silent_by, silent_nowhere}
 use Rattle.silence.proofs.search.Search.is_silent.Goals as goal
