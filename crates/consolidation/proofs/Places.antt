@@ -1,9 +1,7 @@
 -- What holds of all elements, and elements by their numbers.
-use Rattle.std.proofs.Common.{◌≡◌, ◌∙◌, ℕ, zero, suc, ◌+◌, List, [], ◌∷◌, Some, ap, arith, get_or, refl, sym, unwrap_or}
+use Rattle.std.proofs.Common.{◌≡◌, ◌∙◌, ℕ, zero, suc, ◌+◌, List, [], ◌∷◌, Some, ap, arith, get_or, sym, unwrap_or}
 use Rattle.std.specs.List.{slice_get}
 use Rattle.std.proofs.lemmas.Option.{get_or_from_slice_get}
-use Rattle.sound_terms.specs.declared.piece.Home.{Home}
-use Rattle.sound_terms.specs.Homes.{base_by}
 use Rattle.sound_terms.specs.Media.{no_sound, sound_at}
 use Rattle.sound_terms.specs.Sounds.{SoundFacts}
 use Rattle.list_terms.specs.Renewed.{numbered}
@@ -19,16 +17,11 @@ numbered_at f number (suc k) (first ∷ xs) x there =
     let counted : suc number + k ≡ number + suc k = omega arith in
     numbered_at f (suc number) k xs x there ∙ ap (λ n. Some (f n x)) counted
 
--- the file and its home as they are read at their places
+-- the file as it is read at its place
 pub sound_read : (sounds : List SoundFacts) (file : ℕ) (facts d : SoundFacts) → slice_get sounds file ≡ Some facts
     → get_or sounds file d ≡ sound_at sounds file
 sound_read sounds file facts d there =
     get_or_from_slice_get sounds file facts d there ∙ sym (ap (λ o. unwrap_or o no_sound) there)
-
-pub base_read : (homes : List Home) (file : ℕ) (home d : Home) → slice_get homes file ≡ Some home
-    → (get_or homes file d).base ≡ base_by homes file
-base_read homes file home d there =
-    ap (λ (h : Home). h.base) (get_or_from_slice_get homes file home d there) ∙ sym (rw there refl)
 
 pub same_facts : (sounds : List SoundFacts) (file : ℕ) (facts : SoundFacts) → slice_get sounds file ≡ Some facts
     → facts ≡ sound_at sounds file

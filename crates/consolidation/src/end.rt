@@ -62,7 +62,7 @@ impl<'a> Consolidation<'a> {
         Written {
             media: self.runs.len() as u32,
             entries: self.entries,
-            sizes: sizes_of(self.sounds, &self.runs, self.text.len()),
+            sizes: sizes_of(self.sounds, self.runs.as_slice(), self.text.len()),
         }
     }
 

@@ -13,6 +13,7 @@ ghost use Rattle.consolidation.specs.Planned.{IsMediaPlan};
 use crate::Consolidation;
 use crate::media::PIECE;
 use mediacopy::{CopyJob, fetch_piece, length_of, place_piece};
+use mediaset::Runs;
 use shelf::{Bench, DeviceFault, Shelf};
 use sound_terms::Run;
 
@@ -54,15 +55,15 @@ fn piece_of(run: &Run, place: usize, number: u32) -> CopyJob
 }
 
 /// The piece that this job copies, where the runs' jobs end so.
-fn job_of(runs: &[Run], ends: &[u32], job: u32) -> CopyJob
-    requires ends { AreEnds runs.now ends.now }
-    requires there { job < job_count runs.now }
-    requires few { length runs.now ≤ 32767 }
-    ensures { result ≡ spec.job_of runs.now job }
+fn job_of(runs: &Runs, ends: &[u32], job: u32) -> CopyJob
+    requires ends { AreEnds runs.now.runs ends.now }
+    requires there { job < job_count runs.now.runs }
+    ensures { result ≡ spec.job_of runs.now.runs job }
 {
-    let place = run_of(runs, ends, job);
+    let list = runs.as_slice();
+    let place = run_of(list, ends, job);
     let number = job - before(ends, place);
-    piece_of(&runs[place], place, number)
+    piece_of(&list[place], place, number)
 }
 
 impl<'a> Consolidation<'a> {
@@ -88,7 +89,7 @@ impl<'a> Consolidation<'a> {
         requires { IsPieceOf self.now.sounds self.now.runs piece }
         ensures { result ≡ piece_length self.now.sounds self.now.runs piece }
     {
-        length_of(self.sounds, &self.runs, piece)
+        length_of(self.sounds, self.runs.as_slice(), piece)
     }
 
     /// Fills `bytes` with the frames of a piece in its source.
@@ -104,7 +105,7 @@ impl<'a> Consolidation<'a> {
             → OnOk result (bytes.new ≡ piece_bytes (S.stored shelf.old) self.now.sounds self.now.runs piece) }
         ensures only_reads { OnlyReads S.Shelf shelf.old shelf.new result (λ _. ⊤) (λ _ failed. ⊤) }
     {
-        fetch_piece(shelf, self.sounds, &self.runs, piece, bytes)
+        fetch_piece(shelf, self.sounds, self.runs.as_slice(), piece, bytes)
     }
 
     /// Writes the bytes of a piece at their place in the medium of its run.
@@ -126,6 +127,6 @@ impl<'a> Consolidation<'a> {
         ensures later { B.moment bench.old ≤ B.moment bench.new }
     {
         let name = self.names[piece.run as usize].as_str();
-        place_piece(bench, name, self.sounds, &self.runs, piece, bytes)
+        place_piece(bench, name, self.sounds, self.runs.as_slice(), piece, bytes)
     }
 }

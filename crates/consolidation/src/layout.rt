@@ -41,9 +41,9 @@ impl<'a> Consolidation<'a> {
         ensures only_writes { OnlyWrites B.Bench (λ n. n ≢ media_name (place + 1)) bench.old bench.new result (λ _. ⊤)
             FailsIn }
     {
-        let run = &self.runs[place];
+        let run = &self.runs.as_slice()[place];
         let sound = &self.sounds[run.file as usize];
-        let base = self.homes[run.file as usize].base;
+        let base = self.runs.homes().base(run.file);
         let info = info_of(sound, base, run);
         let name = self.medium_name(place);
         match lay_out(bench, name, &info, room) {

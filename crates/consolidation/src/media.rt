@@ -1,11 +1,12 @@
 // The names of media, and where the jobs of each end.
-ghost use Rattle.std.specs.Prelude.{◌≡◌, ◌≤◌, ◌<◌, ◌+◌, ◌^◌, IfOk, All, length};
+ghost use Rattle.std.specs.Prelude.{◌≡◌, ◌<◌, ◌+◌, ◌^◌, IfOk, All};
 ghost use Rattle.consolidation.specs.Named.{AreEnds, AreNamed};
 ghost use Rattle.consolidation.specs.Pieces as spec;
 ghost use Rattle.consolidation.specs.Planned.{IsAddressed};
 
+use mediaset::Runs;
 use relink::media_name;
-use sound_terms::{Home, Run};
+use sound_terms::Run;
 use std::alloc::{AllocError, Global};
 use wavread::Sound;
 
@@ -13,12 +14,12 @@ use wavread::Sound;
 pub const PIECE: u64 = 65_536;
 
 /// The names of the media of runs.
-pub fn names_of(alloc: Global, runs: &[Run]) -> Result<Vec<String>, AllocError>
-    requires few { length runs.now ≤ 32767 }
-    ensures { IfOk result (λ names. AreNamed runs.now names.items) }
+pub fn names_of(alloc: Global, runs: &Runs) -> Result<Vec<String>, AllocError>
+    ensures { IfOk result (λ names. AreNamed runs.now.runs names.items) }
 {
-    let mut names = Vec::with_capacity(alloc, runs.len())?;
-    for number in 0..runs.len() as u32 {
+    let list = runs.as_slice();
+    let mut names = Vec::with_capacity(alloc, list.len())?;
+    for number in 0..list.len() as u32 {
         names.push(media_name(alloc, number + 1)?)?;
     }
     Ok(names)
@@ -33,19 +34,14 @@ fn pieces_in(run: &Run) -> u64
 }
 
 /// How many jobs the runs up to and with each have.
-pub fn ends_of(
-    alloc: Global,
-    sounds: &[Sound],
-    homes: &[Home],
-    runs: &[Run],
-) -> Result<Vec<u32>, AllocError>
-    requires few { length runs.now ≤ 32767 }
-    requires runs { All (IsAddressed sounds.now homes.now) runs.now }
-    ensures { IfOk result (λ ends. AreEnds runs.now ends.items) }
+pub fn ends_of(alloc: Global, sounds: &[Sound], runs: &Runs) -> Result<Vec<u32>, AllocError>
+    requires { All (IsAddressed sounds.now runs.now.homes) runs.now.runs }
+    ensures { IfOk result (λ ends. AreEnds runs.now.runs ends.items) }
 {
-    let mut ends = Vec::with_capacity(alloc, runs.len())?;
+    let list = runs.as_slice();
+    let mut ends = Vec::with_capacity(alloc, list.len())?;
     let mut end: u64 = 0;
-    for run in runs {
+    for run in list {
         end += pieces_in(run);
         ends.push(end as u32)?;
     }

@@ -14,10 +14,10 @@ ghost use Rattle.consolidation.specs.There.{AreThere};
 use crate::ConsolidationFault;
 use crate::groups::groups_left;
 use crate::planning::plan_of;
+use mediaset::Runs;
 use passes::Pass;
 use projectcheck::{Checked, from_checked};
 use shelf::{Shelf, Watch};
-use sound_terms::{Home, Run};
 use std::alloc::Global;
 use std::marker::Model;
 use wavread::Sound;
@@ -28,8 +28,7 @@ use wavread::Sound;
 #[derive(Drop)]
 pub struct Consolidation<'a> {
     pub(crate) sounds: &'a [Sound],
-    pub(crate) homes: Vec<Home>,
-    pub(crate) runs: Vec<Run>,
+    pub(crate) runs: Runs,
     pub(crate) names: Vec<String>,
     pub(crate) ends: Vec<u32>,
     pub(crate) text: Vec<u8>,
@@ -44,20 +43,20 @@ impl<'a> Model for Consolidation<'a> {
 
     ghost view = { λ c. record {
       sounds = c.sounds.now;
-      homes = c.homes.items;
-      runs = c.runs.items;
+      homes = c.runs.homes;
+      runs = c.runs.runs;
       text = c.text.items;
       entries = c.entries;
     } };
 
     ghost invariant = { λ c. planned.IsMediaPlan (record {
       sounds = c.sounds.now;
-      homes = c.homes.items;
-      runs = c.runs.items;
+      homes = c.runs.homes;
+      runs = c.runs.runs;
       text = c.text.items;
       entries = c.entries;
     })
-        × AreNamed c.runs.items c.names.items × AreEnds c.runs.items c.ends.items };
+        × AreNamed c.runs.runs c.names.items × AreEnds c.runs.runs c.ends.items };
 }
 
 impl<'a> Consolidation<'a> {

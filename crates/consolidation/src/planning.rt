@@ -1,6 +1,6 @@
 // Plans a consolidation.
 ghost use Rattle.std.specs.Prelude.{◌≡◌, ◌≤◌, ℕ, List, All, IfErr, IfOk, IsTrue, Ok, OnOk, false, length, true};
-ghost use Rattle.sound_terms.specs.Homes.{AreHomes, kept_of, place_by};
+ghost use Rattle.sound_terms.specs.Homes.{kept_of, place_by};
 ghost use Rattle.sound_terms.specs.Kept.{AreRuns};
 ghost use Rattle.work_terms.specs.Disk.{Files};
 ghost use Rattle.work_terms.specs.Refusals.{Answers};
@@ -21,29 +21,30 @@ use crate::{Consolidation, ConsolidationFault};
 use adlwrite::text_of;
 use interval::Intervals;
 use mediacopy::reads_back;
-use mediaset::{RunFault, runs};
+use mediaset::{RunFault, Runs};
 use projectcheck::Checked;
 use relink::{RelinkFault, relink};
-use sound_terms::{Home, Run};
+use sound_terms::{Homes, Run};
 use std::alloc::Global;
 use wavread::Sound;
 
 /// The run can become a medium. It does nothing.
-fn reads_back_at(sounds: &[Sound], homes: &[Home], run: &Run)
+fn reads_back_at(sounds: &[Sound], homes: &Homes, run: &Run)
     requires { IsAddressed sounds.now homes.now run.now }
     ensures { IsMediumRun sounds.now homes.now run.now }
 {
     let sound = &sounds[run.file as usize];
-    let base = homes[run.file as usize].base;
-    reads_back(sound, base, run);
+    reads_back(sound, homes.base(run.file), run);
 }
 
 /// All runs can become media. It changes nothing.
-fn all_read_back(sounds: &[Sound], homes: &[Home], runs: &[Run])
-    requires { All (IsAddressed sounds.now homes.now) runs.now }
-    ensures { All (IsMediumRun sounds.now homes.now) runs.now }
+fn all_read_back(sounds: &[Sound], runs: &Runs)
+    requires { All (IsAddressed sounds.now runs.now.homes) runs.now.runs }
+    ensures { All (IsMediumRun sounds.now runs.now.homes) runs.now.runs }
 {
-    for run in runs {
+    let homes = runs.homes();
+    let list = runs.as_slice();
+    for run in list {
         reads_back_at(sounds, homes, run);
     }
 }
@@ -53,21 +54,20 @@ fn text_over(
     alloc: Global,
     checked: &Checked,
     intervals: Intervals,
-    runs: &[Run],
-    homes: &[Home],
+    runs: &Runs,
 ) -> Result<Vec<u8>, ConsolidationFault>
     requires left { AreLeft checked.now.bound intervals }
-    requires few { length runs.now ≤ 32767 }
-    requires homes { (homes.now ≡ homes_of checked.now.bound) × AreHomes homes.now }
-    requires kept { (handle : ℕ) × AreRuns (kept_of intervals homes.now handle) (place_by homes.now) runs.now }
+    requires homes { runs.now.homes ≡ homes_of checked.now.bound }
+    requires kept { (handle : ℕ)
+        × AreRuns (kept_of intervals runs.now.homes handle) (place_by runs.now.homes) runs.now.runs }
     ensures text { IfOk result (λ text. text.items
-        ≡ text_of_project (consolidated_project checked.now.project homes.now intervals runs.now)) }
+        ≡ text_of_project (consolidated_project checked.now.project runs.now.homes intervals runs.now.runs)) }
     ensures linked { OnOk result (IsLinked checked.now.project (sounds_of checked.now.bound)
-        (homes_of checked.now.bound) intervals runs.now) }
+        (homes_of checked.now.bound) intervals runs.now.runs) }
     ensures few_entries { OnOk result (length intervals ≤ 32767) }
     ensures own { IfErr result (IsOfLinking (length intervals)) }
 {
-    let renewed = relink(alloc, &intervals, runs, homes, checked.project())?;
+    let renewed = relink(alloc, &intervals, runs, checked.project())?;
     drop(intervals);
     let Ok(text) = text_of(alloc, &renewed) else {
         return Err(ConsolidationFault::Relink(RelinkFault::Memory));
@@ -94,19 +94,18 @@ pub fn plan_of(
     let Ok(homes) = bound.homes(alloc) else {
         return Err(ConsolidationFault::Runs(RunFault::Memory));
     };
-    let runs = runs(alloc, &intervals, &homes, handle)?;
+    let runs = Runs::kept(alloc, &intervals, homes, handle)?;
     let entries = intervals.groups().len() as u64;
-    let text = text_over(alloc, checked, intervals, &runs, &homes)?;
-    all_read_back(bound.sounds(), &homes, &runs);
+    let text = text_over(alloc, checked, intervals, &runs)?;
+    all_read_back(bound.sounds(), &runs);
     let Ok(names) = names_of(alloc, &runs) else {
         return Err(ConsolidationFault::Runs(RunFault::Memory));
     };
-    let Ok(ends) = ends_of(alloc, bound.sounds(), &homes, &runs) else {
+    let Ok(ends) = ends_of(alloc, bound.sounds(), &runs) else {
         return Err(ConsolidationFault::Runs(RunFault::Memory));
     };
     Ok(Consolidation {
         sounds: bound.sounds(),
-        homes,
         runs,
         names,
         ends,

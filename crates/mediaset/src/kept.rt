@@ -1,62 +1,108 @@
 // The runs of kept frames.
-ghost use Rattle.std.specs.Prelude.{◌≡◌, ◌≤◌, ◌<◌, ℕ, List, true, length, IfOk, IsErrOf};
+ghost use Rattle.std.specs.Prelude.{◌≡◌, ◌<◌, ℕ, List, true, length, IfOk, IsErrOf};
 ghost use Rattle.std.specs.List.{All};
 ghost use Rattle.sound_terms.specs.Groups.{pieces_of, reads};
 ghost use Rattle.sound_terms.specs.Homes.{AreHomes, IsInRun, LiesAtHome, kept_of, place_by};
 ghost use Rattle.sound_terms.specs.Kept.{AreRuns};
-ghost use Rattle.sound_terms.specs.declared.piece.Run.{Run};
+ghost use Rattle.sound_terms.specs.declared.piece.Run as run;
+ghost use Rattle.mediaset.specs.Runs.{AreIndexable};
 
 use crate::RunFault;
 use crate::merging::merge;
 use crate::spans::spans_of;
 use interval::Intervals;
-use sound_terms::{Home, Run};
+use sound_terms::{Homes, Run};
 use std::alloc::{AllocError, Global};
+use std::marker::Model;
 
 /// The most runs: as many as a list has indexes.
 const MOST_RUNS: usize = 32_767;
+
+/// Runs of kept frames, in order of the home indexes of their files, then of the frames, with these homes. They are no
+/// more than 32,767, none touches another, and each ends before the day does. A clause sees the lists of both.
+#[derive(Drop)]
+pub struct Runs {
+    homes: Homes,
+    runs: Vec<Run>,
+}
+
+impl Model for Runs {
+    ghost use Rattle.mediaset.specs.Runs.{AreIndexable, HomedRuns};
+
+    ghost Value = { HomedRuns };
+
+    ghost view = { λ kept. record { homes = kept.homes; runs = kept.runs.items } };
+
+    ghost invariant = { λ kept. AreIndexable (record { homes = kept.homes; runs = kept.runs.items }) };
+}
 
 /// All runs, however many.
 fn all_runs(
     alloc: Global,
     intervals: &Intervals,
-    homes: &[Home],
+    homes: &Homes,
     handle: u64,
 ) -> Result<Vec<Run>, AllocError>
-    requires homes { AreHomes homes.now }
     ensures kept { IfOk result (λ runs. AreRuns (kept_of intervals.now homes.now handle) (place_by
         homes.now) runs.items) }
+    ensures homes { AreHomes homes.now }
 {
+    // The homes are known to be apart from here on.
+    let _ = homes.as_slice();
     let mut spans = spans_of(alloc, intervals, homes, handle)?;
     spans.sort_by_key(|span| span.key)?;
     let runs = merge(alloc, spans.as_slice())?;
     Ok(runs)
 }
 
-/// The runs of the frames that groups play and of those at most `handle` away, as far as they can be addressed by the
-/// home index of their file: in order of the home indexes, then of the frames.
-///
-/// `TooManyRuns` where there are more than 32,767, `Memory` where no memory was left.
-pub fn runs(
-    alloc: Global,
-    intervals: &Intervals,
-    homes: &[Home],
-    handle: u64,
-) -> Result<Vec<Run>, RunFault>
-    requires homes { AreHomes homes.now }
-    ensures kept { IfOk result (λ runs. AreRuns (kept_of intervals.now homes.now handle) (place_by
-        homes.now) runs.items) }
-    ensures covers { IfOk result (λ runs. All (LiesAtHome homes.now) (pieces_of intervals.now)
-        → (file channel frame : ℕ) → reads intervals.now file channel frame ≡ true → IsInRun runs.items file frame) }
-    ensures few { IfOk result (λ runs. length runs.items ≤ 32767) }
-    ensures one { IfOk result (λ found. (runs : List Run)
-        → AreRuns (kept_of intervals.now homes.now handle) (place_by homes.now) runs → runs ≡ found.items) }
-    ensures too_many { IsErrOf result RunFault.TooManyRuns → (runs : List Run)
-        → AreRuns (kept_of intervals.now homes.now handle) (place_by homes.now) runs → 32767 < length runs }
-{
-    let runs = all_runs(alloc, intervals, homes, handle)?;
-    if runs.len() > MOST_RUNS {
-        return Err(RunFault::TooManyRuns);
+impl Runs {
+    /// The runs of the frames that groups play and of those at most `handle` away, as far as they can be addressed by
+    /// the home index of their file.
+    ///
+    /// `TooManyRuns` where there are more than 32,767, `Memory` where no memory was left.
+    pub fn kept(
+        alloc: Global,
+        intervals: &Intervals,
+        homes: Homes,
+        handle: u64,
+    ) -> Result<Self, RunFault>
+        ensures sound { IfOk result AreIndexable }
+        ensures homes { IfOk result (λ kept. kept.homes ≡ homes) }
+        ensures kept { IfOk result (λ kept. AreRuns (kept_of intervals.now homes handle) (place_by homes) kept.runs) }
+        ensures covers { IfOk result (λ kept. All (LiesAtHome homes) (pieces_of intervals.now)
+            → (file channel frame : ℕ) → reads intervals.now file channel frame ≡ true
+            → IsInRun kept.runs file frame) }
+        ensures one { IfOk result (λ kept. (runs : List run.Run)
+            → AreRuns (kept_of intervals.now homes handle) (place_by homes) runs → runs ≡ kept.runs) }
+        ensures too_many { IsErrOf result RunFault.TooManyRuns → (runs : List run.Run)
+            → AreRuns (kept_of intervals.now homes handle) (place_by homes) runs → 32767 < length runs }
+    {
+        let runs = all_runs(alloc, intervals, &homes, handle)?;
+        if runs.len() > MOST_RUNS {
+            return Err(RunFault::TooManyRuns);
+        }
+        Ok(Runs { homes, runs })
     }
-    Ok(runs)
+
+    /// How many runs there are.
+    pub fn len(&self) -> usize
+        ensures { result ≡ length self.now.runs }
+    {
+        self.runs.len()
+    }
+
+    /// The runs.
+    pub fn as_slice(&self) -> &[Run]
+        ensures lent { result.now ≡ self.now.runs }
+        ensures sound { AreIndexable self.now }
+    {
+        self.runs.as_slice()
+    }
+
+    /// The homes of their files.
+    pub fn homes(&self) -> &Homes
+        ensures { result.now ≡ self.now.homes }
+    {
+        &self.homes
+    }
 }

@@ -7,5 +7,5 @@ mod merging;
 mod spans;
 
 pub use fault::RunFault;
-pub use kept::runs;
-pub use sound_terms::{Home, Run};
+pub use kept::Runs;
+pub use sound_terms::{Home, Homes, Run};

@@ -2,12 +2,11 @@
 ghost use Rattle.std.specs.Prelude.{◌≡◌, ◌++◌, List, IfOk, OnOk, option_to_list};
 ghost use Rattle.std.specs.List.{All, flat_map};
 ghost use Rattle.sound_terms.specs.Groups.{IsPiece, pieces_of};
-ghost use Rattle.sound_terms.specs.Homes.{AreHomes};
 ghost use Rattle.mediaset.specs.Spans as spec;
 ghost use Rattle.mediaset.specs.Spans.{IsSpan};
 
 use interval::{Intervals, Piece};
-use sound_terms::Home;
+use sound_terms::Homes;
 use std::alloc::{AllocError, Global};
 
 /// Frames of a file, from `first` up to, and without, `end`. The key tells the place of the file's home index, then the
@@ -24,12 +23,11 @@ pub struct Span {
 const DAY_ROOM: u64 = 4_294_967_296;
 
 /// The frames at most `handle` away from those that a piece plays, as far as they can be addressed.
-fn span_of(piece: &Piece, homes: &[Home], handle: u64) -> Option<Span>
-    requires piece { IsPiece piece.now }
-    requires homes { AreHomes homes.now }
+fn span_of(piece: &Piece, homes: &Homes, handle: u64) -> Option<Span>
+    requires { IsPiece piece.now }
     ensures { option_to_list result ≡ spec.span_of homes.now handle piece.now }
 {
-    let home = homes.get(piece.file as usize)?;
+    let home = homes.get(piece.file)?;
     let first = piece.frame.saturating_sub(handle);
     let end = (piece.frame + piece.length)
         .saturating_add(handle)
@@ -48,12 +46,11 @@ fn span_of(piece: &Piece, homes: &[Home], handle: u64) -> Option<Span>
 /// Adds the spans of pieces.
 fn push_spans(
     pieces: &[Piece],
-    homes: &[Home],
+    homes: &Homes,
     handle: u64,
     spans: &mut Vec<Span>,
 ) -> Result<(), AllocError>
-    requires pieces { All IsPiece pieces.now }
-    requires homes { AreHomes homes.now }
+    requires { All IsPiece pieces.now }
     ensures { OnOk result (spans.new.items ≡ spans.old.items ++ flat_map (spec.span_of homes.now handle) pieces.now) }
 {
     for piece in pieces {
@@ -68,10 +65,9 @@ fn push_spans(
 pub fn spans_of(
     alloc: Global,
     intervals: &Intervals,
-    homes: &[Home],
+    homes: &Homes,
     handle: u64,
 ) -> Result<Vec<Span>, AllocError>
-    requires { AreHomes homes.now }
     ensures { IfOk result (λ spans. spans.items ≡ flat_map (spec.span_of homes.now handle) (pieces_of intervals.now)) }
 {
     let mut spans = Vec::new(alloc);

@@ -4,9 +4,8 @@ use crate::ruler::TimeCode;
 use crate::scale::WIDTH;
 use crate::sources::SourceBars;
 use crate::timeline::Timeline;
-use mediaset::{RunFault, runs};
+use mediaset::{RunFault, Runs};
 use projectcheck::{Checked, from_checked};
-use sound_terms::Run;
 use std::alloc::Global;
 use std::fmt;
 
@@ -18,8 +17,8 @@ use std::fmt;
 pub struct Picture<'a> {
     checked: &'a Checked,
     name: &'a str,
-    played: Vec<Run>,
-    kept: Vec<Run>,
+    played: Runs,
+    kept: Runs,
     handle: u64,
 }
 
@@ -36,9 +35,9 @@ impl<'a> Picture<'a> {
         let Ok(intervals) = from_checked(alloc, checked) else {
             return Err(RunFault::Memory);
         };
-        let homes = checked.bound().homes(alloc)?;
-        let played = runs(alloc, &intervals, &homes, 0)?;
-        let kept = runs(alloc, &intervals, &homes, handle)?;
+        let bound = checked.bound();
+        let played = Runs::kept(alloc, &intervals, bound.homes(alloc)?, 0)?;
+        let kept = Runs::kept(alloc, &intervals, bound.homes(alloc)?, handle)?;
         Ok(Picture {
             checked,
             name,

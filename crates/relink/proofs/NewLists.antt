@@ -15,8 +15,8 @@ use Rattle.list_terms.specs.MediaNames.{media_place}
 use Rattle.list_terms.specs.Tokens.{token_at}
 use Rattle.list_terms.specs.WholeProject.{AreDistinct, AreEvents, AreSources, has_whole_texts, is_event, is_number, is_one_token, is_source}
 use Rattle.list_terms.specs.Renewed.{numbered, run_base, run_event, run_number, run_source}
-use Rattle.relink.specs.Apart.{AreApart}
-use Rattle.relink.specs.Linked.{EndsInDay, IsLinkable}
+use Rattle.mediaset.specs.Runs.{AreApart, EndsInDay}
+use Rattle.relink.specs.Linked.{IsLinkable}
 use Rattle.relink.proofs.MediaUrls.{url_quotable}
 use Rattle.relink.proofs.RunOf.{run_number_of}
 

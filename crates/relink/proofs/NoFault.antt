@@ -11,7 +11,7 @@ use Rattle.sound_terms.specs.Homes.{base_by, place_by}
 use Rattle.list_terms.specs.Accepted.{entry_fault, event_fault}
 use Rattle.list_terms.specs.Binding.{Binding, OpenedFile}
 use Rattle.list_terms.specs.Renewed.{numbered, run_base, run_event, run_indexes}
-use Rattle.relink.specs.Apart.{AreApart}
+use Rattle.mediaset.specs.Runs.{AreApart}
 use Rattle.relink.specs.Linked.{IsLinkable}
 use Rattle.relink.proofs.NewLists.{number_there}
 use Rattle.relink.proofs.Relinked.{index_there}

@@ -1,5 +1,5 @@
 -- What the event of a group keeps to, and that all its frames are in one run.
-use Rattle.std.proofs.Common.{◌≡◌, ℕ, suc, ◌+◌, ◌-◌, ◌<◌, ◌≤◌, Bool, true, false, List, [], ◌∷◌, length, refl, ap, arith, All}
+use Rattle.std.proofs.Common.{◌≡◌, ℕ, suc, ◌+◌, ◌-◌, ◌<◌, ◌≤◌, true, List, [], ◌∷◌, length, refl, ap, arith, All}
 use Rattle.std.specs.Prelude.{nat_lt}
 use Rattle.std.specs.List.{Contains}
 use Rattle.std.proofs.lemmas.Bool.Decides.{nat_tests}
@@ -11,22 +11,14 @@ use Rattle.sound_terms.specs.declared.piece.Placed.{Placed}
 use Rattle.sound_terms.specs.declared.piece.Run.{Run}
 use Rattle.sound_terms.specs.Groups.{IsGroup, IsPiece, pieces_of}
 use Rattle.sound_terms.specs.GroupLaws.{ends_in_day, fades_within, length_more}
+use Rattle.sound_terms.specs.HomeLaws.{addressable_in_day, kept_at_home}
 use Rattle.sound_terms.specs.Kept.{AreRuns, is_near}
 use Rattle.sound_terms.specs.Homes.{AreHomes, LiesAtHome, addressable_by, kept_of, place_by}
 use Rattle.sound_terms.specs.Entries.{length_of_group, placed_by, placed_of}
 use Rattle.relink.specs.Linked.{IsLinkable, IsPlaced, LiesInRun}
-use Rattle.relink.proofs.Maximal.{addressable_in_day, goes_on_to, maximal_at}
+use Rattle.relink.proofs.Maximal.{goes_on_to, maximal_at}
 use Rattle.relink.proofs.RunOf.{run_of}
 use Rattle.relink.proofs.Stretching.{OnFrames, on_frames}
-
--- a kept frame can be addressed
-pub kept_at_home : (groups : List (List Piece)) (homes : List Home) (handle file frame : ℕ)
-    → kept_of groups homes handle file frame ≡ true → frame < addressable_by homes file
-kept_at_home groups homes handle file frame is = by_test (nat_lt frame (addressable_by homes file)) refl is where
-  by_test : (inside : Bool) → nat_lt frame (addressable_by homes file) ≡ inside
-      → kept_of groups homes handle file frame ≡ true → frame < addressable_by homes file
-  by_test true e is = grind (arith, nat_tests)
-  by_test false e is = let none : false ≡ true = rw e at is in cc
 
 -- a frame near a piece is kept where it can be addressed
 pub near_kept : (groups : List (List Piece)) (homes : List Home) (handle : ℕ) (p : Piece) (frame : ℕ)
@@ -73,16 +65,14 @@ module _ (groups : List (List Piece)) (homes : List Home) (handle : ℕ) (runs :
       let at = found.1 in
       let same : at.run.file ≡ p.file = at.has.same_file in
       let maximal =
-      maximal_at (kept_of groups homes handle) homes runs (kept_at_home groups homes handle)
-      are_homes are found.0 at.run at.there in
+      maximal_at (kept_of groups homes handle) (place_by homes) runs are found.0 at.run at.there in
       record {
         place = found.0;
         run = at.run;
         there = at.there;
         same_file = same;
         from = at.has.from;
-        to = goes_on_to (kept_of groups homes handle) homes runs (kept_at_home groups homes handle)
-            are_homes are at.run maximal p.frame
+        to = goes_on_to (kept_of groups homes handle) (place_by homes) runs are at.run maximal p.frame
             (p.frame + length_of_group (p ∷ ps)) at.has.from at.has.to (λ f from to. rw same (kept f from to));
       }
 

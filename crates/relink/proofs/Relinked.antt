@@ -16,7 +16,7 @@ use Rattle.sound_terms.specs.Homes.{base_by, place_by}
 use Rattle.sound_terms.specs.Entries.{placed_by, placed_of, placed_part}
 use Rattle.sound_terms.specs.Media.{CopiesRuns}
 use Rattle.list_terms.specs.Renewed.{numbered, run_base, run_event, run_index, run_indexes}
-use Rattle.relink.specs.Apart.{AreApart}
+use Rattle.mediaset.specs.Runs.{AreApart}
 use Rattle.relink.specs.Linked.{IsLinkable}
 use Rattle.sound_terms.specs.PlacedLaws.{group_sum, same_under}
 use Rattle.relink.proofs.NewLists.{number_there}

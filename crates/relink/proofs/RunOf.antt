@@ -10,7 +10,8 @@ use Rattle.sound_terms.specs.declared.piece.Run.{Run}
 use Rattle.sound_terms.specs.Kept.{HasFrame}
 use Rattle.sound_terms.specs.Homes.{IsInRun}
 use Rattle.list_terms.specs.Renewed.{is_in_run, run_number}
-use Rattle.relink.specs.Apart.{AreApart, EndsBefore, is_begun}
+use Rattle.mediaset.specs.Runs.{AreApart, EndsBefore}
+use Rattle.relink.specs.Begun.{is_begun}
 
 -- a place of the runs, with its run, that has the frame
 pub record IsRunAt (runs : List Run) (file frame place : ℕ) : Type 0 where

@@ -13,18 +13,19 @@ use Rattle.sound_terms.specs.declared.piece.Piece.{Piece}
 use Rattle.sound_terms.specs.declared.piece.Run.{Run}
 use Rattle.sound_terms.specs.Groups.{IsGroup, pieces_of}
 use Rattle.sound_terms.specs.Kept.{AreRuns, HasFrame, IsMaximal, is_near}
+use Rattle.sound_terms.specs.HomeLaws.{kept_at_home}
 use Rattle.sound_terms.specs.Homes.{AreHomes, addressable_by, kept_of, place_by}
 use Rattle.sound_terms.specs.Entries.{length_of_group, placed_of}
 use Rattle.list_terms.specs.Binding.{is_used}
 use Rattle.list_terms.specs.Renewed.{numbered, run_event, run_number}
-use Rattle.relink.specs.Apart.{AreApart}
-use Rattle.relink.proofs.Maximal.{comes_from, goes_on_to, maximal_at, runs_apart}
-use Rattle.relink.proofs.Placing.{ArePlayed, IsPlayed, kept_at_home, near_kept, placed_lies}
+use Rattle.mediaset.specs.Runs.{AreApart}
+use Rattle.relink.proofs.Maximal.{comes_from, goes_on_to, maximal_at}
+use Rattle.relink.proofs.Placing.{ArePlayed, IsPlayed, near_kept, placed_lies}
 use Rattle.relink.proofs.RunOf.{run_number_of}
 use Rattle.relink.proofs.Stretching.{IsInside, all_inside}
 
 module _ (groups : List (List Piece)) (homes : List Home) (handle : ℕ) (runs : List Run) (are_homes : AreHomes homes)
-    (are : AreRuns (kept_of groups homes handle) (place_by homes) runs) where
+    (apart : AreApart (place_by homes) runs) (are : AreRuns (kept_of groups homes handle) (place_by homes) runs) where
   abbrev kept : ℕ → ℕ → Bool
   kept = kept_of groups homes handle
 
@@ -56,18 +57,15 @@ module _ (groups : List (List Piece)) (homes : List Home) (handle : ℕ) (runs :
         has = has;
         frame = record {
           same_file = sym same;
-          from = comes_from kept homes runs home are_homes are run is p.frame
+          from = comes_from kept (place_by homes) runs are run is p.frame
               (λ f above below. keeps f (omega arith) (omega arith) (omega arith));
           to = omega (
             arith,
-            goes_on_to kept homes runs home are_homes are run is run.first (p.frame + 1) (omega arith) (omega arith)
+            goes_on_to kept (place_by homes) runs are run is run.first (p.frame + 1) (omega arith) (omega arith)
                 (λ f above below. keeps f (omega arith) (omega arith) (omega arith)),
           );
         };
       }
-
-  abbrev all_apart : AreApart (place_by homes) runs
-  all_apart = runs_apart kept homes runs (kept_at_home groups homes handle) are_homes are
 
   -- the entry of a group that has such a piece plays the run
   index_of_group : (k : ℕ) (run : Run) → slice_get runs k ≡ Some run → (p : Piece) → StartsIn run p
@@ -83,9 +81,9 @@ module _ (groups : List (List Piece)) (homes : List Home) (handle : ℕ) (runs :
       let last : q.frame + length_of_group (q ∷ qs) ≤ lies.run.first + lies.run.length = lies.to in
       let some : 1 ≤ p.length = own.ok.some in
       let one =
-      run_number_of (place_by homes) runs p.file p.frame k all_apart
+      run_number_of (place_by homes) runs p.file p.frame k apart
       (record { run = run; there = there; has = starts.frame }) in
-      let other = run_number_of (place_by homes) runs p.file p.frame lies.place all_apart (record {
+      let other = run_number_of (place_by homes) runs p.file p.frame lies.place apart (record {
         run = lies.run;
         there = lies.there;
         has = record {
@@ -94,7 +92,7 @@ module _ (groups : List (List Piece)) (homes : List Home) (handle : ℕ) (runs :
           to = omega (arith, inside.to);
         };
       }) in
-      let playing = run_number_of (place_by homes) runs q.file q.frame lies.place all_apart (record {
+      let playing = run_number_of (place_by homes) runs q.file q.frame lies.place apart (record {
         run = lies.run;
         there = lies.there;
         has = record { same_file = lies.same_file; from = first; to = omega (arith, inside.from, inside.to) };
@@ -143,7 +141,7 @@ module _ (groups : List (List Piece)) (homes : List Home) (handle : ℕ) (runs :
         ⊎ ((length runs ≤ k) × (slice_get runs k ≡ None))
         → is_used (numbered (run_event homes runs) 1 (placed_of groups)) (1 + k) ≡ true
     of_run (inl (run, inside, e, same)) =
-        let is = maximal_at kept homes runs (kept_at_home groups homes handle) are_homes are k run e in
+        let is = maximal_at kept (place_by homes) runs are k run e in
         let why = reason run is in
         used_by k run e why.0 (starts_in run is why.0 why.1 why.2 (at_home why.0 why.1)) 1 groups all why.1
     of_run (inr past) = absurd (omega (arith, past.0))

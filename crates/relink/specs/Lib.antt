@@ -1,3 +1,3 @@
 pub mod Fault
-pub mod Apart
+pub mod Begun
 pub mod Linked

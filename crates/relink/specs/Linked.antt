@@ -1,4 +1,4 @@
--- Runs and events of groups that an index and an entry can be made of.
+-- Events of groups that an entry can be made of.
 use Rattle.std.specs.Prelude.{◌≡◌, ℕ, ◌+◌, ◌≤◌, List, All, Some, slice_get}
 use Rattle.sampletime.specs.TimeCode.{day}
 use Rattle.sound_terms.specs.declared.piece.Home.{Home}
@@ -6,12 +6,7 @@ use Rattle.sound_terms.specs.declared.piece.Piece.{Piece}
 use Rattle.sound_terms.specs.declared.piece.Placed.{Placed}
 use Rattle.sound_terms.specs.declared.piece.Run.{Run}
 use Rattle.sound_terms.specs.Homes.{base_by}
-use Rattle.list_terms.specs.Renewed.{run_base}
 use Rattle.list_terms.specs.Binding.{OpenedFile}
-
--- the run ends before the day does
-abbrev pub EndsInDay : List Home → Run → Type 0
-EndsInDay homes run = run_base homes run + run.length ≤ day
 
 -- an event whose channels, times and fades an entry can have
 pub record IsPlaced (homes : List Home) (e : Placed) : Type 0 where

@@ -1,15 +1,13 @@
 // An entry for each group.
 ghost use Rattle.std.specs.Prelude.{◌≡◌, ◌≤◌, ◌+◌, ◌-◌, IfOk, length};
 ghost use Rattle.std.specs.List.{All};
-ghost use Rattle.sound_terms.specs.Homes.{place_by};
 ghost use Rattle.list_terms.specs.Renewed.{numbered, run_event};
-ghost use Rattle.relink.specs.Apart.{AreApart};
 ghost use Rattle.relink.specs.Linked.{IsLinkable};
 
-use crate::homes::base_of;
 use crate::indexes::time_of;
 use crate::search::number_of;
-use sound_terms::{Channels, Event, Fade, Home, Placed, Run};
+use mediaset::Runs;
+use sound_terms::{Channels, Event, Fade, Placed};
 use std::alloc::{AllocError, Global};
 
 /// So many channels from one on.
@@ -25,14 +23,12 @@ fn channels_from(first: u8, width: u8) -> Channels
 }
 
 /// The entry that plays, of the run of a group's first frame, what the group plays.
-fn entry_of(runs: &[Run], homes: &[Home], number: u32, placed: &Placed) -> Event
-    requires few { length runs.now ≤ 32767 }
-    requires apart { AreApart (place_by homes.now) runs.now }
-    requires linkable { IsLinkable homes.now runs.now placed.now }
-    ensures { result ≡ run_event homes.now runs.now number placed.now }
+fn entry_of(runs: &Runs, number: u32, placed: &Placed) -> Event
+    requires { IsLinkable runs.now.homes runs.now.runs placed.now }
+    ensures { result ≡ run_event runs.now.homes runs.now.runs number placed.now }
 {
-    let index = number_of(runs, homes, placed.file, placed.frame) as u32;
-    let base = base_of(homes, placed.file);
+    let index = number_of(runs, placed.file, placed.frame);
+    let base = runs.homes().base(placed.file);
     Event {
         number,
         index,
@@ -53,19 +49,17 @@ fn entry_of(runs: &[Run], homes: &[Home], number: u32, placed: &Placed) -> Event
 /// The entries of these groups, numbered from 1 on.
 pub(crate) fn entries_of(
     alloc: Global,
-    runs: &[Run],
-    homes: &[Home],
+    runs: &Runs,
     groups: &[Placed],
 ) -> Result<Vec<Event>, AllocError>
     requires few { length groups.now ≤ 32767 }
-    requires few_runs { length runs.now ≤ 32767 }
-    requires apart { AreApart (place_by homes.now) runs.now }
-    requires linkable { All (IsLinkable homes.now runs.now) groups.now }
-    ensures { IfOk result (λ events. events.items ≡ numbered (run_event homes.now runs.now) 1 groups.now) }
+    requires linkable { All (IsLinkable runs.now.homes runs.now.runs) groups.now }
+    ensures { IfOk result (λ events. events.items
+        ≡ numbered (run_event runs.now.homes runs.now.runs) 1 groups.now) }
 {
     let mut events = Vec::with_capacity(alloc, groups.len())?;
     for (place, placed) in groups.iter().enumerate() {
-        let event = entry_of(runs, homes, place as u32 + 1, placed);
+        let event = entry_of(runs, place as u32 + 1, placed);
         events.push(event)?;
     }
     Ok(events)

@@ -1,16 +1,15 @@
 // An index for each run.
-ghost use Rattle.std.specs.Prelude.{◌≡◌, ◌≤◌, ◌++◌, IfOk, codes, length};
-ghost use Rattle.std.specs.List.{All};
+ghost use Rattle.std.specs.Prelude.{◌≡◌, ◌≤◌, ◌++◌, IfOk, codes};
 ghost use Rattle.sampletime.specs.TimeCode.{day};
 ghost use Rattle.list_terms.specs.Renewed as spec;
 ghost use Rattle.list_terms.specs.Renewed.{numbered, run_source};
-ghost use Rattle.relink.specs.Linked.{EndsInDay};
+ghost use Rattle.mediaset.specs.Runs.{AreIndexable, EndsInDay};
 
-use crate::homes::base_of;
 use crate::naming::media_name;
 use adlmodel::{Bytes, Source, Sources};
+use mediaset::Runs;
 use sampletime::SampleTime;
-use sound_terms::{Home, Run};
+use sound_terms::{Homes, Run};
 use std::alloc::{AllocError, Global};
 
 /// The folder of a medium, as a URL has it.
@@ -35,25 +34,26 @@ fn url_of(alloc: Global, number: u32) -> Result<Bytes, AllocError>
 }
 
 /// The index of this run.
-fn index_of(alloc: Global, homes: &[Home], number: u32, run: &Run) -> Result<Source, AllocError>
+fn index_of(alloc: Global, homes: &Homes, number: u32, run: &Run) -> Result<Source, AllocError>
     requires { EndsInDay homes.now run.now }
     ensures { IfOk result (λ source. source ≡ run_source homes.now number run.now) }
 {
     let url = url_of(alloc, number)?;
     let uid = Bytes::from_slice(alloc, b"_")?;
-    let start = time_of(base_of(homes, run.file) + run.first);
+    let start = time_of(homes.base(run.file) + run.first);
     let length = time_of(run.length);
     Ok(Source::new(number, url, uid, Some(start), Some(length)))
 }
 
 /// The indexes of these runs, numbered from 1 on.
-pub(crate) fn indexes_of(alloc: Global, homes: &[Home], runs: &[Run]) -> Result<Sources, AllocError>
-    requires few { length runs.now ≤ 32767 }
-    requires in_day { All (EndsInDay homes.now) runs.now }
-    ensures { IfOk result (λ sources. sources ≡ numbered (run_source homes.now) 1 runs.now) }
+pub(crate) fn indexes_of(alloc: Global, runs: &Runs) -> Result<Sources, AllocError>
+    ensures indexes { IfOk result (λ sources. sources ≡ numbered (run_source runs.now.homes) 1 runs.now.runs) }
+    ensures sound { AreIndexable runs.now }
 {
+    let homes = runs.homes();
+    let list = runs.as_slice();
     let mut sources = Sources::new(alloc);
-    for (place, run) in runs.iter().enumerate() {
+    for (place, run) in list.iter().enumerate() {
         let source = index_of(alloc, homes, place as u32 + 1, run)?;
         sources.push(source)?;
     }

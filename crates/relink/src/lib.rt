@@ -3,7 +3,6 @@
 
 mod entries;
 mod fault;
-mod homes;
 mod indexes;
 mod naming;
 mod relinking;

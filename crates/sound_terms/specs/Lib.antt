@@ -11,6 +11,7 @@ pub mod Formats
 pub mod GroupLaws
 pub mod GroupVectors
 pub mod Groups
+pub mod HomeLaws
 pub mod Homes
 pub mod Kept
 pub mod Laws

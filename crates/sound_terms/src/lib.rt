@@ -6,9 +6,11 @@ ghost use Rattle.sound_terms.specs.Depth.{bits_of};
 ghost use Rattle.sound_terms.specs.SoundFault.{number_of};
 
 mod block;
+mod homes;
 mod piece;
 
 pub use block::{Instruction, Stretch};
+pub use homes::Homes;
 pub use piece::{Home, Piece, Placed, Run, Shape};
 use sampletime::SampleTime;
 

@@ -1,6 +1,6 @@
 // What a project is bound to.
 ghost use Rattle.std.specs.Prelude.{◌≡◌, ◌≤◌, IfOk, IfSome, IsSome, Some, slice_get, string_bytes};
-ghost use Rattle.sound_terms.specs.Homes.{AreHomes, addressable_by};
+ghost use Rattle.sound_terms.specs.Homes.{addressable_by};
 ghost use Rattle.sound_terms.specs.Mix.{index_of};
 ghost use Rattle.sound_terms.specs.Sounds.{SoundFacts};
 ghost use Rattle.list_terms.specs.BoundHomes.{IsBinding, IsBoundTo, homes_of};
@@ -9,7 +9,7 @@ ghost use Rattle.list_terms.specs.Heard.{sounds_of};
 use crate::binder::Binder;
 use crate::homes::homes_by;
 use list_terms::Notice;
-use sound_terms::{BoundIndex, Home};
+use sound_terms::{BoundIndex, Homes};
 use std::alloc::{AllocError, Global};
 use std::marker::Model;
 use wavread::Sound;
@@ -85,10 +85,10 @@ impl Bound {
     }
 
     /// The home index of each file: of its bound indexes the first of those with the least base.
-    pub fn homes(&self, alloc: Global) -> Result<Vec<Home>, AllocError>
-        ensures homes { IfOk result (λ homes. homes.items ≡ homes_of self.now) }
-        ensures apart { AreHomes (homes_of self.now) }
+    pub fn homes(&self, alloc: Global) -> Result<Homes, AllocError>
+        ensures { IfOk result (λ homes. homes ≡ homes_of self.now) }
     {
-        homes_by(alloc, self.indexes(), self.sounds().len())
+        let homes = homes_by(alloc, self.indexes(), self.sounds().len())?;
+        Ok(Homes::of(homes))
     }
 }

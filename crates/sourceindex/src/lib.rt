@@ -15,5 +15,5 @@ pub use binding::bind;
 pub use bound::Bound;
 pub use fault::BindFault;
 pub use riff::MediaFault;
-pub use sound_terms::{BoundIndex, Home};
+pub use sound_terms::{BoundIndex, Home, Homes};
 pub use used_numbers::UsedNumbers;

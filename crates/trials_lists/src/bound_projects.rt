@@ -2,7 +2,7 @@
 use crate::whole_lists::{ENTRY, SOURCE, list};
 use adlmodel::Notice;
 use adlread::read;
-use mediaset::{Run, runs};
+use mediaset::{Run, Runs};
 use opening::{Accepted, Fault, check_project};
 use projectcheck::{check, from_checked};
 use shelf::Shelf;
@@ -118,13 +118,13 @@ fn a_failing_file_is_told(rt: HostRuntime) -> Result<(), Fail> {
 }
 
 /// The frames that are kept of a list over a shelf.
-fn kept(alloc: Global, text: &str, shelf: &mut MemoryShelf, handle: u64) -> Result<Vec<Run>, Fail> {
+fn kept(alloc: Global, text: &str, shelf: &mut MemoryShelf, handle: u64) -> Result<Runs, Fail> {
     let project = read(alloc, text.as_bytes())?;
     let bound = bind(alloc, &project, shelf)?;
     let checked = check(project, bound)?;
     let intervals = from_checked(alloc, &checked)?;
     let homes = checked.bound().homes(alloc)?;
-    Ok(runs(alloc, &intervals, homes.as_slice(), handle)?)
+    Ok(Runs::kept(alloc, &intervals, homes, handle)?)
 }
 
 /// A list of two indexes of one file, with entries of 200 samples: one plays the frames 100 to 299, the other 200 to

@@ -1,4 +1,4 @@
-use Rattle.std.proofs.Common.{◌≡◌, ◌∙◌, ◌+◌, suc, ap, arith, get_or, rules, sym}
+use Rattle.std.proofs.Common.{◌≡◌, ◌∙◌, ◌+◌, All, suc, ap, arith, get_or, rules, sym}
 use Rattle.std.proofs.lemmas.Option.{slice_get-get_or}
 use Rattle.facts.specs.Lists.{holds_there}
 use Rattle.mediacopy.specs.Pieces.{no_run}
@@ -9,16 +9,18 @@ use Rattle.consolidation.proofs.media.ends_of.Goals as goal
 
 pub loop-run-init : goal.loop-run-init
 loop-run-init c =
-    (search rules, sym (none_before c.args.runs.now), omega arith, λ k below. absurd (omega (arith, below)))
+    (search rules, sym (none_before c.as_slice-list.result.now), omega arith, λ k below. absurd (omega (arith, below)))
 
 pub loop-run-preserved : goal.loop-run-preserved
 loop-run-preserved c =
-    let runs = c.args.runs.now in
+    let runs = c.as_slice-list.result.now in
+    let addressed : All (IsAddressed c.args.sounds.now c.args.runs.now.homes) c.as_slice-list.result.now =
+    rw c.as_slice-list.ensures.lent c.requires in
     let i = c.loop-run.run-index in
     let run = get_or runs i no_run in
     let there = slice_get-get_or runs i no_run c.loop-run-test.true in
     let in_day =
-    (holds_there (IsAddressed c.args.sounds.now c.args.homes.now) runs i run c.requires.runs there).in_day in
+    (holds_there (IsAddressed c.args.sounds.now c.args.runs.now.homes) runs i run addressed there).in_day in
     let counted : i + 1 ≡ suc i = omega arith in
     let more : jobs_before runs (i + 1) ≡ jobs_before runs i + pieces_in run =
     ap (jobs_before runs) counted ∙ before_more runs i run there in

@@ -6,6 +6,6 @@ use Rattle.consolidation.proofs.media.ends_of.Given as goal
 abbrev pub invariant-loop-run : goal.invariant-loop-run
 invariant-loop-run l =
     (length l.ends.items ≡ l.run-index)
-    × (l.end ≡ jobs_before l.runs l.run-index)
+    × (l.end ≡ jobs_before l.list l.run-index)
     × (l.end ≤ l.run-index * 63282)
-    × ((k : ℕ) → k < l.run-index → slice_index l.ends.items k ≡ jobs_before l.runs (k + 1))
+    × ((k : ℕ) → k < l.run-index → slice_index l.ends.items k ≡ jobs_before l.list (k + 1))

@@ -6,8 +6,9 @@ use Rattle.consolidation.proofs.planning.all_read_back.Goals as goal
 
 pub loop-run-preserved : goal.loop-run-preserved
 loop-run-preserved c =
-    AllWithin-more (IsMediumRun c.args.sounds.now c.args.homes.now) c.args.runs.now 0 c.loop-run.run-index
+    let list = c.as_slice-list.result.now in
+    AllWithin-more (IsMediumRun c.args.sounds.now c.homes-homes.result.now) list 0 c.loop-run.run-index
     c.loop-run.invariant
-    (λ d. subst (IsMediumRun c.args.sounds.now c.args.homes.now)
-    (get_or_default c.args.runs.now c.loop-run.run-index _ d c.loop-run-test.true)
+    (λ d. subst (IsMediumRun c.args.sounds.now c.homes-homes.result.now)
+    (get_or_default list c.loop-run.run-index _ d c.loop-run-test.true)
     c.reads_back_at.ensures)

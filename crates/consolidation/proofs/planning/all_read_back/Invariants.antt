@@ -4,4 +4,4 @@ use Rattle.consolidation.proofs.planning.all_read_back.Given as goal
 
 -- those so far can become media
 abbrev pub invariant-loop-run : goal.invariant-loop-run
-invariant-loop-run l = AllWithin (IsMediumRun l.sounds l.homes) l.runs 0 l.run-index
+invariant-loop-run l = AllWithin (IsMediumRun l.sounds l.homes) l.list 0 l.run-index

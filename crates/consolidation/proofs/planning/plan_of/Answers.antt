@@ -35,13 +35,13 @@ linking_due work count (fault.Runs _) counted few many = elim many [ ]
 -- the runs that were found, each of which can become a medium if it isn't too long
 found_runs : (bound binding : Binding) (homes : List Home) (groups : List (List Piece)) (handle : ℕ) (runs : List Run)
     → bound ≡ binding
-    → IsBinding bound → AreHomes (homes_of bound) → homes ≡ homes_of bound → AreLeft binding groups
+    → IsBinding bound → AreHomes homes → homes ≡ homes_of bound → AreLeft binding groups
     → AreRuns (kept_of groups homes handle) (place_by homes) runs
-    → All (IsAddressed (sounds_of binding) (homes_of binding)) runs
+    → All (IsAddressed (sounds_of binding) homes) runs
 found_runs bound binding homes groups handle runs same is apart homes_is left are =
-    let are' : AreRuns (kept_of groups (homes_of binding) handle) (place_by (homes_of binding)) runs =
-    rw (homes_is, same) at are in
-    all_addressed binding (rw same at is) (rw same at apart) groups handle left.at_home runs are'
+    let own : homes ≡ homes_of binding = homes_is ∙ ap homes_of same in
+    rw own
+    (all_addressed binding (rw same at is) (rw own at apart) groups handle left.at_home runs (rw own at are))
 
 -- the work that they are of
 work_runs : (bound binding : Binding) (homes : List Home) (groups : List (List Piece)) (handle : ℕ) (runs : List Run)
@@ -52,58 +52,61 @@ work_runs : (bound binding : Binding) (homes : List Home) (groups : List (List P
 work_runs bound binding homes groups handle runs work same homes_is left one are =
     one work.runs (rw (homes_is, same, ← left) are)
 
+pub text_over-requires-clause-homes : goal.text_over-requires-clause-homes
+text_over-requires-clause-homes c =
+    c.in_ok-runs.ensures.homes ∙ c.in-Ok.ensures ∙ ap homes_of c.bound-bound.ensures
+
+pub text_over-requires-clause-kept : goal.text_over-requires-clause-kept
+text_over-requires-clause-kept c = (c.args.handle, rw c.in_ok-runs.ensures.homes c.in_ok-runs.ensures.kept)
+
 pub returns-in_err-text-clause-refusals : goal.returns-in_err-text-clause-refusals
 returns-in_err-text-clause-refusals c = λ work groups are.
     let binding = c.args.checked.now.bound in
     let p = err_from_is_err_and c.from_residual-in_err-text.result c.from_residual-in_err-text.ensures.1 in
     let same =
-    work_runs c.bound-bound.result.now binding c.deref.result.now c.args.intervals c.args.handle
-    c.in_ok-runs.runs.items work
-    c.bound-bound.ensures (c.deref.ensures.value ∙ c.in-Ok.ensures.homes) groups c.in_ok-runs.ensures.one are in
-    let few : length work.runs ≤ 32767 = rw same c.in_ok-runs.ensures.few in
+    work_runs c.bound-bound.result.now binding c.in-Ok.homes c.args.intervals c.args.handle
+    c.in_ok-runs.runs.runs work
+    c.bound-bound.ensures c.in-Ok.ensures groups c.in_ok-runs.ensures.one are in
+    let few : length work.runs ≤ 32767 = rw same c.in_ok-runs.ensures.sound.few in
     rw (p.1, p.2) (linking_due work (length c.args.intervals) c.in_err-text.field-0.0 (ap length groups)
     few c.in_err-text.ensures.own)
 
 pub all_read_back-requires : goal.all_read_back-requires
 all_read_back-requires c =
     let binding = c.args.checked.now.bound in
+    let runs = c.in_ok-runs.runs in
+    let kept : AreRuns (kept_of c.args.intervals c.in_ok-runs.runs.homes c.args.handle)
+    (place_by c.in_ok-runs.runs.homes) c.in_ok-runs.runs.runs =
+    rw c.in_ok-runs.ensures.homes c.in_ok-runs.ensures.kept in
     let addressed =
-    found_runs c.bound-bound.result.now binding c.deref.result.now c.args.intervals c.args.handle
-    c.in_ok-runs.runs.items
-    c.bound-bound.ensures c.sounds.ensures.bound c.in-Ok.ensures.apart (c.deref.ensures.value ∙ c.in-Ok.ensures.homes)
-    c.requires.left c.in_ok-runs.ensures.kept in
-    let homes : c.deref-4.result.now ≡ homes_of binding =
-    c.deref-4.ensures.value ∙ c.in-Ok.ensures.homes ∙ ap homes_of c.bound-bound.ensures in
-    rw (c.deref-5.ensures.value, homes, c.sounds.ensures.sounds, c.bound-bound.ensures) addressed
+    found_runs c.bound-bound.result.now binding runs.homes c.args.intervals c.args.handle runs.runs
+    c.bound-bound.ensures c.sounds.ensures.bound c.in_ok-runs.ensures.sound.homes_ok
+    (c.in_ok-runs.ensures.homes ∙ c.in-Ok.ensures) c.requires.left kept in
+    rw (c.sounds.ensures.sounds, c.bound-bound.ensures) addressed
 
 pub returns-clause-planned : goal.returns-clause-planned
 returns-clause-planned c =
     let binding = c.args.checked.now.bound in
-    let runs = c.in_ok-runs.runs.items in
-    let homes : c.deref.result.now ≡ homes_of binding =
-    c.deref.ensures.value ∙ c.in-Ok.ensures.homes ∙ ap homes_of c.bound-bound.ensures in
-    let homes_fit : c.deref-4.result.now ≡ homes_of binding =
-    c.deref-4.ensures.value ∙ c.in-Ok.ensures.homes ∙ ap homes_of c.bound-bound.ensures in
+    let given : c.in-Ok.homes ≡ homes_of binding = c.in-Ok.ensures ∙ ap homes_of c.bound-bound.ensures in
+    let homes : c.in_ok-runs.runs.homes ≡ homes_of binding = c.in_ok-runs.ensures.homes ∙ given in
     record {
       sounds = c.sounds-3.ensures.sounds ∙ ap sounds_of c.bound-bound.ensures;
-      homes = c.in-Ok.ensures.homes ∙ ap homes_of c.bound-bound.ensures;
-      few = c.in_ok-runs.ensures.few;
-      kept = rw homes at c.in_ok-runs.ensures.kept;
-      media = rw (c.deref-5.ensures.value, homes_fit, c.sounds.ensures.sounds, c.bound-bound.ensures) at
-          c.all_read_back.ensures;
-      text = rw (c.deref-2.ensures.value, c.deref-3.ensures.value, c.in-Ok.ensures.homes, c.bound-bound.ensures)
-          at c.in_ok-text.ensures.text;
+      homes = homes;
+      few = c.in_ok-runs.ensures.sound.few;
+      kept = rw given at c.in_ok-runs.ensures.kept;
+      media = rw (homes, c.sounds.ensures.sounds, c.bound-bound.ensures) at c.all_read_back.ensures;
+      text = rw homes at c.in_ok-text.ensures.text;
       entries = ap length c.groups.ensures.lent;
-      linked = rw c.deref-2.ensures.value at c.in_ok-text.ensures.linked;
+      linked = c.in_ok-text.ensures.linked;
     }
 
 pub returns-clause-refusals : goal.returns-clause-refusals
 returns-clause-refusals c = λ work groups are.
     let binding = c.args.checked.now.bound in
     let same =
-    work_runs c.bound-bound.result.now binding c.deref.result.now c.args.intervals c.args.handle
-    c.in_ok-runs.runs.items work
-    c.bound-bound.ensures (c.deref.ensures.value ∙ c.in-Ok.ensures.homes) groups c.in_ok-runs.ensures.one are in
-    let few : length work.runs ≤ 32767 = rw same c.in_ok-runs.ensures.few in
+    work_runs c.bound-bound.result.now binding c.in-Ok.homes c.args.intervals c.args.handle
+    c.in_ok-runs.runs.runs work
+    c.bound-bound.ensures c.in-Ok.ensures groups c.in_ok-runs.ensures.one are in
+    let few : length work.runs ≤ 32767 = rw same c.in_ok-runs.ensures.sound.few in
     let some : length work.groups ≤ 32767 = rw groups c.in_ok-text.ensures.few_entries in
     nothing_due work few some

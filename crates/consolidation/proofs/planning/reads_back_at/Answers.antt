@@ -1,7 +1,6 @@
 use Rattle.std.proofs.Common.{◌≡◌, ◌∙◌}
 use Rattle.sound_terms.specs.Media.{sound_at}
-use Rattle.list_terms.specs.BoundHomes.{no_home}
-use Rattle.consolidation.proofs.Places.{base_read, same_facts, sound_read}
+use Rattle.consolidation.proofs.Places.{same_facts, sound_read}
 use Rattle.consolidation.proofs.planning.reads_back_at.Goals as goal
 
 pub returns : goal.returns
@@ -9,7 +8,7 @@ returns c =
     let of_file = c.requires.of_file in
     let same : c.index-sounds-run.result ≡ sound_at c.args.sounds.now c.args.run.now.file =
     c.index-sounds-run.is ∙ sound_read c.args.sounds.now c.args.run.now.file of_file.facts _ of_file.there in
-    let base = base_read c.args.homes.now c.args.run.now.file c.requires.home no_home c.requires.homed in
+    let base = c.base.ensures in
     let known : of_file.facts ≡ sound_at c.args.sounds.now c.args.run.now.file =
     same_facts c.args.sounds.now c.args.run.now.file of_file.facts of_file.there in
     record {

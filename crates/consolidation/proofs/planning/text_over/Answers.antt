@@ -10,7 +10,7 @@ use Rattle.consolidation.proofs.planning.text_over.Goals as goal
 pub relink-requires-clause-at_home : goal.relink-requires-clause-at_home
 relink-requires-clause-at_home c =
     let binding = c.args.checked.now.bound in
-    rw c.requires.homes.0 (All-weaker (IsAtHome (sounds_of binding) (homes_of binding)) (LiesAtHome (homes_of binding))
+    rw c.requires.homes (All-weaker (IsAtHome (sounds_of binding) (homes_of binding)) (LiesAtHome (homes_of binding))
     (λ p is. is.at_home)
     (pieces_of c.args.intervals) c.requires.left.at_home)
 
@@ -18,13 +18,13 @@ pub returns-clause-linked : goal.returns-clause-linked
 returns-clause-linked c =
     let binding = c.args.checked.now.bound in
     let linked = c.in_ok-renewed.ensures in
-    let home = c.requires.homes.0 in record {
+    let home = c.requires.homes in record {
       reads_back = rw (linked.renewed, home, c.project.ensures.lent) at c.in-Ok.ensures.reads_back;
       all_used = rw home at linked.all_used;
       no_fault = λ renewed indexes files.
           (rw home at linked.no_fault) renewed indexes
           (have_channels (sounds_of binding) (homes_of binding) (pieces_of c.args.intervals)
-          c.args.runs.now renewed.files
+          c.args.runs.now.runs renewed.files
           c.requires.left.at_home files);
       relinked = rw home at linked.same_mix;
     }

@@ -4,4 +4,4 @@ use Rattle.relink.proofs.entries.entries_of.Given as goal
 
 -- the entries of the groups before the place
 abbrev pub invariant-loop-place : goal.invariant-loop-place
-invariant-loop-place l = l.events.items ≡ numbered (run_event l.homes l.runs) 1 (take l.place l.groups)
+invariant-loop-place l = l.events.items ≡ numbered (run_event l.runs.homes l.runs.runs) 1 (take l.place l.groups)

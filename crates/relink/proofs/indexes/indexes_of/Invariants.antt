@@ -4,4 +4,4 @@ use Rattle.relink.proofs.indexes.indexes_of.Given as goal
 
 -- the indexes of the runs before the place
 abbrev pub invariant-loop-place : goal.invariant-loop-place
-invariant-loop-place l = l.sources ≡ numbered (run_source l.homes) 1 (take l.place l.runs)
+invariant-loop-place l = l.sources ≡ numbered (run_source l.homes) 1 (take l.place l.list)

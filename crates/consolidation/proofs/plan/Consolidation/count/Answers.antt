@@ -7,7 +7,7 @@ use Rattle.consolidation.proofs.plan.Consolidation.count.Goals as goal
 
 pub returns-clause-count : goal.returns-clause-count
 returns-clause-count c =
-    let runs = c.self.inside.runs.items in
+    let runs = c.self.inside.runs.runs in
     let are : AreEnds runs c.self.inside.ends.items = c.self.invariant.2 in
     let before = c.before-2.ensures runs (rw c.deref.ensures.value are) in
     let value = ap length c.deref.ensures.value in

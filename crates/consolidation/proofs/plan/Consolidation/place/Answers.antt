@@ -15,8 +15,8 @@ returns-clause-torn g c = λ honest.
     c.as_str-name.ensures.value ∙ c.self.invariant.1.each c.args.piece.run c.index.result.now there in
     let sounds : c.self.inside.sounds.now ≡ c.args.self.now.sounds =
     ap (λ (plan : MediaPlan). plan.sounds) c.self.view_is in
-    let runs : c.deref.result.now ≡ c.args.self.now.runs =
-    c.deref.ensures.value ∙ ap (λ (plan : MediaPlan). plan.runs) c.self.view_is in
+    let runs : c.as_slice.result.now ≡ c.args.self.now.runs =
+    c.as_slice.ensures.lent ∙ ap (λ (plan : MediaPlan). plan.runs) c.self.view_is in
     rw (sounds, runs, named) at (c.place_piece.ensures.torn honest)
 
 pub returns-clause-only_writes : goal.returns-clause-only_writes
