@@ -5,7 +5,6 @@ use Rattle.sound_terms.specs.declared.block.Stretch.{Stretch}
 use Rattle.sound_terms.specs.declared.block.Instruction.{Instruction}
 use Rattle.sound_terms.specs.declared.block.Instruction.TheVariants.{Add}
 use Rattle.sound_terms.specs.declared.piece.Shape.TheVariants.{Flat}
-use Rattle.sound_terms.specs.Depth.{bits_of}
 use Rattle.sound_terms.specs.Sounds.{SoundFacts}
 
 -- so many frames of a file, from this one on, on as many channels from the first on
@@ -28,4 +27,4 @@ pub record FillsAlone (sounds : List SoundFacts) (frames channels : ℕ) (depth 
   pub facts : SoundFacts
   pub there : slice_get sounds stretch.file ≡ Some facts
   pub channels_alike : facts.channels ≡ channels
-  pub depth_alike : facts.depth ≡ bits_of depth
+  pub depth_alike : facts.depth ≡ depth

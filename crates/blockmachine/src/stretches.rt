@@ -34,11 +34,12 @@ pub fn read_part<S: Shelf>(
     requires room { length frames.old * 4 ≤ length bytes.old }
     ensures plays { IsTrue (S.honest shelf.old)
         → OnOk result ((facts : SoundFacts) → slice_get sounds.now part.now.file ≡ Some facts
-        → Plays (reading_by (S.stored shelf.old) sounds.now) part.now facts.channels facts.depth frames.new) }
+        → Plays (reading_by (S.stored shelf.old) sounds.now) part.now facts.channels (bits_of facts.depth)
+        frames.new) }
     ensures full { IsTrue (S.honest shelf.old)
         → OnOk result (IsFull (reading_by (S.stored shelf.old) sounds.now) part.now) }
     ensures fit { OnOk result ((facts : SoundFacts) → slice_get sounds.now part.now.file ≡ Some facts
-        → All (FitsDepth facts.depth) frames.new) }
+        → All (FitsDepth (bits_of facts.depth)) frames.new) }
     ensures source { IfErr result IsSource }
     ensures only_reads { OnlyReads S.Shelf shelf.old shelf.new result (λ fault. IsSource fault)
         (λ fault failed. FailsAt sounds.now fault failed) }

@@ -4,6 +4,7 @@ use Rattle.std.specs.List.{flat_map}
 use Rattle.serde_json.specs.Data.{Data, null, boolean, number, unsigned, string, array, object, member, no_members}
 use Rattle.serde_json.specs.View.{items_of}
 use Rattle.sound_terms.specs.declared.BoundIndex.{BoundIndex}
+use Rattle.sound_terms.specs.Depth.{bits_of}
 use Rattle.sound_terms.specs.Sounds.{SoundFacts}
 use Rattle.list_terms.specs.declared.Notice.{Notice}
 use Rattle.list_terms.specs.Project.{ListProject}
@@ -39,7 +40,7 @@ abbrev pub index_of_file : List Notice → BoundIndex → SoundFacts → Data
 index_of_file notices index facts =
     object (member (codes "base") (count index.base)
     (member (codes "channels") (count facts.channels)
-    (member (codes "depth") (count facts.depth)
+    (member (codes "depth") (count (bits_of facts.depth))
     (member (codes "file") (string facts.name)
     (member (codes "frames") (count facts.frames)
     (member (codes "index") (count index.number)

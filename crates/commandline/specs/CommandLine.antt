@@ -9,6 +9,8 @@ use Rattle.clap.specs.Words.{App, Kinds, Row, Rule, Shape, Text, fault_of, first
 use Rattle.clap.specs.declared.builder.action.ArgAction.TheVariants.{SetTrue}
 use Rattle.clap.specs.declared.error.ErrorKind.{ErrorKind}
 use Rattle.clap.specs.declared.error.ErrorKind.TheVariants.{DisplayHelp, DisplayVersion}
+use Rattle.sound_terms.specs.declared.Depth.{Depth}
+use Rattle.sound_terms.specs.declared.Depth.TheVariants.{Sixteen, TwentyFour, ThirtyTwo}
 use Rattle.job_terms.specs.declared.Order.{Order}
 use Rattle.job_terms.specs.declared.Order.TheVariants.{ByTime, BySource}
 
@@ -88,7 +90,7 @@ pub record Chosen : Type 0 where
   pub from : Option Text
   pub to : Option Text
   pub channels : Option ℕ
-  pub depth : ℕ
+  pub depth : Depth
   pub order : Order
 
 -- What the program is asked for: a command with its list, the folder of its media, and the folder that is written to
@@ -123,11 +125,11 @@ number_in low high text =
 abbrev pub handle_of : List Row → Option ℕ
 handle_of rows = option_and_then (number_in 0 4147200000) (first_of (codes "handle") rows)
 
-abbrev pub depth_in : Text → Option ℕ
+abbrev pub depth_in : Text → Option Depth
 depth_in text =
-    if bytes_eq text (codes "16") then Some 16
-    else if bytes_eq text (codes "24") then Some 24
-    else if bytes_eq text (codes "32") then Some 32
+    if bytes_eq text (codes "16") then Some Sixteen
+    else if bytes_eq text (codes "24") then Some TwentyFour
+    else if bytes_eq text (codes "32") then Some ThirtyTwo
     else None
 
 abbrev pub order_in : Text → Option Order
@@ -141,7 +143,7 @@ abbrev pub channels_in : Option Text → Option (Option ℕ)
 channels_in None = Some None
 channels_in (Some text) = option_map (λ channels. Some channels) (number_in 1 64 text)
 
-abbrev pub chosen_by : List Row → ℕ → Option ℕ → Order → Chosen
+abbrev pub chosen_by : List Row → Depth → Option ℕ → Order → Chosen
 chosen_by rows depth channels order = record {
   from = first_of (codes "from") rows;
   to = first_of (codes "to") rows;
@@ -151,7 +153,7 @@ chosen_by rows depth channels order = record {
 }
 
 -- the order of this depth and of these channels
-abbrev pub ordered_by : List Row → ℕ → Option ℕ → Option Chosen
+abbrev pub ordered_by : List Row → Depth → Option ℕ → Option Chosen
 ordered_by rows depth channels =
     option_map (chosen_by rows depth channels) (option_and_then order_in (first_of (codes "order") rows))
 

@@ -1,6 +1,5 @@
 -- A request as its callers see it.
 use Rattle.std.specs.Prelude.{option_map}
-use Rattle.sound_terms.specs.Depth.{bits_of}
 use Rattle.commandline.specs.CommandLine as words
 use Rattle.commandline.specs.declared.choice.Chosen.{Chosen}
 use Rattle.commandline.specs.declared.request.Request.{Request}
@@ -12,7 +11,7 @@ chosen_of chosen = record {
   from = option_map (λ text. text.now) chosen.from;
   to = option_map (λ text. text.now) chosen.to;
   channels = chosen.channels;
-  depth = bits_of chosen.depth;
+  depth = chosen.depth;
   order = chosen.order;
 }
 

@@ -2,6 +2,7 @@
 use Rattle.std.specs.Prelude.{◌≡◌, [], ◌∷◌, None, Some, refl, codes, true, false}
 use Rattle.clap.specs.declared.error.ErrorKind.TheVariants.{DisplayHelp, DisplayHelpOnMissingArgumentOrSubcommand, DisplayVersion, InvalidSubcommand, MissingRequiredArgument, TooManyValues, UnknownArgument}
 use Rattle.clap.proofs.OnLiterals.{clap_on_literals}
+use Rattle.sound_terms.specs.declared.Depth.TheVariants.{Sixteen, TwentyFour, ThirtyTwo}
 use Rattle.job_terms.specs.declared.Order.TheVariants.{ByTime, BySource}
 use Rattle.commandline.specs.CommandLine.{Check, Chosen, Render, Report, Resume, Consolidate, Show, Explain, ExplainNotice, asks_for_help, named_by, request_of, tells_all, words_fault}
 
@@ -9,7 +10,7 @@ use Rattle.commandline.specs.CommandLine.{Check, Chosen, Render, Report, Resume,
 
 -- the whole range, on all channels, at 24 bits, by time
 abbrev default_choice : Chosen
-default_choice = record { from = None; to = None; channels = None; depth = 24; order = ByTime }
+default_choice = record { from = None; to = None; channels = None; depth = TwentyFour; order = ByTime }
 
 checks : request_of (codes "check" ∷ codes "L.adl" ∷ codes "M" ∷ []) ≡ Some (Check (codes "L.adl") (codes "M"))
 unfolding words_fault named_by clap_on_literals
@@ -18,13 +19,13 @@ checks = refl
 chooses : request_of (codes "render" ∷ codes "L" ∷ codes "M" ∷ codes "O"
     ∷ codes "--depth" ∷ codes "16" ∷ codes "--channels=2" ∷ codes "--from" ∷ codes "x" ∷ [])
     ≡ Some (Render (codes "L") (codes "M") (codes "O")
-    (record { from = Some (codes "x"); to = None; channels = Some 2; depth = 16; order = ByTime }))
+    (record { from = Some (codes "x"); to = None; channels = Some 2; depth = Sixteen; order = ByTime }))
 unfolding words_fault named_by clap_on_literals
 chooses = refl
 
 orders : request_of (codes "render" ∷ codes "L" ∷ codes "M" ∷ codes "O" ∷ codes "--order" ∷ codes "source" ∷ [])
     ≡ Some (Render (codes "L") (codes "M") (codes "O")
-    (record { from = None; to = None; channels = None; depth = 24; order = BySource }))
+    (record { from = None; to = None; channels = None; depth = TwentyFour; order = BySource }))
 unfolding words_fault named_by clap_on_literals
 orders = refl
 
@@ -91,7 +92,7 @@ renders = refl
 
 resumes : request_of (codes "resume" ∷ codes "L.adl" ∷ codes "M" ∷ codes "O" ∷ codes "--depth" ∷ codes "32" ∷ [])
     ≡ Some (Resume (codes "L.adl") (codes "M") (codes "O")
-    (record { from = None; to = None; channels = None; depth = 32; order = ByTime }))
+    (record { from = None; to = None; channels = None; depth = ThirtyTwo; order = ByTime }))
 unfolding words_fault named_by clap_on_literals
 resumes = refl
 

@@ -232,7 +232,7 @@ fn chosen_in<'a>(words: &ArgMatches<'a>) -> Option<Chosen<'a>>
 
 /// The depth that a text names.
 fn depth_in(text: &str) -> Option<Depth>
-    ensures { option_map bits_of result ≡ line.depth_in text.now }
+    ensures { result ≡ line.depth_in text.now }
 {
     match text {
         "16" => Some(Depth::Sixteen),

@@ -4,6 +4,7 @@ use Rattle.std.specs.Prelude.{ℤ, pos}
 use Rattle.std.specs.List.{slice_get}
 use Rattle.std.proofs.lemmas.Bool.{lt-ltb}
 use Rattle.std.proofs.lemmas.Bool.Decides.{nat_tests}
+use Rattle.sound_terms.specs.Depth.{bits_of}
 use Rattle.sound_terms.specs.declared.piece.Home.{Home}
 use Rattle.sound_terms.specs.declared.piece.Run.{Run}
 use Rattle.sound_terms.specs.Media.{CopiesRuns, sound_at}
@@ -20,7 +21,7 @@ read_there : (files : Files) (sounds : List SoundFacts) (file channel frame : �
     → slice_get sounds file ≡ Some facts → files facts.name ≡ Some bytes → frame < facts.frames
     → reading_by files sounds file channel frame
     ≡ (if nat_le 1 channel && nat_le channel facts.channels
-    then full_scale facts.depth (sample_at bytes facts.place facts.channels facts.depth frame channel) else pos 0)
+    then full_scale (bits_of facts.depth) (sample_at bytes facts.place facts.channels (bits_of facts.depth) frame channel) else pos 0)
 read_there files sounds file channel frame facts bytes opened there below =
     let within = lt-ltb frame facts.frames below in
     rw (opened, there, within) refl
@@ -67,5 +68,5 @@ module _ (sources written : Files) (sounds : List SoundFacts) (homes : List Home
       (omega (arith, has.inside)) in
       here ∙ same_choice (nat_le 1 channel && nat_le channel facts.channels) _ _ (λ test.
       let within = in_channels channel facts.channels test in
-      ap (full_scale facts.depth) (has.samples i channel below within.0 within.1))
+      ap (full_scale (bits_of facts.depth)) (has.samples i channel below within.0 within.1))
       ∙ sym source

@@ -1,5 +1,6 @@
 -- The first entry of a bound project that is at fault, and what may be chosen of its rendering.
 use Rattle.std.specs.Prelude.{ℕ, ◌+◌, ◌-◌, ◌&&◌, ◌||◌, nat_lt, Bool, false, List, [], ◌∷◌, Option, None, Some, if◌then◌else◌, slice_get, option_map, min, max}
+use Rattle.sound_terms.specs.declared.Depth.{Depth}
 use Rattle.sound_terms.specs.declared.Event.{Event}
 use Rattle.sound_terms.specs.declared.BoundIndex.{BoundIndex}
 use Rattle.sound_terms.specs.Mix.{index_of}
@@ -54,7 +55,7 @@ pub record OptionValues : Type 0 where
   pub from : Option ℕ
   pub to : Option ℕ
   pub channels : Option ℕ
-  pub depth : ℕ
+  pub depth : Depth
 
 -- the least of `f` over the events, 0 without one; the greatest likewise
 abbrev pub least_of : (Event → ℕ) → List Event → ℕ

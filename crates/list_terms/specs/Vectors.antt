@@ -3,6 +3,7 @@ use Rattle.std.specs.Prelude.{◌≡◌, refl, ℕ, List, [], ◌∷◌, ◌++�
 use Rattle.std.specs.Str.{is_utf8, chars}
 use lib.Utf8.{encode}
 use Rattle.percent_encoding.specs.Percent.{percent_decode}
+use Rattle.sound_terms.specs.declared.Depth.TheVariants.{Sixteen}
 use Rattle.sound_terms.specs.declared.Event.{Event}
 use Rattle.sound_terms.specs.declared.BoundIndex.{BoundIndex}
 use Rattle.sound_terms.specs.Sounds.{SoundFacts}
@@ -29,7 +30,7 @@ abbrev facts : ℕ → Option ℕ → SoundFacts
 facts frames reference = record {
   name = codes "A.wav";
   channels = 1;
-  depth = 16;
+  depth = Sixteen;
   frames = frames;
   place = 44;
   text = None;
@@ -127,12 +128,12 @@ source_channel = refl
 
 -- nothing is chosen
 abbrev options : OptionValues
-options = record { from = None; to = None; channels = None; depth = 16 }
+options = record { from = None; to = None; channels = None; depth = Sixteen }
 
 -- from the first in to the last out, on all channels; an empty range without an entry
 pub default_ranges : map (λ events. range_of (project (here 1 ∷ []) events) options)
     ((event 1 0 1 7 9 0 0 ∷ event 1 0 1 3 8 0 0 ∷ []) ∷ [] ∷ [])
-    ≡ record { from = 3; to = 9; channels = 1; depth = 16 } ∷ record { from = 0; to = 0; channels = 1; depth = 16 } ∷ []
+    ≡ record { from = 3; to = 9; channels = 1; depth = Sixteen } ∷ record { from = 0; to = 0; channels = 1; depth = Sixteen } ∷ []
 default_ranges = refl
 
 -- a file that isn't there is refused where an entry uses it, before any entry

@@ -1,5 +1,6 @@
 -- The bytes of the marks: a front of 44, and behind it one for each block of the rendering.
 use Rattle.std.specs.Prelude.{◌≡◌, ℕ, ◌+◌, Bool, false, ◌==◌, List, ◌∷◌, ◌++◌, codes, length, take, replicate, slice_index_or}
+use Rattle.sound_terms.specs.Depth.{bits_of}
 use Rattle.sound_terms.specs.Render.{Range}
 use Rattle.sound_terms.specs.Waves.{u16_bytes, u32_bytes, u64_bytes}
 use Rattle.markfile.specs.declared.run.RunId.{RunId}
@@ -13,7 +14,7 @@ marks_name = codes "render.marks"
 -- what a run is told by: the samples and channels that are rendered, the depth, and the list; not the order of its jobs
 unfoldable pub run_bytes : Range → List ℕ → List ℕ
 run_bytes range list =
-    u64_bytes range.from ++ (u64_bytes range.to ++ (u16_bytes range.channels ++ (u16_bytes range.depth ++ list)))
+    u64_bytes range.from ++ (u64_bytes range.to ++ (u16_bytes range.channels ++ (u16_bytes (bits_of range.depth) ++ list)))
 
 -- bytes 1 to 43: what the file is, the run that it belongs to, and how many blocks that has
 unfoldable pub head_of : RunId → List ℕ

@@ -1,5 +1,4 @@
--- What is rendered, as numbers.
-use Rattle.sound_terms.specs.Depth.{bits_of}
+-- What is rendered.
 use Rattle.sound_terms.specs.Render.{Range}
 use Rattle.markfile.specs.declared.run.RunRange.{RunRange}
 
@@ -8,5 +7,5 @@ range_of range = record {
   from = range.from;
   to = range.to;
   channels = range.channels;
-  depth = bits_of range.depth;
+  depth = range.depth;
 }

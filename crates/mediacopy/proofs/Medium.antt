@@ -4,6 +4,7 @@ use Rattle.std.specs.Prelude.{pos}
 use Rattle.std.proofs.lemmas.List.{length-drop, length-take-le}
 use Rattle.std.proofs.Math.Nat.{mul-le-mul_right}
 use Rattle.pcm.specs.Laws.{get_or-samples_in_frames}
+use Rattle.sound_terms.specs.Depth.{bits_of}
 use Rattle.sound_terms.specs.declared.piece.Run.{Run}
 use Rattle.sound_terms.specs.Media.{frame_length, frames_in, medium_info}
 use Rattle.sound_terms.specs.Sounds.{SoundFacts}
@@ -37,16 +38,16 @@ module _ (facts : SoundFacts) (source : List ℕ) (run : Run) where
       → frames_in facts source run.first run.length ≡ take (run.length * frame_length facts) (drop place file)
       → HasSamplesOf facts source run file place
   same_samples file place stands = λ i channel below first last.
-      let width : ℕ = facts.depth / 8 in
+      let width : ℕ = (bits_of facts.depth) / 8 in
       let n : ℕ = run.length * facts.channels in
       let bytes = frames_in facts source run.first run.length in
       let counted : run.length * frame_length facts ≡ n * width = omega arith in
       let inside : i * facts.channels + (channel - 1) < n = grind (arith, below, first, last) in
-      let here = get_or-samples_in_frames facts.depth n i channel facts.channels place file bytes (pos 0)
+      let here = get_or-samples_in_frames (bits_of facts.depth) n i channel facts.channels place file bytes (pos 0)
       (stands ∙ ap (λ (k : ℕ). take k (drop place file)) counted) inside in
-      let there = get_or-samples_in_frames facts.depth n i channel facts.channels at source bytes (pos 0)
+      let there = get_or-samples_in_frames (bits_of facts.depth) n i channel facts.channels at source bytes (pos 0)
       (ap (λ (k : ℕ). take k (drop at source)) counted) inside in
-      sym here ∙ there ∙ ap (λ (k : ℕ). sample_of facts.depth (drop k source)) (omega arith)
+      sym here ∙ there ∙ ap (λ (k : ℕ). sample_of (bits_of facts.depth) (drop k source)) (omega arith)
 
   pub is_medium : (base : ℕ)
       → ((name «data» : List ℕ) → length «data» ≡ data_size (medium_info facts base run)

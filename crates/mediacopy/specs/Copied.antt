@@ -1,6 +1,7 @@
 -- A medium: the frames of a run of its source under a header of its own.
 use Rattle.std.specs.Prelude.{◌≡◌, ℕ, ◌+◌, ◌*◌, ◌<◌, ◌≤◌, List, length, Ok}
 use Rattle.sound_terms.specs.declared.piece.Run.{Run}
+use Rattle.sound_terms.specs.Depth.{bits_of}
 use Rattle.sound_terms.specs.Media.{frame_length, frames_in, medium_info, medium_of}
 use Rattle.sound_terms.specs.Sounds.{SoundFacts}
 use Rattle.sound_terms.specs.SoundFiles.{sound_of}
@@ -18,8 +19,8 @@ HasFrames facts file = facts.place + facts.frames * frame_length facts ≤ lengt
 -- the samples of a file from this place on are those of a run of a source
 abbrev pub HasSamplesOf : SoundFacts → List ℕ → Run → (file : List ℕ) (place : ℕ) → Type 0
 HasSamplesOf facts source run file place = (i channel : ℕ) → i < run.length → 1 ≤ channel → channel ≤ facts.channels
-    → sample_at file place facts.channels facts.depth i channel
-    ≡ sample_at source facts.place facts.channels facts.depth (run.first + i) channel
+    → sample_at file place facts.channels (bits_of facts.depth) i channel
+    ≡ sample_at source facts.place facts.channels (bits_of facts.depth) (run.first + i) channel
 
 -- the medium of a run of a source with these bytes has all of the run's frames, reads back, and has its samples
 pub record IsMedium (facts : SoundFacts) (source : List ℕ) (base : ℕ) (run : Run) : Type 0 where

@@ -4,6 +4,7 @@ use Rattle.std.specs.Prelude.{min}
 use Rattle.std.proofs.Math.Nat.{div-mul-le_self, lt-div-mul-add, mul-le-mul_right}
 use Rattle.std.proofs.lemmas.Bool.{cases_lt}
 use Rattle.std.proofs.lemmas.List.{get_or-replicate, length-replicate, take-replicate}
+use Rattle.sound_terms.specs.Depth.{bits_of}
 use Rattle.sound_terms.specs.Blocks.{block_count, block_start}
 use Rattle.sound_terms.specs.Render.{Range, render_info}
 use Rattle.sound_terms.specs.Waves.{header_of}
@@ -88,7 +89,7 @@ module _ (marked : MarkedWork) (sources : Files) (is : IsRenderWork marked.work)
     all = range.to - range.from
 
     abbrev wide : ℕ
-    wide = range.channels * (range.depth / 8)
+    wide = range.channels * ((bits_of range.depth) / 8)
 
     abbrev head : ℕ
     head = length (header_of (render_info range))
@@ -106,10 +107,10 @@ module _ (marked : MarkedWork) (sources : Files) (is : IsRenderWork marked.work)
         let s = at k in
         let inside = stretch_inside marked.work k is below in
         let n = frames_before range s.behind - frames_before range s.first in
-        let long = length-frames_of range.depth range.channels (block_start range s.first) n
+        let long = length-frames_of (bits_of range.depth) range.channels (block_start range s.first) n
         (heard marked.work.planned marked.work.sounds sources) in
         let end = stretch_end s.first s.behind all wide n inside.0 refl (omega (arith, inside.0, inside.1)) in
-        let size : bytes_for range 4096 ≡ 4096 * wide = sym (bytes_product 4096 range.channels (range.depth / 8)) in
+        let size : bytes_for range 4096 ≡ 4096 * wide = sym (bytes_product 4096 range.channels ((bits_of range.depth) / 8)) in
         omega (arith, long, end, ap (λ (m : ℕ). s.first * m) size)
 
     -- a byte of it is a block's
@@ -121,7 +122,7 @@ module _ (marked : MarkedWork) (sources : Files) (is : IsRenderWork marked.work)
         let s = at k in
         let inside = stretch_inside marked.work k is below in
         let end = job_end k below in
-        let size : bytes_for range 4096 ≡ 4096 * wide = sym (bytes_product 4096 range.channels (range.depth / 8)) in
+        let size : bytes_for range 4096 ≡ 4096 * wide = sym (bytes_product 4096 range.channels ((bits_of range.depth) / 8)) in
         let begun : head + s.first * (4096 * wide) ≤ i = subst (λ (m : ℕ). head + s.first * m ≤ i) size from in
         let ended : i < head + min (s.behind * 4096) all * wide = subst (λ (m : ℕ). i < m) end to in
         let block = block_at s.first s.behind all wide (i - head) (omega (arith, begun)) (omega (arith, begun, ended)) in (
@@ -131,7 +132,7 @@ module _ (marked : MarkedWork) (sources : Files) (is : IsRenderWork marked.work)
           block.below,
           subst (λ (m : ℕ). head + block.block * m ≤ i) (sym size) (omega (arith, begun, block.begun)),
           subst (λ (m : ℕ). i < head + m)
-              (bytes_product (min ((block.block + 1) * 4096) all) range.channels (range.depth / 8))
+              (bytes_product (min ((block.block + 1) * 4096) all) range.channels ((bits_of range.depth) / 8))
               (omega (arith, begun, block.ends)),
         )
 
@@ -144,9 +145,9 @@ module _ (marked : MarkedWork) (sources : Files) (is : IsRenderWork marked.work)
         mul-le-mul_right (bytes_for range 4096) from in
         let last : min ((b + 1) * 4096) all * wide ≤ min (s.behind * 4096) all * wide =
         mul-le-mul_right wide (omega (arith, to)) in
-        let product = bytes_product (min ((b + 1) * 4096) all) range.channels (range.depth / 8) in (
+        let product = bytes_product (min ((b + 1) * 4096) all) range.channels ((bits_of range.depth) / 8) in (
           omega (arith, first),
-          subst (λ (m : ℕ). head + min ((b + 1) * 4096) all * range.channels * (range.depth / 8) ≤ m)
+          subst (λ (m : ℕ). head + min ((b + 1) * 4096) all * range.channels * ((bits_of range.depth) / 8) ≤ m)
               (sym (job_end k below))
               (subst (λ (m : ℕ). head + m ≤ head + min (s.behind * 4096) all * wide) product (omega (arith, last))),
         )

@@ -5,6 +5,7 @@ use Rattle.std.specs.List.{flat_map}
 use Rattle.std.proofs.lemmas.List.{append_assoc}
 use Rattle.std.proofs.lemmas.List.Concat.{flat_map-append}
 use Rattle.pcm.specs.Laws.{length-sample_bytes}
+use Rattle.sound_terms.specs.Depth.{bits_of}
 use Rattle.sound_terms.specs.Blocks.{block_count, block_frames, block_samples, block_start, frame_samples}
 use Rattle.sound_terms.specs.Mix.{quantized}
 use Rattle.sound_terms.specs.Render.{Range, frame_of, frames_of, render_info, rendering_of}
@@ -62,10 +63,10 @@ block_behind range mix first k behind inside =
     let more : n + block_frames range k ≡ frames_before range (k + 1) - frames_before range first =
     omega (arith, behind, inside) in
     ap (λ (block : List ℕ). bytes_of_blocks range mix first k ++ block)
-    (frames_packed range.depth (block_start range k) range.channels 0 (block_frames range k) mix
-    ∙ ap (λ (time : ℕ). frames_of range.depth mix range.channels time (block_frames range k)) start)
-    ∙ frames_behind range.depth range.channels (block_start range first) n (block_frames range k) mix
-    ∙ ap (λ (n : ℕ). frames_of range.depth mix range.channels (block_start range first) n) more
+    (frames_packed (bits_of range.depth) (block_start range k) range.channels 0 (block_frames range k) mix
+    ∙ ap (λ (time : ℕ). frames_of (bits_of range.depth) mix range.channels time (block_frames range k)) start)
+    ∙ frames_behind (bits_of range.depth) range.channels (block_start range first) n (block_frames range k) mix
+    ∙ ap (λ (n : ℕ). frames_of (bits_of range.depth) mix range.channels (block_start range first) n) more
 
 -- ---- the file
 
@@ -113,4 +114,4 @@ pub rendering_same : (range : Range) (mix other : ℕ → ℕ → ℤ)
 unfolding rendering_of
 rendering_same range mix other same =
     ap (λ (samples : List ℕ). file_of (render_info range) samples)
-    (frames_same range.depth range.channels range.from (range.to - range.from) mix other same)
+    (frames_same (bits_of range.depth) range.channels range.from (range.to - range.from) mix other same)

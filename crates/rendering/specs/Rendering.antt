@@ -1,7 +1,6 @@
 -- What is rendered of a project by what was chosen, and which refusal is due.
 use Rattle.std.specs.Prelude.{◌≡◌, ℕ, ◌-◌, ◌≤◌, nat_le, false, List, Option, None, Some, if◌then◌else◌}
 use Rattle.std.specs.Option.{ForSome}
-use Rattle.sound_terms.specs.Depth.{bits_of}
 use Rattle.sound_terms.specs.Render.{Range, ReadsBack, rendering_of}
 use Rattle.work_terms.specs.Disk.{Files}
 use Rattle.work_terms.specs.Refusals.{Refusal, Nowhere}
@@ -18,7 +17,7 @@ values_of options = record {
   from = options.from;
   to = options.to;
   channels = options.channels;
-  depth = bits_of options.depth;
+  depth = options.depth;
 }
 
 -- a number of channels that was chosen is 1 to 64

@@ -2,6 +2,7 @@
 use Rattle.std.specs.Prelude.{ℕ, ◌+◌, ◌-◌, ◌*◌, ◌/◌, ℤ, Bool, List, length, slice_index_or, codes, false}
 use Rattle.std.specs.List.{All}
 use Rattle.sound_terms.specs.Blocks.{block_count, block_length}
+use Rattle.sound_terms.specs.Depth.{bits_of}
 use Rattle.sound_terms.specs.Groups.{sum_of}
 use Rattle.sound_terms.specs.Media.{IsPieceOf}
 use Rattle.sound_terms.specs.Render.{Range, render_info, rendering_of}
@@ -54,7 +55,7 @@ whole_of work sources = rendering_of work.planned.range (heard work.planned work
 
 -- the bytes of so many frames
 abbrev pub bytes_for : Range → ℕ → ℕ
-bytes_for range n = n * range.channels * (range.depth / 8)
+bytes_for range n = n * range.channels * (bits_of range.depth / 8)
 
 -- what stands behind the last stretch
 abbrev pub no_stretch : Stretch

@@ -2,6 +2,7 @@
 use Rattle.std.specs.Prelude.{◌≢◌, ℕ, ◌-◌, ◌*◌, min, ℤ, List, Result, codes}
 use Rattle.std.specs.List.{flat_map}
 use Rattle.sound_terms.specs.Blocks.{block_length, block_start, mixed_block}
+use Rattle.sound_terms.specs.Depth.{bits_of}
 use Rattle.sound_terms.specs.Render.{Range, frames_of}
 use Rattle.sound_terms.specs.Waves.{sample_bytes}
 use Rattle.shelf.specs.declared.bench.Bench as output
@@ -9,11 +10,11 @@ use Rattle.shelf.specs.Frame.{OnlyWrites}
 
 -- the bytes of block k
 abbrev pub block_bytes : Range → (ℕ → ℕ → ℤ) → ℕ → List ℕ
-block_bytes range mix k = flat_map (sample_bytes range.depth) (mixed_block range mix k)
+block_bytes range mix k = flat_map (sample_bytes (bits_of range.depth)) (mixed_block range mix k)
 
 -- the bytes of the first n frames
 abbrev pub first_frames : Range → (ℕ → ℕ → ℤ) → ℕ → List ℕ
-first_frames range mix n = frames_of range.depth mix range.channels range.from n
+first_frames range mix n = frames_of (bits_of range.depth) mix range.channels range.from n
 
 -- the frames before block k
 abbrev pub frames_before : Range → ℕ → ℕ
@@ -22,7 +23,7 @@ frames_before range k = min (k * block_length) (range.to - range.from)
 -- the bytes of the blocks from one on up to, and without, another
 abbrev pub bytes_of_blocks : Range → (ℕ → ℕ → ℤ) → (first last : ℕ) → List ℕ
 bytes_of_blocks range mix first last =
-    frames_of range.depth mix range.channels (block_start range first)
+    frames_of (bits_of range.depth) mix range.channels (block_start range first)
     (frames_before range last - frames_before range first)
 
 -- a call that writes no other file: these faults tell that the device of this one failed

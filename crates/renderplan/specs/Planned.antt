@@ -1,20 +1,14 @@
 -- What a plan renders.
 use Rattle.std.specs.Prelude.{◌≡◌, ℕ, ◌<◌, ◌≤◌, List, All}
 use Rattle.sampletime.specs.TimeCode.{day}
-use Rattle.sound_terms.specs.declared.Depth.{Depth}
 use Rattle.sound_terms.specs.declared.piece.Piece.{Piece}
-use Rattle.sound_terms.specs.Depth.{bits_of}
 use Rattle.sound_terms.specs.Groups.{IsBounded, IsPiece}
 use Rattle.sound_terms.specs.Render.{Range}
 
--- pieces, and which samples of which channels of them are rendered at which depth
+-- pieces, and which samples of which channels of them are rendered, at which depth
 pub record Planned : Type 0 where
   pub pieces : List Piece
   pub range : Range
-  pub depth : Depth
-
-abbrev pub range_of : (from to channels : ℕ) → Depth → Range
-range_of from to channels depth = record { from = from; to = to; channels = channels; depth = bits_of depth }
 
 -- samples and channels that there can be, some of each, under as few pieces at once as can be summed
 pub record IsPlan (planned : Planned) : Type 0 where
@@ -24,4 +18,3 @@ pub record IsPlan (planned : Planned) : Type 0 where
   pub in_day : planned.range.to ≤ day
   pub some_channels : 1 ≤ planned.range.channels
   pub few_channels : planned.range.channels ≤ 64
-  pub depth_told : planned.range.depth ≡ bits_of planned.depth

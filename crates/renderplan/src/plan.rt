@@ -38,21 +38,19 @@ pub struct Plan {
 
 impl Model for Plan {
     ghost use Rattle.std.specs.Prelude.{◌≡◌, length};
-    ghost use Rattle.renderplan.specs.Planned.{IsPlan, Planned, range_of};
+    ghost use Rattle.renderplan.specs.Planned.{IsPlan, Planned};
     ghost use Rattle.renderplan.specs.Reaches.{AreReaches};
 
     ghost Value = { Planned };
 
     ghost view = { λ plan. record {
       pieces = plan.pieces.items;
-      range = range_of plan.from plan.to plan.channels plan.depth;
-      depth = plan.depth;
+      range = record { from = plan.from; to = plan.to; channels = plan.channels; depth = plan.depth };
     } };
 
     ghost invariant = { λ plan. IsPlan (record {
       pieces = plan.pieces.items;
-      range = range_of plan.from plan.to plan.channels plan.depth;
-      depth = plan.depth;
+      range = record { from = plan.from; to = plan.to; channels = plan.channels; depth = plan.depth };
     })
         × (length plan.reaches.items ≡ length plan.pieces.items) × AreReaches plan.pieces.items plan.reaches.items };
 }
@@ -85,8 +83,7 @@ impl Plan {
         ensures made { IfOk result (λ plan. plan
             ≡ record {
               pieces = spec.pieces_of intervals.now;
-              range = range_of from to channels depth;
-              depth = depth;
+              range = record { from = from; to = to; channels = channels; depth = depth };
             }) }
         ensures empty { IsErrOf result PlanFault.EmptyRange ↔ (to ≤ from) }
     {
@@ -130,7 +127,7 @@ impl Plan {
 
     /// The channels and the depth of its samples.
     pub fn format(&self) -> Format
-        ensures format { result ≡ record { channels = self.now.range.channels; depth = self.now.depth } }
+        ensures format { result ≡ record { channels = self.now.range.channels; depth = self.now.range.depth } }
         ensures planned { IsPlan self.now }
     {
         Format {
@@ -169,7 +166,7 @@ impl Plan {
     fn write_block(&self, k: u64, program: &mut [Instruction]) -> usize
         requires there { k < block_count self.now.range }
         requires room { length program.old ≡ length self.now.pieces + 2 }
-        ensures program { take result program.new ≡ program_of self.now.pieces self.now.range self.now.depth k }
+        ensures program { take result program.new ≡ program_of self.now.pieces self.now.range k }
         ensures few { result ≤ length program.new }
         ensures planned { IsPlan self.now }
     {
@@ -190,12 +187,12 @@ impl Plan {
         requires there { k < block_count self.now.range }
         requires room { length program.old ≡ length self.now.pieces + 2 }
         ensures few { result ≤ length program.new }
-        ensures program { take result program.new ≡ program_of self.now.pieces self.now.range self.now.depth k }
+        ensures program { take result program.new ≡ program_of self.now.pieces self.now.range k }
         ensures sums { (reading : Reading) → All (PlaysFull reading) (take result program.new)
             → (start : BlockState)
             → (executed_all reading self.now.range.channels (take result program.new) start).out
             ≡ mixed_block self.now.range (sum_of reading self.now.pieces) k }
-        ensures formed { IsBlockProgram (block_frames self.now.range k) self.now.range.channels self.now.depth
+        ensures formed { IsBlockProgram (block_frames self.now.range k) self.now.range.channels self.now.range.depth
             (take result program.new) }
         ensures inside { (sounds : List SoundFacts) → All (IsPieceOf sounds) self.now.pieces
             → All (LiesInFiles sounds) (take result program.new) }

@@ -9,6 +9,7 @@ use Rattle.std.proofs.lemmas.Nat.{pow_pos}
 use Rattle.std.proofs.lemmas.Bool.Decides.{nat_tests}
 use Rattle.std.proofs.lemmas.List.{get_or-drop, get_or-take}
 use Rattle.std.proofs.lemmas.List.Elements.{All-from_get_or}
+use Rattle.sound_terms.specs.Depth.{bits_of}
 use Rattle.sound_terms.specs.Sounds.{SoundFacts}
 use Rattle.sound_terms.specs.Media.{frame_length}
 use Rattle.sound_terms.specs.Waves.{sample_of}
@@ -34,12 +35,12 @@ none_of (negsuc m) n some none = absurd (below (suc m * n) (grind arith) (sym (n
 
 -- where the sample of a frame and a channel begins
 abbrev sample_place : SoundFacts → (frame channel : ℕ) → ℕ
-sample_place facts frame channel = facts.place + (frame * facts.channels + (channel - 1)) * (facts.depth / 8)
+sample_place facts frame channel = facts.place + (frame * facts.channels + (channel - 1)) * ((bits_of facts.depth) / 8)
 
 -- a sample of an opened file, inside its channels and frames
 heard : (files : Files) (facts : SoundFacts) (channel frame : ℕ) (file : List ℕ) → files facts.name ≡ Some file
     → frame < facts.frames → 1 ≤ channel → channel ≤ facts.channels → sound_by files facts channel frame
-    ≡ full_scale facts.depth (sample_of facts.depth (drop (sample_place facts frame channel) file))
+    ≡ full_scale (bits_of facts.depth) (sample_of (bits_of facts.depth) (drop (sample_place facts frame channel) file))
 unfolding sound_by
 heard files facts channel frame file stored inside first last =
     let frames : nat_lt frame facts.frames ≡ true = grind (arith, nat_tests) in
@@ -49,18 +50,18 @@ heard files facts channel frame file stored inside first last =
 
 module _ (files : Files) (facts : SoundFacts) (part : Part) (file : List ℕ) (frames : List ℤ) (count : ℕ)
     (stored : files facts.name ≡ Some file)
-    (are : AreFrames file (facts.place + part.from * frame_length facts) facts.depth frames)
+    (are : AreFrames file (facts.place + part.from * frame_length facts) (bits_of facts.depth) frames)
     (whole : length frames ≡ count * facts.channels) (inside : part.from + count ≤ facts.frames)
     (lies : LiesIn facts part) where
   place_told : (j i : ℕ) → facts.place + part.from * frame_length facts + (i * facts.channels + (part.first - 1 + j)) *
-      (facts.depth / 8)
+      ((bits_of facts.depth) / 8)
       ≡ sample_place facts (part.from + i) (part.first + j)
   place_told j i =
       let first = lies.from_one in
       let channel : part.first - 1 + j ≡ part.first + j - 1 = omega arith in rw channel (omega arith)
 
   sample_told : (j i : ℕ) → j < part.width → i < count → sound_by files facts (part.first + j) (part.from + i)
-      ≡ get_or frames (i * facts.channels + (part.first - 1 + j)) (pos 0) *ℤ pos (2 ^ (48 - facts.depth))
+      ≡ get_or frames (i * facts.channels + (part.first - 1 + j)) (pos 0) *ℤ pos (2 ^ (48 - (bits_of facts.depth)))
   sample_told j i wide below =
       let first = lies.from_one in
       let last = lies.channels in
@@ -68,8 +69,8 @@ module _ (files : Files) (facts : SoundFacts) (part : Part) (file : List ℕ) (f
       let k = i * facts.channels + (part.first - 1 + j) in
       let within : k < length frames = omega arith in
       heard files facts (part.first + j) (part.from + i) file stored (omega arith) (omega arith) (omega arith)
-      ∙ sym (ap (full_scale facts.depth) (are k within
-      ∙ ap (λ m. sample_of facts.depth (drop m file)) (place_told j i)))
+      ∙ sym (ap (full_scale (bits_of facts.depth)) (are k within
+      ∙ ap (λ m. sample_of (bits_of facts.depth) (drop m file)) (place_told j i)))
 
   -- what was read is zero in a frame where the part is
   pub read_zero : (i : ℕ) → i < count → IsFrameZero frames facts.channels part.first part.width i
@@ -78,13 +79,13 @@ module _ (files : Files) (facts : SoundFacts) (part : Part) (file : List ℕ) (f
     to_sound : IsFrameZero frames facts.channels part.first part.width i
         → IsZeroAt (sound_by files facts) part.first part.width (part.from + i)
     to_sound silent j wide =
-        sample_told j i wide below ∙ ap (λ z. z *ℤ pos (2 ^ (48 - facts.depth))) (silent j wide)
-        ∙ zero-*ℤ (pos (2 ^ (48 - facts.depth)))
+        sample_told j i wide below ∙ ap (λ z. z *ℤ pos (2 ^ (48 - (bits_of facts.depth)))) (silent j wide)
+        ∙ zero-*ℤ (pos (2 ^ (48 - (bits_of facts.depth))))
 
     to_frame : IsZeroAt (sound_by files facts) part.first part.width (part.from + i)
         → IsFrameZero frames facts.channels part.first part.width i
     to_frame silent j wide =
-        none_of _ (2 ^ (48 - facts.depth)) (pow_pos (48 - facts.depth)) (sym (sample_told j i wide below) ∙ silent j wide)
+        none_of _ (2 ^ (48 - (bits_of facts.depth))) (pow_pos (48 - (bits_of facts.depth))) (sym (sample_told j i wide below) ∙ silent j wide)
 
   -- so the first frame that sounds is the same, counted from the part's
   pub first_found : part.from + count ≡ part.to → 1 ≤ facts.channels → (found : Option ℕ)

@@ -20,7 +20,7 @@ stretch at length frame = record { at = at; length = length; frame = frame; file
 
 -- one channel at 16 bits
 abbrev range : (from to : ℕ) → Range
-range from to = record { from = from; to = to; channels = 1; depth = 16 }
+range from to = record { from = from; to = to; channels = 1; depth = Sixteen }
 
 abbrev silence : BlockState
 silence = record { frames = 0; sums = λ i channel. pos 0; out = [] }
@@ -32,11 +32,11 @@ minus_one file channel frame = full_scale 16 (neg_ℤ (pos 1))
 abbrev rise : List Piece
 rise = piece 0 3 0 (Rise 0 3) ∷ []
 
-pub a_rise_is_added : program_of rise (range 0 3) Sixteen 0
+pub a_rise_is_added : program_of rise (range 0 3) 0
     ≡ Start 3 ∷ Add (stretch 0 3 0) (Rise 0 3) ∷ Emit Sixteen ∷ []
 a_rise_is_added = refl
 
-pub a_rise_is_rounded_once : (executed_all minus_one 1 (program_of rise (range 0 3) Sixteen 0) silence).out
+pub a_rise_is_rounded_once : (executed_all minus_one 1 (program_of rise (range 0 3) 0) silence).out
     ≡ pos 0 ∷ pos 0 ∷ negsuc 0 ∷ []
 a_rise_is_rounded_once = refl
 
@@ -50,11 +50,11 @@ two_blocks = refl
 pub the_last_is_shorter : block_frames (range 0 4100) 1 ≡ 4
 the_last_is_shorter = refl
 
-pub cut_by_the_block : program_of over_the_end (range 0 4100) Sixteen 0
+pub cut_by_the_block : program_of over_the_end (range 0 4100) 0
     ≡ Start 4096 ∷ Add (stretch 4094 2 7) (Rise 0 4) ∷ Emit Sixteen ∷ []
 cut_by_the_block = refl
 
-pub goes_on_in_the_next : program_of over_the_end (range 0 4100) Sixteen 1
+pub goes_on_in_the_next : program_of over_the_end (range 0 4100) 1
     ≡ Start 4 ∷ Add (stretch 0 2 9) (Rise 2 4) ∷ Emit Sixteen ∷ []
 goes_on_in_the_next = refl
 
@@ -62,10 +62,10 @@ goes_on_in_the_next = refl
 abbrev layers : List Piece
 layers = piece 0 2 0 Flat ∷ piece 1 2 5 Flat ∷ record (piece 0 3 0 (Fall 0 3)) { dest = 2 } ∷ []
 
-pub layers_in_turn : program_of layers (range 0 3) Sixteen 0
+pub layers_in_turn : program_of layers (range 0 3) 0
     ≡ Start 3 ∷ Add (stretch 0 2 0) Flat ∷ Add (stretch 1 2 5) Flat ∷ Emit Sixteen ∷ []
 layers_in_turn = refl
 
-pub layers_are_summed : (executed_all minus_one 1 (program_of layers (range 0 3) Sixteen 0) silence).out
+pub layers_are_summed : (executed_all minus_one 1 (program_of layers (range 0 3) 0) silence).out
     ≡ negsuc 0 ∷ negsuc 1 ∷ negsuc 0 ∷ []
 layers_are_summed = refl

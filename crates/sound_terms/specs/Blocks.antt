@@ -105,15 +105,15 @@ lines_of from n channels p =
     else []
 
 -- block k of a range, over pieces
-abbrev pub program_of : List Piece → Range → Depth → ℕ → List Instruction
-program_of pieces range depth k =
+abbrev pub program_of : List Piece → Range → ℕ → List Instruction
+program_of pieces range k =
     Start (block_frames range k) ∷ (flat_map (lines_of (block_start range k) (block_frames range k) range.channels)
-    pieces ++ Emit depth ∷ [])
+    pieces ++ Emit range.depth ∷ [])
 
 -- the samples of block k by a mix
 abbrev pub mixed_block : Range → (ℕ → ℕ → ℤ) → ℕ → List ℤ
 mixed_block range mix k =
-    block_samples range.depth (λ i channel. mix channel (block_start range k + i)) range.channels 0
+    block_samples (bits_of range.depth) (λ i channel. mix channel (block_start range k + i)) range.channels 0
     (block_frames range k)
 
 -- ---- which programs are formed

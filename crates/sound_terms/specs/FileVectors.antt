@@ -1,5 +1,6 @@
 -- Worked examples of files that are read. Each is computed from the definitions.
 use Rattle.std.specs.Prelude.{◌≡◌, refl, ℕ, List, [], ◌∷◌, ◌++◌, take, length, map, replicate, Result, Ok, Err, Some, false, codes}
+use Rattle.sound_terms.specs.declared.Depth.TheVariants.{Sixteen}
 use Rattle.sound_terms.specs.declared.SoundFault.{SoundFault}
 use Rattle.sound_terms.specs.declared.SoundFault.TheVariants.{NotWave, NoFormat, NoData, Truncated, BadFormat, BadDs64, WrongRate}
 use Rattle.sound_terms.specs.Waves.{file_of, header_of, u16_bytes, u32_bytes, u64_bytes, zeros, chunk_head}
@@ -12,7 +13,7 @@ use Rattle.sound_terms.specs.Vectors.{rendered}
 pub rendered_says : sound_of (codes "render.wav") rendered ≡ Ok (record {
   name = codes "render.wav";
   channels = 1;
-  depth = 16;
+  depth = Sixteen;
   frames = 4;
   place = 690;
   text = Some (replicate 338 0);

@@ -2,13 +2,15 @@
 use Rattle.std.specs.Prelude.{◌≡◌, ℕ, ◌+◌, ◌*◌, ◌/◌, ◌<◌, ◌≤◌, List, [], take, drop, unwrap_or, slice_get, None, Some, false}
 use Rattle.sound_terms.specs.declared.piece.Piece.{Piece}
 use Rattle.sound_terms.specs.declared.piece.Run.{Run}
+use Rattle.sound_terms.specs.declared.Depth.TheVariants.{Sixteen}
+use Rattle.sound_terms.specs.Depth.{bits_of}
 use Rattle.sound_terms.specs.Mix.{Reading}
 use Rattle.sound_terms.specs.Sounds.{SoundFacts}
 use Rattle.sound_terms.specs.Waves.{SoundInfo, file_of, zeros}
 
 -- the bytes of a frame of a file
 abbrev pub frame_length : SoundFacts → ℕ
-frame_length facts = facts.channels * (facts.depth / 8)
+frame_length facts = facts.channels * (bits_of facts.depth / 8)
 
 -- what the medium of a run tells of itself: the channels, the depth and the texts of its source, and the time of its
 -- first frame, where the source's first frame stands at `base`
@@ -54,7 +56,7 @@ abbrev pub no_sound : SoundFacts
 no_sound = record {
   name = [];
   channels = 0;
-  depth = 0;
+  depth = Sixteen;
   frames = 0;
   place = 0;
   text = None;

@@ -1,5 +1,7 @@
 -- The file that a mix is rendered to, and what it reads back as.
 use Rattle.std.specs.Prelude.{◌≡◌, ℕ, zero, suc, ◌+◌, ◌-◌, ◌<◌, ◌≤◌, ℤ, List, [], ◌++◌, Ok, Some}
+use Rattle.sound_terms.specs.declared.Depth.{Depth}
+use Rattle.sound_terms.specs.Depth.{bits_of}
 use Rattle.sound_terms.specs.Mix.{quantized}
 use Rattle.sound_terms.specs.Waves.{SoundInfo, sample_bytes, sample_at, file_of, zeros}
 use Rattle.sound_terms.specs.Sounds.{SoundFacts}
@@ -10,7 +12,7 @@ pub record Range : Type 0 where
   pub from : ℕ
   pub to : ℕ
   pub channels : ℕ
-  pub depth : ℕ
+  pub depth : Depth
 
 -- the bytes of one frame: this time on each channel, the first of them given, n of them
 abbrev pub frame_of : ℕ → (ℕ → ℕ → ℤ) → ℕ → ℕ → ℕ → List ℕ
@@ -38,7 +40,7 @@ render_info range = record {
 -- the whole rendered file
 unfoldable pub rendering_of : Range → (ℕ → ℕ → ℤ) → List ℕ
 rendering_of range mix =
-    file_of (render_info range) (frames_of range.depth mix range.channels range.from (range.to - range.from))
+    file_of (render_info range) (frames_of (bits_of range.depth) mix range.channels range.from (range.to - range.from))
 
 -- the file reads back as the sums of the mix, rounded and clipped
 pub record ReadsBack (range : Range) (mix : ℕ → ℕ → ℤ) (file : List ℕ) : Type 0 where
@@ -49,5 +51,5 @@ pub record ReadsBack (range : Range) (mix : ℕ → ℕ → ℤ) (file : List �
   pub frames : facts.frames ≡ range.to - range.from
   pub start : facts.time_reference ≡ Some range.from
   pub samples : (frame channel : ℕ) → frame < range.to - range.from → 1 ≤ channel → channel ≤ range.channels
-      → sample_at file facts.place range.channels range.depth frame channel
-      ≡ quantized range.depth (mix channel (range.from + frame))
+      → sample_at file facts.place range.channels (bits_of range.depth) frame channel
+      ≡ quantized (bits_of range.depth) (mix channel (range.from + frame))

@@ -1,5 +1,6 @@
 -- What is known of a sound file as a whole: its format, its samples, and what its `bext` tells.
 use Rattle.std.specs.Prelude.{ℕ, ◌+◌, ◌*◌, ◌/◌, ◌&&◌, nat_lt, nat_le, Bool, not, ℤ, pos, List, length, take, drop, slice_get, Option, None, Some, is_some, if◌then◌else◌}
+use Rattle.sound_terms.specs.declared.Depth.{Depth}
 use Rattle.sound_terms.specs.declared.Span.{Span}
 use Rattle.sound_terms.specs.declared.Chunks.{Chunks}
 use Rattle.sound_terms.specs.declared.Format.{Format}
@@ -14,7 +15,7 @@ use Rattle.work_terms.specs.Disk.{Files}
 pub record SoundFacts : Type 0 where
   pub name : List ℕ
   pub channels : ℕ
-  pub depth : ℕ
+  pub depth : Depth
   pub frames : ℕ
   pub place : ℕ
   pub text : Option (List ℕ)
@@ -40,7 +41,7 @@ facts_with name chunks format bext =
     record {
       name = name;
       channels = format.channels;
-      depth = bits_of format.depth;
+      depth = format.depth;
       frames = chunks.sound.length / (format.channels * (bits_of format.depth / 8));
       place = chunks.sound.at;
       text = if is_whole then Some (take 338 bext) else None;
@@ -58,7 +59,8 @@ reading_by files sounds file channel frame = of_sound (slice_get sounds file) wh
   of_bytes facts None = pos 0
   of_bytes facts (Some bytes) =
       if nat_lt frame facts.frames && (nat_le 1 channel && nat_le channel facts.channels)
-      then full_scale facts.depth (sample_at bytes facts.place facts.channels facts.depth frame channel)
+      then full_scale (bits_of facts.depth)
+      (sample_at bytes facts.place facts.channels (bits_of facts.depth) frame channel)
       else pos 0
 
   of_sound : Option SoundFacts → ℤ

@@ -1,5 +1,7 @@
 -- Worked examples. Each is computed from the definitions, so a definition that gives another value is refused here.
 use Rattle.std.specs.Prelude.{◌≡◌, refl, ℕ, ◌-◌, ◌==◌, ℤ, pos, negsuc, ◌+ℤ◌, List, [], ◌∷◌, ◌++◌, take, drop, map, replicate, true, false, if◌then◌else◌, codes}
+use Rattle.sound_terms.specs.declared.Depth.{Depth}
+use Rattle.sound_terms.specs.declared.Depth.TheVariants.{Sixteen, TwentyFour}
 use Rattle.sound_terms.specs.declared.Event.{Event}
 use Rattle.sound_terms.specs.declared.BoundIndex.{BoundIndex}
 use Rattle.sound_terms.specs.Mix.{Reading, share_of, full_scale, mix_at, quantized}
@@ -86,7 +88,7 @@ pub narrower_depth : map (λ v. quantized 16 (full_scale 24 v)) (pos 128 ∷ pos
 narrower_depth = refl
 
 -- the sizes of written files
-abbrev mono : ℕ → ℕ → List ℕ → SoundInfo
+abbrev mono : Depth → ℕ → List ℕ → SoundInfo
 mono depth frames history =
     record {
       channels = 1;
@@ -97,18 +99,18 @@ mono depth frames history =
       history = history;
     }
 
-pub one_frame_of_24_bits : file_length (mono 24 1 []) ≡ 694
+pub one_frame_of_24_bits : file_length (mono TwentyFour 1 []) ≡ 694
 one_frame_of_24_bits = refl
 
-pub history_of_one_byte : bext_size (mono 16 0 (65 ∷ [])) ∷ data_place (mono 16 0 (65 ∷ [])) ∷ [] ≡ 603 ∷ 692 ∷ []
+pub history_of_one_byte : bext_size (mono Sixteen 0 (65 ∷ [])) ∷ data_place (mono Sixteen 0 (65 ∷ [])) ∷ [] ≡ 603 ∷ 692 ∷ []
 history_of_one_byte = refl
 
-pub longest_of_riff : map (λ frames. is_large (mono 16 frames [])) (2147483306 ∷ 2147483307 ∷ []) ≡ false ∷ true ∷ []
+pub longest_of_riff : map (λ frames. is_large (mono Sixteen frames [])) (2147483306 ∷ 2147483307 ∷ []) ≡ false ∷ true ∷ []
 longest_of_riff = refl
 
 -- the rendered file of 1000, -1000, 32767, -32768 from one hour on: 698 bytes
 abbrev pub rendered : List ℕ
-rendered = rendering_of (record { from = 172800000; to = 172800004; channels = 1; depth = 16 })
+rendered = rendering_of (record { from = 172800000; to = 172800004; channels = 1; depth = Sixteen })
     (λ channel time. four_values 0 channel (time - 172800000))
 
 pub rendered_whole : rendered ≡
@@ -121,7 +123,7 @@ unfolding rendering_of file_of header_of u16_bytes u32_bytes u64_bytes zeros chu
 rendered_whole = refl
 
 -- one frame too many for RIFF: the first 80 bytes and the last 8 of the header
-pub rf64_header : take 80 (header_of (mono 16 2147483307 [])) ++ drop 682 (header_of (mono 16 2147483307 [])) ≡
+pub rf64_header : take 80 (header_of (mono Sixteen 2147483307 [])) ++ drop 682 (header_of (mono Sixteen 2147483307 [])) ≡
     codes "RF64" ++ (255 ∷ 255 ∷ 255 ∷ 255 ∷ []) ++ codes "WAVEds64" ++ (28 ∷ 0 ∷ 0 ∷ 0 ∷ [])
     ++ (0 ∷ 0 ∷ 0 ∷ 0 ∷ 1 ∷ 0 ∷ 0 ∷ 0 ∷ []) ++ (86 ∷ 253 ∷ 255 ∷ 255 ∷ 0 ∷ 0 ∷ 0 ∷ 0 ∷ [])
     ++ (171 ∷ 254 ∷ 255 ∷ 127 ∷ 0 ∷ 0 ∷ 0 ∷ 0 ∷ []) ++ (0 ∷ 0 ∷ 0 ∷ 0 ∷ [])

@@ -3,6 +3,8 @@
 use Rattle.std.specs.Prelude.{ℕ, ◌+◌, ◌-◌, ◌*◌, ◌/◌, ◌%◌, nat_lt, Bool, ℤ, List, ◌++◌, length, drop, replicate, if◌then◌else◌, codes}
 use Rattle.std.specs.Int.{w32}
 use Rattle.byteorder.specs.Endian.{little_bytes, little_number, low_bytes, twos_complement}
+use Rattle.sound_terms.specs.declared.Depth.{Depth}
+use Rattle.sound_terms.specs.Depth.{bits_of}
 
 unfoldable pub u16_bytes : ℕ → List ℕ
 u16_bytes n = little_bytes 2 n
@@ -36,14 +38,14 @@ sample_at file place channels depth frame channel =
 -- what is told of a sound file beside its samples; `text` is the 338 bytes of the five text fields of `bext`
 pub record SoundInfo : Type 0 where
   pub channels : ℕ
-  pub depth : ℕ
+  pub depth : Depth
   pub frames : ℕ
   pub text : List ℕ
   pub time_reference : ℕ
   pub history : List ℕ
 
 abbrev pub frame_bytes : SoundInfo → ℕ
-frame_bytes info = info.channels * (info.depth / 8)
+frame_bytes info = info.channels * (bits_of info.depth / 8)
 
 abbrev pub data_size : SoundInfo → ℕ
 data_size info = info.frames * frame_bytes info
@@ -87,7 +89,7 @@ bext_chunk info =
 abbrev pub format_chunk : SoundInfo → List ℕ
 format_chunk info =
     chunk_head (codes "fmt ") 16 ++ (u16_bytes 1 ++ (u16_bytes info.channels ++ (u32_bytes 48000
-    ++ (u32_bytes (48000 * frame_bytes info) ++ (u16_bytes (frame_bytes info) ++ u16_bytes info.depth)))))
+    ++ (u32_bytes (48000 * frame_bytes info) ++ (u16_bytes (frame_bytes info) ++ u16_bytes (bits_of info.depth))))))
 
 abbrev pub data_head : SoundInfo → List ℕ
 data_head info = chunk_head (codes "data") (if is_large info then 4294967295 else data_size info)

@@ -3,7 +3,6 @@ use Rattle.std.specs.Prelude.{◌≡◌, ℕ, ◌+◌, ◌*◌, ◌/◌, ◌^◌
 use Rattle.sound_terms.specs.Waves.{sample_of}
 use Rattle.sound_terms.specs.declared.Depth.{Depth}
 use Rattle.sound_terms.specs.declared.Bext.{Bext}
-use Rattle.sound_terms.specs.Depth.{bits_of}
 use Rattle.sound_terms.specs.Sounds.{SoundFacts}
 use Rattle.sound_terms.specs.SoundFiles.{sound_of}
 use Rattle.sound_terms.specs.Media.{frame_length}
@@ -21,7 +20,7 @@ abbrev pub facts_told : List ℕ → ℕ → Depth → ℕ → ℕ → Option Be
 facts_told name channels depth frames place bext history short_bext history_cut others = record {
   name = name;
   channels = channels;
-  depth = bits_of depth;
+  depth = depth;
   frames = frames;
   place = place;
   text = option_map (λ b. b.text) bext;
@@ -36,7 +35,6 @@ facts_told name channels depth frames place bext history short_bext history_cut 
 pub record IsSound (facts : SoundFacts) : Type 0 where
   pub some_channels : 1 ≤ facts.channels
   pub few_channels : facts.channels ≤ 64
-  pub few_bits : facts.depth ≤ 32
   pub history_fits : length facts.history ≤ 65536
   pub few_frames : facts.frames < 2 ^ 64
   pub ends : facts.place + facts.frames * frame_length facts < 2 ^ 64

@@ -103,7 +103,7 @@ impl Sound {
 
     /// The bits of a sample.
     pub fn depth(&self) -> Depth
-        ensures { bits_of result ≡ self.now.depth }
+        ensures { result ≡ self.now.depth }
     {
         self.depth
     }
@@ -193,7 +193,7 @@ impl Sound {
         requires inside { from + length samples.old ≤ self.now.frames }
         ensures samples { IsTrue (S.honest shelf.old) → (file : List ℕ) → S.stored shelf.old self.now.name ≡ Some file
             → OnOk result ((i : ℕ) → i < length samples.new → get_or samples.new i (pos 0)
-            ≡ sample_at file self.now.place self.now.channels self.now.depth (from + i) channel) }
+            ≡ sample_at file self.now.place self.now.channels (bits_of self.now.depth) (from + i) channel) }
         ensures not_missing { IsErrOf result ShelfFault.NotFound → ⊥ }
         ensures only_reads { OnlyReads S.Shelf shelf.old shelf.new result (λ fault. fault ≡ ShelfFault.Device)
             (λ _ failed. failed self.now.name) }
@@ -229,12 +229,13 @@ impl Sound {
         frames: &mut [i32],
     ) -> Result<(), ShelfFault>
         requires whole { length frames.old ≡ count * self.now.channels }
-        requires room { length frames.old * (self.now.depth / 8) ≤ length buffer.old }
+        requires room { length frames.old * (bits_of self.now.depth / 8) ≤ length buffer.old }
         requires inside { from + count ≤ self.now.frames }
         ensures frames { IsTrue (S.honest shelf.old) → (file : List ℕ) → S.stored shelf.old self.now.name ≡ Some file
-            → OnOk result (AreFrames file (self.now.place + from * frame_length self.now) self.now.depth frames.new) }
+            → OnOk result (AreFrames file (self.now.place + from * frame_length self.now) (bits_of self.now.depth)
+            frames.new) }
         ensures there { IsTrue (S.honest shelf.old) → OnOk result (IsSome (S.stored shelf.old self.now.name)) }
-        ensures fit { OnOk result (All (FitsDepth self.now.depth) frames.new) }
+        ensures fit { OnOk result (All (FitsDepth (bits_of self.now.depth)) frames.new) }
         ensures not_missing { IsErrOf result ShelfFault.NotFound → ⊥ }
         ensures only_reads { OnlyReads S.Shelf shelf.old shelf.new result (λ fault. fault ≡ ShelfFault.Device)
             (λ _ failed. failed self.now.name) }

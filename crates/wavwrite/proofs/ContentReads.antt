@@ -17,7 +17,7 @@ use Rattle.wavwrite.proofs.RiffReads.{riff_front_is, riff_walked, wave_found}
 use Rattle.wavwrite.proofs.Rf64Reads.{AreSizes, rf64_front_is, rf64_walked}
 use Rattle.wavwrite.proofs.FormatReads.{format_bytes, length-format_bytes}
 use Rattle.wavwrite.specs.Info.{facts_of}
-use Rattle.wavwrite.proofs.FileInfo.{IsInfo, depth_named}
+use Rattle.wavwrite.proofs.FileInfo.{IsInfo}
 
 -- the contents of `bext`, without the padding
 unfoldable pub bext_contents : SoundInfo → List ℕ
@@ -26,7 +26,7 @@ bext_contents info = info.text ++ (u64_bytes info.time_reference ++ (u16_bytes 1
 -- the contents of `fmt `
 abbrev pub format_contents : SoundInfo → List ℕ
 format_contents info =
-    format_bytes 1 info.channels 48000 (48000 * frame_bytes info) (frame_bytes info) info.depth
+    format_bytes 1 info.channels 48000 (48000 * frame_bytes info) (frame_bytes info) (bits_of info.depth)
 
 -- the field of the size of `data`
 abbrev pub data_told : SoundInfo → ℕ
@@ -75,16 +75,15 @@ chunks_whole info samples size_of told is counted below bext_means format_means 
       format_told = format_means;
       data_told = data_means;
       bext_whole = simp (length-append, length-zeros) (omega (arith, bext));
-      format_whole = length-format_bytes 1 info.channels 48000 (48000 * frame_bytes info) (frame_bytes info) info.depth;
+      format_whole = length-format_bytes 1 info.channels 48000 (48000 * frame_bytes info) (frame_bytes info) (bits_of info.depth);
       data_whole = simp (length-append, length-zeros) (rw counted refl);
     }
 
 -- a frame has bytes
-frame_some : (channels : ℕ) (name : Depth) (depth : ℕ) → bits_of name ≡ depth → 1 ≤ channels
-    → 0 < channels * (depth / 8)
-frame_some channels Sixteen depth named some = grind arith
-frame_some channels TwentyFour depth named some = grind arith
-frame_some channels ThirtyTwo depth named some = grind arith
+frame_some : (channels : ℕ) (depth : Depth) → 1 ≤ channels → 0 < channels * (bits_of depth / 8)
+frame_some channels Sixteen some = grind arith
+frame_some channels TwentyFour some = grind arith
+frame_some channels ThirtyTwo some = grind arith
 
 -- a frame is no shorter than a byte
 frames_bounded : (frames size : ℕ) → 0 < size → frames ≤ frames * size
@@ -94,8 +93,7 @@ frames_bounded frames size some = grind arith
 sizes_told : (info : SoundInfo) → IsInfo info → AreSizes (file_length info - 8) (data_size info) info.frames
 sizes_told info is =
     let fits = is.fits in
-    let known = depth_named info.depth is.depth in
-    let some = frame_some info.channels known.0 info.depth known.1 is.within.some_channels in
+    let some = frame_some info.channels info.depth is.within.some_channels in
     let few = frames_bounded info.frames (frame_bytes info) some in
     record { form_fits = omega (arith, fits); sound_fits = omega (arith, fits); frames_fit = omega (arith, fits, few) }
 
@@ -156,19 +154,18 @@ history_told info whole fits =
     ∙ ap (take history_limit) (drop_at front info.history 602 long) ∙ take_all 65536 info.history fits
 
 -- the facts of these chunks
-pub facts_found : (name : List ℕ) (info : SoundInfo) (depth : Depth) → IsInfo info → bits_of depth ≡ info.depth
+pub facts_found : (name : List ℕ) (info : SoundInfo) → IsInfo info
     → facts_with name (wave_found (bext_size info) (data_size info))
-    (record { channels = info.channels; depth = depth }) (bext_contents info)
+    (record { channels = info.channels; depth = info.depth }) (bext_contents info)
     ≡ facts_of name info
-facts_found name info depth is named =
+facts_found name info is =
     let long = length-bext_contents info is.within.text_whole in
     let history_fits = is.within.history_fits in
     let whole = le-leb 346 (length (bext_contents info)) (omega (arith, long)) in
     let cut = le-ltb (602 + 65536) (length (bext_contents info)) (omega (arith, long)) in
     let frames : data_size info / frame_bytes info ≡ info.frames =
-    mul-div_cancel info.frames (frame_some info.channels depth info.depth named is.within.some_channels) in
+    mul-div_cancel info.frames (frame_some info.channels info.depth is.within.some_channels) in
     rw (
-      named,
       frames,
       whole,
       cut,

@@ -1,6 +1,7 @@
 -- A written file reads back: its facts, and its samples.
 use Rattle.std.proofs.Common.{◌≡◌, ℕ, ◌+◌, ◌-◌, ◌*◌, ◌/◌, ◌%◌, List, ◌++◌, length, take, drop, refl, sym, ap, ◌∙◌, arith, length-append, Ok, subst}
 use Rattle.std.proofs.lemmas.List.{append_assoc, drop_at, take_at, drop-drop}
+use Rattle.sound_terms.specs.Depth.{bits_of}
 use Rattle.sound_terms.specs.Waves.{zeros, SoundInfo, frame_bytes, data_size, bext_size, data_place, file_length, header_of, file_of, form_head, sample_at, sample_of}
 use Rattle.sound_terms.specs.Formats.{format_of}
 use Rattle.sound_terms.specs.SoundFiles.{sound_of}
@@ -8,7 +9,7 @@ use Rattle.sound_terms.specs.Laws.{length-u16_bytes, length-u32_bytes, length-u6
 use Rattle.wavwrite.proofs.WaveChunks.{behind_bext, behind_format, wave_chunks}
 use Rattle.wavwrite.proofs.FormatReads.{format_bytes, format_read, length-format_bytes}
 use Rattle.wavwrite.specs.Info.{facts_of}
-use Rattle.wavwrite.proofs.FileInfo.{depth_named, IsInfo}
+use Rattle.wavwrite.proofs.FileInfo.{IsInfo}
 use Rattle.wavwrite.proofs.ContentReads.{bext_contents, data_told, facts_found, file_is, file_walked, format_contents, length-bext_contents, length-form_head}
 
 -- the contents of `bext` and `fmt ` are found
@@ -37,25 +38,20 @@ format_found info bext format sound bext_whole format_whole =
 pub reads_back : (name : List ℕ) (info : SoundInfo) (samples : List ℕ) → IsInfo info → length samples ≡ data_size info
     → sound_of name (file_of info samples) ≡ Ok (facts_of name info)
 reads_back name info samples is counted =
-    let known = depth_named info.depth is.depth in
     let bext = bext_contents info ++ zeros (bext_size info % 2) in
     let sound = samples ++ zeros (length samples % 2) in
-    let formed : format_of (format_contents info) ≡ Ok (record { channels = info.channels; depth = known.0 }) =
-    subst (λ (bits : ℕ). format_of (format_bytes 1 info.channels 48000 (48000 * frame_bytes info)
-    (info.channels * (bits / 8)) bits)
-    ≡ Ok (record { channels = info.channels; depth = known.0 }))
-    known.1 (format_read info.channels (48000 * frame_bytes info)
-    known.0 is.within.some_channels is.within.few_channels) in
+    let formed : format_of (format_contents info) ≡ Ok (record { channels = info.channels; depth = info.depth }) =
+    format_read info.channels (48000 * frame_bytes info) info.depth is.within.some_channels is.within.few_channels in
     let long = length-bext_contents info is.within.text_whole in
     let bext_whole : length bext ≡ bext_size info + bext_size info % 2 =
     simp (length-append, length-zeros) (omega (arith, long)) in
     let format_whole =
-    length-format_bytes 1 info.channels 48000 (48000 * frame_bytes info) (frame_bytes info) info.depth in
+    length-format_bytes 1 info.channels 48000 (48000 * frame_bytes info) (frame_bytes info) (bits_of info.depth) in
     let walk = file_walked info samples is counted in
     let format_there = format_found info bext (format_contents info) sound bext_whole format_whole in
     let bext_there = bext_found info (format_contents info) sound is.within.text_whole in
     rw (file_is info samples, walk, format_there, formed, bext_there)
-    (ap Ok (facts_found name info known.0 is known.1))
+    (ap Ok (facts_found name info is))
 
 -- ---- where the samples stand
 

@@ -8,7 +8,6 @@ use Rattle.sound_terms.specs.Depth.{bits_of}
 use Rattle.sound_terms.specs.Mix.{quantized}
 use Rattle.sound_terms.specs.Render.{frame_of, frames_of}
 use Rattle.pcm.specs.Laws.{fits_quantized, length-sample_bytes, sample_of-sample_bytes}
-use Rattle.wavwrite.proofs.FileInfo.{IsDepth, depth_named}
 use Rattle.wavwrite.proofs.FileReads.{sample_stands}
 
 -- so many samples of so many bytes
@@ -115,17 +114,12 @@ samples_of_frames depth mix channels from n frame channel rest below first last 
 
 -- the samples of a file of frames that were written
 pub frames_read : (info : SoundInfo) (mix : ℕ → ℕ → ℤ) (from frame channel : ℕ) → length info.text ≡ 338
-    → IsDepth info.depth
     → frame < info.frames → 1 ≤ channel → channel ≤ info.channels
-    → sample_at (file_of info (frames_of info.depth mix info.channels from info.frames)) (data_place info)
-    info.channels info.depth frame channel
-    ≡ quantized info.depth (mix channel (from + frame))
-frames_read info mix from frame channel whole depth below first last =
-    let known = depth_named info.depth depth in
-    let samples = frames_of info.depth mix info.channels from info.frames in
-    let pad = zeros (length samples % 2) in
-    sample_stands info samples info.channels info.depth frame channel whole
-    ∙ subst (λ (bits : ℕ). sample_of bits (drop ((frame * info.channels + (channel - 1)) * (bits / 8))
-    (frames_of bits mix info.channels from info.frames ++ pad))
-    ≡ quantized bits (mix channel (from + frame)))
-    known.1 (samples_of_frames known.0 mix info.channels from info.frames frame channel pad below first last)
+    → sample_at (file_of info (frames_of (bits_of info.depth) mix info.channels from info.frames)) (data_place info)
+    info.channels (bits_of info.depth) frame channel
+    ≡ quantized (bits_of info.depth) (mix channel (from + frame))
+frames_read info mix from frame channel whole below first last =
+    let samples = frames_of (bits_of info.depth) mix info.channels from info.frames in
+    sample_stands info samples info.channels (bits_of info.depth) frame channel whole
+    ∙ samples_of_frames info.depth mix info.channels from info.frames frame channel (zeros (length samples % 2)) below
+    first last

@@ -2,7 +2,6 @@
 use Rattle.std.specs.Prelude.{◌≡◌, ℕ, ◌-◌, ◌^◌, ◌<◌, ◌≤◌, List, length, Some, false}
 use Rattle.sound_terms.specs.declared.Depth.{Depth}
 use Rattle.sound_terms.specs.declared.Bext.{Bext}
-use Rattle.sound_terms.specs.Depth.{bits_of}
 use Rattle.sound_terms.specs.Waves.{SoundInfo, data_place, file_length}
 use Rattle.sound_terms.specs.Sounds.{SoundFacts}
 
@@ -10,7 +9,7 @@ use Rattle.sound_terms.specs.Sounds.{SoundFacts}
 abbrev pub info_of : ℕ → Depth → ℕ → Bext → List ℕ → SoundInfo
 info_of channels depth frames bext history = record {
   channels = channels;
-  depth = bits_of depth;
+  depth = depth;
   frames = frames;
   text = bext.text;
   time_reference = bext.time_reference;

@@ -1,12 +1,13 @@
 -- Worked examples of headers, where RIFF ends and RF64 begins. Each is computed from the definitions.
 use Rattle.std.specs.Prelude.{◌≡◌, refl, ℕ, [], ◌∷◌, ◌++◌, take, drop, replicate, codes}
+use Rattle.sound_terms.specs.declared.Depth.TheVariants.{Sixteen}
 use Rattle.sound_terms.specs.Waves.{SoundInfo, header_of, u16_bytes, u32_bytes, u64_bytes, zeros, chunk_head}
 
 -- so many frames of one channel and 16 bits, without texts
 abbrev mono : ℕ → SoundInfo
 mono frames = record {
   channels = 1;
-  depth = 16;
+  depth = Sixteen;
   frames = frames;
   text = replicate 338 0;
   time_reference = 0;

@@ -85,7 +85,7 @@ impl SoundInfo {
 
     /// The bits of a sample.
     pub fn depth(&self) -> Depth
-        ensures { bits_of result ≡ self.now.depth }
+        ensures { result ≡ self.now.depth }
     {
         self.depth
     }

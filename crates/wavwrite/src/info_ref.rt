@@ -75,7 +75,7 @@ impl<'a> SoundInfoRef<'a> {
 
     /// The bits of a sample.
     pub fn depth(&self) -> Depth
-        ensures { bits_of result ≡ self.now.depth }
+        ensures { result ≡ self.now.depth }
     {
         self.depth
     }

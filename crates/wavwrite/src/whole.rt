@@ -156,7 +156,7 @@ pub fn is_large(info: &SoundInfo) -> bool
 /// CodingHistory, before there is such a file.
 pub fn fits_riff_with(channels: u8, depth: Depth, frames: u64, history: usize) -> bool
     requires { history ≤ 65536 }
-    ensures { (info : waves.SoundInfo) → info.channels ≡ channels → info.depth ≡ bits_of depth → info.frames ≡ frames
+    ensures { (info : waves.SoundInfo) → info.channels ≡ channels → info.depth ≡ depth → info.frames ≡ frames
         → length info.history ≡ history
         → IsTrue result ↔ FitsRiff info }
 {

@@ -46,4 +46,4 @@ returns-clause-played g c = λ honest.
     ran ∙ c.block-end.ensures.sums reading (c.in-Ok.ensures.full honest) start in
     c.pack.ensures.bytes
     ∙ ap (λ (bits : ℕ). flat_map (sample_bytes bits) c.run.new.out) told
-    ∙ ap (flat_map (sample_bytes range.depth)) played
+    ∙ ap (flat_map (sample_bytes (bits_of range.depth))) played

@@ -9,7 +9,7 @@ pub read_bytes-requires : goal.read_bytes-requires
 read_bytes-requires g c =
     let frames = c.args.frames.now in
     let width : c.from.result ≡ bits_of c.depth-depth.result / 8 = c.from.ensures ∙ ap (λ b. b / 8) c.bits.ensures in
-    let told : c.from.result ≡ c.args.self.now.depth / 8 = width ∙ ap (λ b. b / 8) c.depth-depth.ensures in
+    let told : c.from.result ≡ (bits_of c.args.self.now.depth) / 8 = width ∙ ap (λ b. b / 8) c.depth-depth.ensures in
     let room : length frames * c.from.result ≤ length c.args.buffer.now =
     subst (λ (w : ℕ). length frames * w ≤ length c.args.buffer.now) (sym told) c.requires.room in
     let taken : length frames * c.from.result ≡ c.args.count * frame_length c.args.self.now =
@@ -31,7 +31,7 @@ returns-clause-frames g c = λ honest file there.
     let bits = bits_of c.depth-depth.result in
     let place = c.args.self.now.place + c.args.from * frame_length c.args.self.now in
     let width : c.from.result ≡ bits / 8 = c.from.ensures ∙ ap (λ b. b / 8) c.bits.ensures in
-    let told : c.from.result ≡ c.args.self.now.depth / 8 = width ∙ ap (λ b. b / 8) c.depth-depth.ensures in
+    let told : c.from.result ≡ (bits_of c.args.self.now.depth) / 8 = width ∙ ap (λ b. b / 8) c.depth-depth.ensures in
     let room : length c.args.frames.now * c.from.result ≤ length c.args.buffer.now =
     subst (λ (w : ℕ). length c.args.frames.now * w ≤ length c.args.buffer.now) (sym told) c.requires.room in
     let read : length c.read_bytes.new.bytes ≡ length c.args.frames.now * c.from.result =

@@ -1,4 +1,4 @@
-use Rattle.wavwrite.proofs.FileInfo.{IsInfo, named_depth}
+use Rattle.wavwrite.proofs.FileInfo.{IsInfo}
 use Rattle.wavwrite.proofs.FileReads.{length-header_of, reads_back, samples_stand}
 use Rattle.wavwrite.proofs.RenderReads.{render_reads_back}
 use Rattle.wavwrite.proofs.info_ref.SoundInfoRef.reads_back.Goals as goal
@@ -8,7 +8,6 @@ returns-clause-reads_back c = λ name samples fits counted.
     let info = c.args.self.now in
     let is : IsInfo info = record {
       within = c.channels.ensures.within;
-      depth = named_depth c.depth.result info.depth c.depth.ensures;
       fits = fits;
     } in
     reads_back name info samples is counted
@@ -22,7 +21,6 @@ returns-clause-rendered c = λ range mix fits same.
     let info = c.args.self.now in
     let is : IsInfo info = record {
       within = c.channels.ensures.within;
-      depth = named_depth c.depth.result info.depth c.depth.ensures;
       fits = fits;
     } in
     render_reads_back info range mix is same
