@@ -121,7 +121,7 @@ read_whole name file facts read = by_walk (walked file) refl where
         let named : facts.name ≡ name = cc in
         let place : facts.place ≡ chunks.sound.at = cc in
         let channels : facts.channels ≡ format.channels = cc in
-        let depth : facts.depth ≡ bits_of format.depth = cc in
+        let depth : facts.depth ≡ format.depth = cc in
         let frames : facts.frames ≡ chunks.sound.length / (format.channels * (bits_of format.depth / 8)) = cc in
         let few = div-mul-le_self chunks.sound.length (format.channels * (bits_of format.depth / 8)) in
         (named, rw (place, frames, channels, depth) (omega (arith, few, inside)))

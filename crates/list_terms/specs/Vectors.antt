@@ -133,7 +133,8 @@ options = record { from = None; to = None; channels = None; depth = Sixteen }
 -- from the first in to the last out, on all channels; an empty range without an entry
 pub default_ranges : map (λ events. range_of (project (here 1 ∷ []) events) options)
     ((event 1 0 1 7 9 0 0 ∷ event 1 0 1 3 8 0 0 ∷ []) ∷ [] ∷ [])
-    ≡ record { from = 3; to = 9; channels = 1; depth = Sixteen } ∷ record { from = 0; to = 0; channels = 1; depth = Sixteen } ∷ []
+    ≡ record { from = 3; to = 9; channels = 1; depth = Sixteen }
+    ∷ record { from = 0; to = 0; channels = 1; depth = Sixteen } ∷ []
 default_ranges = refl
 
 -- a file that isn't there is refused where an entry uses it, before any entry

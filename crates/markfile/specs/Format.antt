@@ -14,7 +14,8 @@ marks_name = codes "render.marks"
 -- what a run is told by: the samples and channels that are rendered, the depth, and the list; not the order of its jobs
 unfoldable pub run_bytes : Range → List ℕ → List ℕ
 run_bytes range list =
-    u64_bytes range.from ++ (u64_bytes range.to ++ (u16_bytes range.channels ++ (u16_bytes (bits_of range.depth) ++ list)))
+    u64_bytes range.from ++ (u64_bytes range.to
+    ++ (u16_bytes range.channels ++ (u16_bytes (bits_of range.depth) ++ list)))
 
 -- bytes 1 to 43: what the file is, the run that it belongs to, and how many blocks that has
 unfoldable pub head_of : RunId → List ℕ

@@ -38,7 +38,7 @@ module _ (facts : SoundFacts) (source : List ℕ) (run : Run) where
       → frames_in facts source run.first run.length ≡ take (run.length * frame_length facts) (drop place file)
       → HasSamplesOf facts source run file place
   same_samples file place stands = λ i channel below first last.
-      let width : ℕ = (bits_of facts.depth) / 8 in
+      let width : ℕ = bits_of facts.depth / 8 in
       let n : ℕ = run.length * facts.channels in
       let bytes = frames_in facts source run.first run.length in
       let counted : run.length * frame_length facts ≡ n * width = omega arith in

@@ -69,7 +69,8 @@ pub fn relink(
         ≡ mix_of given intervals.now channel time }
     ensures no_fault { (binding : Binding) → binding.indexes ≡ run_indexes runs.now.homes runs.now.runs
         → HaveChannels (pieces_of intervals.now) runs.now.runs binding.files
-        → event_fault binding (consolidated_project project.now runs.now.homes intervals.now runs.now.runs).events ≡ None }
+        → event_fault binding (consolidated_project project.now runs.now.homes intervals.now runs.now.runs).events
+        ≡ None }
 {
     // The runs are known to be apart from here on.
     let _ = runs.as_slice();

@@ -89,7 +89,7 @@ module _ (marked : MarkedWork) (sources : Files) (is : IsRenderWork marked.work)
     all = range.to - range.from
 
     abbrev wide : ℕ
-    wide = range.channels * ((bits_of range.depth) / 8)
+    wide = range.channels * (bits_of range.depth / 8)
 
     abbrev head : ℕ
     head = length (header_of (render_info range))
@@ -110,7 +110,8 @@ module _ (marked : MarkedWork) (sources : Files) (is : IsRenderWork marked.work)
         let long = length-frames_of (bits_of range.depth) range.channels (block_start range s.first) n
         (heard marked.work.planned marked.work.sounds sources) in
         let end = stretch_end s.first s.behind all wide n inside.0 refl (omega (arith, inside.0, inside.1)) in
-        let size : bytes_for range 4096 ≡ 4096 * wide = sym (bytes_product 4096 range.channels ((bits_of range.depth) / 8)) in
+        let size : bytes_for range 4096 ≡ 4096 * wide =
+        sym (bytes_product 4096 range.channels (bits_of range.depth / 8)) in
         omega (arith, long, end, ap (λ (m : ℕ). s.first * m) size)
 
     -- a byte of it is a block's
@@ -122,7 +123,8 @@ module _ (marked : MarkedWork) (sources : Files) (is : IsRenderWork marked.work)
         let s = at k in
         let inside = stretch_inside marked.work k is below in
         let end = job_end k below in
-        let size : bytes_for range 4096 ≡ 4096 * wide = sym (bytes_product 4096 range.channels ((bits_of range.depth) / 8)) in
+        let size : bytes_for range 4096 ≡ 4096 * wide =
+        sym (bytes_product 4096 range.channels (bits_of range.depth / 8)) in
         let begun : head + s.first * (4096 * wide) ≤ i = subst (λ (m : ℕ). head + s.first * m ≤ i) size from in
         let ended : i < head + min (s.behind * 4096) all * wide = subst (λ (m : ℕ). i < m) end to in
         let block = block_at s.first s.behind all wide (i - head) (omega (arith, begun)) (omega (arith, begun, ended)) in (
@@ -132,7 +134,7 @@ module _ (marked : MarkedWork) (sources : Files) (is : IsRenderWork marked.work)
           block.below,
           subst (λ (m : ℕ). head + block.block * m ≤ i) (sym size) (omega (arith, begun, block.begun)),
           subst (λ (m : ℕ). i < head + m)
-              (bytes_product (min ((block.block + 1) * 4096) all) range.channels ((bits_of range.depth) / 8))
+              (bytes_product (min ((block.block + 1) * 4096) all) range.channels (bits_of range.depth / 8))
               (omega (arith, begun, block.ends)),
         )
 
@@ -145,9 +147,9 @@ module _ (marked : MarkedWork) (sources : Files) (is : IsRenderWork marked.work)
         mul-le-mul_right (bytes_for range 4096) from in
         let last : min ((b + 1) * 4096) all * wide ≤ min (s.behind * 4096) all * wide =
         mul-le-mul_right wide (omega (arith, to)) in
-        let product = bytes_product (min ((b + 1) * 4096) all) range.channels ((bits_of range.depth) / 8) in (
+        let product = bytes_product (min ((b + 1) * 4096) all) range.channels (bits_of range.depth / 8) in (
           omega (arith, first),
-          subst (λ (m : ℕ). head + min ((b + 1) * 4096) all * range.channels * ((bits_of range.depth) / 8) ≤ m)
+          subst (λ (m : ℕ). head + min ((b + 1) * 4096) all * range.channels * (bits_of range.depth / 8) ≤ m)
               (sym (job_end k below))
               (subst (λ (m : ℕ). head + m ≤ head + min (s.behind * 4096) all * wide) product (omega (arith, last))),
         )

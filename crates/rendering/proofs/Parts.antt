@@ -42,7 +42,7 @@ in_file : (range : Range) (mix : ℕ → ℕ → ℤ) (s : Stretch) → s.first 
     → IsInFile range mix s
 unfolding rendering_of file_of
 in_file range mix s some inside =
-    let depth = (bits_of range.depth) in
+    let depth = bits_of range.depth in
     let channels = range.channels in
     let all = range.to - range.from in
     let a = s.first * 4096 in
@@ -105,7 +105,7 @@ ends_before work sources j k is less below =
     let range = work.planned.range in
     let s = stretch_at work.stretches j in
     let t = stretch_at work.stretches k in
-    let wide = range.channels * ((bits_of range.depth) / 8) in
+    let wide = range.channels * (bits_of range.depth / 8) in
     let n = frames_before range s.behind - frames_before range s.first in
     let in_cut = stretch_inside work j is (omega (arith, less, below)) in
     let behind = cut-apart work.stretches 0 (block_count range) j k no_stretch is.cut less below in
@@ -167,12 +167,12 @@ in_job : (work : RenderWork) (sources : Files) (i : ℕ) → IsRenderWork work �
     → IsFixedIn (jobs_over (work_of work) sources) name (λ _. false)
     (length (header_of (render_info work.planned.range)) + i)
     → i < (work.planned.range.to - work.planned.range.from)
-    * (work.planned.range.channels * ((bits_of work.planned.range.depth) / 8))
+    * (work.planned.range.channels * (bits_of work.planned.range.depth / 8))
     → true ≡ false
 in_job work sources i is name same fixed below =
     let range = work.planned.range in
     let all = range.to - range.from in
-    let wide = range.channels * ((bits_of range.depth) / 8) in
+    let wide = range.channels * (bits_of range.depth / 8) in
     let head = length (header_of (render_info range)) in
     let size = 4096 * wide in
     let some : 0 < size = elim (cases_lt 0 size) [
@@ -209,9 +209,11 @@ zeros_right work sources name n i is same fixed =
     let range = work.planned.range in
     let all = range.to - range.from in
     let head = header_of (render_info range) in
-    let samples = frames_of (bits_of range.depth) (heard work.planned work.sounds sources) range.channels range.from all in
+    let samples =
+    frames_of (bits_of range.depth) (heard work.planned work.sounds sources) range.channels range.from all in
     let pad = zeros (length samples % 2) in
-    let long = length-frames_of (bits_of range.depth) range.channels range.from all (heard work.planned work.sounds sources) in
+    let long =
+    length-frames_of (bits_of range.depth) range.channels range.from all (heard work.planned work.sounds sources) in
     elim (cases_lt i (length head)) [
       | inl before ↦ get_or_append_left head (zeros n) 0 i before
           ∙ sym (get_or_append_left head (samples ++ pad) 0 i before)
@@ -242,7 +244,7 @@ laid_filled work sources files n is size there =
     let samples = frames_of (bits_of range.depth) mix range.channels range.from all in
     let long : length samples ≡ n =
     length-frames_of (bits_of range.depth) range.channels range.from all mix
-    ∙ bytes_product all range.channels ((bits_of range.depth) / 8) ∙ sym size in
+    ∙ bytes_product all range.channels (bits_of range.depth / 8) ∙ sym size in
     record {
       each = λ j below. record {
         bytes = head ++ zeros (n + n % 2);

@@ -24,7 +24,7 @@ bytes_one range first k behind inside =
     ∙ ap (bytes_for range) (sym (frames_one range first k behind inside))
 
 bytes_grow : (range : Range) (a b : ℕ) → a ≤ b → bytes_for range a ≤ bytes_for range b
-bytes_grow range a b less = mul-le-mul_right ((bits_of range.depth) / 8) (mul-le-mul_right range.channels less)
+bytes_grow range a b less = mul-le-mul_right (bits_of range.depth / 8) (mul-le-mul_right range.channels less)
 
 -- there is room for a block of the stretch behind those before it
 pub bytes_room : (range : Range) (first behind k : ℕ) → first ≤ k → k < behind → behind ≤ block_count range

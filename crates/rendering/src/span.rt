@@ -6,16 +6,9 @@ ghost use Rattle.list_terms.specs.WholeProject.{is_event};
 ghost use Rattle.rendering.specs.Rendering.{HaveChannels};
 
 use crate::Options;
+use markfile::RunRange;
 use sampletime::SampleTime;
 use sound_terms::Event;
-
-/// The samples from the time `from` up to, and without, `to`, on so many channels from 1 on.
-#[derive(Clone, Copy)]
-pub struct Span {
-    pub from: SampleTime,
-    pub to: SampleTime,
-    pub channels: u8,
-}
 
 /// The time at which the first event begins; 0 without an event.
 fn first_in(events: &[Event]) -> SampleTime
@@ -56,18 +49,20 @@ fn last_channel(events: &[Event]) -> u8
 }
 
 /// What is rendered of these events.
-pub fn span_of(events: &[Event], options: &Options) -> Span
+pub fn span_of(events: &[Event], options: &Options) -> RunRange
     requires whole { IsTrue (list_all is_event events.now) }
     requires channels { HaveChannels options.now }
     ensures from { result.from ≡ chosen options.now.from (least_of (λ event. event.dest_in) events.now) }
     ensures to { result.to ≡ chosen options.now.to (greatest_of (λ event. event.dest_out) events.now) }
     ensures channels { result.channels
         ≡ chosen options.now.channels (max 1 (greatest_of (λ event. event.dest.last) events.now)) }
+    ensures depth { result.depth ≡ options.now.depth }
     ensures sound { (1 ≤ result.channels) × (result.channels ≤ 64) }
 {
-    Span {
+    RunRange {
         from: options.from.unwrap_or_else(|| first_in(events)),
         to: options.to.unwrap_or_else(|| last_out(events)),
         channels: options.channels.unwrap_or_else(|| last_channel(events)),
+        depth: options.depth,
     }
 }

@@ -8,7 +8,7 @@ ghost use Rattle.sound_terms.specs.Render.{render_info};
 ghost use Rattle.sound_terms.specs.Waves.{header_of, zeros};
 ghost use Rattle.list_terms.specs.Accepted as accepted;
 ghost use Rattle.list_terms.specs.Heard.{sounds_of};
-ghost use Rattle.renderplan.specs.Planned.{range_of};
+ghost use Rattle.markfile.specs.Range as marks;
 ghost use Rattle.wavwrite.specs.Info.{Fits};
 ghost use Rattle.blockcut.specs.Cut.{IsCut, IsShort};
 ghost use Rattle.rendering.specs.Fault.{ComesFirst, refusal_of};
@@ -18,14 +18,14 @@ ghost use Rattle.rendering.specs.Work.{AreAtOnce, IsRenderWork};
 ghost use Rattle.rendering.specs.declared.fault.RenderFault.TheVariants.{Memory};
 
 use crate::blocks::{BLOCK_LENGTH, Blocks};
-use crate::span::{Span, span_of};
+use crate::span::span_of;
 use crate::{Options, RenderFault};
 use blockcut::{Stretch, blocks_at_once, fresh_stretches};
 use markfile::RunRange;
 use projectcheck::{Checked, from_checked};
 use renderplan::Plan;
 use sampletime::SampleTime;
-use sound_terms::{Bext, Depth};
+use sound_terms::Bext;
 use std::alloc::{AllocError, Global};
 use std::marker::Model;
 use wavwrite::SoundInfoRef;
@@ -79,16 +79,16 @@ impl<'a> Model for Rendering<'a> {
 }
 
 /// The plan of a span of a project. `Intervals`, `EmptyRange` or `Memory` where there is none.
-fn plan_of(alloc: Global, checked: &Checked, span: &Span, depth: Depth) -> Result<Plan, RenderFault>
+fn plan_of(alloc: Global, checked: &Checked, span: &RunRange) -> Result<Plan, RenderFault>
     requires { (1 ≤ span.now.channels) × (span.now.channels ≤ 64) }
-    ensures range { IfOk result (λ plan. plan.range ≡ range_of span.now.from span.now.to span.now.channels depth) }
+    ensures range { IfOk result (λ plan. plan.range ≡ marks.range_of span.now) }
     ensures some { IfOk result (λ _. span.now.from < span.now.to) }
     ensures inside { IfOk result (λ plan. All (IsPieceOf (sounds_of checked.now.bound)) plan.pieces) }
     ensures mixes { IfOk result (λ plan. MixAs checked.now.project checked.now.bound plan.pieces) }
-    ensures first { IfErr result (ComesFirst (range_of span.now.from span.now.to span.now.channels depth)) }
+    ensures first { IfErr result (ComesFirst (marks.range_of span.now)) }
 {
     let intervals = from_checked(alloc, checked)?;
-    let plan = Plan::new(alloc, &intervals, span.from, span.to, span.channels, depth)?;
+    let plan = Plan::new(alloc, &intervals, span.from, span.to, span.channels, span.depth)?;
     Ok(plan)
 }
 
@@ -105,15 +105,15 @@ fn bext_at(time: SampleTime) -> Bext
 }
 
 /// What the file of a span tells of itself.
-fn info_of(span: &Span, depth: Depth) -> SoundInfoRef<'static>
+fn info_of(span: &RunRange) -> SoundInfoRef<'static>
     requires channels { (1 ≤ span.now.channels) × (span.now.channels ≤ 64) }
     requires some { span.now.from < span.now.to }
-    ensures info { result ≡ render_info (range_of span.now.from span.now.to span.now.channels depth) }
+    ensures info { result ≡ render_info (marks.range_of span.now) }
     ensures short { result.frames < 2 ^ 48 }
 {
     let frames = span.to.get() - span.from.get();
     let bext = bext_at(span.from);
-    SoundInfoRef::over(span.channels, depth, frames, bext, &[])
+    SoundInfoRef::over(span.channels, span.depth, frames, bext, &[])
 }
 
 /// All that stands before the samples of a file.
@@ -152,8 +152,8 @@ fn prepared<'a>(
     ensures whole { IfOk result (λ rendering. IsRenderWork rendering) }
 {
     let span = span_of(checked.project().events(), options);
-    let plan = plan_of(alloc, checked, &span, options.depth)?;
-    let info = info_of(&span, options.depth);
+    let plan = plan_of(alloc, checked, &span)?;
+    let info = info_of(&span);
     info.reads_back();
     let head = head_of(alloc, &info)?;
     let rendered = Rendered {
@@ -167,12 +167,7 @@ fn prepared<'a>(
         rendered,
         head,
         stretches,
-        range: RunRange {
-            from: span.from,
-            to: span.to,
-            channels: span.channels,
-            depth: options.depth,
-        },
+        range: span,
     })
 }
 

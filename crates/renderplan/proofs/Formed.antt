@@ -5,7 +5,6 @@ use Rattle.std.specs.List.{flat_map}
 use Rattle.std.proofs.lemmas.Bool.Decides.{nat_tests}
 use Rattle.std.proofs.lemmas.List.Elements.{All-append, All-cons, All-nil}
 use Rattle.facts.specs.Lists.{all_of_parts}
-use Rattle.sound_terms.specs.declared.Depth.{Depth}
 use Rattle.sound_terms.specs.declared.block.Instruction.{Instruction}
 use Rattle.sound_terms.specs.declared.block.Instruction.TheVariants.{Start, Add, Emit}
 use Rattle.sound_terms.specs.declared.piece.Piece.{Piece}
@@ -62,9 +61,9 @@ module _ (from n channels : ℕ) where
     frames = omega (arith, is.frames);
   })
 
-pub program_formed : (pieces : List Piece) (range : Range) (depth : Depth) (k : ℕ) → All IsPiece pieces
-    → IsBlockProgram (block_frames range k) range.channels depth (program_of pieces range depth k)
-program_formed pieces range depth k all =
+pub program_formed : (pieces : List Piece) (range : Range) (k : ℕ) → All IsPiece pieces
+    → IsBlockProgram (block_frames range k) range.channels range.depth (program_of pieces range k)
+program_formed pieces range k all =
     let from = block_start range k in
     let n = block_frames range k in
     record {
@@ -76,14 +75,14 @@ program_formed pieces range depth k all =
           pieces all;
     }
 
-pub program_inside : (sounds : List SoundFacts) (pieces : List Piece) (range : Range) (depth : Depth) (k : ℕ)
+pub program_inside : (sounds : List SoundFacts) (pieces : List Piece) (range : Range) (k : ℕ)
     → All (IsPieceOf sounds) pieces
-    → All (LiesInFiles sounds) (program_of pieces range depth k)
-program_inside sounds pieces range depth k all =
+    → All (LiesInFiles sounds) (program_of pieces range k)
+program_inside sounds pieces range k all =
     let from = block_start range k in
     let n = block_frames range k in
     let lines =
     all_of_parts (IsPieceOf sounds) (LiesInFiles sounds) (lines_of from n range.channels)
     (line_inside from n range.channels sounds) pieces all in
-    let emitted = All-cons (LiesInFiles sounds) (Emit depth) [] tt (All-nil (LiesInFiles sounds)) in
+    let emitted = All-cons (LiesInFiles sounds) (Emit range.depth) [] tt (All-nil (LiesInFiles sounds)) in
     All-cons (LiesInFiles sounds) (Start n) _ tt (All-append (LiesInFiles sounds) _ _ lines emitted)

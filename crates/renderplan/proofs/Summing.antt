@@ -7,7 +7,6 @@ use Rattle.std.proofs.lemmas.Int.{ints}
 use Rattle.std.proofs.lemmas.List.Elements.{All-head, All-tail}
 use Rattle.facts.specs.Lists.{all_behind, all_front, all_of_parts}
 use Rattle.facts.specs.Tests.{otherwise}
-use Rattle.sound_terms.specs.declared.Depth.{Depth}
 use Rattle.sound_terms.specs.declared.block.Instruction.TheVariants.{Start, Add, Emit}
 use Rattle.sound_terms.specs.declared.piece.Piece.{Piece}
 use Rattle.sound_terms.specs.Depth.{bits_of}
@@ -158,32 +157,28 @@ module _ (reading : Reading) (from n channels : ℕ) where
       ap (λ (state : BlockState). state.sums i c) split ∙ rest ∙ omega (arith, ints, first)
 
 -- the samples of a block are those of the mix
-pub program_sums : (reading : Reading) (pieces : List Piece) (range : Range) (depth : Depth) (k : ℕ)
-    (start : BlockState)
-    → All (PlaysFull reading) (program_of pieces range depth k) → All IsPiece pieces → IsBounded 32767 pieces
-    → range.depth ≡ bits_of depth
-    → (executed_all reading range.channels (program_of pieces range depth k) start).out
+pub program_sums : (reading : Reading) (pieces : List Piece) (range : Range) (k : ℕ) (start : BlockState)
+    → All (PlaysFull reading) (program_of pieces range k) → All IsPiece pieces → IsBounded 32767 pieces
+    → (executed_all reading range.channels (program_of pieces range k) start).out
     ≡ mixed_block range (sum_of reading pieces) k
-program_sums reading pieces range depth k start plays all bounded told =
+program_sums reading pieces range k start plays all bounded =
     let from = block_start range k in
     let n = block_frames range k in
     let lines = flat_map (lines_of from n range.channels) pieces in
     let begun : BlockState = record start { frames = n; sums = λ i channel. pos 0 } in
     let added : BlockState = executed_all reading range.channels lines begun in
-    let split = executed_all-append reading range.channels lines (Emit depth ∷ []) begun in
+    let split = executed_all-append reading range.channels lines (Emit range.depth ∷ []) begun in
     let frames : added.frames ≡ n =
     frames_kept reading range.channels lines begun
     (all_of_parts IsPiece AddsOne (lines_of from n range.channels) (line_adds from n range.channels) pieces all) in
     let full : All (PlaysFull reading) lines =
-    all_front (PlaysFull reading) lines (Emit depth ∷ [])
-    (All-tail (PlaysFull reading) (Start n) (lines ++ Emit depth ∷ []) plays) in
+    all_front (PlaysFull reading) lines (Emit range.depth ∷ [])
+    (All-tail (PlaysFull reading) (Start n) (lines ++ Emit range.depth ∷ []) plays) in
     let sums : (i c : ℕ) → 0 ≤ i → i < 0 + n → 1 ≤ c → c ≤ range.channels
     → added.sums i c ≡ sum_of reading pieces c (from + i) =
     λ i c low high first last. lines_sum reading from n range.channels pieces begun i c 0 full all (omega arith) last
     (omega (arith, bounded (from + i))) (omega (arith, ints), omega (arith, ints)) ∙ omega (arith, ints) in
     ap (λ (state : BlockState). state.out) split
-    ∙ ap (λ m. block_samples (bits_of depth) added.sums range.channels 0 m) frames
-    ∙ same_block (bits_of depth) added.sums (λ i channel. sum_of reading pieces channel (from + i))
+    ∙ ap (λ m. block_samples (bits_of range.depth) added.sums range.channels 0 m) frames
+    ∙ same_block (bits_of range.depth) added.sums (λ i channel. sum_of reading pieces channel (from + i))
     range.channels 0 n sums
-    ∙ ap (λ bits. block_samples bits (λ i channel. sum_of reading pieces channel (from + i)) range.channels 0 n)
-    (sym told)

@@ -8,7 +8,7 @@ ghost use Rattle.sound_terms.specs.Mix.{Reading};
 ghost use Rattle.sound_terms.specs.Groups as spec;
 ghost use Rattle.sound_terms.specs.Groups.{IsBounded, IsPiece, sum_of};
 ghost use Rattle.sound_terms.specs.Blocks.{BlockState, IsBlockProgram, LiesInFiles, PlaysFull, block_count, block_frames, block_start, executed_all, mixed_block, program_of};
-ghost use Rattle.renderplan.specs.Planned.{IsPlan, range_of};
+ghost use Rattle.renderplan.specs.Planned.{IsPlan};
 ghost use Rattle.renderplan.specs.Sources as sources;
 
 use crate::PlanFault;

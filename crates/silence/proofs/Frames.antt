@@ -35,7 +35,7 @@ none_of (negsuc m) n some none = absurd (below (suc m * n) (grind arith) (sym (n
 
 -- where the sample of a frame and a channel begins
 abbrev sample_place : SoundFacts → (frame channel : ℕ) → ℕ
-sample_place facts frame channel = facts.place + (frame * facts.channels + (channel - 1)) * ((bits_of facts.depth) / 8)
+sample_place facts frame channel = facts.place + (frame * facts.channels + (channel - 1)) * (bits_of facts.depth / 8)
 
 -- a sample of an opened file, inside its channels and frames
 heard : (files : Files) (facts : SoundFacts) (channel frame : ℕ) (file : List ℕ) → files facts.name ≡ Some file
@@ -54,14 +54,14 @@ module _ (files : Files) (facts : SoundFacts) (part : Part) (file : List ℕ) (f
     (whole : length frames ≡ count * facts.channels) (inside : part.from + count ≤ facts.frames)
     (lies : LiesIn facts part) where
   place_told : (j i : ℕ) → facts.place + part.from * frame_length facts + (i * facts.channels + (part.first - 1 + j)) *
-      ((bits_of facts.depth) / 8)
+      (bits_of facts.depth / 8)
       ≡ sample_place facts (part.from + i) (part.first + j)
   place_told j i =
       let first = lies.from_one in
       let channel : part.first - 1 + j ≡ part.first + j - 1 = omega arith in rw channel (omega arith)
 
   sample_told : (j i : ℕ) → j < part.width → i < count → sound_by files facts (part.first + j) (part.from + i)
-      ≡ get_or frames (i * facts.channels + (part.first - 1 + j)) (pos 0) *ℤ pos (2 ^ (48 - (bits_of facts.depth)))
+      ≡ get_or frames (i * facts.channels + (part.first - 1 + j)) (pos 0) *ℤ pos (2 ^ (48 - bits_of facts.depth))
   sample_told j i wide below =
       let first = lies.from_one in
       let last = lies.channels in
@@ -79,13 +79,14 @@ module _ (files : Files) (facts : SoundFacts) (part : Part) (file : List ℕ) (f
     to_sound : IsFrameZero frames facts.channels part.first part.width i
         → IsZeroAt (sound_by files facts) part.first part.width (part.from + i)
     to_sound silent j wide =
-        sample_told j i wide below ∙ ap (λ z. z *ℤ pos (2 ^ (48 - (bits_of facts.depth)))) (silent j wide)
-        ∙ zero-*ℤ (pos (2 ^ (48 - (bits_of facts.depth))))
+        sample_told j i wide below ∙ ap (λ z. z *ℤ pos (2 ^ (48 - bits_of facts.depth))) (silent j wide)
+        ∙ zero-*ℤ (pos (2 ^ (48 - bits_of facts.depth)))
 
     to_frame : IsZeroAt (sound_by files facts) part.first part.width (part.from + i)
         → IsFrameZero frames facts.channels part.first part.width i
     to_frame silent j wide =
-        none_of _ (2 ^ (48 - (bits_of facts.depth))) (pow_pos (48 - (bits_of facts.depth))) (sym (sample_told j i wide below) ∙ silent j wide)
+        none_of _ (2 ^ (48 - bits_of facts.depth)) (pow_pos (48 - bits_of facts.depth))
+        (sym (sample_told j i wide below) ∙ silent j wide)
 
   -- so the first frame that sounds is the same, counted from the part's
   pub first_found : part.from + count ≡ part.to → 1 ≤ facts.channels → (found : Option ℕ)

@@ -1,9 +1,18 @@
 -- What is known of the fields of sound files: how long they are, and that they are read as they were written.
-use Rattle.std.proofs.Common.{◌≡◌, ℕ, ◌^◌, ◌<◌, List, ◌++◌, length, refl, arith, length-append}
+use Rattle.std.proofs.Common.{◌≡◌, ℕ, ◌^◌, ◌<◌, ◌≤◌, List, ◌++◌, length, refl, arith, length-append}
 use Rattle.std.proofs.lemmas.List.{length-replicate}
 use Rattle.byteorder.specs.Endian.{little_number}
 use Rattle.byteorder.specs.Numbers.{little_number-reads_back}
+use Rattle.sound_terms.specs.declared.Depth.{Depth}
+use Rattle.sound_terms.specs.declared.Depth.TheVariants.{Sixteen, TwentyFour, ThirtyTwo}
+use Rattle.sound_terms.specs.Depth.{bits_of}
 use Rattle.sound_terms.specs.Waves.{u16_bytes, u32_bytes, u64_bytes, zeros, chunk_head}
+
+-- a sample is of two to four bytes
+pub bits_bounded : (depth : Depth) → (16 ≤ bits_of depth) × (bits_of depth ≤ 32)
+bits_bounded Sixteen = omega arith
+bits_bounded TwentyFour = omega arith
+bits_bounded ThirtyTwo = omega arith
 
 pub length-u16_bytes : (n : ℕ) → length (u16_bytes n) ≡ 2
 unfolding u16_bytes

@@ -6,20 +6,11 @@ use Rattle.std.proofs.lemmas.List.{get_or_append_left, get_or-append_right, get_
 use borrow.Rule.Slice.PartMut.{post_of, put_mid}
 use Rattle.std.specs.Prelude.{ℤ, pos}
 use Rattle.facts.specs.Tests.{same_some}
-use Rattle.sound_terms.specs.declared.Depth.{Depth}
-use Rattle.sound_terms.specs.declared.Depth.TheVariants.{Sixteen, TwentyFour, ThirtyTwo}
-use Rattle.sound_terms.specs.Depth.{bits_of}
 use Rattle.sound_terms.specs.Waves.{sample_at, sample_of}
 use Rattle.work_terms.specs.Disk.{IsRange}
 use Rattle.pcm.specs.Samples.{samples_in}
 use Rattle.pcm.specs.Laws.{length-samples_in, get_or-samples_in_file}
 use Rattle.wavread.specs.Facts.{AreFrames}
-
--- at most four bytes a sample
-pub few_bytes : (depth : Depth) → bits_of depth / 8 ≤ 4
-few_bytes Sixteen = omega arith
-few_bytes TwentyFour = omega arith
-few_bytes ThirtyTwo = omega arith
 
 -- as many frames as a block holds
 pub fits_block : (count channels left : ℕ) → count ≡ min (1024 / channels) left → count * channels ≤ 1024

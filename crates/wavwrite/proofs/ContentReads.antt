@@ -7,11 +7,10 @@ use Rattle.byteorder.specs.Endian.{little_number}
 use Rattle.sound_terms.specs.Waves.{u16_bytes, u64_bytes, zeros, SoundInfo, chunk_head, frame_bytes, data_size, bext_size, file_length, is_large, ds64_chunk, form_head, header_of, file_of}
 use Rattle.sound_terms.specs.Walks.{as_it_stands, size_in, walked}
 use Rattle.sound_terms.specs.declared.Depth.{Depth}
-use Rattle.sound_terms.specs.declared.Depth.TheVariants.{Sixteen, TwentyFour, ThirtyTwo}
 use Rattle.sound_terms.specs.Depth.{bits_of}
 use Rattle.sound_terms.specs.Chunks.{number_at}
 use Rattle.sound_terms.specs.Sounds.{facts_with, history_limit}
-use Rattle.sound_terms.specs.Laws.{length-chunk_head, length-u16_bytes, length-u64_bytes, length-zeros, u64-reads_back}
+use Rattle.sound_terms.specs.Laws.{bits_bounded, length-chunk_head, length-u16_bytes, length-u64_bytes, length-zeros, u64-reads_back}
 use Rattle.wavwrite.proofs.WaveChunks.{AreWhole, wave_chunks}
 use Rattle.wavwrite.proofs.RiffReads.{riff_front_is, riff_walked, wave_found}
 use Rattle.wavwrite.proofs.Rf64Reads.{AreSizes, rf64_front_is, rf64_walked}
@@ -75,15 +74,17 @@ chunks_whole info samples size_of told is counted below bext_means format_means 
       format_told = format_means;
       data_told = data_means;
       bext_whole = simp (length-append, length-zeros) (omega (arith, bext));
-      format_whole = length-format_bytes 1 info.channels 48000 (48000 * frame_bytes info) (frame_bytes info) (bits_of info.depth);
+      format_whole = length-format_bytes 1 info.channels 48000 (48000 * frame_bytes info) (frame_bytes info)
+          (bits_of info.depth);
       data_whole = simp (length-append, length-zeros) (rw counted refl);
     }
 
 -- a frame has bytes
 frame_some : (channels : ℕ) (depth : Depth) → 1 ≤ channels → 0 < channels * (bits_of depth / 8)
-frame_some channels Sixteen some = grind arith
-frame_some channels TwentyFour some = grind arith
-frame_some channels ThirtyTwo some = grind arith
+frame_some channels depth some =
+    let bounds = bits_bounded depth in
+    let wide : 1 ≤ bits_of depth / 8 = omega (arith, bounds) in
+    grind (arith, wide)
 
 -- a frame is no shorter than a byte
 frames_bounded : (frames size : ℕ) → 0 < size → frames ≤ frames * size

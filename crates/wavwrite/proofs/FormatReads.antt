@@ -8,7 +8,7 @@ use Rattle.sound_terms.specs.declared.Depth.TheVariants.{Sixteen, TwentyFour, Th
 use Rattle.sound_terms.specs.Depth.{bits_of}
 use Rattle.sound_terms.specs.Chunks.{number_at}
 use Rattle.sound_terms.specs.Formats.{depth_of, format_of}
-use Rattle.sound_terms.specs.Laws.{length-u16_bytes, length-u32_bytes, u16-reads_back, u32-reads_back}
+use Rattle.sound_terms.specs.Laws.{bits_bounded, length-u16_bytes, length-u32_bytes, u16-reads_back, u32-reads_back}
 
 -- the six numbers of `fmt `: the tag, the channels, the rate, the bytes of a second, the bytes of a frame, the depth
 unfoldable pub format_bytes : ℕ → ℕ → ℕ → ℕ → ℕ → ℕ → List ℕ
@@ -79,12 +79,6 @@ depth_named_again : (depth : Depth) → depth_of (bits_of depth) ≡ Some depth
 depth_named_again Sixteen = refl
 depth_named_again TwentyFour = refl
 depth_named_again ThirtyTwo = refl
-
--- so many bits at most
-bits_bounded : (depth : Depth) → (bits_of depth / 8 ≤ 4) × (bits_of depth ≤ 32)
-bits_bounded Sixteen = omega arith
-bits_bounded TwentyFour = omega arith
-bits_bounded ThirtyTwo = omega arith
 
 -- PCM of 1 to 64 channels is read as it was written
 pub format_read : (channels speed : ℕ) (depth : Depth) → 1 ≤ channels → channels ≤ 64

@@ -5,17 +5,11 @@ use mir.Syntax.{w32}
 use mir.Val.{SFits}
 use Rattle.std.proofs.lemmas.Slice.{take-put_mid}
 use Rattle.facts.specs.Parts.{length-put_mid}
-use Rattle.sound_terms.specs.declared.Depth.{Depth}
-use Rattle.sound_terms.specs.declared.Depth.TheVariants.{Sixteen, TwentyFour, ThirtyTwo}
 use Rattle.sound_terms.specs.Depth.{bits_of}
+use Rattle.sound_terms.specs.Laws.{bits_bounded}
 use Rattle.pcm.specs.Samples.{samples_in}
 use Rattle.pcm.proofs.Steps.{four_left, four_read}
 use Rattle.pcm.proofs.lanes.unpack_lanes.Goals as goal
-
-narrow : (depth : Depth) → bits_of depth / 8 ≤ 4
-narrow Sixteen = omega arith
-narrow TwentyFour = omega arith
-narrow ThirtyTwo = omega arith
 
 pub loop-done-preserved : goal.loop-done-preserved
 loop-done-preserved c =
@@ -25,6 +19,7 @@ loop-done-preserved c =
     let samples = c.loop-done.samples in
     let four = c.put_four.new.samples in
     let width : c.from-width.result ≡ bits / 8 = search rules in
+    let narrow : bits / 8 ≤ 4 = omega (arith, bits_bounded c.args.depth) in
     let all = c.four_samples-four.result in
     let told = c.four_samples-four.ensures ∙ ap (λ n. samples_in bits 4 (take 16 (drop (done * n) bytes))) width in
     let first : SFits w32 (get_or all 0 (pos 0)) = search rules in
@@ -43,7 +38,7 @@ loop-done-preserved c =
     told) in
     let long : length four ≡ 4 = search rules in
     let inside : done + 4 ≤ length samples =
-    four_left done (length samples) (bits / 8) (length bytes) (narrow c.args.depth)
+    four_left done (length samples) (bits / 8) (length bytes) narrow
     (c.requires ∙ ap (λ n. n * (bits / 8)) (sym c.loop-done.auto.samples))
     (rw width at c.loop-done-test.true) in
     record {
@@ -51,5 +46,5 @@ loop-done-preserved c =
       read =
           take-put_mid done (done + 4 - done) samples four (done + 4) (omega arith) c.loop-done.invariant.within
           ∙ ap (λ (l : List ℤ). take done samples ++ l) put
-          ∙ four_read bits done bytes (take done samples) (narrow c.args.depth) c.loop-done.invariant.read;
+          ∙ four_read bits done bytes (take done samples) narrow c.loop-done.invariant.read;
     }

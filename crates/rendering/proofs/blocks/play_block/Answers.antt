@@ -21,13 +21,13 @@ pack-requires-clause-fit g c =
     let plan = c.args.plan.now in
     let channels : c.args.machine.now.channels ≡ plan.range.channels =
     ap (λ (e : Extent). e.channels) c.requires.machine in
-    let depth : c.format-format.result.depth ≡ plan.depth =
+    let depth : c.format-format.result.depth ≡ plan.range.depth =
     ap (λ (f : Format). f.depth) c.format-format.ensures.format in
     let frames = block_frames plan.range c.args.k in
-    let formed : IsBlockProgram frames c.args.machine.now.channels plan.depth
+    let formed : IsBlockProgram frames c.args.machine.now.channels plan.range.depth
     (take c.block-end.result c.block-end.new.program) = rw channels c.block-end.ensures.formed in
     subst (λ (d : Depth). All (FitsDepth (bits_of d)) c.run.new.out) (sym depth)
-    (c.in-Ok.ensures.fit frames plan.depth formed)
+    (c.in-Ok.ensures.fit frames plan.range.depth formed)
 
 pub returns-clause-played : goal.returns-clause-played
 returns-clause-played g c = λ honest.
@@ -37,13 +37,12 @@ returns-clause-played g c = λ honest.
     let start : BlockState = record { frames = 0; sums = λ i channel. pos 0; out = [] } in
     let program = take c.block-end.result c.block-end.new.program in
     let channels : c.args.machine.now.channels ≡ range.channels = ap (λ (e : Extent). e.channels) c.requires.machine in
-    let told : bits_of c.format-format.result.depth ≡ range.depth =
-    ap (λ (f : Format). bits_of f.depth) c.format-format.ensures.format
-    ∙ sym c.format-format.ensures.planned.depth_told in
+    let told : c.format-format.result.depth ≡ range.depth =
+    ap (λ (f : Format). f.depth) c.format-format.ensures.format in
     let ran : c.run.new.out ≡ (executed_all reading range.channels program start).out =
     c.in-Ok.ensures.ran honest start ∙ ap (λ (n : ℕ). (executed_all reading n program start).out) channels in
     let played : c.run.new.out ≡ mixed_block range (sum_of reading plan.pieces) c.args.k =
     ran ∙ c.block-end.ensures.sums reading (c.in-Ok.ensures.full honest) start in
     c.pack.ensures.bytes
-    ∙ ap (λ (bits : ℕ). flat_map (sample_bytes bits) c.run.new.out) told
+    ∙ ap (λ (d : Depth). flat_map (sample_bytes (bits_of d)) c.run.new.out) told
     ∙ ap (flat_map (sample_bytes (bits_of range.depth))) played

@@ -3,7 +3,8 @@ use Rattle.sound_terms.specs.Render.{render_info}
 use Rattle.list_terms.specs.Accepted as accepted
 use Rattle.list_terms.specs.Heard.{sounds_of}
 use Rattle.list_terms.specs.Project.{ListProject}
-use Rattle.renderplan.specs.Planned.{Planned, range_of}
+use Rattle.markfile.specs.Range as marks
+use Rattle.renderplan.specs.Planned.{Planned}
 use Rattle.wavwrite.specs.Info.{Fits}
 use Rattle.rendering.specs.Planned.{MixAs}
 use Rattle.rendering.specs.Rendering.{values_of}
@@ -20,10 +21,8 @@ returns-clause-prepared c =
     let plan = c.in_ok-plan.plan in
     let info = c.info_of-info.result in
     let events = c.events.ensures.events ∙ ap (λ (p : ListProject). p.events) c.project.ensures.lent in
-    let chosen : range_of span.from span.to span.channels options.depth
-    ≡ accepted.range_of project (values_of options) =
-    same_range project options c.events.result.now span.from span.to span.channels events told.from told.to
-    told.channels in
+    let chosen : marks.range_of span ≡ accepted.range_of project (values_of options) =
+    same_range project options c.events.result.now span events told.from told.to told.channels told.depth in
     let planned : c.in_ok-blocks.blocks.planned ≡ plan =
     ap (λ (b : BlockWork). b.planned) c.in_ok-blocks.ensures.made in
     let fits : Fits info = c.reads_back.ensures.short c.info_of-info.ensures.short in

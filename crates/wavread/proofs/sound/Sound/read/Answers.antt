@@ -1,6 +1,7 @@
 use Rattle.std.proofs.Common.{◌≡◌, ◌+◌, ◌-◌, ◌*◌, ◌≤◌, length, get_or, arith, rules, subst, sym, ap, ◌∙◌, IsTrue, length-take, length-drop}
 use Rattle.std.specs.Prelude.{ℤ, pos}
 use Rattle.work_terms.specs.Disk.{Files}
+use Rattle.sound_terms.specs.Depth.{bits_of}
 use Rattle.sound_terms.specs.Waves.{sample_at}
 use Rattle.wavread.proofs.Frames.{sample_told, filled_more, fits_block, length_kept}
 use Rattle.wavread.proofs.sound.Sound.read.Goals as goal
@@ -37,12 +38,13 @@ loop-done-preserved g c =
           c.read_frames.auto.frames ∙ omega (arith, room, length-take {A = ℤ}) in
           let long : length frames ≡ count * self.channels = taken ∙ ap (λ m. count * m) channels in
           filled_more done count size old new
-          (λ i. sample_at file self.place self.channels self.depth (c.args.from + i) c.args.channel) inside picked
+          (λ i. sample_at file self.place self.channels (bits_of self.depth) (c.args.from + i) c.args.channel) inside
+          picked
           (c.loop-done.invariant.filled honest file there)
           (λ j below. c.pick.ensures j (omega arith)
           ∙ ap (λ m. get_or frames (j * m + (c.from.result - 1)) (pos 0)) channels
           ∙ ap (λ m. get_or frames (j * self.channels + (m - 1)) (pos 0)) c.from.ensures
-          ∙ sample_told file self.place self.channels self.depth c.args.from done j c.args.channel frames count are long
-          below
+          ∙ sample_told file self.place self.channels (bits_of self.depth) c.args.from done j c.args.channel frames
+          count are long below
           c.requires.channel.0 c.requires.channel.1);
     }

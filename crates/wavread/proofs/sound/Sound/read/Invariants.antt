@@ -1,5 +1,6 @@
 use Rattle.std.proofs.Common.{◌≡◌, ℕ, ◌+◌, ◌-◌, ◌<◌, ◌≤◌, List, Some, get_or, length, IsTrue}
 use Rattle.std.specs.Prelude.{pos}
+use Rattle.sound_terms.specs.Depth.{bits_of}
 use Rattle.sound_terms.specs.Waves.{sample_at}
 use Rattle.shelf.specs.Frame.{IsQuiet}
 use Rattle.wavread.proofs.sound.Sound.read.Given as goal
@@ -10,7 +11,7 @@ invariant-loop-done g l = record {
   sources : IsQuiet g.S.Shelf l.fn.shelf l.shelf;
   filled : IsTrue (g.S.Shelf.honest l.fn.shelf) → (file : List ℕ) → g.S.Shelf.stored l.fn.shelf l.self.name ≡ Some file
       → (i : ℕ) → i < l.done → get_or l.samples i (pos 0)
-      ≡ sample_at file l.self.place l.self.channels l.self.depth (l.from + i) l.channel;
+      ≡ sample_at file l.self.place l.self.channels (bits_of l.self.depth) (l.from + i) l.channel;
 }
 
 abbrev pub decreases-loop-done : goal.decreases-loop-done
