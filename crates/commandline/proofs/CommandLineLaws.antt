@@ -11,6 +11,7 @@ use Rattle.clap.specs.declared.error.ErrorKind.{ErrorKind}
 use Rattle.clap.specs.declared.error.ErrorKind.TheVariants as kind
 use Rattle.clap.proofs.OnLiterals.{clap_on_literals}
 use Rattle.clap.proofs.WalkLemmas.{first_value-rows}
+use Rattle.sound_terms.specs.declared.Depth.{Depth}
 use Rattle.job_terms.specs.declared.Order.{Order}
 use Rattle.commandline.specs.CommandLine.{Asked, Check, Report, Show, explained, adlcons_app, channels_in, chosen_of, depth_in, handle_of, number_in, order_in, ordered_by, asked, asked_over, asked_to, asks_for_help, is_all, is_set, is_shown, named_by, request_of, tells_all, unless_faulty, words_fault}
 
@@ -129,7 +130,7 @@ pub chosen-bad_depth : (found : Found) (text : Text) → Some text ≡ first_val
     → None ≡ depth_in text → chosen_of (rows_of found) ≡ None
 chosen-bad_depth found text given bad = rw (row_of_value found (codes "depth") (Some text) given, ← bad) refl
 
-pub chosen-bad_channels : (found : Found) (text : Text) (depth : ℕ) (channels : Option Text)
+pub chosen-bad_channels : (found : Found) (text : Text) (depth : Depth) (channels : Option Text)
     → Some text ≡ first_value found (codes "depth") → Some depth ≡ depth_in text
     → channels ≡ first_value found (codes "channels") → None ≡ channels_in channels → chosen_of (rows_of found) ≡ None
 chosen-bad_channels found text depth channels given deep named bad =
@@ -141,7 +142,7 @@ chosen-bad_channels found text depth channels given deep named bad =
     ) refl
 
 -- what is chosen of a rendering, where its depth and its channels can be read
-pub chosen-ordered : (found : Found) (text : Text) (depth : ℕ) (channels : Option Text) (count : Option ℕ)
+pub chosen-ordered : (found : Found) (text : Text) (depth : Depth) (channels : Option Text) (count : Option ℕ)
     → Some text ≡ first_value found (codes "depth")
     → Some depth ≡ depth_in text → channels ≡ first_value found (codes "channels") → Some count ≡ channels_in channels
     → chosen_of (rows_of found) ≡ ordered_by (rows_of found) depth count
@@ -153,17 +154,17 @@ chosen-ordered found text depth channels count given deep named read =
       ← read,
     ) refl
 
-pub ordered-without_order : (found : Found) (depth : ℕ) (count : Option ℕ) → None ≡ first_value found (codes "order")
+pub ordered-without_order : (found : Found) (depth : Depth) (count : Option ℕ) → None ≡ first_value found (codes "order")
     → ordered_by (rows_of found) depth count ≡ None
 ordered-without_order found depth count missing = rw (row_of_value found (codes "order") None missing) refl
 
-pub ordered-bad_order : (found : Found) (depth : ℕ) (count : Option ℕ) (text : Text)
+pub ordered-bad_order : (found : Found) (depth : Depth) (count : Option ℕ) (text : Text)
     → Some text ≡ first_value found (codes "order") → None ≡ order_in text
     → ordered_by (rows_of found) depth count ≡ None
 ordered-bad_order found depth count text given bad =
     rw (row_of_value found (codes "order") (Some text) given, ← bad) refl
 
-pub ordered-all : (found : Found) (depth : ℕ) (count : Option ℕ) (text : Text) (order : Order) (from to : Option Text)
+pub ordered-all : (found : Found) (depth : Depth) (count : Option ℕ) (text : Text) (order : Order) (from to : Option Text)
     → Some text ≡ first_value found (codes "order") → Some order ≡ order_in text
     → from ≡ first_value found (codes "from") → to ≡ first_value found (codes "to")
     → ordered_by (rows_of found) depth count

@@ -4,7 +4,6 @@ ghost use Rattle.std.specs.Option.{option_map_or};
 ghost use Rattle.clap.specs.Words.{found_of, kind_of, rows_of, subcommand_rows_of};
 ghost use Rattle.clap.specs.Walk.{texts};
 ghost use Rattle.clap.specs.declared.error.ErrorKind.TheVariants.{OutOfMemory};
-ghost use Rattle.sound_terms.specs.Depth.{bits_of};
 ghost use Rattle.commandline.specs.CommandLine as line;
 ghost use Rattle.commandline.specs.Channels.{are_few};
 ghost use Rattle.commandline.specs.CommandLine.{asked, asked_over, asks_for_help, is_shown, request_of};

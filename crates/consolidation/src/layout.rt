@@ -1,5 +1,5 @@
 // Lays out the media of all runs.
-ghost use Rattle.std.specs.Prelude.{◌≡◌, ◌≢◌, ◌≤◌, ◌<◌, ◌+◌, IfErr, IsTrue, OnOk, length, false, ⊤};
+ghost use Rattle.std.specs.Prelude.{◌≡◌, ◌≢◌, ◌<◌, ◌+◌, IfErr, IsTrue, OnOk, length, false, ⊤};
 ghost use Rattle.work_terms.specs.Disk.{Files};
 ghost use Rattle.list_terms.specs.Renewed.{media_name};
 ghost use Rattle.job_terms.specs.Workers.{jobs_over};

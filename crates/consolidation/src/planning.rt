@@ -1,10 +1,8 @@
 // Plans a consolidation.
-ghost use Rattle.std.specs.Prelude.{◌≡◌, ◌≤◌, ℕ, List, All, IfErr, IfOk, IsTrue, Ok, OnOk, false, length, true};
+ghost use Rattle.std.specs.Prelude.{◌≡◌, ◌≤◌, ℕ, All, IfErr, IfOk, Ok, OnOk, length};
 ghost use Rattle.sound_terms.specs.Homes.{kept_of, place_by};
 ghost use Rattle.sound_terms.specs.Kept.{AreRuns};
-ghost use Rattle.work_terms.specs.Disk.{Files};
 ghost use Rattle.work_terms.specs.Refusals.{Answers};
-ghost use Rattle.list_terms.specs.Bound.{binding_of};
 ghost use Rattle.list_terms.specs.BoundHomes.{homes_of};
 ghost use Rattle.list_terms.specs.Heard.{sounds_of};
 ghost use Rattle.list_terms.specs.Renewed.{consolidated_project};
@@ -13,7 +11,6 @@ ghost use Rattle.consolidation.specs.Consolidated.{Work, work_fault};
 ghost use Rattle.consolidation.specs.Fault.{refusal_of};
 ghost use Rattle.consolidation.specs.Own.{IsOfLinking, IsOfPlan};
 ghost use Rattle.consolidation.specs.Planned.{AreLeft, IsAddressed, IsMediumRun, IsPlanned};
-ghost use Rattle.consolidation.specs.There.{AreThere};
 ghost use Rattle.consolidation.specs.Work.{IsLinked};
 
 use crate::media::{ends_of, names_of};

@@ -1,9 +1,8 @@
 // Kept frames round single pieces.
-ghost use Rattle.std.specs.Prelude.{◌≡◌, ◌++◌, List, IfOk, OnOk, option_to_list};
+ghost use Rattle.std.specs.Prelude.{◌≡◌, ◌++◌, IfOk, OnOk, option_to_list};
 ghost use Rattle.std.specs.List.{All, flat_map};
 ghost use Rattle.sound_terms.specs.Groups.{IsPiece, pieces_of};
 ghost use Rattle.mediaset.specs.Spans as spec;
-ghost use Rattle.mediaset.specs.Spans.{IsSpan};
 
 use interval::{Intervals, Piece};
 use sound_terms::Homes;

@@ -1,5 +1,5 @@
 -- The range that was chosen.
-use Rattle.std.proofs.Common.{◌≡◌, ℕ, List, refl}
+use Rattle.std.proofs.Common.{◌≡◌, List, refl}
 use Rattle.std.specs.Prelude.{max}
 use Rattle.sound_terms.specs.declared.Event.{Event}
 use Rattle.list_terms.specs.Accepted.{chosen, greatest_of, least_of, range_of}

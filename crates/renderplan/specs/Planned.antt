@@ -1,5 +1,5 @@
 -- What a plan renders.
-use Rattle.std.specs.Prelude.{◌≡◌, ℕ, ◌<◌, ◌≤◌, List, All}
+use Rattle.std.specs.Prelude.{◌<◌, ◌≤◌, List, All}
 use Rattle.sampletime.specs.TimeCode.{day}
 use Rattle.sound_terms.specs.declared.piece.Piece.{Piece}
 use Rattle.sound_terms.specs.Groups.{IsBounded, IsPiece}

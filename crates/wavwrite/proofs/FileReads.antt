@@ -1,5 +1,5 @@
 -- A written file reads back: its facts, and its samples.
-use Rattle.std.proofs.Common.{◌≡◌, ℕ, ◌+◌, ◌-◌, ◌*◌, ◌/◌, ◌%◌, List, ◌++◌, length, take, drop, refl, sym, ap, ◌∙◌, arith, length-append, Ok, subst}
+use Rattle.std.proofs.Common.{◌≡◌, ℕ, ◌+◌, ◌-◌, ◌*◌, ◌/◌, ◌%◌, List, ◌++◌, length, take, drop, refl, sym, ap, ◌∙◌, arith, length-append, Ok}
 use Rattle.std.proofs.lemmas.List.{append_assoc, drop_at, take_at, drop-drop}
 use Rattle.sound_terms.specs.Depth.{bits_of}
 use Rattle.sound_terms.specs.Waves.{zeros, SoundInfo, frame_bytes, data_size, bext_size, data_place, file_length, header_of, file_of, form_head, sample_at, sample_of}
@@ -7,7 +7,7 @@ use Rattle.sound_terms.specs.Formats.{format_of}
 use Rattle.sound_terms.specs.SoundFiles.{sound_of}
 use Rattle.sound_terms.specs.Laws.{length-u16_bytes, length-u32_bytes, length-u64_bytes, length-zeros, length-chunk_head}
 use Rattle.wavwrite.proofs.WaveChunks.{behind_bext, behind_format, wave_chunks}
-use Rattle.wavwrite.proofs.FormatReads.{format_bytes, format_read, length-format_bytes}
+use Rattle.wavwrite.proofs.FormatReads.{format_read, length-format_bytes}
 use Rattle.wavwrite.specs.Info.{facts_of}
 use Rattle.wavwrite.proofs.FileInfo.{IsInfo}
 use Rattle.wavwrite.proofs.ContentReads.{bext_contents, data_told, facts_found, file_is, file_walked, format_contents, length-bext_contents, length-form_head}

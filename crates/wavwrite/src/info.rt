@@ -1,6 +1,5 @@
 // What a written file tells of itself.
 ghost use Rattle.std.specs.Prelude.{◌≡◌, ◌≤◌, length, SomeIff};
-ghost use Rattle.sound_terms.specs.Depth.{bits_of};
 ghost use Rattle.wavwrite.specs.Info.{info_of};
 
 use crate::SoundInfoRef;

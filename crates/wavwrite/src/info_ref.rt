@@ -1,6 +1,5 @@
 // What a written file tells of itself, over a CodingHistory that stands elsewhere.
 ghost use Rattle.std.specs.Prelude.{◌≡◌, ◌≤◌, length, SomeIff};
-ghost use Rattle.sound_terms.specs.Depth.{bits_of};
 ghost use Rattle.wavwrite.specs.Info.{info_of};
 
 use crate::info::{HISTORY_LIMIT, MOST_CHANNELS};

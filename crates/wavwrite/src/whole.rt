@@ -1,6 +1,5 @@
 // All that stands before the samples.
 ghost use Rattle.std.specs.Prelude.{◌≡◌, ◌<◌, ◌≤◌, ◌+◌, ◌-◌, ◌%◌, ◌^◌, ◌↔◌, ℕ, ℤ, IsTrue, SomeIff, IfOk, IsErrOf, List, length, take, drop};
-ghost use Rattle.sound_terms.specs.Depth.{bits_of};
 ghost use Rattle.sound_terms.specs.Waves as waves;
 ghost use Rattle.sound_terms.specs.Waves.{data_size, data_place, file_length, file_of, header_of, is_large};
 ghost use Rattle.sound_terms.specs.SoundFiles.{sound_of};
