@@ -52,7 +52,7 @@ pub fn fills_alone(
     if stretch != filling {
         return None;
     }
-    if sound.channels() as usize != channels || sound.depth().bits() != depth.bits() {
+    if sound.channels() as usize != channels || sound.depth() != depth {
         return None;
     }
     Some(filling)

@@ -1,6 +1,7 @@
 // Stretches of files, read and added.
 ghost use Rattle.std.specs.Prelude.{◌≡◌, ◌+◌, ◌*◌, ◌^◌, ◌<◌, ◌≤◌, ℕ, ℤ, IsTrue, IfErr, OnOk, Some, slice_get, length};
 ghost use Rattle.std.specs.List.{All};
+ghost use Rattle.sound_terms.specs.Depth.{bits_of};
 ghost use Rattle.sound_terms.specs.Sounds.{SoundFacts, reading_by};
 ghost use Rattle.sound_terms.specs.Media.{LiesInFile};
 ghost use Rattle.sound_terms.specs.Groups.{IsRamp};

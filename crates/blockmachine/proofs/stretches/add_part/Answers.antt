@@ -1,6 +1,7 @@
 use Rattle.std.proofs.Common.{◌≡◌, ℕ, All, Some, length, arith, rules, refl, sym, ap, ◌∙◌, subst}
 use Rattle.std.specs.Prelude.{slice_get}
 use Rattle.std.proofs.lemmas.Option.{same_Some, slice_get_read, slice_get_within}
+use Rattle.sound_terms.specs.declared.Depth.{Depth}
 use Rattle.sound_terms.specs.Sounds.{SoundFacts, reading_by}
 use Rattle.sound_terms.specs.Depth.{bits_of}
 use Rattle.sound_terms.specs.Mix.{Reading}
@@ -18,7 +19,8 @@ returns-clause-added g c = λ honest before are.
     (slice_get_within c.args.sounds.now part.file c.requires.lies.facts c.requires.lies.there) c.index-sounds-part.is in
     let reading : Reading = reading_by (g.S.Shelf.stored c.args.shelf.now) c.args.sounds.now in
     let plays = c.in_ok-read_part.ensures.plays honest sound found in
-    let told = subst (λ (bits : ℕ). Plays reading part sound.channels bits frames) (sym c.depth-depth.ensures) plays in
+    let told =
+    subst (λ (depth : Depth). Plays reading part sound.channels (bits_of depth) frames) (sym c.depth-depth.ensures) plays in
     c.add.ensures.played reading (subst (λ (n : ℕ). Plays reading part n (bits_of c.depth-depth.result) frames)
     (sym c.channels-channels.ensures.channels) told) before are
 
@@ -30,7 +32,7 @@ invariant_of-frames g c =
     (slice_get_within c.args.sounds.now c.args.part.now.file c.requires.lies.facts c.requires.lies.there)
     c.index-sounds-part.is in
     record {
-      fit = subst (λ (bits : ℕ). All (FitsDepth bits) c.read_part.new.frames) (sym c.depth-depth.ensures)
+      fit = subst (λ (depth : Depth). All (FitsDepth (bits_of depth)) c.read_part.new.frames) (sym c.depth-depth.ensures)
           (c.in_ok-read_part.ensures.fit sound found);
     }
 

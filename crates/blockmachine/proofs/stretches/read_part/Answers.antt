@@ -1,6 +1,8 @@
-use Rattle.std.proofs.Common.{◌≡◌, ◌*◌, ℕ, All, Some, Err, length, refl, sym, ap, ◌∙◌, subst}
+use Rattle.std.proofs.Common.{◌≡◌, ◌*◌, All, Some, Err, length, refl, sym, ap, ◌∙◌, subst}
 use Rattle.std.specs.Prelude.{slice_get}
 use Rattle.std.proofs.lemmas.Option.{same_Some, slice_get_read, slice_get_within}
+use Rattle.sound_terms.specs.declared.Depth.{Depth}
+use Rattle.sound_terms.specs.Depth.{bits_of}
 use Rattle.sound_terms.specs.Sounds.{SoundFacts, reading_by}
 use Rattle.pcm.specs.Samples.{FitsDepth}
 use Rattle.sound_terms.specs.Mix.{Reading}
@@ -27,7 +29,8 @@ returns-in-Ok-clause-plays g c = λ honest facts there.
     let frames = c.read_frames.new.frames in
     let whole : length frames ≡ c.args.part.now.length * sound.channels =
     c.read_frames.auto.frames ∙ c.requires.whole sound found in
-    subst (λ (f : SoundFacts). Plays (reading_by files c.args.sounds.now) c.args.part.now f.channels f.depth frames)
+    subst (λ (f : SoundFacts). Plays (reading_by files c.args.sounds.now) c.args.part.now f.channels
+    (bits_of f.depth) frames)
     same
     (plays_sound files c.args.sounds.now sound c.args.part.now file.0 frames found file.1
     (c.in-Ok.ensures.frames honest file.0 file.1) whole
@@ -55,8 +58,9 @@ returns-in-Ok-clause-full g c = λ honest.
     (c.in-Ok.ensures.frames honest file.0 file.1) whole
     c.requires.first (rw told at last) (rw told at inside) in
     full_frames reading c.args.part.now sound.channels c.depth.result frames
-    (subst (λ (bits : ℕ). All (FitsDepth bits) frames) (sym c.depth.ensures) c.in-Ok.ensures.fit)
-    (subst (λ (bits : ℕ). Plays reading c.args.part.now sound.channels bits frames) (sym c.depth.ensures) plays)
+    (subst (λ (depth : Depth). All (FitsDepth (bits_of depth)) frames) (sym c.depth.ensures) c.in-Ok.ensures.fit)
+    (subst (λ (depth : Depth). Plays reading c.args.part.now sound.channels (bits_of depth) frames)
+    (sym c.depth.ensures) plays)
     whole c.requires.first (rw told at last)
 
 pub returns-in-Ok-clause-fit : goal.returns-in-Ok-clause-fit
@@ -66,7 +70,7 @@ returns-in-Ok-clause-fit g c = λ facts there.
     (slice_get_within c.args.sounds.now c.args.part.now.file c.requires.lies.facts c.requires.lies.there)
     c.index-sounds-part.is in
     let same : c.index-sounds-part.result ≡ facts = same_Some c.index-sounds-part.result facts (sym found ∙ there) in
-    subst (λ (f : SoundFacts). All (FitsDepth f.depth) c.read_frames.new.frames) same c.in-Ok.ensures.fit
+    subst (λ (f : SoundFacts). All (FitsDepth (bits_of f.depth)) c.read_frames.new.frames) same c.in-Ok.ensures.fit
 
 pub returns-in-Err-clause-only_reads : goal.returns-in-Err-clause-only_reads
 returns-in-Err-clause-only_reads g c =
