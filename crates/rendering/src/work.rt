@@ -88,7 +88,14 @@ fn plan_of(alloc: Global, checked: &Checked, span: &RunRange) -> Result<Plan, Re
     ensures first { IfErr result (ComesFirst (marks.range_of span.now)) }
 {
     let intervals = from_checked(alloc, checked)?;
-    let plan = Plan::new(alloc, &intervals, span.from, span.to, span.channels, span.depth)?;
+    let plan = Plan::new(
+        alloc,
+        &intervals,
+        span.from,
+        span.to,
+        span.channels,
+        span.depth,
+    )?;
     Ok(plan)
 }
 
