@@ -154,7 +154,8 @@ chosen-ordered found text depth channels count given deep named read =
       ← read,
     ) refl
 
-pub ordered-without_order : (found : Found) (depth : Depth) (count : Option ℕ) → None ≡ first_value found (codes "order")
+pub ordered-without_order : (found : Found) (depth : Depth) (count : Option ℕ)
+    → None ≡ first_value found (codes "order")
     → ordered_by (rows_of found) depth count ≡ None
 ordered-without_order found depth count missing = rw (row_of_value found (codes "order") None missing) refl
 
@@ -164,7 +165,8 @@ pub ordered-bad_order : (found : Found) (depth : Depth) (count : Option ℕ) (te
 ordered-bad_order found depth count text given bad =
     rw (row_of_value found (codes "order") (Some text) given, ← bad) refl
 
-pub ordered-all : (found : Found) (depth : Depth) (count : Option ℕ) (text : Text) (order : Order) (from to : Option Text)
+pub ordered-all : (found : Found) (depth : Depth) (count : Option ℕ) (text : Text) (order : Order)
+    (from to : Option Text)
     → Some text ≡ first_value found (codes "order") → Some order ≡ order_in text
     → from ≡ first_value found (codes "from") → to ≡ first_value found (codes "to")
     → ordered_by (rows_of found) depth count

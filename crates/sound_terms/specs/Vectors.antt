@@ -102,10 +102,12 @@ mono depth frames history =
 pub one_frame_of_24_bits : file_length (mono TwentyFour 1 []) ≡ 694
 one_frame_of_24_bits = refl
 
-pub history_of_one_byte : bext_size (mono Sixteen 0 (65 ∷ [])) ∷ data_place (mono Sixteen 0 (65 ∷ [])) ∷ [] ≡ 603 ∷ 692 ∷ []
+pub history_of_one_byte : bext_size (mono Sixteen 0 (65 ∷ [])) ∷ data_place (mono Sixteen 0 (65 ∷ [])) ∷ []
+    ≡ 603 ∷ 692 ∷ []
 history_of_one_byte = refl
 
-pub longest_of_riff : map (λ frames. is_large (mono Sixteen frames [])) (2147483306 ∷ 2147483307 ∷ []) ≡ false ∷ true ∷ []
+pub longest_of_riff : map (λ frames. is_large (mono Sixteen frames [])) (2147483306 ∷ 2147483307 ∷ [])
+    ≡ false ∷ true ∷ []
 longest_of_riff = refl
 
 -- the rendered file of 1000, -1000, 32767, -32768 from one hour on: 698 bytes
@@ -123,7 +125,8 @@ unfolding rendering_of file_of header_of u16_bytes u32_bytes u64_bytes zeros chu
 rendered_whole = refl
 
 -- one frame too many for RIFF: the first 80 bytes and the last 8 of the header
-pub rf64_header : take 80 (header_of (mono Sixteen 2147483307 [])) ++ drop 682 (header_of (mono Sixteen 2147483307 [])) ≡
+pub rf64_header : take 80 (header_of (mono Sixteen 2147483307 []))
+    ++ drop 682 (header_of (mono Sixteen 2147483307 [])) ≡
     codes "RF64" ++ (255 ∷ 255 ∷ 255 ∷ 255 ∷ []) ++ codes "WAVEds64" ++ (28 ∷ 0 ∷ 0 ∷ 0 ∷ [])
     ++ (0 ∷ 0 ∷ 0 ∷ 0 ∷ 1 ∷ 0 ∷ 0 ∷ 0 ∷ []) ++ (86 ∷ 253 ∷ 255 ∷ 255 ∷ 0 ∷ 0 ∷ 0 ∷ 0 ∷ [])
     ++ (171 ∷ 254 ∷ 255 ∷ 127 ∷ 0 ∷ 0 ∷ 0 ∷ 0 ∷ []) ++ (0 ∷ 0 ∷ 0 ∷ 0 ∷ [])
