@@ -51,7 +51,7 @@ samples_in-append depth (suc n) m bytes =
     ) refl
 
 -- what stands behind them plays no part
-samples_in-take : (depth m k : ℕ) (bytes : List ℕ) → m * (depth / 8) ≤ k
+pub samples_in-take : (depth m k : ℕ) (bytes : List ℕ) → m * (depth / 8) ≤ k
     → samples_in depth m (take k bytes) ≡ samples_in depth m bytes
 samples_in-take depth zero k bytes room = refl
 samples_in-take depth (suc m) k bytes room =

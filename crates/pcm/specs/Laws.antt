@@ -1,6 +1,6 @@
 -- What is known of samples as bytes, for whoever reads or writes them.
 use Rattle.std.proofs.Common.{◌≡◌, ℕ, zero, suc, ◌+◌, ◌-◌, ◌*◌, ◌/◌, ◌%◌, ◌^◌, ◌<◌, ◌≤◌, List, [], ◌∷◌, ◌++◌, length, take, drop, get_or, slice_index, refl, sym, ap, ◌∙◌, add-one, arith}
-use Rattle.std.specs.Prelude.{ℤ, pos, negsuc}
+use Rattle.std.specs.Prelude.{ℤ, pos, negsuc, ◌+ℤ◌}
 use Rattle.std.specs.Int.{saturate_to_bits, w32}
 use Rattle.std.specs.List.{All, flat_map}
 use Rattle.std.proofs.lemmas.List.{append_assoc, drop-drop, drop-take, drop_at, get_or-drop, length-drop, take-append-drop}
@@ -13,7 +13,7 @@ use Rattle.sound_terms.specs.declared.Depth.TheVariants.{Sixteen, TwentyFour, Th
 use Rattle.sound_terms.specs.Depth.{bits_of}
 use Rattle.sound_terms.specs.Mix.{quantized}
 use Rattle.sound_terms.specs.Waves.{sample_bytes, sample_of, sample_at}
-use Rattle.pcm.specs.Samples.{samples_in, FitsDepth}
+use Rattle.pcm.specs.Samples.{samples_in, summed, FitsDepth}
 
 -- ---- places
 
@@ -95,6 +95,22 @@ get_or-samples_in_mono_from depth n from frame place file bytes d stretch below 
     omega arith in
     get_or-samples_in_file depth n frame (place + from * (depth / 8)) file bytes d stretch below
     ∙ ap (λ k. sample_of depth (drop k file)) same
+
+-- ---- samples added to sums
+
+pub length-summed : (sums samples : List ℤ) → length (summed sums samples) ≡ length sums
+length-summed [] samples = refl
+length-summed (sum ∷ sums) [] = refl
+length-summed (sum ∷ sums) (sample ∷ samples) = ap suc (length-summed sums samples)
+
+-- the sum at a place
+pub get_or-summed : (sums samples : List ℤ) (k : ℕ) (d : ℤ) → k < length sums → k < length samples
+    → get_or (summed sums samples) k d ≡ get_or sums k d +ℤ get_or samples k d
+get_or-summed [] samples k d inside near = absurd (omega arith)
+get_or-summed (sum ∷ sums) [] k d inside near = absurd (omega arith)
+get_or-summed (sum ∷ sums) (sample ∷ samples) zero d inside near = refl
+get_or-summed (sum ∷ sums) (sample ∷ samples) (suc k) d inside near =
+    get_or-summed sums samples k d (omega arith) (omega arith)
 
 -- ---- the round trip
 

@@ -1,5 +1,5 @@
 -- The samples of RIFF WAVE: two's complement in depth / 8 bytes, the lowest byte first.
-use Rattle.std.specs.Prelude.{ℕ, zero, suc, ◌-◌, ◌/◌, ◌^◌, ℤ, pos, neg_ℤ, ◌≤ℤ◌, ◌<ℤ◌, List, [], ◌∷◌, drop}
+use Rattle.std.specs.Prelude.{ℕ, zero, suc, ◌-◌, ◌/◌, ◌^◌, ℤ, pos, neg_ℤ, ◌+ℤ◌, ◌≤ℤ◌, ◌<ℤ◌, List, [], ◌∷◌, drop}
 use Rattle.sound_terms.specs.Waves.{sample_of}
 
 -- the first n samples of these bytes
@@ -10,3 +10,9 @@ samples_in depth (suc n) bytes = sample_of depth bytes ∷ samples_in depth n (d
 -- the sample is one of this depth
 abbrev pub FitsDepth : ℕ → ℤ → Type 0
 FitsDepth depth sample = (neg_ℤ (pos (2 ^ (depth - 1))) ≤ℤ sample) × (sample <ℤ pos (2 ^ (depth - 1)))
+
+-- each of the first sums with its sample, as far as there are samples; the others as they are
+abbrev pub summed : (sums samples : List ℤ) → List ℤ
+summed [] samples = []
+summed (sum ∷ sums) [] = sum ∷ sums
+summed (sum ∷ sums) (sample ∷ samples) = (sum +ℤ sample) ∷ summed sums samples

@@ -3,7 +3,7 @@ ghost use Rattle.std.specs.Prelude.{◌≡◌, ◌*◌, ◌/◌, ◌≤◌, ◌�
 ghost use Rattle.std.specs.List.{All, flat_map};
 ghost use Rattle.sound_terms.specs.Depth.{bits_of};
 ghost use Rattle.sound_terms.specs.Waves.{sample_bytes};
-ghost use Rattle.pcm.specs.Samples.{samples_in};
+ghost use Rattle.pcm.specs.Samples.{FitsDepth, samples_in, summed};
 
 use sound_terms::Depth;
 use std::simd::prelude::*;
@@ -83,6 +83,36 @@ pub fn unpack_lanes(depth: Depth, bytes: &[u8], samples: &mut [i32]) -> usize
         let four = four_samples(depth, u8x16::from_slice(&bytes[done * width..]));
         let [a, b, c, d] = four;
         put_four(a, b, c, d, &mut samples[done..done + 4]);
+        done += 4;
+    }
+    done
+}
+
+/// Adds four samples to as many sums.
+#[inline(always)]
+fn add_four(a: i32, b: i32, c: i32, d: i32, sums: &mut [i32])
+    requires four { length sums.old ≡ 4 }
+    requires room { All (FitsDepth 32) (summed sums.old (a ∷ b ∷ c ∷ d ∷ [])) }
+    ensures { sums.new ≡ summed sums.old (a ∷ b ∷ c ∷ d ∷ []) }
+{
+    put_four(sums[0] + a, sums[1] + b, sums[2] + c, sums[3] + d, sums);
+}
+
+/// Adds samples four at a time from the front of bytes that hold one for each sum, as long as sixteen bytes are left, and
+/// says how many it added.
+#[inline(always)]
+pub fn add_lanes(depth: Depth, bytes: &[u8], sums: &mut [i32]) -> usize
+    requires each { length bytes.now ≡ length sums.old * (bits_of depth / 8) }
+    requires room { All (FitsDepth 32) (summed sums.old (samples_in (bits_of depth) (length sums.old) bytes.now)) }
+    ensures some { result ≤ length sums.old }
+    ensures added { sums.new ≡ summed sums.old (samples_in (bits_of depth) result bytes.now) }
+{
+    let width = usize::from(depth.bits() / 8);
+    let mut done = 0;
+    while bytes.len() - done * width >= 16 {
+        let four = four_samples(depth, u8x16::from_slice(&bytes[done * width..]));
+        let [a, b, c, d] = four;
+        add_four(a, b, c, d, &mut sums[done..done + 4]);
         done += 4;
     }
     done

@@ -8,9 +8,9 @@ ghost use Rattle.std.specs.Prelude.{◌≡◌, ◌*◌, ◌/◌, ◌↔◌, pos,
 ghost use Rattle.std.specs.List.{All, flat_map};
 ghost use Rattle.sound_terms.specs.Depth.{bits_of};
 ghost use Rattle.sound_terms.specs.Waves.{sample_bytes};
-ghost use Rattle.pcm.specs.Samples.{FitsDepth, samples_in};
+ghost use Rattle.pcm.specs.Samples.{FitsDepth, samples_in, summed};
 
-use lanes::{pack_lanes, unpack_lanes, zero_lanes};
+use lanes::{add_lanes, pack_lanes, unpack_lanes, zero_lanes};
 pub use sound_terms::Depth;
 use word::{sample_at, write_sixteen, write_thirty_two, write_twenty_four};
 
@@ -26,6 +26,19 @@ pub fn unpack(depth: Depth, bytes: &[u8], samples: &mut [i32])
         Depth::Sixteen => unpack_at(Depth::Sixteen, bytes, samples),
         Depth::TwentyFour => unpack_at(Depth::TwentyFour, bytes, samples),
         Depth::ThirtyTwo => unpack_at(Depth::ThirtyTwo, bytes, samples),
+    }
+}
+
+/// Adds the samples that `bytes` hold, as `unpack` reads them, to as many sums, none of which leaves 32 bits.
+pub fn add_unpacked(depth: Depth, bytes: &[u8], sums: &mut [i32])
+    requires each { length bytes.now ≡ length sums.old * (bits_of depth / 8) }
+    requires room { All (FitsDepth 32) (summed sums.old (samples_in (bits_of depth) (length sums.old) bytes.now)) }
+    ensures { sums.new ≡ summed sums.old (samples_in (bits_of depth) (length sums.old) bytes.now) }
+{
+    match depth {
+        Depth::Sixteen => add_at(Depth::Sixteen, bytes, sums),
+        Depth::TwentyFour => add_at(Depth::TwentyFour, bytes, sums),
+        Depth::ThirtyTwo => add_at(Depth::ThirtyTwo, bytes, sums),
     }
 }
 
@@ -70,6 +83,19 @@ fn unpack_at(depth: Depth, bytes: &[u8], samples: &mut [i32])
     let done = unpack_lanes(depth, bytes, samples);
     for i in done..samples.len() {
         samples[i] = sample_at(depth, bytes, i);
+    }
+}
+
+/// Adds samples four at a time as far as that goes, and then one by one.
+#[inline(always)]
+fn add_at(depth: Depth, bytes: &[u8], sums: &mut [i32])
+    requires each { length bytes.now ≡ length sums.old * (bits_of depth / 8) }
+    requires room { All (FitsDepth 32) (summed sums.old (samples_in (bits_of depth) (length sums.old) bytes.now)) }
+    ensures { sums.new ≡ summed sums.old (samples_in (bits_of depth) (length sums.old) bytes.now) }
+{
+    let done = add_lanes(depth, bytes, sums);
+    for i in done..sums.len() {
+        sums[i] += sample_at(depth, bytes, i);
     }
 }
 
