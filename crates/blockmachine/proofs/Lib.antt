@@ -4,9 +4,12 @@ pub mod Bounds
 pub mod Emitted
 pub mod Fits
 pub mod Full
+pub mod Held
 pub mod Lanes
+pub mod Layered
 pub mod AtDepth
 pub mod Played
 pub mod Ran
 pub mod Slopes
+pub mod StoredSamples
 pub mod Filled

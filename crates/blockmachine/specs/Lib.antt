@@ -1,5 +1,6 @@
 pub mod Alone
 pub mod Fault
+pub mod Holding
 pub mod Playing
 pub mod Slopes
 pub mod Sums

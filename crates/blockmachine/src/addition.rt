@@ -108,32 +108,42 @@ fn add_shares(gain: Gain, samples: &[i32], depth: Depth, is_small: bool, sums: &
     }
 }
 
-/// Adds the shares of the samples of a frame.
+/// Adds the samples of a frame as they are, or the shares of them.
 #[inline(always)]
-fn add_row(gain: Gain, samples: &[i32], depth: Depth, is_small: bool, sums: &mut [i64])
+fn add_row(
+    gain: Gain,
+    samples: &[i32],
+    depth: Depth,
+    is_flat: bool,
+    is_small: bool,
+    sums: &mut [i64],
+)
+    requires flat { IsTrue is_flat → (gain.num ≡ 1) × (gain.den ≡ 1) }
     requires each { length samples.now ≡ length sums.old }
     requires fit { All (FitsDepth (bits_of depth)) samples.now }
     requires small { IsTrue is_small → All (IsWithin 32766) sums.old }
     ensures added { HasAdded (gain.num, gain.den) (bits_of depth) samples.now sums.old sums.new }
     ensures grown { HasGrown sums.old sums.new }
 {
-    if gain.num == 1 && gain.den == 1 {
+    if is_flat {
         add_flat(samples, depth, is_small, sums)
     } else {
         add_shares(gain, samples, depth, is_small, sums)
     }
 }
 
-/// Adds a stretch frame by frame.
+/// Adds a stretch frame by frame, one without a fade as it is.
 #[inline(always)]
 fn add_rows(
     played: &Played,
     depth: Depth,
     width: usize,
     channels: usize,
+    is_flat: bool,
     is_small: bool,
     sums: &mut [i64],
 )
+    requires flat { IsTrue is_flat → played.now.shape ≡ shape.Flat }
     requires depth { depth ≡ played.now.frames.depth }
     requires width { width ≡ played.now.stretch.width }
     requires inside { FitsBlock 4096 channels played.now.stretch }
@@ -145,13 +155,22 @@ fn add_rows(
         (record { channels = channels; values = sums.new }) }
 {
     let stretch = played.stretch;
+    let all = played.frames.samples;
+    let source = played.frames.channels;
     let mut slope = Slope::of(played.shape);
     for i in 0..stretch.length {
-        let from = i as usize * played.frames.channels + (stretch.first as usize - 1);
+        let from = i as usize * source + (stretch.first as usize - 1);
         let to = (stretch.at as usize + i as usize) * channels + (stretch.dest as usize - 1);
-        let samples = &played.frames.samples[from..from + width];
+        let samples = &all[from..from + width];
         let gain = slope.gain();
-        add_row(gain, samples, depth, is_small, &mut sums[to..to + width]);
+        add_row(
+            gain,
+            samples,
+            depth,
+            is_flat,
+            is_small,
+            &mut sums[to..to + width],
+        );
         slope = slope.next();
     }
 }
@@ -165,13 +184,33 @@ pub fn is_run(played: &Played, channels: usize) -> bool
     played.shape == Shape::Flat && width == channels && played.frames.channels == channels
 }
 
-/// Adds a stretch: as one run where it is one. One or two channels have loops of their own.
+/// Adds a stretch frame by frame to small sums. One or two channels have loops of their own.
 #[inline(always)]
-fn add_at(played: &Played, depth: Depth, channels: usize, is_small: bool, sums: &mut [i64])
+fn add_by_width(played: &Played, depth: Depth, channels: usize, is_flat: bool, sums: &mut [i64])
+    requires flat { IsTrue is_flat → played.now.shape ≡ shape.Flat }
     requires depth { depth ≡ played.now.frames.depth }
     requires inside { FitsBlock 4096 channels played.now.stretch }
     requires room { length sums.old ≡ 4096 * channels }
-    requires small { IsTrue is_small → All (IsWithin 32766) sums.old }
+    requires small { All (IsWithin 32766) sums.old }
+    ensures grown { HasGrown sums.old sums.new }
+    ensures played { HasPlayed played.now.stretch played.now.shape played.now.frames.channels (bits_of depth)
+        played.now.frames.samples.now (record { channels = channels; values = sums.old })
+        (record { channels = channels; values = sums.new }) }
+{
+    match played.stretch.width {
+        1 => add_rows(played, depth, 1, channels, is_flat, true, sums),
+        2 => add_rows(played, depth, 2, channels, is_flat, true, sums),
+        width => add_rows(played, depth, width as usize, channels, is_flat, true, sums),
+    }
+}
+
+/// Adds a stretch to small sums: as one run where it is one.
+#[inline(always)]
+fn add_at(played: &Played, depth: Depth, channels: usize, sums: &mut [i64])
+    requires depth { depth ≡ played.now.frames.depth }
+    requires inside { FitsBlock 4096 channels played.now.stretch }
+    requires room { length sums.old ≡ 4096 * channels }
+    requires small { All (IsWithin 32766) sums.old }
     ensures grown { HasGrown sums.old sums.new }
     ensures played { HasPlayed played.now.stretch played.now.shape played.now.frames.channels (bits_of depth)
         played.now.frames.samples.now (record { channels = channels; values = sums.old })
@@ -181,47 +220,47 @@ fn add_at(played: &Played, depth: Depth, channels: usize, is_small: bool, sums: 
         let from = played.stretch.at as usize * channels;
         let count = played.stretch.length as usize * channels;
         let run = &mut sums[from..from + count];
-        add_flat(played.frames.samples, depth, is_small, run)
+        add_flat(played.frames.samples, depth, true, run)
+    } else if played.shape == Shape::Flat {
+        add_by_width(played, depth, channels, true, sums)
     } else {
-        match played.stretch.width {
-            1 => add_rows(played, depth, 1, channels, is_small, sums),
-            2 => add_rows(played, depth, 2, channels, is_small, sums),
-            width => add_rows(played, depth, width as usize, channels, is_small, sums),
-        }
+        add_by_width(played, depth, channels, false, sums)
     }
 }
 
 /// The same. Each depth has loops of its own.
 #[inline(always)]
-fn add_by_depth(played: &Played, channels: usize, is_small: bool, sums: &mut [i64])
+fn add_small(played: &Played, channels: usize, sums: &mut [i64])
     requires inside { FitsBlock 4096 channels played.now.stretch }
     requires room { length sums.old ≡ 4096 * channels }
-    requires small { IsTrue is_small → All (IsWithin 32766) sums.old }
+    requires small { All (IsWithin 32766) sums.old }
     ensures grown { HasGrown sums.old sums.new }
     ensures played { HasPlayed played.now.stretch played.now.shape played.now.frames.channels
-        (bits_of played.now.frames.depth) played.now.frames.samples.now
-        (record { channels = channels; values = sums.old }) (record { channels = channels; values = sums.new }) }
+        (bits_of played.now.frames.depth) played.now.frames.samples.now (record { channels = channels; values = sums.old })
+        (record { channels = channels; values = sums.new }) }
 {
     match played.frames.depth {
-        Depth::Sixteen => add_at(played, Depth::Sixteen, channels, is_small, sums),
-        Depth::TwentyFour => add_at(played, Depth::TwentyFour, channels, is_small, sums),
-        Depth::ThirtyTwo => add_at(played, Depth::ThirtyTwo, channels, is_small, sums),
+        Depth::Sixteen => add_at(played, Depth::Sixteen, channels, sums),
+        Depth::TwentyFour => add_at(played, Depth::TwentyFour, channels, sums),
+        Depth::ThirtyTwo => add_at(played, Depth::ThirtyTwo, channels, sums),
     }
 }
 
-/// Adds what a stretch plays to the sums of a block of so many channels.
+/// Adds what a stretch plays to the sums of a block of so many channels. Only to small ones is it done in a quick way.
 pub fn add_played(played: &Played, channels: usize, is_small: bool, sums: &mut [i64])
     requires inside { FitsBlock 4096 channels played.now.stretch }
     requires room { length sums.old ≡ 4096 * channels }
     requires small { IsTrue is_small → All (IsWithin 32766) sums.old }
     ensures grown { HasGrown sums.old sums.new }
     ensures played { HasPlayed played.now.stretch played.now.shape played.now.frames.channels
-        (bits_of played.now.frames.depth) played.now.frames.samples.now
-        (record { channels = channels; values = sums.old }) (record { channels = channels; values = sums.new }) }
+        (bits_of played.now.frames.depth) played.now.frames.samples.now (record { channels = channels; values = sums.old })
+        (record { channels = channels; values = sums.new }) }
 {
     if is_small {
-        add_by_depth(played, channels, true, sums)
+        add_small(played, channels, sums)
     } else {
-        add_by_depth(played, channels, false, sums)
+        let width = played.stretch.width as usize;
+        let depth = played.frames.depth;
+        add_rows(played, depth, width, channels, false, false, sums)
     }
 }

@@ -9,11 +9,20 @@ pub const SAMPLES: usize = 16_384;
 /// The bytes of so many samples, of 32 bits at most.
 const BYTES: usize = 4 * SAMPLES;
 
-/// Room for what is read of a file at once.
+/// Frames of one of the sounds that were opened: so many from this one on, with all channels.
+#[derive(Clone, Copy, Debug, PartialEq, Eq)]
+pub struct Held {
+    pub file: u32,
+    pub frame: u64,
+    pub length: u32,
+}
+
+/// Room for what is read of a file at once, as it is stored and unpacked, and which frames its bytes begin with.
 #[derive(Drop)]
 pub struct Buffer {
     pub bytes: Vec<u8>,
     pub samples: Vec<i32>,
+    pub held: Option<Held>,
     ghost bytes_room: { length bytes.items ≡ 65536 },
     ghost samples_room: { length samples.items ≡ 16384 },
 }
@@ -25,6 +34,10 @@ impl Buffer {
         bytes.resize(BYTES, 0)?;
         let mut samples = Vec::new(alloc);
         samples.resize(SAMPLES, 0)?;
-        Ok(Buffer { bytes, samples })
+        Ok(Buffer {
+            bytes,
+            samples,
+            held: None,
+        })
     }
 }

@@ -1,5 +1,5 @@
 // Frames of files, as they were read.
-ghost use Rattle.std.specs.Prelude.{◌≡◌, ◌+◌, ◌*◌, ◌≤◌, length};
+ghost use Rattle.std.specs.Prelude.{◌≡◌, ◌+◌, ◌*◌, ◌/◌, ◌≤◌, length};
 ghost use Rattle.std.specs.List.{All};
 ghost use Rattle.sound_terms.specs.Depth.{bits_of};
 ghost use Rattle.sound_terms.specs.Groups.{IsRamp};
@@ -25,5 +25,19 @@ pub struct Played<'a> {
     pub frames: Frames<'a>,
     ghost whole: { length frames.samples.now ≡ stretch.length * frames.channels },
     ghost source: { stretch.first + stretch.width ≤ frames.channels + 1 },
+    ghost ramp: { IsRamp shape stretch.length } by { IsRamp-prop shape stretch.length },
+}
+
+/// A stretch and the bytes of the frames that it plays, as they stand in their file, with the shape that they are added
+/// under.
+#[derive(Clone, Copy)]
+pub struct Stored<'a> {
+    pub stretch: Stretch,
+    pub shape: Shape,
+    pub bytes: &'a [u8],
+    pub channels: usize,
+    pub depth: Depth,
+    ghost whole: { length bytes.now ≡ stretch.length * channels * (bits_of depth / 8) },
+    ghost source: { stretch.first + stretch.width ≤ channels + 1 },
     ghost ramp: { IsRamp shape stretch.length } by { IsRamp-prop shape stretch.length },
 }

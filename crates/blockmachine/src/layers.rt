@@ -1,17 +1,18 @@
 // Sums at the depth of their block, of samples that are no deeper and that nothing fades: 32 bits have room for them.
-ghost use Rattle.std.specs.Prelude.{IsTrue, ◌≡◌, ◌*◌, ◌<◌, ◌≤◌, ℕ, pos, ◌+ℤ◌, length, slice_index_or};
+ghost use Rattle.std.specs.Prelude.{IsTrue, ◌≡◌, ◌*◌, ◌/◌, ◌<◌, ◌≤◌, ℕ, pos, ◌+ℤ◌, length, slice_index_or};
 ghost use Rattle.std.specs.List.{All};
 ghost use Rattle.sound_terms.specs.declared.piece.Shape.TheVariants as shape;
 ghost use Rattle.sound_terms.specs.Depth.{bits_of};
 ghost use Rattle.sound_terms.specs.Mix.{full_scale, quantized};
 ghost use Rattle.sound_terms.specs.Blocks.{FitsBlock, held};
-ghost use Rattle.pcm.specs.Samples.{FitsDepth};
+ghost use Rattle.pcm.specs.Samples.{FitsDepth, samples_in};
 ghost use Rattle.blockmachine.specs.Sums.{HasAdded, HasGrown, HasPlayed, IsWithin, kept_sums, widened};
 
 use crate::addition::is_run;
-use crate::frames::Played;
+use crate::frames::{Played, Stored};
 use crate::output::emit;
-use sound_terms::Depth;
+use pcm::add_unpacked;
+use sound_terms::{Depth, Shape};
 use soundlaw::finish;
 
 /// So many samples of 24 bits have a sum in 32 bits.
@@ -94,6 +95,52 @@ pub fn add_layer(played: &Played, channels: usize, depth: Depth, sums: &mut [i32
     let count = played.stretch.length as usize * channels;
     let run = &mut sums[from..from + count];
     add_samples(played.frames.samples, played.frames.depth, depth, run);
+}
+
+/// Whether a stretch plays all channels of its file on all channels there are, as they are, at this very depth, which is
+/// 16 or 24 bits.
+pub fn is_stored_layer(stored: &Stored, channels: usize, depth: Depth) -> bool
+    ensures run { IsTrue result → (stored.now.shape ≡ shape.Flat) × (stored.now.stretch.width ≡ channels)
+        × (stored.now.channels ≡ channels) }
+    ensures same_depth { IsTrue result → stored.now.depth ≡ depth }
+    ensures shallow { IsTrue result → bits_of depth ≤ 24 }
+{
+    let width = stored.stretch.width as usize;
+    let is_run = stored.shape == Shape::Flat && width == channels && stored.channels == channels;
+    is_run && stored.depth == depth && depth.bits() <= 24
+}
+
+/// Adds samples, as they are stored, to as many sums of few samples.
+#[inline(always)]
+fn add_stored(bytes: &[u8], depth: Depth, sums: &mut [i32])
+    requires each { length bytes.now ≡ length sums.old * (bits_of depth / 8) }
+    requires shallow { bits_of depth ≤ 24 }
+    requires small { All (IsWithin 254) (widened (bits_of depth) sums.old) }
+    ensures added { HasAdded (1, 1) (bits_of depth) (samples_in (bits_of depth) (length sums.old) bytes.now)
+        (widened (bits_of depth) sums.old) (widened (bits_of depth) sums.new) }
+    ensures grown { HasGrown (widened (bits_of depth) sums.old) (widened (bits_of depth) sums.new) }
+{
+    add_unpacked(depth, bytes, sums);
+}
+
+/// Adds what a stretch plays, a layer of the block at its depth, to sums of few samples.
+pub fn add_stored_layer(stored: &Stored, channels: usize, sums: &mut [i32])
+    requires run { (stored.now.shape ≡ shape.Flat) × (stored.now.stretch.width ≡ channels)
+        × (stored.now.channels ≡ channels) }
+    requires shallow { bits_of stored.now.depth ≤ 24 }
+    requires inside { FitsBlock 4096 channels stored.now.stretch }
+    requires room { length sums.old ≡ 4096 * channels }
+    requires small { All (IsWithin 254) (widened (bits_of stored.now.depth) sums.old) }
+    ensures grown { HasGrown (widened (bits_of stored.now.depth) sums.old) (widened (bits_of stored.now.depth) sums.new) }
+    ensures played { HasPlayed stored.now.stretch stored.now.shape stored.now.channels (bits_of stored.now.depth)
+        (samples_in (bits_of stored.now.depth) (stored.now.stretch.length * stored.now.channels) stored.now.bytes.now)
+        (record { channels = channels; values = widened (bits_of stored.now.depth) sums.old })
+        (record { channels = channels; values = widened (bits_of stored.now.depth) sums.new }) }
+{
+    let from = stored.stretch.at as usize * channels;
+    let count = stored.stretch.length as usize * channels;
+    let run = &mut sums[from..from + count];
+    add_stored(stored.bytes, stored.depth, run);
 }
 
 /// A sum at full scale.

@@ -10,6 +10,7 @@ ghost use Rattle.sound_terms.specs.Blocks.{BlockState, IsBlockProgram, IsFormed,
 ghost use Rattle.sound_terms.specs.Sounds.{reading_by};
 ghost use Rattle.shelf.specs.Frame.{OnlyReads};
 ghost use Rattle.blockmachine.specs.Fault.{FailsAt, IsSource};
+ghost use Rattle.blockmachine.specs.Holding.{Holds};
 ghost use Rattle.blockmachine.specs.Sums.{AreSums};
 
 use crate::MachineFault;
@@ -50,6 +51,9 @@ fn add_line<S: Shelf>(
     requires formed { IsFormed 4096 sums.old.channels line.now }
     requires added { AddsOne line.now }
     requires inside { LiesInFiles sounds.now line.now }
+    requires held { Holds (S.honest shelf.old) (S.stored shelf.old) sounds.now buffer.old.held buffer.old.bytes.items }
+    ensures held { OnOk result (Holds (S.honest shelf.new) (S.stored shelf.new) sounds.now buffer.new.held
+        buffer.new.bytes.items) }
     ensures added { IsTrue (S.honest shelf.old)
         → OnOk result ((channels : ℕ) (before : BlockState) → AreSums sums.old before.sums
         → AreSums sums.new (executed (reading_by (S.stored shelf.old) sounds.now) channels line.now before).sums) }
@@ -79,6 +83,9 @@ fn add_all<S: Shelf>(
     requires formed { All (IsFormed 4096 sums.old.channels) lines.now }
     requires added { All AddsOne lines.now }
     requires inside { All (LiesInFiles sounds.now) lines.now }
+    requires held { Holds (S.honest shelf.old) (S.stored shelf.old) sounds.now buffer.old.held buffer.old.bytes.items }
+    ensures held { OnOk result (Holds (S.honest shelf.new) (S.stored shelf.new) sounds.now buffer.new.held
+        buffer.new.bytes.items) }
     ensures added { IsTrue (S.honest shelf.old)
         → OnOk result ((channels : ℕ) (before : BlockState) → AreSums sums.old before.sums
         → AreSums sums.new (executed_all (reading_by (S.stored shelf.old) sounds.now) channels lines.now before).sums) }
@@ -159,6 +166,7 @@ impl Machine {
         }
         let sums = &mut self.sums;
         sums.clear(depth);
+        self.buffer.held = None;
         add_all(lines, sounds, shelf, &mut self.buffer, sums)?;
         sums.emit(depth, out);
         Ok(())

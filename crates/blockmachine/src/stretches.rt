@@ -3,18 +3,19 @@ ghost use Rattle.std.specs.Prelude.{◌≡◌, ◌+◌, ◌*◌, ◌^◌, ◌<�
 ghost use Rattle.std.specs.List.{All};
 ghost use Rattle.sound_terms.specs.Depth.{bits_of};
 ghost use Rattle.sound_terms.specs.Sounds.{SoundFacts, reading_by};
-ghost use Rattle.sound_terms.specs.Media.{LiesInFile};
+ghost use Rattle.sound_terms.specs.Media.{LiesInFile, frame_length};
 ghost use Rattle.sound_terms.specs.Groups.{IsRamp};
 ghost use Rattle.sound_terms.specs.Blocks.{FitsBlock, IsFull, sums_with};
 ghost use Rattle.shelf.specs.Frame.{OnlyReads};
 ghost use Rattle.blockmachine.specs.Fault.{FailsAt, IsSource};
 ghost use Rattle.pcm.specs.Samples.{FitsDepth};
+ghost use Rattle.blockmachine.specs.Holding.{Holds};
 ghost use Rattle.blockmachine.specs.Playing.{Plays};
 ghost use Rattle.blockmachine.specs.Sums.{AreSums};
 
 use crate::MachineFault;
-use crate::buffer::{Buffer, SAMPLES};
-use crate::frames::{Frames, Played};
+use crate::buffer::{Buffer, Held, SAMPLES};
+use crate::frames::Stored;
 use crate::sums::Sums;
 use shelf::Shelf;
 use sound_terms::{Shape, Stretch};
@@ -53,7 +54,51 @@ pub fn read_part<S: Shelf>(
     }
 }
 
-/// Reads the frames of a stretch, few enough to be read at once, and adds them.
+/// Sees to it that the bytes begin with the frames of a stretch, with all channels of their file: they are read, unless
+/// they stand there already.
+fn hold<S: Shelf>(
+    part: &Stretch,
+    sounds: &[Sound],
+    shelf: &mut S,
+    bytes: &mut [u8],
+    held: &mut Option<Held>,
+) -> Result<(), MachineFault>
+    requires lies { LiesInFile sounds.now part.now.file part.now.first part.now.width part.now.frame part.now.length }
+    requires room { (facts : SoundFacts) → slice_get sounds.now part.now.file ≡ Some facts
+        → part.now.length * frame_length facts ≤ length bytes.old }
+    requires held { Holds (S.honest shelf.old) (S.stored shelf.old) sounds.now held.old bytes.old }
+    ensures this { OnOk result (held.new ≡ Some (record {
+      file = part.now.file;
+      frame = part.now.frame;
+      length = part.now.length;
+    })) }
+    ensures held { OnOk result (Holds (S.honest shelf.old) (S.stored shelf.old) sounds.now held.new bytes.new) }
+    ensures source { IfErr result IsSource }
+    ensures only_reads { OnlyReads S.Shelf shelf.old shelf.new result (λ fault. IsSource fault)
+        (λ fault failed. FailsAt sounds.now fault failed) }
+{
+    let wanted = Held {
+        file: part.file,
+        frame: part.frame,
+        length: part.length,
+    };
+    if *held == Some(wanted) {
+        return Ok(());
+    }
+    *held = None;
+    let sound = &sounds[part.file as usize];
+    let frame = usize::from(sound.channels()) * usize::from(sound.depth().bits() / 8);
+    let count = part.length as usize * frame;
+    match sound.read_bytes(shelf, part.frame, &mut bytes[..count]) {
+        Ok(()) => {
+            *held = Some(wanted);
+            Ok(())
+        }
+        Err(_) => Err(MachineFault::Source { file: part.file }),
+    }
+}
+
+/// Adds the frames of a stretch, few enough to be read at once. They are read where the bytes don't hold them.
 fn add_part<S: Shelf>(
     part: &Stretch,
     shape: Shape,
@@ -61,6 +106,7 @@ fn add_part<S: Shelf>(
     shelf: &mut S,
     bytes: &mut [u8],
     samples: &mut [i32],
+    held: &mut Option<Held>,
     sums: &mut Sums,
 ) -> Result<(), MachineFault>
     requires inside { FitsBlock 4096 sums.old.channels part.now }
@@ -69,6 +115,8 @@ fn add_part<S: Shelf>(
         → part.now.length * facts.channels ≤ length samples.old }
     requires room { length samples.old * 4 ≤ length bytes.old }
     requires ramp { IsRamp shape part.now.length }
+    requires held { Holds (S.honest shelf.old) (S.stored shelf.old) sounds.now held.old bytes.old }
+    ensures held { OnOk result (Holds (S.honest shelf.new) (S.stored shelf.new) sounds.now held.new bytes.new) }
     ensures added { IsTrue (S.honest shelf.old) → OnOk result ((before : ℕ → ℕ → ℤ) → AreSums sums.old before
         → AreSums sums.new (sums_with (reading_by (S.stored shelf.old) sounds.now) part.now shape before)) }
     ensures full { IsTrue (S.honest shelf.old)
@@ -81,18 +129,16 @@ fn add_part<S: Shelf>(
     let sound = &sounds[part.file as usize];
     let channels = sound.channels() as usize;
     let depth = sound.depth();
-    let samples = &mut samples[..part.length as usize * channels];
-    read_part(part, sounds, shelf, bytes, samples)?;
-    let frames = Frames {
-        samples,
+    let count = part.length as usize * channels * usize::from(depth.bits() / 8);
+    hold(part, sounds, shelf, bytes, held)?;
+    let stored = Stored {
+        stretch: *part,
+        shape,
+        bytes: &bytes[..count],
         channels,
         depth,
     };
-    sums.add(&Played {
-        stretch: *part,
-        shape,
-        frames,
-    });
+    sums.add(&stored, samples);
     Ok(())
 }
 
@@ -127,6 +173,9 @@ pub fn add_stretch<S: Shelf>(
     requires lies { LiesInFile sounds.now stretch.now.file stretch.now.first stretch.now.width stretch.now.frame
         stretch.now.length }
     requires ramp { IsRamp shape stretch.now.length }
+    requires held { Holds (S.honest shelf.old) (S.stored shelf.old) sounds.now buffer.old.held buffer.old.bytes.items }
+    ensures held { OnOk result (Holds (S.honest shelf.new) (S.stored shelf.new) sounds.now buffer.new.held
+        buffer.new.bytes.items) }
     ensures added { IsTrue (S.honest shelf.old) → OnOk result ((before : ℕ → ℕ → ℤ) → AreSums sums.old before
         → AreSums sums.new (sums_with (reading_by (S.stored shelf.old) sounds.now) stretch.now shape before)) }
     ensures full { IsTrue (S.honest shelf.old)
@@ -144,7 +193,8 @@ pub fn add_stretch<S: Shelf>(
         let shape = shape.behind(done as u64);
         let bytes = buffer.bytes.as_mut_slice();
         let samples = buffer.samples.as_mut_slice();
-        add_part(&part, shape, sounds, shelf, bytes, samples, sums)?;
+        let held = &mut buffer.held;
+        add_part(&part, shape, sounds, shelf, bytes, samples, held, sums)?;
         done += count;
     }
     Ok(())

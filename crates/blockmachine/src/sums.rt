@@ -2,11 +2,16 @@
 ghost use Rattle.std.specs.Prelude.{◌≡◌, ◌*◌, ◌≤◌, ℕ, ℤ, pos, length, IfOk};
 ghost use Rattle.sound_terms.specs.Depth.{bits_of};
 ghost use Rattle.sound_terms.specs.Blocks.{FitsBlock, block_samples};
+ghost use Rattle.pcm.specs.Samples.{samples_in};
 ghost use Rattle.blockmachine.specs.Sums.{AreSums, BlockSums, HasPlayed};
 
-use crate::addition::add_played;
-use crate::frames::Played;
-use crate::layers::{self, FEW_LAYERS, add_layer, emit_kept, is_layer, widen_layers};
+use crate::addition;
+use crate::frames::{Frames, Played, Stored};
+use crate::layers::{
+    self, FEW_LAYERS, add_layer, add_stored_layer, emit_kept, is_layer, is_stored_layer,
+    widen_layers,
+};
+use pcm::unpack;
 use sound_terms::Depth;
 use std::alloc::{AllocError, Global};
 use std::marker::Model;
@@ -87,8 +92,50 @@ impl Sums {
         self.additions = 0;
     }
 
-    /// Adds what a stretch plays.
-    pub fn add(&mut self, played: &Played)
+    /// Adds what a stretch plays. `samples` has room for its frames.
+    pub fn add(&mut self, stored: &Stored, samples: &mut [i32])
+        requires inside { FitsBlock 4096 self.old.channels stored.now.stretch }
+        requires room { stored.now.stretch.length * stored.now.channels ≤ length samples.old }
+        ensures played { HasPlayed stored.now.stretch stored.now.shape stored.now.channels (bits_of stored.now.depth)
+            (samples_in (bits_of stored.now.depth) (stored.now.stretch.length * stored.now.channels) stored.now.bytes.now)
+            self.old self.new }
+        ensures same_channels { self.new.channels ≡ self.old.channels }
+    {
+        let channels = self.channels as usize;
+        let few = self.at_depth && self.additions < FEW_LAYERS;
+        if few && is_stored_layer(stored, channels, self.depth) {
+            add_stored_layer(stored, channels, self.layers.as_mut_slice());
+            self.additions += 1;
+        } else {
+            self.add_unpacked(stored, samples);
+        }
+    }
+
+    /// The same, of samples that are unpacked first.
+    fn add_unpacked(&mut self, stored: &Stored, samples: &mut [i32])
+        requires inside { FitsBlock 4096 self.old.channels stored.now.stretch }
+        requires room { stored.now.stretch.length * stored.now.channels ≤ length samples.old }
+        ensures played { HasPlayed stored.now.stretch stored.now.shape stored.now.channels (bits_of stored.now.depth)
+            (samples_in (bits_of stored.now.depth) (stored.now.stretch.length * stored.now.channels) stored.now.bytes.now)
+            self.old self.new }
+        ensures same_channels { self.new.channels ≡ self.old.channels }
+    {
+        let samples = &mut samples[..stored.stretch.length as usize * stored.channels];
+        unpack(stored.depth, stored.bytes, samples);
+        let frames = Frames {
+            samples,
+            channels: stored.channels,
+            depth: stored.depth,
+        };
+        self.add_played(&Played {
+            stretch: stored.stretch,
+            shape: stored.shape,
+            frames,
+        });
+    }
+
+    /// Adds what a stretch plays, frames that were unpacked.
+    fn add_played(&mut self, played: &Played)
         requires { FitsBlock 4096 self.old.channels played.now.stretch }
         ensures played { HasPlayed played.now.stretch played.now.shape played.now.frames.channels
             (bits_of played.now.frames.depth) played.now.frames.samples.now self.old self.new }
@@ -121,7 +168,7 @@ impl Sums {
         self.at_depth = false;
         let is_small = self.additions < FEW;
         let channels = self.channels as usize;
-        add_played(played, channels, is_small, self.values.as_mut_slice());
+        addition::add_played(played, channels, is_small, self.values.as_mut_slice());
         if is_small {
             self.additions += 1;
         }

@@ -1,5 +1,6 @@
 use Rattle.std.proofs.Common.{◌≡◌, ◌<◌, ◌≤◌, ℕ, ◌+◌, ◌-◌, ◌*◌, inl, inr, drop, length, take, arith, refl, sym, ap, ◌∙◌, subst, rules, length-take, length-drop}
 use Rattle.std.specs.Prelude.{ℤ, pos}
+use Rattle.sound_terms.specs.declared.piece.Shape.{Shape}
 use Rattle.sound_terms.specs.Depth.{bits_of}
 use Rattle.sound_terms.specs.Groups.{fraction_of}
 use Rattle.sound_terms.specs.Blocks.{sums_with}
@@ -144,3 +145,15 @@ returns-clause-played c = λ reading plays before are.
     subst (λ (n : ℕ). AreSums (record { channels = c.args.channels; values = c.loop-i.sums })
     (sums_with reading (record played.stretch { length = n }) played.shape before)) end
     (c.loop-i.invariant.played reading plays before are)
+
+pub add_row-requires-clause-flat : goal.add_row-requires-clause-flat
+add_row-requires-clause-flat c = λ yes.
+    let played = c.args.played.now in
+    let slope = c.loop-i.slope in
+    let rise = slope.rise in
+    let gain = c.gain-gain.result in
+    let fraction : (gain.num, gain.den) ≡ (1, 1) =
+    c.gain-gain.ensures
+    ∙ slope_fraction played.shape c.loop-i.i slope.falls rise.num rise.den rise.by c.loop-i.invariant.slope
+    ∙ ap (λ (s : Shape). fraction_of s c.loop-i.i) (c.requires.flat yes) in
+    (ap (λ (p : ℕ × ℕ). p.0) fraction, ap (λ (p : ℕ × ℕ). p.1) fraction)

@@ -16,6 +16,7 @@ loop-line-preserved g c =
     let quiet = c.loop-line.invariant.quiet in
     record {
       same_channels = search rules;
+      held = c.in_ok-add_line.ensures.held;
       quiet = search rules;
       added = λ honest channels before are.
           let files : Files = g.S.Shelf.stored c.args.shelf.now in

@@ -2,12 +2,14 @@ use Rattle.std.proofs.Common.{◌≡◌, ℕ, All, IsTrue, take}
 use Rattle.sound_terms.specs.Blocks.{BlockState, executed_all, PlaysFull}
 use Rattle.sound_terms.specs.Sounds.{reading_by}
 use Rattle.shelf.specs.Frame.{IsQuiet}
+use Rattle.blockmachine.specs.Holding.{Holds}
 use Rattle.blockmachine.specs.Sums.{AreSums}
 use Rattle.blockmachine.proofs.machine.add_all.Given as goal
 
 abbrev pub invariant-loop-line : goal.invariant-loop-line
 invariant-loop-line g l = record {
   same_channels : l.sums.channels ≡ l.fn.sums.channels;
+  held : Holds (g.S.Shelf.honest l.shelf) (g.S.Shelf.stored l.shelf) l.sounds l.buffer.held l.buffer.bytes.items;
   quiet : IsQuiet g.S.Shelf l.fn.shelf l.shelf;
   added : IsTrue (g.S.Shelf.honest l.fn.shelf) → (channels : ℕ) (before : BlockState) → AreSums l.fn.sums before.sums
       → AreSums l.sums (executed_all (reading_by (g.S.Shelf.stored l.fn.shelf) l.sounds) channels

@@ -1,53 +1,163 @@
-use Rattle.std.proofs.Common.{◌≡◌, ℕ, All, Some, length, arith, rules, refl, sym, ap, ◌∙◌, subst}
+use Rattle.std.proofs.Common.{◌≡◌, ◌+◌, ◌*◌, ◌/◌, ◌≤◌, ℕ, Bool, List, Option, Some, length, take, arith, rules, refl, sym, ap, ◌∙◌, subst}
 use Rattle.std.specs.Prelude.{slice_get}
+use Rattle.std.proofs.Math.Nat.{mul-le-mul_left}
+use Rattle.std.proofs.lemmas.List.{length-take-le}
 use Rattle.std.proofs.lemmas.Option.{same_Some, slice_get_read, slice_get_within}
 use Rattle.sound_terms.specs.declared.Depth.{Depth}
 use Rattle.sound_terms.specs.Sounds.{SoundFacts, reading_by}
+use Rattle.sound_terms.specs.Laws.{bits_bounded}
 use Rattle.sound_terms.specs.Depth.{bits_of}
+use Rattle.sound_terms.specs.Media.{frame_length}
 use Rattle.sound_terms.specs.Mix.{Reading}
-use Rattle.pcm.specs.Samples.{FitsDepth}
+use Rattle.work_terms.specs.Disk.{Files, IsRange}
+use Rattle.pcm.specs.Samples.{samples_in}
+use Rattle.blockmachine.specs.declared.buffer.Held.{Held}
+use Rattle.blockmachine.specs.Holding.{Holds}
 use Rattle.blockmachine.specs.Playing.{Plays}
+use Rattle.blockmachine.proofs.Held.{held_full, held_plays, small_front}
 use Rattle.blockmachine.proofs.stretches.add_part.Goals as goal
+
+pub hold-requires-clause-room : goal.hold-requires-clause-room
+hold-requires-clause-room g c = λ facts there.
+    let few : c.args.part.now.length * facts.channels ≤ length c.args.samples.now = c.requires.few facts there in
+    let narrow : bits_of facts.depth / 8 ≤ 4 = omega (arith, bits_bounded facts.depth) in
+    let wide = mul-le-mul_left (c.args.part.now.length * facts.channels) narrow in
+    omega (arith, few, wide, c.requires.room)
+
+pub returns-clause-held : goal.returns-clause-held
+returns-clause-held g c =
+    let only = c.in_ok-hold.ensures.only_reads in
+    let sounds = c.args.sounds.now in
+    let holds =
+    subst (λ (sure : Bool). Holds sure (g.S.Shelf.stored c.args.shelf.now) sounds c.hold.new.held c.hold.new.bytes)
+    (sym only.honest_same) c.in_ok-hold.ensures.held in
+    subst (λ (files : Files). Holds (g.S.Shelf.honest c.hold.new.shelf) files sounds c.hold.new.held c.hold.new.bytes)
+    (sym only.same) holds
 
 pub returns-clause-added : goal.returns-clause-added
 returns-clause-added g c = λ honest before are.
     let sound = c.index-sounds-part.result in
     let part = c.args.part.now in
-    let frames = c.read_part.new.frames in
-    let found : slice_get c.args.sounds.now part.file ≡ Some sound =
-    slice_get_read c.args.sounds.now (length c.args.sounds.now) part.file sound refl
-    (slice_get_within c.args.sounds.now part.file c.requires.lies.facts c.requires.lies.there) c.index-sounds-part.is in
-    let reading : Reading = reading_by (g.S.Shelf.stored c.args.shelf.now) c.args.sounds.now in
-    let plays = c.in_ok-read_part.ensures.plays honest sound found in
-    let told =
-    subst (λ (depth : Depth). Plays reading part sound.channels (bits_of depth) frames) (sym c.depth-depth.ensures) plays in
-    c.add.ensures.played reading (subst (λ (n : ℕ). Plays reading part n (bits_of c.depth-depth.result) frames)
-    (sym c.channels-channels.ensures.channels) told) before are
+    let sounds = c.args.sounds.now in
+    let lies = c.requires.lies in
+    let found : slice_get sounds part.file ≡ Some sound =
+    slice_get_read sounds (length sounds) part.file sound refl
+    (slice_get_within sounds part.file lies.facts lies.there) c.index-sounds-part.is in
+    let same : lies.facts ≡ sound = same_Some lies.facts sound (sym lies.there ∙ found) in
+    let width : c.from.result ≡ bits_of sound.depth / 8 =
+    c.from.ensures ∙ ap (λ b. b / 8) c.bits.ensures ∙ ap (λ depth. bits_of depth / 8) c.depth-depth.ensures in
+    let channels = c.channels-channels.ensures.channels in
+    let count : part.length * c.channels-channels.result * c.from.result ≡ part.length * frame_length sound =
+    ap (λ n. part.length * n * c.from.result) channels ∙ ap (λ w. part.length * sound.channels * w) width ∙ omega arith in
+    let few : part.length * sound.channels ≤ length c.args.samples.now = c.requires.few sound found in
+    let narrow : bits_of sound.depth / 8 ≤ 4 = omega (arith, bits_bounded sound.depth) in
+    let wide : part.length * sound.channels * (bits_of sound.depth / 8) ≤ length c.args.bytes.now =
+    omega (arith, mul-le-mul_left (part.length * sound.channels) narrow, few, c.requires.room) in
+    let files : Files = g.S.Shelf.stored c.args.shelf.now in
+    let reading : Reading = reading_by files sounds in
+    let held : Held = record { file = part.file; frame = part.frame; length = part.length } in
+    let all = c.hold.new.bytes in
+    let holds : Holds (g.S.Shelf.honest c.args.shelf.now) files sounds (Some held) all =
+    subst (λ (h : Option Held). Holds (g.S.Shelf.honest c.args.shelf.now) files sounds h all) c.in_ok-hold.ensures.this
+    c.in_ok-hold.ensures.held in
+    let bytes : List ℕ = take (part.length * c.channels-channels.result * c.from.result) all in
+    let range : IsRange (files sound.name) (sound.place + part.frame * frame_length sound) bytes =
+    subst (λ (n : ℕ). IsRange (files sound.name) (sound.place + part.frame * frame_length sound) (take n all)) (sym count)
+    (holds honest sound found) in
+    let long : length all ≡ length c.args.bytes.now = c.hold.auto.bytes in
+    let whole : length bytes ≡ part.length * sound.channels * (bits_of sound.depth / 8) =
+    length-take-le (part.length * c.channels-channels.result * c.from.result) all (omega (arith, count, wide, long))
+    ∙ count ∙ omega arith in
+    let last : part.first + part.width ≤ sound.channels + 1 =
+    subst (λ (f : SoundFacts). part.first + part.width ≤ f.channels + 1) same lies.channels in
+    let inside : part.frame + part.length ≤ sound.frames =
+    subst (λ (f : SoundFacts). part.frame + part.length ≤ f.frames) same lies.frames in
+    let first = c.requires.inside.source_from_one in
+    let plays = held_plays files sounds sound part bytes found range whole first last inside in
+    let told : Plays reading part sound.channels (bits_of c.depth-depth.result)
+    (samples_in (bits_of c.depth-depth.result) (part.length * sound.channels) bytes) =
+    subst (λ (depth : Depth). Plays reading part sound.channels (bits_of depth)
+    (samples_in (bits_of depth) (part.length * sound.channels) bytes)) (sym c.depth-depth.ensures) plays in
+    c.add.ensures.played reading
+    (subst (λ (n : ℕ). Plays reading part n (bits_of c.depth-depth.result)
+    (samples_in (bits_of c.depth-depth.result) (part.length * n) bytes)) (sym channels) told) before are
 
-pub invariant_of-frames : goal.invariant_of-frames
-invariant_of-frames g c =
+pub returns-clause-full : goal.returns-clause-full
+returns-clause-full g c = λ honest.
     let sound = c.index-sounds-part.result in
-    let found : slice_get c.args.sounds.now c.args.part.now.file ≡ Some sound =
-    slice_get_read c.args.sounds.now (length c.args.sounds.now) c.args.part.now.file sound refl
-    (slice_get_within c.args.sounds.now c.args.part.now.file c.requires.lies.facts c.requires.lies.there)
-    c.index-sounds-part.is in
-    record {
-      fit = subst (λ (depth : Depth). All (FitsDepth (bits_of depth)) c.read_part.new.frames) (sym c.depth-depth.ensures)
-          (c.in_ok-read_part.ensures.fit sound found);
-    }
+    let part = c.args.part.now in
+    let sounds = c.args.sounds.now in
+    let lies = c.requires.lies in
+    let found : slice_get sounds part.file ≡ Some sound =
+    slice_get_read sounds (length sounds) part.file sound refl
+    (slice_get_within sounds part.file lies.facts lies.there) c.index-sounds-part.is in
+    let same : lies.facts ≡ sound = same_Some lies.facts sound (sym lies.there ∙ found) in
+    let width : c.from.result ≡ bits_of sound.depth / 8 =
+    c.from.ensures ∙ ap (λ b. b / 8) c.bits.ensures ∙ ap (λ depth. bits_of depth / 8) c.depth-depth.ensures in
+    let channels = c.channels-channels.ensures.channels in
+    let count : part.length * c.channels-channels.result * c.from.result ≡ part.length * frame_length sound =
+    ap (λ n. part.length * n * c.from.result) channels ∙ ap (λ w. part.length * sound.channels * w) width ∙ omega arith in
+    let few : part.length * sound.channels ≤ length c.args.samples.now = c.requires.few sound found in
+    let narrow : bits_of sound.depth / 8 ≤ 4 = omega (arith, bits_bounded sound.depth) in
+    let wide : part.length * sound.channels * (bits_of sound.depth / 8) ≤ length c.args.bytes.now =
+    omega (arith, mul-le-mul_left (part.length * sound.channels) narrow, few, c.requires.room) in
+    let files : Files = g.S.Shelf.stored c.args.shelf.now in
+    let reading : Reading = reading_by files sounds in
+    let held : Held = record { file = part.file; frame = part.frame; length = part.length } in
+    let all = c.hold.new.bytes in
+    let holds : Holds (g.S.Shelf.honest c.args.shelf.now) files sounds (Some held) all =
+    subst (λ (h : Option Held). Holds (g.S.Shelf.honest c.args.shelf.now) files sounds h all) c.in_ok-hold.ensures.this
+    c.in_ok-hold.ensures.held in
+    let bytes : List ℕ = take (part.length * c.channels-channels.result * c.from.result) all in
+    let range : IsRange (files sound.name) (sound.place + part.frame * frame_length sound) bytes =
+    subst (λ (n : ℕ). IsRange (files sound.name) (sound.place + part.frame * frame_length sound) (take n all)) (sym count)
+    (holds honest sound found) in
+    let long : length all ≡ length c.args.bytes.now = c.hold.auto.bytes in
+    let whole : length bytes ≡ part.length * sound.channels * (bits_of sound.depth / 8) =
+    length-take-le (part.length * c.channels-channels.result * c.from.result) all (omega (arith, count, wide, long))
+    ∙ count ∙ omega arith in
+    let last : part.first + part.width ≤ sound.channels + 1 =
+    subst (λ (f : SoundFacts). part.first + part.width ≤ f.channels + 1) same lies.channels in
+    let inside : part.frame + part.length ≤ sound.frames =
+    subst (λ (f : SoundFacts). part.frame + part.length ≤ f.frames) same lies.frames in
+    let first = c.requires.inside.source_from_one in
+    held_full files sounds sound part bytes found range whole first last inside
+    (small_front (part.length * c.channels-channels.result * c.from.result) all
+    (λ k. search rules))
 
-pub invariant_of-add : goal.invariant_of-add
-invariant_of-add g c =
+pub slice_bounds-stored-end : goal.slice_bounds-stored-end
+slice_bounds-stored-end g c =
     let sound = c.index-sounds-part.result in
-    let found : slice_get c.args.sounds.now c.args.part.now.file ≡ Some sound =
-    slice_get_read c.args.sounds.now (length c.args.sounds.now) c.args.part.now.file sound refl
-    (slice_get_within c.args.sounds.now c.args.part.now.file c.requires.lies.facts c.requires.lies.there)
-    c.index-sounds-part.is in
-    let same : c.requires.lies.facts ≡ sound = same_Some c.requires.lies.facts sound (sym c.requires.lies.there ∙ found) in
-    let channels : c.requires.lies.facts.channels ≡ c.channels-channels.result =
-    ap (λ (f : SoundFacts). f.channels) same ∙ sym c.channels-channels.ensures.channels in
-    record {
-      whole = search rules;
-      source = omega (arith, c.requires.lies.channels, channels);
-      ramp = c.requires.ramp;
-    }
+    let part = c.args.part.now in
+    let sounds = c.args.sounds.now in
+    let lies = c.requires.lies in
+    let found : slice_get sounds part.file ≡ Some sound =
+    slice_get_read sounds (length sounds) part.file sound refl
+    (slice_get_within sounds part.file lies.facts lies.there) c.index-sounds-part.is in
+    let same : lies.facts ≡ sound = same_Some lies.facts sound (sym lies.there ∙ found) in
+    let width : c.from.result ≡ bits_of sound.depth / 8 =
+    c.from.ensures ∙ ap (λ b. b / 8) c.bits.ensures ∙ ap (λ depth. bits_of depth / 8) c.depth-depth.ensures in
+    let channels = c.channels-channels.ensures.channels in
+    let count : part.length * c.channels-channels.result * c.from.result ≡ part.length * frame_length sound =
+    ap (λ n. part.length * n * c.from.result) channels ∙ ap (λ w. part.length * sound.channels * w) width ∙ omega arith in
+    let few : part.length * sound.channels ≤ length c.args.samples.now = c.requires.few sound found in
+    let narrow : bits_of sound.depth / 8 ≤ 4 = omega (arith, bits_bounded sound.depth) in
+    let wide : part.length * sound.channels * (bits_of sound.depth / 8) ≤ length c.args.bytes.now =
+    omega (arith, mul-le-mul_left (part.length * sound.channels) narrow, few, c.requires.room) in
+    let long : length c.hold.new.bytes ≡ length c.args.bytes.now = c.hold.auto.bytes in
+    let fit : part.length * c.channels-channels.result * c.from.result ≤ length c.hold.new.bytes =
+    omega (arith, count, wide, long) in
+    search (rules, fit)
+
+pub add-requires-clause-room : goal.add-requires-clause-room
+add-requires-clause-room g c =
+    let sound = c.index-sounds-part.result in
+    let part = c.args.part.now in
+    let sounds = c.args.sounds.now in
+    let lies = c.requires.lies in
+    let found : slice_get sounds part.file ≡ Some sound =
+    slice_get_read sounds (length sounds) part.file sound refl
+    (slice_get_within sounds part.file lies.facts lies.there) c.index-sounds-part.is in
+    let same : lies.facts ≡ sound = same_Some lies.facts sound (sym lies.there ∙ found) in
+    let few : part.length * sound.channels ≤ length c.args.samples.now = c.requires.few sound found in
+    subst (λ (n : ℕ). part.length * n ≤ length c.args.samples.now) (sym c.channels-channels.ensures.channels) few

@@ -1,4 +1,5 @@
-use Rattle.std.proofs.Common.{ℕ, IsTrue, rules, sym, ◌∙◌, subst}
+use Rattle.std.proofs.Common.{◌≡◌, ℕ, List, ◌++◌, IsTrue, drop, length, rules, sym, take, ◌∙◌, subst}
+use Rattle.std.proofs.lemmas.List.{take_at}
 use Rattle.std.specs.Prelude.{ℤ}
 use Rattle.sound_terms.specs.declared.block.Stretch.{Stretch}
 use Rattle.sound_terms.specs.Mix.{Reading}
@@ -6,6 +7,7 @@ use Rattle.sound_terms.specs.Passes.{shape_behind}
 use Rattle.sound_terms.specs.Blocks.{sums_with, IsFull}
 use Rattle.sound_terms.specs.Sounds.{reading_by}
 use Rattle.work_terms.specs.Disk.{Files}
+use Rattle.blockmachine.specs.Holding.{Holds}
 use Rattle.blockmachine.specs.Sums.{AreSums}
 use Rattle.blockmachine.proofs.Full.{full_more}
 use Rattle.blockmachine.proofs.Played.{part_more}
@@ -21,6 +23,15 @@ loop-done-preserved g c =
     record {
       within = search rules;
       same_channels = search rules;
+      held =
+          let new = c.add_part.new.bytes in
+          let items = c.loop-done.buffer.bytes.items in
+          let whole : length new ≡ c.loop-done.buffer.bytes.len = search rules in
+          let same : take c.loop-done.buffer.bytes.len (new ++ drop (length new) items) ≡ new =
+          take_at new (drop (length new) items) c.loop-done.buffer.bytes.len whole in
+          subst (λ (bytes : List ℕ). Holds (g.S.Shelf.honest c.add_part.new.shelf)
+          (g.S.Shelf.stored c.add_part.new.shelf) c.args.sounds.now c.add_part.new.held bytes) (sym same)
+          c.in_ok-add_part.ensures.held;
       quiet = search rules;
       added = λ honest before are.
           let files : Files = g.S.Shelf.stored c.args.shelf.now in
