@@ -9,9 +9,10 @@ ghost use Rattle.pcm.specs.Samples.{FitsDepth};
 ghost use Rattle.blockmachine.specs.Sums.{HasAdded, HasAddedTo, HasGrown, HasPlayed, IsWithin};
 
 use crate::frames::Played;
+use crate::scale::Scale;
 use crate::slope::Slope;
 use sound_terms::{Depth, Shape};
-use soundlaw::{Gain, widen};
+use soundlaw::Gain;
 use std::simd::prelude::*;
 
 /// A sum and a share more. What is small can't leave 64 bits.
@@ -30,13 +31,13 @@ fn added(sum: i64, share: i64, is_small: bool) -> i64
 
 /// Sample k of these at full scale.
 #[inline(always)]
-fn full_sample(samples: &[i32], k: usize, depth: Depth) -> i64
+fn full_sample(samples: &[i32], k: usize, scale: Scale) -> i64
     requires inside { k < length samples.now }
-    requires fit { All (FitsDepth (bits_of depth)) samples.now }
-    ensures value { result ≡ full_scale (bits_of depth) (slice_index_or samples.now k (pos 0)) }
+    requires fit { All (FitsDepth (bits_of scale.depth)) samples.now }
+    ensures value { result ≡ full_scale (bits_of scale.depth) (slice_index_or samples.now k (pos 0)) }
     ensures within { (neg_ℤ (pos (2 ^ 47)) ≤ℤ result) × (result ≤ℤ pos (2 ^ 47)) }
 {
-    widen(samples[k], depth)
+    scale.widen(samples[k])
 }
 
 /// Two small sums, each with a sample more.
@@ -53,17 +54,17 @@ fn two_added(first: i64, second: i64, low: i64, high: i64) -> [i64; 2]
 
 /// Adds samples to small sums two at a time, as long as two are left; gives how many it added.
 #[inline(always)]
-fn add_lanes(samples: &[i32], depth: Depth, sums: &mut [i64]) -> usize
+fn add_lanes(samples: &[i32], scale: Scale, sums: &mut [i64]) -> usize
     requires each { length samples.now ≡ length sums.old }
-    requires fit { All (FitsDepth (bits_of depth)) samples.now }
+    requires fit { All (FitsDepth (bits_of scale.depth)) samples.now }
     requires small { All (IsWithin 32766) sums.old }
     ensures some { result ≤ length sums.new }
-    ensures added { HasAddedTo result (1, 1) (bits_of depth) samples.now sums.old sums.new }
+    ensures added { HasAddedTo result (1, 1) (bits_of scale.depth) samples.now sums.old sums.new }
 {
     let mut done = 0;
     while sums.len() - done >= 2 {
-        let low = full_sample(samples, done, depth);
-        let high = full_sample(samples, done + 1, depth);
+        let low = full_sample(samples, done, scale);
+        let high = full_sample(samples, done + 1, scale);
         let [first, second] = two_added(sums[done], sums[done + 1], low, high);
         sums[done] = first;
         sums[done + 1] = second;
@@ -74,35 +75,35 @@ fn add_lanes(samples: &[i32], depth: Depth, sums: &mut [i64]) -> usize
 
 /// Adds samples to as many sums: small ones in lanes as far as that goes, and then one by one.
 #[inline(always)]
-fn add_flat(samples: &[i32], depth: Depth, is_small: bool, sums: &mut [i64])
+fn add_flat(samples: &[i32], scale: Scale, is_small: bool, sums: &mut [i64])
     requires each { length samples.now ≡ length sums.old }
-    requires fit { All (FitsDepth (bits_of depth)) samples.now }
+    requires fit { All (FitsDepth (bits_of scale.depth)) samples.now }
     requires small { IsTrue is_small → All (IsWithin 32766) sums.old }
-    ensures added { HasAdded (1, 1) (bits_of depth) samples.now sums.old sums.new }
+    ensures added { HasAdded (1, 1) (bits_of scale.depth) samples.now sums.old sums.new }
     ensures grown { HasGrown sums.old sums.new }
 {
     let done = if is_small {
-        add_lanes(samples, depth, sums)
+        add_lanes(samples, scale, sums)
     } else {
         0
     };
     for i in done..sums.len() {
-        let sample = full_sample(samples, i, depth);
+        let sample = full_sample(samples, i, scale);
         sums[i] = added(sums[i], sample, is_small);
     }
 }
 
 /// Adds the shares of samples to as many sums.
 #[inline(always)]
-fn add_shares(gain: Gain, samples: &[i32], depth: Depth, is_small: bool, sums: &mut [i64])
+fn add_shares(gain: Gain, samples: &[i32], scale: Scale, is_small: bool, sums: &mut [i64])
     requires each { length samples.now ≡ length sums.old }
-    requires fit { All (FitsDepth (bits_of depth)) samples.now }
+    requires fit { All (FitsDepth (bits_of scale.depth)) samples.now }
     requires small { IsTrue is_small → All (IsWithin 32766) sums.old }
-    ensures added { HasAdded (gain.num, gain.den) (bits_of depth) samples.now sums.old sums.new }
+    ensures added { HasAdded (gain.num, gain.den) (bits_of scale.depth) samples.now sums.old sums.new }
     ensures grown { HasGrown sums.old sums.new }
 {
     for (i, sum) in sums.iter_mut().enumerate() {
-        let sample = full_sample(samples, i, depth);
+        let sample = full_sample(samples, i, scale);
         let share = gain.share(sample);
         *sum = added(*sum, share, is_small);
     }
@@ -113,22 +114,22 @@ fn add_shares(gain: Gain, samples: &[i32], depth: Depth, is_small: bool, sums: &
 fn add_row(
     gain: Gain,
     samples: &[i32],
-    depth: Depth,
+    scale: Scale,
     is_flat: bool,
     is_small: bool,
     sums: &mut [i64],
 )
     requires flat { IsTrue is_flat → (gain.num ≡ 1) × (gain.den ≡ 1) }
     requires each { length samples.now ≡ length sums.old }
-    requires fit { All (FitsDepth (bits_of depth)) samples.now }
+    requires fit { All (FitsDepth (bits_of scale.depth)) samples.now }
     requires small { IsTrue is_small → All (IsWithin 32766) sums.old }
-    ensures added { HasAdded (gain.num, gain.den) (bits_of depth) samples.now sums.old sums.new }
+    ensures added { HasAdded (gain.num, gain.den) (bits_of scale.depth) samples.now sums.old sums.new }
     ensures grown { HasGrown sums.old sums.new }
 {
     if is_flat {
-        add_flat(samples, depth, is_small, sums)
+        add_flat(samples, scale, is_small, sums)
     } else {
-        add_shares(gain, samples, depth, is_small, sums)
+        add_shares(gain, samples, scale, is_small, sums)
     }
 }
 
@@ -136,7 +137,7 @@ fn add_row(
 #[inline(always)]
 fn add_rows(
     played: &Played,
-    depth: Depth,
+    scale: Scale,
     width: usize,
     channels: usize,
     is_flat: bool,
@@ -144,13 +145,13 @@ fn add_rows(
     sums: &mut [i64],
 )
     requires flat { IsTrue is_flat → played.now.shape ≡ shape.Flat }
-    requires depth { depth ≡ played.now.frames.depth }
+    requires depth { scale.depth ≡ played.now.frames.depth }
     requires width { width ≡ played.now.stretch.width }
     requires inside { FitsBlock 4096 channels played.now.stretch }
     requires room { length sums.old ≡ 4096 * channels }
     requires small { IsTrue is_small → All (IsWithin 32766) sums.old }
     ensures grown { HasGrown sums.old sums.new }
-    ensures played { HasPlayed played.now.stretch played.now.shape played.now.frames.channels (bits_of depth)
+    ensures played { HasPlayed played.now.stretch played.now.shape played.now.frames.channels (bits_of scale.depth)
         played.now.frames.samples.now (record { channels = channels; values = sums.old })
         (record { channels = channels; values = sums.new }) }
 {
@@ -166,7 +167,7 @@ fn add_rows(
         add_row(
             gain,
             samples,
-            depth,
+            scale,
             is_flat,
             is_small,
             &mut sums[to..to + width],
@@ -186,49 +187,41 @@ pub fn is_run(played: &Played, channels: usize) -> bool
 
 /// Adds a stretch frame by frame to small sums. One or two channels have loops of their own.
 #[inline(always)]
-fn add_by_width(played: &Played, depth: Depth, channels: usize, is_flat: bool, sums: &mut [i64])
+fn add_by_width(played: &Played, scale: Scale, channels: usize, is_flat: bool, sums: &mut [i64])
     requires flat { IsTrue is_flat → played.now.shape ≡ shape.Flat }
-    requires depth { depth ≡ played.now.frames.depth }
+    requires depth { scale.depth ≡ played.now.frames.depth }
     requires inside { FitsBlock 4096 channels played.now.stretch }
     requires room { length sums.old ≡ 4096 * channels }
     requires small { All (IsWithin 32766) sums.old }
     ensures grown { HasGrown sums.old sums.new }
-    ensures played { HasPlayed played.now.stretch played.now.shape played.now.frames.channels (bits_of depth)
+    ensures played { HasPlayed played.now.stretch played.now.shape played.now.frames.channels (bits_of scale.depth)
         played.now.frames.samples.now (record { channels = channels; values = sums.old })
         (record { channels = channels; values = sums.new }) }
 {
     match played.stretch.width {
-        1 => add_rows(played, depth, 1, channels, is_flat, true, sums),
-        2 => add_rows(played, depth, 2, channels, is_flat, true, sums),
-        width => add_rows(played, depth, width as usize, channels, is_flat, true, sums),
+        1 => add_rows(played, scale, 1, channels, is_flat, true, sums),
+        2 => add_rows(played, scale, 2, channels, is_flat, true, sums),
+        width => add_rows(played, scale, width as usize, channels, is_flat, true, sums),
+    }
+}
+
+/// Adds samples to as many small sums. Each depth has loops of its own.
+#[inline(always)]
+fn add_run(samples: &[i32], depth: Depth, sums: &mut [i64])
+    requires each { length samples.now ≡ length sums.old }
+    requires fit { All (FitsDepth (bits_of depth)) samples.now }
+    requires small { All (IsWithin 32766) sums.old }
+    ensures added { HasAdded (1, 1) (bits_of depth) samples.now sums.old sums.new }
+    ensures grown { HasGrown sums.old sums.new }
+{
+    match depth {
+        Depth::Sixteen => add_flat(samples, Scale::of(Depth::Sixteen), true, sums),
+        Depth::TwentyFour => add_flat(samples, Scale::of(Depth::TwentyFour), true, sums),
+        Depth::ThirtyTwo => add_flat(samples, Scale::of(Depth::ThirtyTwo), true, sums),
     }
 }
 
 /// Adds a stretch to small sums: as one run where it is one.
-#[inline(always)]
-fn add_at(played: &Played, depth: Depth, channels: usize, sums: &mut [i64])
-    requires depth { depth ≡ played.now.frames.depth }
-    requires inside { FitsBlock 4096 channels played.now.stretch }
-    requires room { length sums.old ≡ 4096 * channels }
-    requires small { All (IsWithin 32766) sums.old }
-    ensures grown { HasGrown sums.old sums.new }
-    ensures played { HasPlayed played.now.stretch played.now.shape played.now.frames.channels (bits_of depth)
-        played.now.frames.samples.now (record { channels = channels; values = sums.old })
-        (record { channels = channels; values = sums.new }) }
-{
-    if is_run(played, channels) {
-        let from = played.stretch.at as usize * channels;
-        let count = played.stretch.length as usize * channels;
-        let run = &mut sums[from..from + count];
-        add_flat(played.frames.samples, depth, true, run)
-    } else if played.shape == Shape::Flat {
-        add_by_width(played, depth, channels, true, sums)
-    } else {
-        add_by_width(played, depth, channels, false, sums)
-    }
-}
-
-/// The same. Each depth has loops of its own.
 #[inline(always)]
 fn add_small(played: &Played, channels: usize, sums: &mut [i64])
     requires inside { FitsBlock 4096 channels played.now.stretch }
@@ -239,10 +232,16 @@ fn add_small(played: &Played, channels: usize, sums: &mut [i64])
         (bits_of played.now.frames.depth) played.now.frames.samples.now (record { channels = channels; values = sums.old })
         (record { channels = channels; values = sums.new }) }
 {
-    match played.frames.depth {
-        Depth::Sixteen => add_at(played, Depth::Sixteen, channels, sums),
-        Depth::TwentyFour => add_at(played, Depth::TwentyFour, channels, sums),
-        Depth::ThirtyTwo => add_at(played, Depth::ThirtyTwo, channels, sums),
+    let depth = played.frames.depth;
+    if is_run(played, channels) {
+        let from = played.stretch.at as usize * channels;
+        let count = played.stretch.length as usize * channels;
+        let run = &mut sums[from..from + count];
+        add_run(played.frames.samples, depth, run)
+    } else if played.shape == Shape::Flat {
+        add_by_width(played, Scale::of(depth), channels, true, sums)
+    } else {
+        add_by_width(played, Scale::of(depth), channels, false, sums)
     }
 }
 
@@ -260,7 +259,7 @@ pub fn add_played(played: &Played, channels: usize, is_small: bool, sums: &mut [
         add_small(played, channels, sums)
     } else {
         let width = played.stretch.width as usize;
-        let depth = played.frames.depth;
-        add_rows(played, depth, width, channels, false, false, sums)
+        let scale = Scale::of(played.frames.depth);
+        add_rows(played, scale, width, channels, false, false, sums)
     }
 }

@@ -9,6 +9,7 @@ mod frames;
 mod layers;
 mod machine;
 mod output;
+mod scale;
 mod slope;
 mod stretches;
 mod sums;

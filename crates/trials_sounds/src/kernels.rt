@@ -4,7 +4,7 @@ ghost use Rattle.std.specs.Prelude.{◌≡◌, ◌*◌, ◌/◌, ◌<◌, ◌≤
 ghost use Rattle.sound_terms.specs.Depth.{bits_of};
 ghost use Rattle.pcm.specs.Samples.{FitsDepth};
 
-use pcm::{all_zero, pack, unpack};
+use pcm::{add_unpacked, all_zero, pack, unpack};
 use sound_terms::Depth;
 use std::process::Abort;
 
@@ -79,6 +79,17 @@ fn reads_and_writes(
     }
 }
 
+/// The samples that the bytes hold are added to sums of zero.
+fn adds_to_zero(rt: &impl Abort, depth: Depth, bytes: &[u8], sums: &mut [i32])
+    requires { length bytes.now ≡ length sums.old * (bits_of depth / 8) }
+{
+    assert!(rt; all_zero(sums));
+    add_unpacked(depth, bytes, sums);
+    for (place, sum) in sums.iter().enumerate() {
+        assert_eq!(rt; *sum, sample_at(depth, place));
+    }
+}
+
 #[test]
 fn sixteen_bits_at_every_length(rt: HostRuntime) {
     for offset in 0..OFFSETS {
@@ -92,6 +103,7 @@ fn sixteen_bits_at_every_length(rt: HostRuntime) {
                 &mut [0; LONGEST][..count],
                 &mut [0; ROOM][..count * 2],
             );
+            adds_to_zero(&rt, Depth::Sixteen, bytes, &mut [0; LONGEST][..count]);
         }
     }
 }
@@ -109,6 +121,7 @@ fn twenty_four_bits_at_every_length(rt: HostRuntime) {
                 &mut [0; LONGEST][..count],
                 &mut [0; ROOM][..count * 3],
             );
+            adds_to_zero(&rt, Depth::TwentyFour, bytes, &mut [0; LONGEST][..count]);
         }
     }
 }
@@ -126,6 +139,7 @@ fn thirty_two_bits_at_every_length(rt: HostRuntime) {
                 &mut [0; LONGEST][..count],
                 &mut [0; ROOM][..count * 4],
             );
+            adds_to_zero(&rt, Depth::ThirtyTwo, bytes, &mut [0; LONGEST][..count]);
         }
     }
 }

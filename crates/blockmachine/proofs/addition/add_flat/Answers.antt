@@ -22,7 +22,7 @@ loop-i-preserved c =
     at c.added.ensures in
     let value = to_z-of_z w64 c.added.result fits ∙ sum
     ∙ ap (λ z. held (get_or sums n (pos 0) +ℤ z)) (c.full_sample-sample.ensures.value ∙ sym (flat_share _)) in
-    added_more n (1, 1) (bits_of c.args.depth) c.args.samples.now c.args.sums.now sums _ inside c.loop-i.invariant value
+    added_more n (1, 1) (bits_of c.args.scale.depth) c.args.samples.now c.args.sums.now sums _ inside c.loop-i.invariant value
 
 pub added-requires-clause-small : goal.added-requires-clause-small
 added-requires-clause-small c = λ yes.
@@ -44,6 +44,6 @@ returns-clause-added c = λ k below. c.loop-i.invariant.0 k (omega arith)
 pub returns-clause-grown : goal.returns-clause-grown
 returns-clause-grown c = λ m small.
     let same : length c.loop-i.sums ≡ length c.args.sums.now = search rules in
-    run_grown m 1 1 c.args.depth c.args.samples.now c.args.sums.now c.loop-i.sums
+    run_grown m 1 1 c.args.scale.depth c.args.samples.now c.args.sums.now c.loop-i.sums
     (c.requires.each ∙ sym same) (sym same) (omega arith) (omega arith)
     c.requires.fit (returns-clause-added c) small

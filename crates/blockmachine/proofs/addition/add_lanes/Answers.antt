@@ -15,7 +15,7 @@ pub loop-sums-preserved : goal.loop-sums-preserved
 loop-sums-preserved c =
     let n = c.loop-sums.done in
     let sums = c.loop-sums.sums in
-    let bits = bits_of c.args.depth in
+    let bits = bits_of c.args.scale.depth in
     let samples = c.args.samples.now in
     let all = c.two_added.result in
     let near : n + 1 < length sums = omega arith in

@@ -48,7 +48,7 @@ loop-i-preserved c =
           next.falls next.num next.den next.by;
       same_length = length-put_mid a k old new fit whole ∙ same;
       played = λ reading plays before are.
-          run_more reading stretch played.shape before source channels (bits_of c.args.depth)
+          run_more reading stretch played.shape before source channels (bits_of c.args.scale.depth)
           played.frames.samples.now inside played.source plays i 1 k (gain.num, gain.den) samples old new piece short
           room whole (λ n below. get_or-part f m n played.frames.samples.now (pos 0) (omega (arith, wide, below)))
           (λ j low high. let here : j ≡ i = omega arith in

@@ -13,7 +13,7 @@ invariant-loop-i l = record {
   slope : IsAt l.played.shape l.i l.slope.falls l.slope.rise.num l.slope.rise.den l.slope.rise.by;
   same_length : length l.sums ≡ length l.fn.sums;
   played : (reading : Reading)
-      → Plays reading l.played.stretch l.played.frames.channels (bits_of l.depth) l.played.frames.samples.now
+      → Plays reading l.played.stretch l.played.frames.channels (bits_of l.scale.depth) l.played.frames.samples.now
       → (before : ℕ → ℕ → ℤ) → AreSums (record { channels = l.channels; values = l.fn.sums }) before
       → AreSums (record { channels = l.channels; values = l.sums })
       (sums_with reading (record l.played.stretch { length = l.i }) l.played.shape before);

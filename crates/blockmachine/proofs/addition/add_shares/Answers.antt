@@ -24,7 +24,7 @@ loop-i-preserved c =
     let value =
     to_z-of_z w64 c.added.result fits ∙ sum
     ∙ ap (λ z. held (get_or sums n (pos 0) +ℤ z)) (rw (← c.full_sample-sample.ensures.value) share) in
-    added_more n (c.args.gain.num, c.args.gain.den) (bits_of c.args.depth) c.args.samples.now c.args.sums.now sums _
+    added_more n (c.args.gain.num, c.args.gain.den) (bits_of c.args.scale.depth) c.args.samples.now c.args.sums.now sums _
     inside c.loop-i.invariant value
 
 pub added-requires-clause-small : goal.added-requires-clause-small
@@ -42,6 +42,6 @@ returns-clause-added c = λ k below. c.loop-i.invariant.0 k (omega arith)
 pub returns-clause-grown : goal.returns-clause-grown
 returns-clause-grown c = λ m small.
     let added = (returns-clause-added c) in
-    run_grown m c.args.gain.num c.args.gain.den c.args.depth c.args.samples.now c.args.sums.now c.loop-i.sums
+    run_grown m c.args.gain.num c.args.gain.den c.args.scale.depth c.args.samples.now c.args.sums.now c.loop-i.sums
     (c.requires.each ∙ sym c.loop-i.auto.sums) (sym c.loop-i.auto.sums) c.args.gain.fraction c.args.gain.some
     c.requires.fit added small

@@ -9,7 +9,7 @@ use Rattle.blockmachine.specs.Sums.{AreSums, HasAdded, IsWithin}
 use Rattle.blockmachine.proofs.Added.{IsRun, no_sample, run_fits, run_more}
 use Rattle.blockmachine.proofs.Bounds.{part_grown, within_more}
 use Rattle.blockmachine.proofs.Places.{get_or-part}
-use Rattle.blockmachine.proofs.addition.add_at.Goals as goal
+use Rattle.blockmachine.proofs.addition.add_small.Goals as goal
 
 pub slice_bounds-run-end : goal.slice_bounds-run-end
 slice_bounds-run-end c =
@@ -36,7 +36,7 @@ returns-then-is_run-clause-grown c = λ m small.
     let k = a + stretch.length * channels - a in
     let source = played.frames.channels in
     let old = c.args.sums.now in
-    let new = c.add_flat.new.sums in
+    let new = c.add_run.new.sums in
     let inside = c.requires.inside in
     let run = c.is_run.ensures (search rules) in
     let long : k ≡ stretch.length * channels = omega arith in
@@ -45,9 +45,9 @@ returns-then-is_run-clause-grown c = λ m small.
     let begin : (stretch.at + 0) * channels + (stretch.dest - 1) ≡ a =
     omega (arith, run.1, inside.dest_inside, inside.dest_from_one) in
     let fit : a + k ≤ length old = omega (arith, fits, begin, c.requires.room) in
-    let whole : length new ≡ k = c.add_flat.auto.sums ∙ omega (arith, length-take {A = ℤ}, length-drop {A = ℤ}, fit) in
+    let whole : length new ≡ k = c.add_run.auto.sums ∙ omega (arith, length-take {A = ℤ}, length-drop {A = ℤ}, fit) in
     part_grown (m + 1) a k old new fit whole
-    (c.add_flat.ensures.grown m (λ j d below.
+    (c.add_run.ensures.grown m (λ j d below.
     let near : j < k = omega (arith, length-take k (drop a old), below) in
     subst (IsWithin m) (sym (get_or-part a k j old d near)) (small (a + j) d (omega (arith, fit, near)))))
     (λ j d below. within_more m (m + 1) _ (omega arith) (small j d below))
@@ -61,7 +61,7 @@ returns-then-is_run-clause-played c = λ reading plays before are.
     let a = stretch.at * channels in
     let k = a + stretch.length * channels - a in
     let old = c.args.sums.now in
-    let new = c.add_flat.new.sums in
+    let new = c.add_run.new.sums in
     let inside = c.requires.inside in
     let run = c.is_run.ensures (search rules) in
     let begin : (stretch.at + 0) * channels + (stretch.dest - 1) ≡ a =
@@ -70,14 +70,14 @@ returns-then-is_run-clause-played c = λ reading plays before are.
     let piece : IsRun stretch.length stretch.width source channels k = inr (run.1, run.2, long) in
     let fit = run_fits stretch source channels 0 stretch.length k inside piece (omega arith) in
     let whole : length new ≡ k =
-    c.add_flat.auto.sums ∙ omega (arith, length-take {A = ℤ}, length-drop {A = ℤ}, fit, begin, c.requires.room) in
+    c.add_run.auto.sums ∙ omega (arith, length-take {A = ℤ}, length-drop {A = ℤ}, fit, begin, c.requires.room) in
     let shape : (i : ℕ) → fraction_of played.shape i ≡ (1, 1) = λ i. ap (λ (s : Shape). fraction_of s i) run.0 in
     let none : 0 * source ≡ 0 = omega arith in
     let start : 0 * source + (stretch.first - 1) ≡ 0 = omega (arith, none, run.1, run.2, played.source) in
-    let added : HasAdded (1, 1) (bits_of c.args.depth) played.frames.samples.now
+    let added : HasAdded (1, 1) (bits_of played.frames.depth) played.frames.samples.now
     (take k (drop ((stretch.at + 0) * channels + (stretch.dest - 1)) old)) new =
-    subst (λ (n : ℕ). HasAdded (1, 1) (bits_of c.args.depth) played.frames.samples.now (take k (drop n old)) new)
-    (sym begin) c.add_flat.ensures.added in
+    subst (λ (n : ℕ). HasAdded (1, 1) (bits_of played.frames.depth) played.frames.samples.now (take k (drop n old)) new)
+    (sym begin) c.add_run.ensures.added in
     subst (λ (n : ℕ). AreSums (record { channels = channels; values = put_mid n k old new })
     (sums_with reading stretch played.shape before)) begin
     (subst (λ (n : ℕ). AreSums (record {
@@ -85,7 +85,7 @@ returns-then-is_run-clause-played c = λ reading plays before are.
       values = put_mid ((stretch.at + 0) * channels
           + (stretch.dest - 1)) k old new;
     }) (sums_with reading (record stretch { length = n }) played.shape before))
-    (omega arith) (run_more reading stretch played.shape before source channels (bits_of c.args.depth)
+    (omega arith) (run_more reading stretch played.shape before source channels (bits_of played.frames.depth)
     played.frames.samples.now inside played.source plays 0 stretch.length k (1, 1) played.frames.samples.now old new
     piece (omega arith) c.requires.room whole
     (λ n below. ap (λ m. get_or played.frames.samples.now m (pos 0)) (omega (arith, start)))
