@@ -221,6 +221,25 @@ fn add_run(samples: &[i32], depth: Depth, sums: &mut [i64])
     }
 }
 
+/// Adds a stretch frame by frame to small sums. Each kind of shape has loops of its own.
+#[inline(always)]
+fn add_by_shape(played: &Played, channels: usize, sums: &mut [i64])
+    requires inside { FitsBlock 4096 channels played.now.stretch }
+    requires room { length sums.old ≡ 4096 * channels }
+    requires small { All (IsWithin 32766) sums.old }
+    ensures grown { HasGrown sums.old sums.new }
+    ensures played { HasPlayed played.now.stretch played.now.shape played.now.frames.channels
+        (bits_of played.now.frames.depth) played.now.frames.samples.now (record { channels = channels; values = sums.old })
+        (record { channels = channels; values = sums.new }) }
+{
+    let scale = Scale::of(played.frames.depth);
+    match played.shape {
+        Shape::Flat => add_by_width(played, scale, channels, true, sums),
+        Shape::Rise { .. } => add_by_width(played, scale, channels, false, sums),
+        Shape::Fall { .. } => add_by_width(played, scale, channels, false, sums),
+    }
+}
+
 /// Adds a stretch to small sums: as one run where it is one.
 #[inline(always)]
 fn add_small(played: &Played, channels: usize, sums: &mut [i64])
@@ -238,10 +257,8 @@ fn add_small(played: &Played, channels: usize, sums: &mut [i64])
         let count = played.stretch.length as usize * channels;
         let run = &mut sums[from..from + count];
         add_run(played.frames.samples, depth, run)
-    } else if played.shape == Shape::Flat {
-        add_by_width(played, Scale::of(depth), channels, true, sums)
     } else {
-        add_by_width(played, Scale::of(depth), channels, false, sums)
+        add_by_shape(played, channels, sums)
     }
 }
 
