@@ -1,10 +1,10 @@
 -- Sums that are kept at the depth of their block.
-use Rattle.std.proofs.Common.{◌≡◌, ◌⊎◌, inl, inr, ℕ, ◌+◌, ◌-◌, ◌*◌, ◌^◌, ◌<◌, ◌≤◌, List, ◌++◌, length, map, take, drop, set, get_or, refl, sym, ap, ◌∙◌, subst, arith, length-append}
+use Rattle.std.proofs.Common.{◌≡◌, ◌⊎◌, inl, inr, ℕ, All, ◌+◌, ◌-◌, ◌*◌, ◌^◌, ◌<◌, ◌≤◌, List, ◌++◌, length, map, take, drop, set, get_or, refl, sym, ap, ◌∙◌, subst, arith, length-append}
 use Rattle.std.specs.Prelude.{ℤ, pos, negsuc, ◌+ℤ◌, ◌*ℤ◌}
 use Rattle.std.specs.Int.{int_div_euclid, saturate_to_bits}
 use Rattle.std.proofs.lemmas.Int.{ints}
 use Rattle.std.proofs.lemmas.Bool.{cases_lt}
-use Rattle.std.proofs.lemmas.List.{drop-map, get_or-map, get_or-set_other, get_or-set_same, get_or-take, get_or_append_left, length-take-le, map-append, take-map}
+use Rattle.std.proofs.lemmas.List.{drop-map, ext_get_or, get_or-map, get_or-set_other, get_or-set_same, get_or-take, get_or_append_left, length-map, length-take-le, map-append, take-map}
 use Rattle.std.proofs.lemmas.Nat.{div-mul-add}
 use Rattle.std.proofs.Math.IntN.{negsuc-*ℤ-pos, pos-*ℤ-pos}
 use borrow.Rule.Slice.PartMut.{post_of, put_mid}
@@ -59,6 +59,18 @@ zero_at depth n new rest zero room k below =
     ∙ ap (full_scale depth) (get_or-take n (new ++ rest) k (pos 0) below
     ∙ get_or_append_left new rest (pos 0) k (omega arith) ∙ zero k)
     ∙ full_zero depth
+
+no_sum : (z : ℤ) → IsWithin 0 z → z ≡ pos 0
+no_sum (pos n) within = ap pos (omega (arith, ints, within))
+no_sum (negsuc n) within = absurd (omega (arith, ints, within))
+
+-- as many zeros are sums of nothing
+pub zeros_widened : (depth : ℕ) (sums zeros : List ℤ) → length sums ≡ length zeros
+    → ((k : ℕ) → get_or zeros k (pos 0) ≡ pos 0) → All (IsWithin 0) (widened depth sums) → zeros ≡ widened depth sums
+zeros_widened depth sums zeros each zero clear =
+    let long = length-map sums (full_scale depth) in
+    ext_get_or (pos 0) zeros (widened depth sums) (sym (long ∙ each))
+    (λ k below. zero k ∙ sym (no_sum _ (clear k (pos 0) (omega (arith, below, long, each)))))
 
 -- ---- one sum
 

@@ -156,12 +156,21 @@ fn at_full_scale(sum: i32, depth: Depth) -> i64
     }
 }
 
-/// Where sums are kept at a depth, puts them at full scale over others.
-pub fn widen_layers(at_depth: bool, depth: Depth, layers: &[i32], values: &mut [i64])
-    requires { length layers.now ≡ length values.old }
+/// Where sums are kept at a depth, puts them at full scale over others. They are zero where nothing was added.
+pub fn widen_layers(
+    at_depth: bool,
+    is_clear: bool,
+    depth: Depth,
+    layers: &[i32],
+    values: &mut [i64],
+)
+    requires each { length layers.now ≡ length values.old }
+    requires clear { IsTrue is_clear → All (IsWithin 0) (kept_sums at_depth (bits_of depth) layers.now values.old) }
     ensures { values.new ≡ kept_sums at_depth (bits_of depth) layers.now values.old }
 {
-    if at_depth {
+    if at_depth && is_clear {
+        set_wide_to_zero(values);
+    } else if at_depth {
         widen_all(depth, layers, values);
     }
 }
@@ -178,6 +187,15 @@ fn widen_all(depth: Depth, layers: &[i32], values: &mut [i64])
 
 /// Every sum is zero.
 pub fn set_to_zero(sums: &mut [i32])
+    ensures { (k : ℕ) → slice_index_or sums.new k (pos 0) ≡ pos 0 }
+{
+    for sum in sums.iter_mut() {
+        *sum = 0;
+    }
+}
+
+/// The same of sums at full scale.
+fn set_wide_to_zero(sums: &mut [i64])
     ensures { (k : ℕ) → slice_index_or sums.new k (pos 0) ≡ pos 0 }
 {
     for sum in sums.iter_mut() {

@@ -161,6 +161,7 @@ impl Sums {
         let layers = self.layers.as_slice();
         widen_layers(
             self.at_depth,
+            self.additions == 0,
             self.depth,
             layers,
             self.values.as_mut_slice(),
