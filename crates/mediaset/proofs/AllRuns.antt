@@ -9,9 +9,10 @@ use Rattle.sound_terms.specs.declared.piece.Piece.{Piece}
 use Rattle.sound_terms.specs.Groups.{pieces_of}
 use Rattle.sound_terms.specs.Homes.{AreHomes, kept_of, place_by}
 use Rattle.sound_terms.specs.Kept.{AreRuns}
-use Rattle.mediaset.specs.Spans.{IsOpen, IsSpan, any_has, has_frame, merged_all, span_of}
+use Rattle.mediaset.specs.Spans.{IsOpen, IsSpan, any_has, gathered, has_frame, merged_all, span_of}
 use Rattle.mediaset.specs.declared.spans.Span.{Span}
 use Rattle.mediaset.proofs.Apart.{no_runs, runs_alike}
+use Rattle.mediaset.proofs.Gathered.{gathered_are, has_gathered}
 use Rattle.mediaset.proofs.InOrder.{Rises, merged_runs}
 use Rattle.mediaset.proofs.SpansKept.{all_spans, pieces_kept}
 
@@ -28,19 +29,22 @@ open_spans homes spans all = All-weaker (IsSpan homes) IsOpen (λ s is. is.some)
 
 pub sorted_spans : (homes : List Home) (handle : ℕ) (groups : List (List Piece)) (spans sorted : List Span)
     → AreHomes homes
-    → spans ≡ flat_map (span_of homes handle) (pieces_of groups) → IsPermutation spans sorted
+    → spans ≡ gathered (flat_map (span_of homes handle) (pieces_of groups)) → IsPermutation spans sorted
     → All (IsSpan homes) sorted
 sorted_spans homes handle groups spans sorted are same moved =
-    All-permutation (IsSpan homes) spans sorted moved (rw same (all_spans homes are handle (pieces_of groups)))
+    All-permutation (IsSpan homes) spans sorted moved (rw same (gathered_are homes _
+    (all_spans homes are handle (pieces_of groups))))
 
 pub all_runs : (homes : List Home) (handle : ℕ) (groups : List (List Piece)) (spans sorted : List Span) → AreHomes homes
-    → spans ≡ flat_map (span_of homes handle) (pieces_of groups) → IsPermutation spans sorted
+    → spans ≡ gathered (flat_map (span_of homes handle) (pieces_of groups)) → IsPermutation spans sorted
     → IsNonDecreasingBy (λ (t : Span). t.key) sorted
     → AreRuns (kept_of groups homes handle) (place_by homes) (merged_all sorted)
 all_runs homes handle groups spans sorted are same moved order =
     runs_alike (any_has sorted) (kept_of groups homes handle) (place_by homes) (merged_all sorted)
     (λ file frame. sym (list_any-IsPermutation (has_frame file frame) spans sorted moved)
-    ∙ ap (λ (ss : List Span). any_has ss file frame) same ∙ pieces_kept homes handle (pieces_of groups) file frame)
+    ∙ ap (λ (ss : List Span). any_has ss file frame) same
+    ∙ has_gathered file frame (flat_map (span_of homes handle) (pieces_of groups))
+    ∙ pieces_kept homes handle (pieces_of groups) file frame)
     (by_list sorted (sorted_spans homes handle groups spans sorted are same moved) order)
   where
     by_list : (ss : List Span) → All (IsSpan homes) ss → IsNonDecreasingBy (λ (t : Span). t.key) ss

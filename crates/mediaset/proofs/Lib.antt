@@ -1,6 +1,7 @@
 mod AllRuns
 mod Apart
 mod Covered
+mod Gathered
 mod InOrder
 mod Indexable
 mod OneList

@@ -1,6 +1,6 @@
 -- Kept frames round single pieces, and how those that touch are merged.
 use Rattle.std.specs.Prelude.{◌≡◌, ℕ, ◌+◌, ◌-◌, ◌*◌, ◌<◌, ◌≤◌, ◌==◌, ◌&&◌, nat_le, nat_lt, min, max, Bool, List, [], ◌∷◌, Some, if◌then◌else◌, slice_get}
-use Rattle.std.specs.List.{list_any}
+use Rattle.std.specs.List.{fold, list_any}
 use Rattle.sampletime.specs.TimeCode.{day}
 use Rattle.sound_terms.specs.declared.piece.Home.{Home}
 use Rattle.sound_terms.specs.declared.piece.Piece.{Piece}
@@ -31,6 +31,20 @@ touches s later = s.file == later.file && nat_le later.first s.end
 -- both as one
 abbrev pub joined : Span → Span → Span
 joined s later = record s { end = max s.end later.end }
+
+-- a span begins within another one of its file or where that one ends
+abbrev pub goes_on : Span → Span → Bool
+goes_on s later = s.file == later.file && (nat_le s.first later.first && nat_le later.first s.end)
+
+-- a span that is put behind others; where it goes on from the last one, both are one
+abbrev pub put_span : List Span → Span → List Span
+put_span [] later = later ∷ []
+put_span (s ∷ []) later = if goes_on s later then joined s later ∷ [] else s ∷ later ∷ []
+put_span (s ∷ t ∷ spans) later = s ∷ put_span (t ∷ spans) later
+
+-- spans, each joined to the one before where it goes on from there
+abbrev pub gathered : List Span → List Span
+gathered spans = fold put_span [] spans
 
 abbrev pub run_of : Span → Run
 run_of s = record { file = s.file; first = s.first; length = s.end - s.first }

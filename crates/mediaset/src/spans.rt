@@ -1,8 +1,9 @@
 // Kept frames round single pieces.
 ghost use Rattle.std.specs.Prelude.{◌≡◌, ◌++◌, IfOk, OnOk, option_to_list};
-ghost use Rattle.std.specs.List.{All, flat_map};
+ghost use Rattle.std.specs.List.{All, flat_map, fold};
 ghost use Rattle.sound_terms.specs.Groups.{IsPiece, pieces_of};
 ghost use Rattle.mediaset.specs.Spans as spec;
+ghost use Rattle.mediaset.specs.Spans.{gathered, put_span};
 
 use interval::{Intervals, Piece};
 use sound_terms::Homes;
@@ -42,6 +43,33 @@ fn span_of(piece: &Piece, homes: &Homes, handle: u64) -> Option<Span>
     })
 }
 
+/// Whether a span begins within another one or where that one ends: both are one then.
+fn goes_on(last: &Span, span: &Span) -> bool
+    ensures { result ≡ spec.goes_on last.now span.now }
+{
+    last.file == span.file && last.first <= span.first && span.first <= last.end
+}
+
+/// Adds a span to the last one, where it goes on from there as most do, and else behind it.
+fn push_span(spans: &mut Vec<Span>, span: Span) -> Result<(), AllocError>
+    ensures { OnOk result (spans.new.items ≡ put_span spans.old.items span) }
+{
+    let Some(last) = spans.pop() else {
+        spans.push(span)?;
+        return Ok(());
+    };
+    if goes_on(&last, &span) {
+        spans.push(Span {
+            end: last.end.max(span.end),
+            ..last
+        })?;
+        return Ok(());
+    }
+    spans.push(last)?;
+    spans.push(span)?;
+    Ok(())
+}
+
 /// Adds the spans of pieces.
 fn push_spans(
     pieces: &[Piece],
@@ -50,24 +78,26 @@ fn push_spans(
     spans: &mut Vec<Span>,
 ) -> Result<(), AllocError>
     requires { All IsPiece pieces.now }
-    ensures { OnOk result (spans.new.items ≡ spans.old.items ++ flat_map (spec.span_of homes.now handle) pieces.now) }
+    ensures { OnOk result (spans.new.items
+        ≡ fold put_span spans.old.items (flat_map (spec.span_of homes.now handle) pieces.now)) }
 {
     for piece in pieces {
         if let Some(span) = span_of(piece, homes, handle) {
-            spans.push(span)?;
+            push_span(spans, span)?;
         }
     }
     Ok(())
 }
 
-/// The spans of all pieces of groups.
+/// The spans of all pieces of groups, each joined to the one before where it goes on from there.
 pub fn spans_of(
     alloc: Global,
     intervals: &Intervals,
     homes: &Homes,
     handle: u64,
 ) -> Result<Vec<Span>, AllocError>
-    ensures { IfOk result (λ spans. spans.items ≡ flat_map (spec.span_of homes.now handle) (pieces_of intervals.now)) }
+    ensures { IfOk result (λ spans. spans.items
+        ≡ gathered (flat_map (spec.span_of homes.now handle) (pieces_of intervals.now))) }
 {
     let mut spans = Vec::new(alloc);
     for group in intervals.groups() {
