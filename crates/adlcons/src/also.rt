@@ -2,7 +2,7 @@
 ghost use Rattle.opening.specs.Further.{WasRead};
 
 use crate::refusal::put_project_place;
-use adlread::Faults;
+use adlread::{AdlFault, Faults};
 use console::{Console, put_counted};
 use consolidate::Fault;
 use explanations::further_meaning;
@@ -25,8 +25,8 @@ pub fn tell_further<S: Shelf, E: Console>(
     let Fault::Project(first) = first else {
         return;
     };
-    if let opening::Fault::List(_) = first {
-        tell_further_lines(alloc, list, most, err);
+    if let opening::Fault::List(first) = first {
+        tell_further_lines(alloc, list, *first, most, err);
         return;
     }
     let Ok(further) = further_faults(alloc, list, shelf, first, most) else {
@@ -41,11 +41,16 @@ pub fn tell_further<S: Shelf, E: Console>(
 }
 
 /// Prints the lines at fault of a list behind the first one, so many at most, and whether there are more.
-fn tell_further_lines<E: Console>(alloc: Global, list: &[u8], most: usize, err: &mut E) {
-    let Ok(mut faults) = Faults::new(alloc, list) else {
+fn tell_further_lines<E: Console>(
+    alloc: Global,
+    list: &[u8],
+    first: AdlFault,
+    most: usize,
+    err: &mut E,
+) {
+    let Ok(mut faults) = Faults::behind(alloc, list, first) else {
         return;
     };
-    let _ = faults.next_fault(alloc);
     for _ in 0..most {
         let Some(fault) = faults.next_fault(alloc) else {
             return;

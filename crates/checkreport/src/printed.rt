@@ -9,7 +9,7 @@ ghost use Rattle.console.specs.Printing.{Prints};
 ghost use Rattle.checkreport.specs.Reported.{IsReportOf, IsReported};
 
 use crate::text::{accepted_text, refused_text};
-use adlread::Faults;
+use adlread::{AdlFault, Faults};
 use console::{Console, Refusal, put_refusal};
 use opening::{Fault, further_faults};
 use projectcheck::Checked;
@@ -81,8 +81,8 @@ fn report_of<S: Shelf>(
 ) -> Result<String, AllocError>
     ensures { IfOk result (λ text. IsReportOf first.now (string_bytes text)) }
 {
-    if let Fault::List(_) = first {
-        return report_of_lines(alloc, list, first);
+    if let Fault::List(fault) = first {
+        return report_of_lines(alloc, list, first, *fault);
     }
     match further_faults(alloc, list, shelf, first, usize::MAX) {
         Ok(further) => told(alloc, first, &further.faults, true),
@@ -90,14 +90,17 @@ fn report_of<S: Shelf>(
     }
 }
 
-/// The report of a list whose text is refused, with its further lines at fault.
-fn report_of_lines(alloc: Global, list: &[u8], first: &Fault) -> Result<String, AllocError>
+/// The report of a list whose text is refused for this fault of it, with its further lines at fault.
+fn report_of_lines(
+    alloc: Global,
+    list: &[u8],
+    first: &Fault,
+    fault: AdlFault,
+) -> Result<String, AllocError>
     ensures { IfOk result (λ text. IsReportOf first.now (string_bytes text)) }
 {
     let mut faults = Vec::new(alloc);
-    let mut found = Faults::new(alloc, list)?;
-    // The first one is told already.
-    let _ = found.next_fault(alloc);
+    let mut found = Faults::behind(alloc, list, fault)?;
     for _ in 0..list.len() {
         match found.next_fault(alloc) {
             Some(fault) => faults.push(Fault::List(fault))?,

@@ -222,10 +222,9 @@ fn line_at_fault<'a>(fault: &Fault, list: &'a [u8]) -> Option<LineAtFault<'a>> {
         }
     };
     let line = line_of(list, number)?;
-    let rate = rate_of(list);
     let stood = stood_at(line, *stood);
-    let passed = if *fault == TextFault::BadTime && passes(stood.text, rate) {
-        Some(rate)
+    let passed = if *fault == TextFault::BadTime {
+        passed_rate(stood.text, list)
     } else {
         None
     };
@@ -236,6 +235,12 @@ fn line_at_fault<'a>(fault: &Fault, list: &'a [u8]) -> Option<LineAtFault<'a>> {
         passed,
         hint,
     })
+}
+
+/// The rate of the list, where this has the shape of a time and its frame passes it.
+fn passed_rate(time: &[u8], list: &[u8]) -> Option<Rate> {
+    let rate = rate_of(list);
+    if passes(time, rate) { Some(rate) } else { None }
 }
 
 /// Whether this has the shape of a time, and its frame passes the rate.
