@@ -85,7 +85,6 @@ impl Group {
         requires { IsTrue (is_followed_by self.old later) }
         ensures appended { OnOk result (self.new ≡ self.old ++ later) }
     {
-        self.pieces.reserve_exact(later.pieces.len())?;
         self.pieces.extend_from_slice(later.pieces.as_slice())?;
         Ok(())
     }

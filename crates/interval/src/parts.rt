@@ -39,12 +39,6 @@ fn push_stretch(
     Ok(())
 }
 
-/// How many parts an event of this length has with fades of these lengths: its group takes no more memory than for them.
-fn parts_in(length: u64, rise: u64, fall: u64) -> usize {
-    let faded = rise.saturating_add(fall);
-    usize::from(rise > 0) + usize::from(faded < length) + usize::from(fall > 0)
-}
-
 /// The pieces of an event.
 fn pieces_of(alloc: Global, index: &BoundIndex, event: &Event) -> Result<Pieces, AllocError>
     requires { IsPlayable index.now event.now }
@@ -53,7 +47,7 @@ fn pieces_of(alloc: Global, index: &BoundIndex, event: &Event) -> Result<Pieces,
     let length = event.dest_out.get() - event.dest_in.get();
     let rise = event.rise.length.get();
     let fall = event.fall.length.get();
-    let mut pieces = Pieces::with_capacity(alloc, parts_in(length, rise, fall))?;
+    let mut pieces = Pieces::new(alloc);
     let rising = Shape::Rise {
         offset: 0,
         den: rise,

@@ -1,37 +1,32 @@
 // Each piece as a group of its own.
-ghost use Rattle.std.specs.Prelude.{◌≡◌, ◌++◌, false, IfOk, OnOk, reverse};
+ghost use Rattle.std.specs.Prelude.{◌≡◌, ◌++◌, false, IfOk, OnOk};
 ghost use Rattle.std.specs.List.{flat_map};
 ghost use Rattle.sound_terms.specs.Passes as spec;
 ghost use Rattle.passes.specs.Alone.{each_alone};
 
-use crate::waiting::Waiting;
 use crate::{Pass, PassFault};
 use interval::{Group, Intervals};
 use std::alloc::{AllocError, Global};
 
-/// Adds each piece of a group, the last one first, as a group of its own.
+/// Adds each piece of a group as a group of its own.
 fn push_each(group: &Group, groups: &mut Vec<Group>) -> Result<(), AllocError>
-    ensures { OnOk result (groups.new.items ≡ groups.old.items ++ reverse (each_alone group.now)) }
+    ensures { OnOk result (groups.new.items ≡ groups.old.items ++ each_alone group.now) }
 {
     let alloc = *groups.allocator();
-    let mut left = group.pieces();
-    while let [before @ .., piece] = left {
+    for piece in group.pieces() {
         groups.push(Group::alone(alloc, *piece))?;
-        left = before;
     }
     Ok(())
 }
 
 /// Each piece of the groups as a group of its own.
-fn pieces_alone(intervals: Intervals) -> Result<Vec<Group>, AllocError>
-    ensures { IfOk result (λ groups. groups.items ≡ flat_map each_alone intervals) }
+fn pieces_alone(intervals: &Intervals) -> Result<Vec<Group>, AllocError>
+    ensures { IfOk result (λ groups. groups.items ≡ flat_map each_alone intervals.now) }
 {
     let mut groups = Vec::new(intervals.allocator());
-    let mut waiting = Waiting::from_last(intervals.into_groups());
-    while let Some(group) = waiting.next() {
-        push_each(&group, &mut groups)?;
+    for group in intervals.groups() {
+        push_each(group, &mut groups)?;
     }
-    groups.reverse();
     Ok(groups)
 }
 
@@ -55,6 +50,6 @@ impl Pass for SplitFades {
         _silent: &[bool],
     ) -> Result<Intervals, PassFault> {
         let _ = intervals.groups();
-        Ok(Intervals::ordered(pieces_alone(intervals)?)?)
+        Ok(Intervals::ordered(pieces_alone(&intervals)?)?)
     }
 }

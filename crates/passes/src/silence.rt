@@ -4,7 +4,6 @@ ghost use Rattle.std.specs.List.{list_all};
 ghost use Rattle.sound_terms.specs.Passes as spec;
 ghost use Rattle.sound_terms.specs.Passes.{without_silent};
 
-use crate::waiting::Waiting;
 use crate::{Pass, PassFault};
 use interval::{Group, Intervals};
 use std::alloc::{AllocError, Global};
@@ -29,8 +28,7 @@ fn sounding(intervals: Intervals, silent: &[bool]) -> Result<Vec<Group>, AllocEr
 {
     let mut left = silent;
     let mut sounding = Vec::new(intervals.allocator());
-    let mut waiting = Waiting::of(intervals.into_groups());
-    while let Some(group) = waiting.next() {
+    for group in intervals.into_groups() {
         let count = group.pieces().len();
         if !is_called(count, left) {
             sounding.push(group)?;

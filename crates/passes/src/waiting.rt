@@ -1,5 +1,5 @@
 // Groups that wait for a pass.
-ghost use Rattle.std.specs.Prelude.{◌≡◌, ◌∷◌, [], MatchOption, reverse};
+ghost use Rattle.std.specs.Prelude.{◌≡◌, ◌∷◌, [], MatchOption};
 
 use interval::Group;
 use std::marker::Model;
@@ -30,14 +30,6 @@ impl Waiting {
         ensures { result ≡ groups.items }
     {
         groups.reverse();
-        Waiting { groups }
-    }
-
-    /// These groups, the last one first. Where each group lies behind the ones before it in memory, its memory is then at
-    /// the end of all that is taken, and the system has it back at once.
-    pub(crate) fn from_last(groups: Vec<Group>) -> Self
-        ensures { result ≡ reverse groups.items }
-    {
         Waiting { groups }
     }
 

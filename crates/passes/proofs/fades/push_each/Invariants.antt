@@ -1,14 +1,6 @@
-use Rattle.std.proofs.Common.{◌≡◌, ◌≤◌, ◌++◌, length, reverse}
-use Rattle.std.specs.List.{All}
-use Rattle.sound_terms.specs.Groups.{IsPiece}
+use Rattle.std.proofs.Common.{◌≡◌, ◌++◌, take}
 use Rattle.passes.specs.Alone.{each_alone}
 use Rattle.passes.proofs.fades.push_each.Given as goal
 
--- what is left stands behind what is put out, the last one first
-abbrev pub invariant-loop-left : goal.invariant-loop-left
-invariant-loop-left l =
-    (l.groups.items ++ reverse (each_alone l.left) ≡ l.fn.groups.items ++ reverse (each_alone l.fn.group))
-    × All IsPiece l.left × (length l.left ≤ length l.fn.group)
-
-abbrev pub decreases-loop-left : goal.decreases-loop-left
-decreases-loop-left l = length l.left
+abbrev pub invariant-loop-piece : goal.invariant-loop-piece
+invariant-loop-piece l = l.groups.items ≡ l.fn.groups.items ++ each_alone (take l.piece-index l.piece-items)
