@@ -3,6 +3,7 @@ use Rattle.std.proofs.Common.{◌≡◌, ℕ, Bool, true, false, List, [], ◌�
 use Rattle.std.specs.Prelude.{codes, flat_map, nat_le, unwrap_or, ◌==◌}
 use Rattle.std.specs.List.{list_all}
 use Rattle.std.proofs.lemmas.Bool.Decides.{nat_tests}
+use Rattle.std.proofs.lemmas.List.{append-nil}
 use Rattle.std.proofs.Math.Bool.{and-false}
 use Rattle.facts.specs.Tests.{and_left, and_right}
 use Rattle.sampletime.specs.TimeCode.{default_separators}
@@ -15,12 +16,13 @@ use Rattle.list_terms.specs.HeaderLaws.{has_sequence}
 use Rattle.list_terms.specs.Lines.{lines_of}
 use Rattle.list_terms.specs.Tokens.{trimmed}
 use Rattle.list_terms.specs.RateLaws.{rate_of-read}
+use Rattle.list_terms.specs.ReadingLaws.{begun}
 use Rattle.list_terms.specs.Text.{Context, Entries, all_events, before_list, finished, is_behind, is_end, is_list_begin, is_opened, nothing_read, opened, opened_name, outside, project_of, read_from, section_of, tag_of, text_value, with_line}
 use Rattle.list_terms.specs.WholeProject.{both_rates, lines_of_section, no_rates, told_rates}
 use Rattle.adlread.specs.CutLines.{NumberedLine, is_empty, with_numbers, texts}
 use Rattle.adlread.specs.Spells.{AreBlocks, BlankBlock, Block, NoBlocks, SectionBlock, Spells, SpellsAtRate, Titled, lines_of_block}
 use Rattle.adlread.proofs.FieldLaws.{ok_same}
-use Rattle.adlread.proofs.Fits.{Continues, EventsFit, Fits, IndexFits, IsCounted, IsSound, begun, section_walked}
+use Rattle.adlread.proofs.Fits.{Continues, EventsFit, Fits, IndexFits, IsCounted, IsSound, section_walked}
 use Rattle.adlread.proofs.LineLaws.{lines_are_cut}
 use Rattle.adlread.proofs.SettingLines.{rates_read, settings_read}
 use Rattle.adlread.proofs.Stages.{outside_of, read_all, read_from-all, read_inside, read_last, read_step}
@@ -96,14 +98,6 @@ same_project :
 same_project a b h r s e p n =
     λ i. record { header = h i; rate = r i; sources = s i; events = e i; separators = p i; notices = n i }
 
-no_more_notices : {X : Type 0} (now all : List X) → now ++ [] ≡ all → now ≡ all
-no_more_notices [] all e = e
-no_more_notices (x ∷ now) [] e = absurd (cc)
-no_more_notices (x ∷ now) (y ∷ all) e =
-    let same : x ≡ y = cc in
-    let others : now ++ [] ≡ all = cc in
-    λ i. same i ∷ no_more_notices now all others i
-
 module _ (rate : ℕ) where
   -- ---- lines between sections
 
@@ -176,7 +170,7 @@ module _ (rate : ℕ) where
       let rates : c.header.rates ≡ both_rates = ok_same _ _ (sym counts.told ∙ told) in
       let index = index_end c.has_index c.sources p.sources fits.index in
       let events = events_end c.has_events c.entries p.events p.separators fits.events in
-      let notices = no_more_notices c.notices p.notices fits.notices in
+      let notices = sym (append-nil c.notices) ∙ fits.notices in
       let there = has_sequence rate c.header.lines.sequence told in
       let same = same_project (project_of rate c) p header (sym sound.same_rate) index.1 events.1.0 events.1.1 notices in
       rw (there, index.0, events.0, ap (λ (r : Rates). r.sample_rate) rates, ap (λ (r : Rates). r.frame_rate) rates)
@@ -199,8 +193,7 @@ module _ (rate : ℕ) where
       ∙ read_blocks others p sound c line.number end behind is
       (record { header = fits.header; index = fits.index; events = fits.events; notices = fits.notices }) counts ends
   read_blocks (SectionBlock s {blocks} h others) p sound c n end behind is fits counts ends =
-      let w = section_walked rate p sound blocks c s.name s.opening s.content s.ending s.notices counts s.meaning fits
-      h.noticed in
+      let w = section_walked rate p sound blocks c s counts s.meaning fits h.noticed in
       let begin = begun c s.opening.number s.meaning s.name in
       let rest = flat_map lines_of_block blocks ++ (end ∷ behind) in
       let apart : flat_map lines_of_block (Titled s ∷ blocks) ++ (end ∷ behind)

@@ -1,29 +1,27 @@
 -- The lines of an event list are read as the entries that they spell, and as no others.
-use Rattle.std.proofs.Common.{◌≡◌, ℕ, Bool, true, false, List, [], ◌∷◌, ◌++◌, length, Option, None, Some, Result, Ok, Err, IsTrue, refl, ap, sym, subst, ◌∙◌, append_assoc, arith}
-use Rattle.std.specs.Prelude.{codes, if◌then◌else◌, ◌==◌, map, ⊤}
+use Rattle.std.proofs.Common.{◌≡◌, ℕ, Bool, true, false, List, [], ◌∷◌, ◌++◌, length, Option, None, Some, Ok, IsTrue, refl, ap, sym, subst, ◌∙◌, append_assoc, arith}
+use Rattle.std.specs.Prelude.{codes, ◌==◌, map, ⊤}
 use Rattle.std.specs.List.{list_any}
 use Rattle.facts.specs.Distinct.{moved, not_taken}
 use Rattle.facts.specs.Tests.{and_both, and_left, and_right}
 use Rattle.sound_terms.specs.declared.Event.{Event}
 use Rattle.list_terms.specs.declared.OpenEntry.{OpenEntry}
 use Rattle.list_terms.specs.declared.Section.TheVariants as section
-use Rattle.list_terms.specs.declared.TextFault.{TextFault}
-use Rattle.list_terms.specs.declared.TextFault.TheVariants.{DuplicateNumber, RepeatedFade, SectionMismatch, Unplaced, Unsupported}
-use Rattle.list_terms.specs.Steps.{err_map, ok_map}
-use Rattle.list_terms.specs.Tokens.{Cut, TokenText, token_at}
+use Rattle.list_terms.specs.declared.TextFault.TheVariants.{RepeatedFade, Unplaced, Unsupported}
+use Rattle.list_terms.specs.ReadingLaws.{BlankEvent, FrontRemark, Further, IsEventLine, ToldEntry, entry_number, event_line_is}
+use Rattle.list_terms.specs.Tokens.{TokenText, token_at}
 use Rattle.list_terms.specs.Fields.{is_keyword, is_zero}
-use Rattle.list_terms.specs.Forms.{Done, Number, Refused, Then, Unless, any, mapped, reads, value_at}
+use Rattle.list_terms.specs.Forms.{Done, Number, Then, Unless, any, mapped, reads}
 use Rattle.list_terms.specs.EntryLines.{entry_with, event_fields, fade_fields, remark, with_fall, with_rise}
 use Rattle.list_terms.specs.Text as list
-use Rattle.list_terms.specs.Text.{Context, Entries, LocatedFault, all_events, at_entry, at_line, at_open, entry_of, further_line, in_event_list, in_section, is_tag, with_event}
-use Rattle.list_terms.specs.WholeProject.{AreDistinct, entry_numbers, is_event}
+use Rattle.list_terms.specs.Text.{Context, Entries, all_events, entry_of, further_line, in_event_list, in_section, is_tag, with_event}
+use Rattle.list_terms.specs.WholeProject.{AreDistinct, entry_numbers}
 use Rattle.adlread.specs.CutLines.{CutsTo, HasTokens, NumberedLine}
 use Rattle.adlread.specs.LineGrammar.{IsLineOf, SpellsLine, entry_line, fade_line, is_remark, is_zero_gain}
 use Rattle.adlread.specs.Spells.{EntriesEnd, FallLine, FirstEntry, GainLine, NextEntry, NoEntries, RemarkBehind, RemarkLine, RiseLine, SpelledEntry, SpellsBehind, SpellsEntries, faded, with_fades}
 use Rattle.adlread.proofs.CutLaws.{cut_next, cut_none, first_cut, no_cut}
-use Rattle.adlread.proofs.FieldLaws.{all_cut, all_tokens_are, always, chain, ends, err_map_ok, is_end_of, is_named, is_numbered, ok_map_ok, ok_same, reads_all, reads_end, reads_mapped, reads_numbered, refused, spells_named, told_read, unless_ok, unless_read}
+use Rattle.adlread.proofs.FieldLaws.{all_cut, all_tokens_are, chain, ends, is_end_of, is_named, is_numbered, ok_map_ok, ok_same, reads_all, reads_end, reads_mapped, refused, spells_named, told_read, unless_read}
 use Rattle.adlread.proofs.Keywords.{other_keyword}
-use Rattle.adlread.proofs.Numbered.{AreDistinct-nil, distinct-changed, distinct-push}
 use Rattle.adlread.proofs.Walk.{walk, walk_step}
 
 abbrev pub with_entries : Context → Entries → Context
@@ -85,134 +83,116 @@ record AreTold
   is : next ≡ with_entries c last
   all_are : all_events last.events last.entry ≡ events ++ faded entry.event rise fall ∷ events_of entries
   separators_are : last.separators ≡ Some separators
-  distinct :
-      AreDistinct (entry_numbers (events ++ entry.event ∷ []))
-      → AreDistinct (entry_numbers (all_events last.events last.entry))
 
 none_told : (fade : Option ℕ) → IsFree fade true → fade ≡ None
 none_told None h = refl
 none_told (Some fade) h = absurd (cc)
 
--- an entry has the number of its line
-number_of :
-    (rate n : ℕ) (line : List ℕ) (g : Event × List ℕ) → reads (event_fields rate n) line ≡ Ok g → g.0.number ≡ n
-number_of rate n line g e =
-    always (λ g. g.0.number ≡ n) (event_fields rate n) line g (λ _ kind index source dest a b c. refl) e
-
 module _ (rate : ℕ) where
   -- ---- one line as it is read
 
-  -- a line that isn't an `(Entry)` line
-  further_read :
-      (c : Context) (n : ℕ) (text rest : List ℕ) (token : TokenText) (old new : Entries) → is_tag text ≡ false
-      → token_at text ≡ Ok (Some (token, rest)) → is_keyword (codes "Entry") token ≡ false
-      → further_line rate old token rest ≡ Ok new
-      → in_event_list rate (with_entries c old) n text ≡ Ok (with_entries c new)
-  unfolding in_event_list
-  further_read c n text rest token old new untagged at other f = rw (untagged, at, other, f) refl
+  module _ (c : Context) (n : ℕ) (text : List ℕ) where
+    -- the list so far, and the list with this line
+    abbrev Leads : Entries → Entries → Type 0
+    Leads old new = in_event_list rate (with_entries c old) n text ≡ Ok (with_entries c new)
 
-  blank_read : (c : Context) (n : ℕ) (text : List ℕ) → HasTokens text [] → in_event_list rate c n text ≡ Ok c
-  unfolding in_event_list
-  blank_read c n text h = rw (h.untagged, no_cut h.cut) refl
+    -- a line that isn't an `(Entry)` line
+    further_read :
+        (rest : List ℕ) (token : TokenText) (old new : Entries) → is_tag text ≡ false
+        → token_at text ≡ Ok (Some (token, rest)) → is_keyword (codes "Entry") token ≡ false
+        → further_line rate old token rest ≡ Ok new → Leads old new
+    unfolding in_event_list
+    further_read rest token old new untagged at other f = rw (untagged, at, other, f) refl
 
-  remark_read :
-      (c : Context) (n : ℕ) (text : List ℕ) (tokens : List TokenText) (events : List Event) (entry : OpenEntry)
-      (separators : List ℕ)
-      → HasTokens text tokens → IsTrue (is_remark tokens)
-      → in_event_list rate (with_entries c (behind events entry separators)) n text
-      ≡ Ok (with_entries c (behind events entry separators))
-  unfolding further_line entry_with
-  remark_read c n text [] events entry separators h is =
-      blank_read (with_entries c (behind events entry separators)) n text h
-  remark_read c n text (token ∷ tokens) events entry separators h is =
-      let f = first_cut h.cut in
-      further_read c n text f.rest token (behind events entry separators) (behind events entry separators) h.untagged f.at
-      (other_keyword (codes "Rem") (codes "Entry") token refl is)
-      (rw (
-        other_keyword (codes "Rem") (codes "Infade") token refl is,
-        other_keyword (codes "Rem") (codes "Outfade") token refl is,
-        is,
-        reads_end entry f.rest (is_end_of f.rest tokens f.cut),
-      ) refl)
+    blank_read : (old : Entries) → HasTokens text [] → Leads old old
+    unfolding in_event_list
+    blank_read old h = rw (h.untagged, no_cut h.cut) refl
 
-  gain_read :
-      (c : Context) (n : ℕ) (text : List ℕ) (tokens : List TokenText) (events : List Event) (entry : OpenEntry)
-      (separators : List ℕ)
-      → HasTokens text tokens → IsTrue (is_zero_gain tokens)
-      → in_event_list rate (with_entries c (behind events entry separators)) n text
-      ≡ Ok (with_entries c (behind events entry separators))
-  unfolding further_line entry_with
-  gain_read c n text [] events entry separators h is = absurd (cc)
-  gain_read c n text (token ∷ tokens) events entry separators h both =
-      let f = first_cut h.cut in
-      let is = and_left (is_keyword (codes "Gain") token) _ both in
-      let zeros = and_right (is_keyword (codes "Gain") token) _ both in
-      further_read c n text f.rest token (behind events entry separators) (behind events entry separators) h.untagged f.at
-      (other_keyword (codes "Gain") (codes "Entry") token refl is)
-      (rw (
-        other_keyword (codes "Gain") (codes "Infade") token refl is,
-        other_keyword (codes "Gain") (codes "Outfade") token refl is,
-        other_keyword (codes "Gain") (codes "Rem") token refl is,
-        is,
-        reads_all (λ t. is_zero t.content) entry f.rest
-            (all_cut (λ t. is_zero t.content) (length f.rest) f.rest tokens (omega arith) f.cut zeros),
-      ) refl)
+    -- a remark before the first entry
+    first_remark_read : (tokens : List TokenText) → HasTokens text tokens → IsTrue (is_remark tokens) → Leads nothing nothing
+    unfolding further_line remark
+    first_remark_read [] h is = blank_read nothing h
+    first_remark_read (token ∷ tokens) h is =
+        let f = first_cut h.cut in
+        further_read f.rest token nothing nothing h.untagged f.at
+        (other_keyword (codes "Rem") (codes "Entry") token refl is)
+        (rw (is, reads_end {A = Unit {0}} (tt {0}) f.rest (is_end_of f.rest tokens f.cut)) refl)
 
-  rise_read :
-      (c : Context) (n : ℕ) (text : List ℕ) (fade : ℕ) (events : List Event) (entry : OpenEntry) (separators : List ℕ)
-      → SpellsLine (fade_line rate (codes "Infade")) text fade → entry.has_rise ≡ false
-      → in_event_list rate (with_entries c (behind events entry separators)) n text
-      ≡ Ok (with_entries c (behind events (with_rise entry fade) separators))
-  unfolding further_line entry_with
-  rise_read c n text fade events entry separators h free =
-      let f = is_named (codes "Infade") (fade_fields rate) text fade h in
-      further_read c n text f.rest f.keyword (behind events entry separators)
-      (behind events (with_rise entry fade) separators) h.cut.untagged f.at
-      (other_keyword (codes "Infade") (codes "Entry") f.keyword refl f.is)
-      (rw (f.is, told_read (with_rise entry) entry.has_rise RepeatedFade (fade_fields rate) f.rest fade free f.says) refl)
+    entry_read :
+        (g : Event × List ℕ) (entries : Entries) → SpellsLine (entry_line rate) text g
+        → list_any (λ other. other.number == g.0.number) (all_events entries.events entries.entry) ≡ false
+        → Leads entries (with_event entries g.0 g.1)
+    unfolding in_event_list list.entry_line entry_of
+    entry_read g entries h free =
+        let l = is_named (codes "Entry") (Then Number (event_fields rate)) text g h in
+        let f = is_numbered (event_fields rate) l.rest g l.says in
+        let new : list_any (λ other. other.number == f.number) (all_events entries.events entries.entry) ≡ false =
+        subst (λ m. list_any (λ other. other.number == m) (all_events entries.events entries.entry) ≡ false)
+        (entry_number rate f.number f.rest g f.says) free in
+        rw (h.cut.untagged, l.at, l.is, f.numbered, new, f.says) refl
 
-  fall_read :
-      (c : Context) (n : ℕ) (text : List ℕ) (fade : ℕ) (events : List Event) (entry : OpenEntry) (separators : List ℕ)
-      → SpellsLine (fade_line rate (codes "Outfade")) text fade → entry.has_fall ≡ false
-      → in_event_list rate (with_entries c (behind events entry separators)) n text
-      ≡ Ok (with_entries c (behind events (with_fall entry fade) separators))
-  unfolding further_line entry_with
-  fall_read c n text fade events entry separators h free =
-      let f = is_named (codes "Outfade") (fade_fields rate) text fade h in
-      further_read c n text f.rest f.keyword (behind events entry separators)
-      (behind events (with_fall entry fade) separators) h.cut.untagged f.at
-      (other_keyword (codes "Outfade") (codes "Entry") f.keyword refl f.is)
-      (rw (
-        other_keyword (codes "Outfade") (codes "Infade") f.keyword refl f.is,
-        f.is,
-        told_read (with_fall entry) entry.has_fall RepeatedFade (fade_fields rate) f.rest fade free f.says,
-      ) refl)
+    -- lines behind an entry
+    module _ (events : List Event) (entry : OpenEntry) (separators : List ℕ) where
+      abbrev Tells : OpenEntry → Type 0
+      Tells new = Leads (behind events entry separators) (behind events new separators)
 
-  entry_read :
-      (c : Context) (n : ℕ) (text : List ℕ) (g : Event × List ℕ) (entries : Entries)
-      → SpellsLine (entry_line rate) text g
-      → list_any (λ other. other.number == g.0.number) (all_events entries.events entries.entry) ≡ false
-      → in_event_list rate (with_entries c entries) n text ≡ Ok (with_entries c (with_event entries g.0 g.1))
-  unfolding in_event_list list.entry_line entry_of
-  entry_read c n text g entries h free =
-      let l = is_named (codes "Entry") (Then Number (event_fields rate)) text g h in
-      let f = is_numbered (event_fields rate) l.rest g l.says in
-      let new : list_any (λ other. other.number == f.number) (all_events entries.events entries.entry) ≡ false =
-      subst (λ m. list_any (λ other. other.number == m) (all_events entries.events entries.entry) ≡ false)
-      (number_of rate f.number f.rest g f.says) free in
-      rw (h.cut.untagged, l.at, l.is, f.numbered, new, f.says) refl
+      remark_read : (tokens : List TokenText) → HasTokens text tokens → IsTrue (is_remark tokens) → Tells entry
+      unfolding further_line entry_with
+      remark_read [] h is = blank_read (behind events entry separators) h
+      remark_read (token ∷ tokens) h is =
+          let f = first_cut h.cut in
+          further_read f.rest token (behind events entry separators) (behind events entry separators) h.untagged f.at
+          (other_keyword (codes "Rem") (codes "Entry") token refl is)
+          (rw (
+            other_keyword (codes "Rem") (codes "Infade") token refl is,
+            other_keyword (codes "Rem") (codes "Outfade") token refl is,
+            is,
+            reads_end entry f.rest (is_end_of f.rest tokens f.cut),
+          ) refl)
 
-  -- a remark before the first entry
-  first_remark_read :
-      (c : Context) (n : ℕ) (text : List ℕ) (tokens : List TokenText) → HasTokens text tokens → IsTrue (is_remark tokens)
-      → in_event_list rate (with_entries c nothing) n text ≡ Ok (with_entries c nothing)
-  unfolding further_line remark
-  first_remark_read c n text [] h is = blank_read (with_entries c nothing) n text h
-  first_remark_read c n text (token ∷ tokens) h is =
-      let f = first_cut h.cut in
-      further_read c n text f.rest token nothing nothing h.untagged f.at
-      (other_keyword (codes "Rem") (codes "Entry") token refl is)
-      (rw (is, reads_end {A = Unit {0}} (tt {0}) f.rest (is_end_of f.rest tokens f.cut)) refl)
+      gain_read : (tokens : List TokenText) → HasTokens text tokens → IsTrue (is_zero_gain tokens) → Tells entry
+      unfolding further_line entry_with
+      gain_read [] h is = absurd (cc)
+      gain_read (token ∷ tokens) h both =
+          let f = first_cut h.cut in
+          let is = and_left (is_keyword (codes "Gain") token) _ both in
+          let zeros = and_right (is_keyword (codes "Gain") token) _ both in
+          further_read f.rest token (behind events entry separators) (behind events entry separators) h.untagged f.at
+          (other_keyword (codes "Gain") (codes "Entry") token refl is)
+          (rw (
+            other_keyword (codes "Gain") (codes "Infade") token refl is,
+            other_keyword (codes "Gain") (codes "Outfade") token refl is,
+            other_keyword (codes "Gain") (codes "Rem") token refl is,
+            is,
+            reads_all (λ t. is_zero t.content) entry f.rest
+                (all_cut (λ t. is_zero t.content) (length f.rest) f.rest tokens (omega arith) f.cut zeros),
+          ) refl)
+
+      rise_read :
+          (fade : ℕ) → SpellsLine (fade_line rate (codes "Infade")) text fade → entry.has_rise ≡ false
+          → Tells (with_rise entry fade)
+      unfolding further_line entry_with
+      rise_read fade h free =
+          let f = is_named (codes "Infade") (fade_fields rate) text fade h in
+          further_read f.rest f.keyword (behind events entry separators)
+          (behind events (with_rise entry fade) separators) h.cut.untagged f.at
+          (other_keyword (codes "Infade") (codes "Entry") f.keyword refl f.is)
+          (rw (f.is, told_read (with_rise entry) entry.has_rise RepeatedFade (fade_fields rate) f.rest fade free f.says) refl)
+
+      fall_read :
+          (fade : ℕ) → SpellsLine (fade_line rate (codes "Outfade")) text fade → entry.has_fall ≡ false
+          → Tells (with_fall entry fade)
+      unfolding further_line entry_with
+      fall_read fade h free =
+          let f = is_named (codes "Outfade") (fade_fields rate) text fade h in
+          further_read f.rest f.keyword (behind events entry separators)
+          (behind events (with_fall entry fade) separators) h.cut.untagged f.at
+          (other_keyword (codes "Outfade") (codes "Entry") f.keyword refl f.is)
+          (rw (
+            other_keyword (codes "Outfade") (codes "Infade") f.keyword refl f.is,
+            f.is,
+            told_read (with_fall entry) entry.has_fall RepeatedFade (fade_fields rate) f.rest fade free f.says,
+          ) refl)
 
   -- ---- all lines, as they are read
 
@@ -248,19 +228,19 @@ module _ (rate : ℕ) where
       record { last = behind events entry separators; walked = refl; all_are = refl; separators_are = refl }
   read_behind (RemarkBehind line {lines} {rise} {fall} {entries} h others) c events entry separators r f distinct =
       one_more line lines c (behind events entry separators) (behind events entry separators) _ _
-      (remark_read c line.number line.text h.tokens events entry separators h.cut h.passes)
+      (remark_read c line.number line.text events entry separators h.tokens h.cut h.passes)
       (read_behind others c events entry separators r f distinct)
   read_behind (GainLine line {lines} {rise} {fall} {entries} h others) c events entry separators r f distinct =
       one_more line lines c (behind events entry separators) (behind events entry separators) _ _
-      (gain_read c line.number line.text h.tokens events entry separators h.cut h.passes)
+      (gain_read c line.number line.text events entry separators h.tokens h.cut h.passes)
       (read_behind others c events entry separators r f distinct)
   read_behind (RiseLine line fade {lines} {fall} {entries} h others) c events entry separators r f distinct =
       one_more line lines c (behind events entry separators) (behind events (with_rise entry fade) separators) _ _
-      (rise_read c line.number line.text fade events entry separators h r)
+      (rise_read c line.number line.text events entry separators fade h r)
       (read_behind others c events (with_rise entry fade) separators tt f distinct)
   read_behind (FallLine line fade {lines} {rise} {entries} h others) c events entry separators r f distinct =
       one_more line lines c (behind events entry separators) (behind events (with_fall entry fade) separators) _ _
-      (fall_read c line.number line.text fade events entry separators h f)
+      (fall_read c line.number line.text events entry separators fade h f)
       (read_behind others c events (with_fall entry fade) separators r tt distinct)
   read_behind (NextEntry line g {lines} {rise} {fall} {entries} h others) c events entry separators r f distinct =
       let front = events ++ entry.event ∷ [] in
@@ -361,169 +341,19 @@ module _ (rate : ℕ) where
   entry_with_is text rest token entry new t at false a false b false c false d e =
       absurd (refused Unsupported rest new (rw (a, b, c, d) at e))
 
-  -- an entry, and the list with it
-  record IsEntry (text : List ℕ) (c next : Context) (entries : Entries) : Type 0 where
-    g : Event × List ℕ
-    spelled : SpellsLine (entry_line rate) text g
-    free : list_any (λ other. other.number == g.0.number) (all_events entries.events entries.entry) ≡ false
-    is : with_entries c (with_event entries g.0 g.1) ≡ next
-
-  entry_of_is :
-      (entries new : Entries) (n : ℕ) (rest : List ℕ) → entry_of rate entries n rest ≡ Ok new
-      → (g : Event × List ℕ) × ((reads (event_fields rate n) rest ≡ Ok g) × ((with_event entries g.0 g.1 ≡ new)
-      × (list_any (λ other. other.number == n) (all_events entries.events entries.entry) ≡ false)))
-  unfolding entry_of
-  entry_of_is entries new n rest e =
-      let free = unless_ok (list_any (λ other. other.number == n) (all_events entries.events entries.entry))
-      DuplicateNumber _ new e in
-      let f = chain (reads (event_fields rate n) rest) (λ g. Ok (with_event entries g.0 g.1)) new free.1 in
-      (f.value, (f.is, (ok_same _ _ f.others, free.0)))
-
-  entry_line_is :
-      (c next : Context) (n : ℕ) (text rest : List ℕ) (token : TokenText) (entries : Entries) → is_tag text ≡ false
-      → token_at text ≡ Ok (Some (token, rest)) → is_keyword (codes "Entry") token ≡ true
-      → list.entry_line rate (with_entries c entries) n rest ≡ Ok next → IsEntry text c next entries
-  unfolding list.entry_line
-  entry_line_is c next n text rest token entries untagged at is e =
-      let a = chain (err_map (at_line n) (value_at Number rest)) _ next e in
-      let numbered = err_map_ok (at_line n) (value_at Number rest) a.value a.is in
-      let b = ok_map_ok (with_entries c) (entry_of rate entries a.value.0 a.value.1) next
-      (err_map_ok (at_entry n a.value.0) _ next a.others) in
-      by_fields a.value numbered b.value b.same (entry_of_is entries b.value a.value.0 a.value.1 b.is) where
-        by_fields :
-            (numbered : ℕ × List ℕ) → value_at Number rest ≡ Ok numbered → (new : Entries) → with_entries c new ≡ next
-            → (g : Event × List ℕ) × ((reads (event_fields rate numbered.0) numbered.1 ≡ Ok g) × ((with_event entries g.0 g.1 ≡ new)
-            × (list_any (λ other. other.number == numbered.0) (all_events entries.events entries.entry) ≡ false)))
-            → IsEntry text c next entries
-        by_fields numbered f new same (g, (fields, (made, free))) =
-            record {
-              g = g;
-              spelled = spells_named (codes "Entry") (Then Number (event_fields rate)) text g untagged (record {
-                keyword = token;
-                rest = rest;
-                at = at;
-                is = is;
-                says = reads_numbered (event_fields rate) rest numbered.1 numbered.0 g f fields;
-              });
-              free =
-                  subst (λ m. list_any (λ other. other.number == m) (all_events entries.events entries.entry) ≡ false)
-                  (sym (number_of rate numbered.0 numbered.1 g fields)) free;
-              is = ap (with_entries c) made ∙ same;
-            }
-
-  -- what a line says in a list whose last entry is open
-  data IsBehindLine (c : Context) (text : List ℕ) (events : List Event) (entry : OpenEntry)
-      (separators : List ℕ) : Context → Type 0 where
-    Further :
-        (new : OpenEntry) → IsFurther text entry new
-        → IsBehindLine c text events entry separators (with_entries c (behind events new separators))
-    Another : (g : Event × List ℕ) → SpellsLine (entry_line rate) text g
-        → list_any (λ other. other.number == g.0.number) (events ++ entry.event ∷ []) ≡ false
-        → IsBehindLine c text events entry separators
-        (with_entries c (behind (events ++ entry.event ∷ []) (opened_entry g.0) separators))
-
-  further_is :
-      (c next : Context) (n : ℕ) (text rest : List ℕ) (token : TokenText) (events : List Event) (entry : OpenEntry)
-      (separators : List ℕ)
-      → is_tag text ≡ false → token_at text ≡ Ok (Some (token, rest))
-      → err_map (at_open n (Some entry))
-      (ok_map (with_entries c) (further_line rate (behind events entry separators) token rest)) ≡ Ok next
-      → IsBehindLine c text events entry separators next
-  unfolding further_line
-  further_is c next n text rest token events entry separators untagged at e =
-      let a = ok_map_ok (with_entries c) _ next (err_map_ok (at_open n (Some entry)) _ next e) in
-      let b = ok_map_ok (λ new. behind events new separators) (reads (entry_with rate entry token) rest) a.value a.is in
-      let f = entry_with_is text rest token entry b.value untagged at (is_keyword (codes "Infade") token) refl
-      (is_keyword (codes "Outfade") token) refl
-      (is_keyword (codes "Rem") token) refl (is_keyword (codes "Gain") token) refl b.is in
-      rw (← a.same, ← b.same) (Further b.value f)
-
-  behind_line_is :
-      (c next : Context) (n : ℕ) (text : List ℕ) (events : List Event) (entry : OpenEntry) (separators : List ℕ)
-      → (tag : Bool) → is_tag text ≡ tag → (found : Result (Option Cut) TextFault) → token_at text ≡ found
-      → in_event_list rate (with_entries c (behind events entry separators)) n text ≡ Ok next
-      → IsBehindLine c text events entry separators next
-  unfolding in_event_list
-  behind_line_is c next n text events entry separators true t found f e =
-      absurd (let no : ◌≡◌ {A = Result Context LocatedFault} (Err (at_line n SectionMismatch)) (Ok next) =
-      rw t at e in cc)
-  behind_line_is c next n text events entry separators false t (Err fault) f e =
-      absurd (let no : ◌≡◌ {A = Result Context LocatedFault} (Err (at_open n (Some entry) fault)) (Ok next) =
-      rw (t, f) at e in cc)
-  behind_line_is c next n text events entry separators false t (Ok None) f e =
-      let same : with_entries c (behind events entry separators) ≡ next =
-      ok_same {E = LocatedFault} _ _ (rw (t, f) at e) in
-      rw (← same) (Further entry
-      (Remark (record { tokens = []; cut = record { untagged = t; cut = cut_none text f }; passes = refl })))
-  behind_line_is c next n text events entry separators false t (Ok (Some (token, rest))) f e =
-      by_test (is_keyword (codes "Entry") token) refl (rw (t, f) at e) where
-        by_test :
-            (is : Bool) → is_keyword (codes "Entry") token ≡ is
-            → (if is_keyword (codes "Entry") token then list.entry_line rate
-            (with_entries c (behind events entry separators)) n rest
-            else err_map (at_open n (Some entry))
-            (ok_map (with_entries c) (further_line rate (behind events entry separators) token rest))) ≡ Ok next
-            → IsBehindLine c text events entry separators next
-        by_test true is o =
-            let l = entry_line_is c next n text rest token (behind events entry separators) t f is (rw is at o) in
-            rw (← l.is) (Another l.g l.spelled l.free)
-        by_test false other o = further_is c next n text rest token events entry separators t f (rw other at o)
-
-  -- what a line says before the first entry
-  data IsFrontLine (c : Context) (text : List ℕ) : Context → Type 0 where
-    Before : IsLineOf is_remark text → IsFrontLine c text (with_entries c nothing)
-    First : (g : Event × List ℕ) → SpellsLine (entry_line rate) text g
-        → IsFrontLine c text (with_entries c (behind [] (opened_entry g.0) g.1))
-
   front_remark_is :
-      (c next : Context) (n : ℕ) (text rest : List ℕ) (token : TokenText) → is_tag text ≡ false
-      → token_at text ≡ Ok (Some (token, rest))
-      → (rem : Bool) → is_keyword (codes "Rem") token ≡ rem
-      → err_map (at_open n None) (ok_map (with_entries c) (further_line rate nothing token rest)) ≡ Ok next
-      → IsFrontLine c text next
-  unfolding further_line remark
-  front_remark_is c next n text rest token untagged at true is e =
-      let o : err_map (at_open n None) (ok_map (with_entries c) (ok_map (λ _. nothing) (reads (Done any tt) rest))) ≡ Ok next =
-      rw is at e in
-      let a = ok_map_ok (with_entries c) (ok_map (λ _. nothing) (reads (Done any tt) rest)) next
-      (err_map_ok (at_open n None) _ next o) in
-      let b = ok_map_ok (λ _. nothing) (reads (Done any tt) rest) a.value a.is in
-      let further = all_tokens_are any (length rest) rest (omega arith) (ends any tt b.value rest b.is).0 in
-      rw (← a.same, ← b.same)
-      (Before (line_of text rest token further.tokens is_remark untagged at further.cut is))
-  front_remark_is c next n text rest token untagged at false is e =
-      let o : err_map (at_open n None) (ok_map (with_entries c)
-      (ok_map (λ _. nothing) (reads {A = Unit {0}} (Refused Unplaced) rest))) ≡ Ok next = rw is at e in
-      let a = ok_map_ok (with_entries c) _ next (err_map_ok (at_open n None) _ next o) in
-      let b = ok_map_ok (λ _. nothing) (reads {A = Unit {0}} (Refused Unplaced) rest) a.value a.is in
-      absurd (refused Unplaced rest b.value b.is)
+      (text rest : List ℕ) (token : TokenText) → is_tag text ≡ false → token_at text ≡ Ok (Some (token, rest))
+      → (rem : Bool) → is_keyword (codes "Rem") token ≡ rem → reads (remark token) rest ≡ Ok tt → IsLineOf is_remark text
+  unfolding remark
+  front_remark_is text rest token untagged at true is e =
+      let further = all_tokens_are any (length rest) rest (omega arith) (ends any tt tt rest (rw is at e)).0 in
+      line_of text rest token further.tokens is_remark untagged at further.cut is
+  front_remark_is text rest token untagged at false is e =
+      absurd (refused {A = Unit {0}} Unplaced rest tt (rw is at e))
 
-  front_line_is :
-      (c next : Context) (n : ℕ) (text : List ℕ) → (tag : Bool) → is_tag text ≡ tag
-      → (found : Result (Option Cut) TextFault) → token_at text ≡ found
-      → in_event_list rate (with_entries c nothing) n text ≡ Ok next → IsFrontLine c text next
-  unfolding in_event_list
-  front_line_is c next n text true t found f e =
-      absurd (let no : ◌≡◌ {A = Result Context LocatedFault} (Err (at_line n SectionMismatch)) (Ok next) =
-      rw t at e in cc)
-  front_line_is c next n text false t (Err fault) f e =
-      absurd (let no : ◌≡◌ {A = Result Context LocatedFault} (Err (at_open n None fault)) (Ok next) =
-      rw (t, f) at e in cc)
-  front_line_is c next n text false t (Ok None) f e =
-      let same : with_entries c nothing ≡ next = ok_same {E = LocatedFault} _ _ (rw (t, f) at e) in
-      rw (← same) (Before (record { tokens = []; cut = record { untagged = t; cut = cut_none text f }; passes = refl }))
-  front_line_is c next n text false t (Ok (Some (token, rest))) f e =
-      by_test (is_keyword (codes "Entry") token) refl (rw (t, f) at e) where
-        by_test :
-            (is : Bool) → is_keyword (codes "Entry") token ≡ is
-            → (if is_keyword (codes "Entry") token then list.entry_line rate (with_entries c nothing) n rest
-            else err_map (at_open n None) (ok_map (with_entries c) (further_line rate nothing token rest))) ≡ Ok next
-            → IsFrontLine c text next
-        by_test true is o =
-            let l = entry_line_is c next n text rest token nothing t f is (rw is at o) in
-            rw (← l.is) (First l.g l.spelled)
-        by_test false other o =
-            front_remark_is c next n text rest token t f (is_keyword (codes "Rem") token) refl (rw other at o)
+  blank_is : (text : List ℕ) → is_tag text ≡ false → token_at text ≡ Ok None → IsLineOf is_remark text
+  blank_is text untagged at =
+      record { tokens = []; cut = record { untagged = untagged; cut = cut_none text at }; passes = refl }
 
   -- the lines spell what they told
   abbrev AreSpelledBehind : List NumberedLine → Context → List Event → OpenEntry → List ℕ → Context → Type 0
@@ -550,9 +380,6 @@ module _ (rate : ℕ) where
           all_are =
               r.all_are ∙ ap (λ rise. events ++ faded (with_rise entry fade).event rise r.fall ∷ events_of r.entries) none;
           separators_are = r.separators_are;
-          distinct =
-              λ d. r.distinct
-              (distinct-changed (λ e. e.number) is_event events entry.event (with_rise entry fade).event d refl);
         },
         RiseLine line fade h (subst (λ rise. SpellsBehind rate lines rise r.fall r.entries) none spells),
       )
@@ -569,23 +396,29 @@ module _ (rate : ℕ) where
           all_are =
               r.all_are ∙ ap (λ fall. events ++ faded (with_fall entry fade).event r.rise fall ∷ events_of r.entries) none;
           separators_are = r.separators_are;
-          distinct =
-              λ d. r.distinct
-              (distinct-changed (λ e. e.number) is_event events entry.event (with_fall entry fade).event d refl);
         },
         FallLine line fade h (subst (λ fall. SpellsBehind rate lines r.rise fall r.entries) none spells),
       )
 
   with_line_behind :
       (line : NumberedLine) (lines : List NumberedLine) (c : Context) (events : List Event) (entry : OpenEntry)
-      (separators : List ℕ) (middle next : Context)
-      → IsBehindLine c line.text events entry separators middle
+      (separators : List ℕ) (middle next : Context) → is_tag line.text ≡ false
+      → IsEventLine rate (with_entries c (behind events entry separators)) line.text middle
       → ((events : List Event) (entry : OpenEntry) → middle ≡ with_entries c (behind events entry separators)
       → AreSpelledBehind lines c events entry separators next)
       → AreSpelledBehind (line ∷ lines) c events entry separators next
-  with_line_behind line lines c events entry separators middle next (Further new f) others =
+  with_line_behind line lines c events entry separators middle next t (BlankEvent at) others =
+      with_further line lines c events entry entry separators next (Remark (blank_is line.text t at))
+      (others events entry refl)
+  with_line_behind line lines c events entry separators middle next t (FrontRemark token rest at none says) others =
+      absurd (cc)
+  with_line_behind line lines c events entry separators middle next t (Further last new token rest at is says) others =
+      let same : last ≡ entry = cc in
+      let f = entry_with_is line.text rest token entry new t at (is_keyword (codes "Infade") token) refl
+      (is_keyword (codes "Outfade") token) refl (is_keyword (codes "Rem") token) refl
+      (is_keyword (codes "Gain") token) refl (rw same at says) in
       with_further line lines c events entry new separators next f (others events new refl)
-  with_line_behind line lines c events entry separators middle next (Another g s free) others =
+  with_line_behind line lines c events entry separators middle next t (ToldEntry g h free) others =
       let front = events ++ entry.event ∷ [] in
       let told = others front (opened_entry g.0) refl in
       let r = told.0 in (
@@ -601,9 +434,8 @@ module _ (rate : ℕ) where
               r.all_are ∙ append_assoc events (entry.event ∷ [])
               (faded g.0 r.rise r.fall ∷ events_of r.entries);
           separators_are = r.separators_are;
-          distinct = λ d. r.distinct (distinct-push (λ e. e.number) is_event front g.0 g.0.number d free refl);
         },
-        NextEntry line g s told.1,
+        NextEntry line g (spells_named (codes "Entry") (Then Number (event_fields rate)) line.text g t h) told.1,
       )
 
   behind_is_read :
@@ -623,7 +455,6 @@ module _ (rate : ℕ) where
       is = sym (ok_same _ _ e);
       all_are = refl;
       separators_are = refl;
-      distinct = λ d. d;
     },
     EntriesEnd,
   )
@@ -631,9 +462,8 @@ module _ (rate : ℕ) where
       let f = chain
       (in_section rate (with_entries c (behind events entry separators)) line.number line.text section.EventList) _
       next e in
-      with_line_behind line lines c events entry separators f.value next
-      (behind_line_is c f.value line.number line.text events entry separators (is_tag line.text) refl
-      (token_at line.text) refl f.is)
+      let l = event_line_is rate (with_entries c (behind events entry separators)) f.value line.number line.text f.is in
+      with_line_behind line lines c events entry separators f.value next l.0 l.1
       (λ more new same. behind_is_read lines c more new separators next
       (subst (λ m. walk rate section.EventList m lines ≡ Ok next) same f.others))
 
@@ -644,35 +474,41 @@ module _ (rate : ℕ) where
     pub is : next ≡ with_entries c last
     pub all_are : all_events last.events last.entry ≡ events_of entries
     pub separators_are : last.separators ≡ first_separators entries
-    pub distinct : AreDistinct (entry_numbers (all_events last.events last.entry))
+
+  with_remark :
+      (line : NumberedLine) (lines : List NumberedLine) (c next : Context) → IsLineOf is_remark line.text
+      → AreSpelledEntries lines c next → AreSpelledEntries (line ∷ lines) c next
+  with_remark line lines c next h r = record {
+    entries = r.entries;
+    spells = RemarkLine line h r.spells;
+    last = r.last;
+    is = r.is;
+    all_are = r.all_are;
+    separators_are = r.separators_are;
+  }
 
   with_front_line :
-      (line : NumberedLine) (lines : List NumberedLine) (c middle next : Context) → IsFrontLine c line.text middle
-      → walk rate section.EventList middle lines ≡ Ok next
+      (line : NumberedLine) (lines : List NumberedLine) (c middle next : Context) → is_tag line.text ≡ false
+      → IsEventLine rate (with_entries c nothing) line.text middle → walk rate section.EventList middle lines ≡ Ok next
       → (walk rate section.EventList (with_entries c nothing) lines ≡ Ok next → AreSpelledEntries lines c next)
       → AreSpelledEntries (line ∷ lines) c next
-  with_front_line line lines c middle next (Before h) e others =
-      let r = others e in
-      record {
-        entries = r.entries;
-        spells = RemarkLine line h r.spells;
-        last = r.last;
-        is = r.is;
-        all_are = r.all_are;
-        separators_are = r.separators_are;
-        distinct = r.distinct;
-      }
-  with_front_line line lines c middle next (First g s) e others =
+  with_front_line line lines c middle next t (BlankEvent at) e others =
+      with_remark line lines c next (blank_is line.text t at) (others e)
+  with_front_line line lines c middle next t (FrontRemark token rest at none says) e others =
+      with_remark line lines c next
+      (front_remark_is line.text rest token t at (is_keyword (codes "Rem") token) refl says) (others e)
+  with_front_line line lines c middle next t (Further entry new token rest at is says) e others = absurd (cc)
+  with_front_line line lines c middle next t (ToldEntry g h free) e others =
       let told = behind_is_read lines c [] (opened_entry g.0) g.1 next e in
       let r = told.0 in
       record {
         entries = with_fades g r.rise r.fall ∷ r.entries;
-        spells = FirstEntry line g s told.1;
+        spells = FirstEntry line g
+            (spells_named (codes "Entry") (Then Number (event_fields rate)) line.text g t h) told.1;
         last = r.last;
         is = r.is;
         all_are = r.all_are;
         separators_are = r.separators_are;
-        distinct = r.distinct (distinct-push (λ e. e.number) is_event [] g.0 g.0.number AreDistinct-nil refl refl);
       }
 
   pub entries_are_read :
@@ -687,10 +523,8 @@ module _ (rate : ℕ) where
         is = sym (ok_same _ _ e);
         all_are = refl;
         separators_are = refl;
-        distinct = AreDistinct-nil;
       }
   entries_are_read (line ∷ lines) c next e =
       let f = chain (in_section rate (with_entries c nothing) line.number line.text section.EventList) _ next e in
-      with_front_line line lines c f.value next
-      (front_line_is c f.value line.number line.text (is_tag line.text) refl (token_at line.text) refl f.is)
-      f.others (entries_are_read lines c next)
+      let l = event_line_is rate (with_entries c nothing) f.value line.number line.text f.is in
+      with_front_line line lines c f.value next l.0 l.1 f.others (entries_are_read lines c next)

@@ -9,6 +9,7 @@ use Rattle.sampletime.specs.TimeCode.{samples_of}
 use Rattle.list_terms.specs.declared.TextFault.{TextFault}
 use Rattle.list_terms.specs.declared.TextFault.TheVariants.{BadTime, BadUrl, SectionMismatch, Unsupported}
 pub use Rattle.list_terms.specs.FormLaws.{always, ends, found, is_found, is_numbered, reads_all, reads_end, reads_may, reads_mapped, reads_numbered, refused, told_read, unless_read}
+pub use Rattle.list_terms.specs.ReadingLaws.{IsNamed}
 use Rattle.list_terms.specs.FormLaws.{IsMay, Nothing, Passed}
 pub use Rattle.list_terms.specs.StepLaws.{IsChain, IsImage, chain, err_map_ok, if_ok, ok_map_ok, ok_or_some, ok_same, unless_ok}
 pub use Rattle.list_terms.specs.EndLaws.{at_field, field_at}
@@ -180,14 +181,6 @@ says (May test fault y) line (token ∷ tokens) x cut h =
 says (Refused fault) line tokens x cut h = absurd h
 
 -- ---- a line behind its keyword
-
--- the keyword of a line, and what follows it, which says this
-pub record IsNamed {A : Type 0} (name : List ℕ) (form : Form A) (text : List ℕ) (x : A) : Type 0 where
-  pub keyword : TokenText
-  pub rest : List ℕ
-  pub at : token_at text ≡ Ok (Some (keyword, rest))
-  pub is : is_keyword name keyword ≡ true
-  pub says : reads form rest ≡ Ok x
 
 module _ {A : Type 0} (name : List ℕ) (form : Form A) (text : List ℕ) (x : A) where
   pub is_named : SpellsLine (named name form) text x → IsNamed name form text x

@@ -18,10 +18,6 @@ both_told :
 both_told rates h =
     rw (and_left rates.sample_rate rates.frame_rate h, and_right rates.sample_rate rates.frame_rate h) refl
 
-pub default-from_none :
-    (found : Option (List ℕ)) → found ≡ None → unwrap_or found default_separators ≡ default_separators
-default-from_none found h = rw h refl
-
 -- ---- lines
 
 abbrev are_lines : List (List ℕ) → Bool

@@ -12,7 +12,8 @@ use Rattle.list_terms.specs.declared.Section.TheVariants as section
 use Rattle.list_terms.specs.declared.Stage.TheVariants as stage
 use Rattle.list_terms.specs.Project.{Header, ListProject, Source}
 use Rattle.list_terms.specs.HeaderLaws.{IsKept, lines_at, project_kept, put_lines, sequence_kept, system_kept, told_in, told_in-none, told_in-sequence, told_in-system, track_list_kept, version_kept}
-use Rattle.list_terms.specs.Text.{Context, Entries, HeaderRead, all_events, in_section, in_unsupported, is_opened, no_entry, with_lines, with_section}
+use Rattle.list_terms.specs.ReadingLaws.{begun}
+use Rattle.list_terms.specs.Text.{Context, Entries, HeaderRead, all_events, in_section, in_unsupported, is_opened, no_entry, with_lines}
 use Rattle.list_terms.specs.WholeProject.{AreDistinct, both_rates, entry_numbers, index_numbers, is_system_line, line_count, lines_of_section, no_rates, told_rates}
 use Rattle.adlread.specs.CutLines.{NumberedLine, is_empty, texts}
 use Rattle.adlread.specs.Spells.{Block, IsPassedOver, SectionText, SpellsEntries, SpellsSources, Titled, kept, notice, notices_of_block, one_or_none, section_rank, sections, separators_of, SpelledEntry}
@@ -95,15 +96,13 @@ pub record IsHeaderPart (s : Section) : Type 0 where
       (h : Header) (lines : List (List ℕ)) → lines_at s h ≡ None
       → line_count (put_lines s (Some lines) h) ≡ line_count h + length lines
   pub behind :
-      (name : List ℕ) (opening : NumberedLine) (content : List NumberedLine) (ending : NumberedLine)
-      (notices : List Notice) (blocks : List Block) (now all : Header)
-      → HeaderFits now (Titled (titled s name opening content ending notices) ∷ blocks) all
-      → (lines_at s now ≡ None) × HeaderFits (put_lines s (Some (texts content)) now) blocks all
+      (part : SectionText) (blocks : List Block) (now all : Header)
+      → HeaderFits now (Titled (record part { meaning = s }) ∷ blocks) all
+      → (lines_at s now ≡ None) × HeaderFits (put_lines s (Some (texts part.content)) now) blocks all
   pub before :
-      (name : List ℕ) (opening : NumberedLine) (content : List NumberedLine) (ending : NumberedLine)
-      (notices : List Notice) (blocks : List Block) (now all : Header) → lines_at s now ≡ None
-      → HeaderFits (put_lines s (Some (texts content)) now) blocks all
-      → HeaderFits now (Titled (titled s name opening content ending notices) ∷ blocks) all
+      (part : SectionText) (blocks : List Block) (now all : Header) → lines_at s now ≡ None
+      → HeaderFits (put_lines s (Some (texts part.content)) now) blocks all
+      → HeaderFits now (Titled (record part { meaning = s }) ∷ blocks) all
 
 continued :
     {now all : Header} {v p s q t : List (List (List ℕ))} → Continues now.version v all.version
@@ -124,11 +123,11 @@ version_part = record {
   no_events = refl;
   silent = λ part none. none;
   counted = λ h lines none. let e = ap (λ ls. line_count (put_lines section.Version ls h)) none in omega (arith, e);
-  behind = λ name opening content ending notices blocks now all h.
-      let f = first_kept now.version (texts content) (kept section.Version blocks) all.version h.version in
+  behind = λ part blocks now all h.
+      let f = first_kept now.version (texts part.content) (kept section.Version blocks) all.version h.version in
       (f.0, continued f.1 h.project h.system h.sequence h.track_list);
-  before = λ name opening content ending notices blocks now all none h.
-      continued (none_kept now.version (texts content) (kept section.Version blocks) all.version none h.version)
+  before = λ part blocks now all none h.
+      continued (none_kept now.version (texts part.content) (kept section.Version blocks) all.version none h.version)
       h.project h.system h.sequence h.track_list;
 }
 
@@ -139,11 +138,11 @@ project_part = record {
   no_events = refl;
   silent = λ part none. none;
   counted = λ h lines none. let e = ap (λ ls. line_count (put_lines section.Project ls h)) none in omega (arith, e);
-  behind = λ name opening content ending notices blocks now all h.
-      let f = first_kept now.project (texts content) (kept section.Project blocks) all.project h.project in
+  behind = λ part blocks now all h.
+      let f = first_kept now.project (texts part.content) (kept section.Project blocks) all.project h.project in
       (f.0, continued h.version f.1 h.system h.sequence h.track_list);
-  before = λ name opening content ending notices blocks now all none h.
-      continued h.version (none_kept now.project (texts content) (kept section.Project blocks)
+  before = λ part blocks now all none h.
+      continued h.version (none_kept now.project (texts part.content) (kept section.Project blocks)
       all.project none h.project) h.system h.sequence h.track_list;
 }
 
@@ -154,11 +153,11 @@ system_part = record {
   no_events = refl;
   silent = λ part none. none;
   counted = λ h lines none. let e = ap (λ ls. line_count (put_lines section.System ls h)) none in omega (arith, e);
-  behind = λ name opening content ending notices blocks now all h.
-      let f = first_kept now.system (texts content) (kept section.System blocks) all.system h.system in
+  behind = λ part blocks now all h.
+      let f = first_kept now.system (texts part.content) (kept section.System blocks) all.system h.system in
       (f.0, continued h.version h.project f.1 h.sequence h.track_list);
-  before = λ name opening content ending notices blocks now all none h.
-      continued h.version h.project (none_kept now.system (texts content) (kept section.System blocks)
+  before = λ part blocks now all none h.
+      continued h.version h.project (none_kept now.system (texts part.content) (kept section.System blocks)
       all.system none h.system) h.sequence h.track_list;
 }
 
@@ -169,11 +168,11 @@ sequence_part = record {
   no_events = refl;
   silent = λ part none. none;
   counted = λ h lines none. let e = ap (λ ls. line_count (put_lines section.Sequence ls h)) none in omega (arith, e);
-  behind = λ name opening content ending notices blocks now all h.
-      let f = first_kept now.sequence (texts content) (kept section.Sequence blocks) all.sequence h.sequence in
+  behind = λ part blocks now all h.
+      let f = first_kept now.sequence (texts part.content) (kept section.Sequence blocks) all.sequence h.sequence in
       (f.0, continued h.version h.project h.system f.1 h.track_list);
-  before = λ name opening content ending notices blocks now all none h.
-      continued h.version h.project h.system (none_kept now.sequence (texts content) (kept section.Sequence blocks)
+  before = λ part blocks now all none h.
+      continued h.version h.project h.system (none_kept now.sequence (texts part.content) (kept section.Sequence blocks)
       all.sequence none h.sequence) h.track_list;
 }
 
@@ -184,18 +183,15 @@ track_list_part = record {
   no_events = refl;
   silent = λ part none. none;
   counted = λ h lines none. let e = ap (λ ls. line_count (put_lines section.TrackList ls h)) none in omega (arith, e);
-  behind = λ name opening content ending notices blocks now all h.
-      let f = first_kept now.track_list (texts content) (kept section.TrackList blocks) all.track_list h.track_list in
+  behind = λ part blocks now all h.
+      let f = first_kept now.track_list (texts part.content) (kept section.TrackList blocks) all.track_list h.track_list in
       (f.0, continued h.version h.project h.system h.sequence f.1);
-  before = λ name opening content ending notices blocks now all none h.
+  before = λ part blocks now all none h.
       continued h.version h.project h.system h.sequence
-      (none_kept now.track_list (texts content) (kept section.TrackList blocks) all.track_list none h.track_list);
+      (none_kept now.track_list (texts part.content) (kept section.TrackList blocks) all.track_list none h.track_list);
 }
 
 -- ---- a section is read
-
-abbrev pub begun : Context → ℕ → Section → List ℕ → Context
-begun c n s name = record (with_section c n s) { stage = stage.Inside s; name = name }
 
 -- the lines of a header's section begin with none
 pub begun_kept :
@@ -319,52 +315,50 @@ module _ (rate : ℕ) where
       (unsupported_lines content c (and_right (is_empty line.text) (list_all is_empty (texts content)) empty))
 
   module _ (p : ListProject) (sound : IsSound p) (blocks : List Block) where
-    module _
-        (c : Context) (name : List ℕ) (opening : NumberedLine) (content : List NumberedLine) (ending : NumberedLine)
-        (notices : List Notice) (counts : IsCounted c.header) where
+    module _ (c : Context) (part : SectionText) (counts : IsCounted c.header) where
       -- the section stands there, of this meaning
       abbrev Stands : Section → Type 0
-      Stands s = Fits c (Titled (titled s name opening content ending notices) ∷ blocks) p
+      Stands s = Fits c (Titled (record part { meaning = s }) ∷ blocks) p
 
       abbrev Walked : Section → Type 0
-      Walked s = (is_opened c s ≡ false) × IsWalked s (begun c opening.number s name) content blocks p
+      Walked s = (is_opened c s ≡ false) × IsWalked s (begun c part.opening.number s part.name) part.content blocks p
 
       -- the notices behind those of this section
       told_behind :
-          (told : List Notice) → notices ≡ told
-          → c.notices ++ (notices ++ flat_map notices_of_block blocks) ≡ p.notices
+          (told : List Notice) → part.notices ≡ told
+          → c.notices ++ (part.notices ++ flat_map notices_of_block blocks) ≡ p.notices
           → (c.notices ++ told) ++ flat_map notices_of_block blocks ≡ p.notices
       told_behind told same are = append_assoc c.notices told (flat_map notices_of_block blocks)
           ∙ subst (λ ns. c.notices ++ (ns ++ flat_map notices_of_block blocks) ≡ p.notices) same are
 
       header_walked :
-          (s : Section) → IsHeaderPart s → Stands s → notices ≡ [] → (told : Rates)
-          → told_in rate s c.header.rates (texts content) ≡ Ok told
-          → told_rates rate no_rates (lines_of_section (put_lines s (Some (texts content)) c.header.lines).sequence) ≡ Ok told
+          (s : Section) → IsHeaderPart s → Stands s → part.notices ≡ [] → (told : Rates)
+          → told_in rate s c.header.rates (texts part.content) ≡ Ok told
+          → told_rates rate no_rates (lines_of_section (put_lines s (Some (texts part.content)) c.header.lines).sequence) ≡ Ok told
           → Walked s
-      header_walked s part fits none told e sequence =
-          let this = titled s name opening content ending notices in
-          let f = part.behind name opening content ending notices blocks c.header.lines p.header fits.header in
-          let lines = put_lines s (Some (texts content)) c.header.lines in
-          let b = record (with_lines c (put_lines s (Some []) c.header.lines)) { stage = stage.Inside s; name = name } in
+      header_walked s is fits none told e sequence =
+          let this = record part { meaning = s } in
+          let f = is.behind part blocks c.header.lines p.header fits.header in
+          let lines = put_lines s (Some (texts part.content)) c.header.lines in
+          let b = record (with_lines c (put_lines s (Some []) c.header.lines)) { stage = stage.Inside s; name = part.name } in
           let last = with_header b (record { lines = lines; kept = line_count lines; rates = told }) in
           let short = no_more_lines lines blocks p.header f.1 in
-          let more = part.counted c.header.lines (texts content) f.0 in
-          let read : walk rate s b content ≡ Ok last =
-          read_header rate s part.kept content b told (line_count lines) (omega (arith, counts.counted, more))
+          let more = is.counted c.header.lines (texts part.content) f.0 in
+          let read : walk rate s b part.content ≡ Ok last =
+          read_header rate s is.kept part.content b told (line_count lines) (omega (arith, counts.counted, more))
           (omega (arith, short, sound.few)) e
           ∙ ap (λ ls. Ok (with_header b (record { lines = ls; kept = line_count lines; rates = told })))
-          (keep_all-put s part.kept c.header.lines [] (texts content)) in (
-            part.kept.opened c ∙ ap is_some f.0,
+          (keep_all-put s is.kept c.header.lines [] (texts part.content)) in (
+            is.kept.opened c ∙ ap is_some f.0,
             record {
               last = last;
-              walked = ap (λ d. walk rate s d content) (begun_kept s part.kept c opening.number name) ∙ read;
+              walked = ap (λ d. walk rate s d part.content) (begun_kept s is.kept c part.opening.number part.name) ∙ read;
               fits = record {
                 header = f.1;
                 index = subst (λ parts. IndexFits c.has_index c.sources parts p.sources)
-                    (sym (other_section section.SourceIndex this blocks part.no_index)) fits.index;
+                    (sym (other_section section.SourceIndex this blocks is.no_index)) fits.index;
                 events = subst (λ parts. EventsFit c.has_events c.entries parts p.events p.separators)
-                    (sym (other_section section.EventList this blocks part.no_events)) fits.events;
+                    (sym (other_section section.EventList this blocks is.no_events)) fits.events;
                 notices =
                     subst (λ ns. c.notices ++ (ns ++ flat_map notices_of_block blocks) ≡ p.notices) none fits.notices;
               };
@@ -372,59 +366,59 @@ module _ (rate : ℕ) where
             },
           )
 
-      system_walked : Stands section.System → notices ≡ [] → Walked section.System
+      system_walked : Stands section.System → part.notices ≡ [] → Walked section.System
       system_walked fits none =
-          let f = system_part.behind name opening content ending notices blocks c.header.lines p.header fits.header in
+          let f = system_part.behind part blocks c.header.lines p.header fits.header in
           let fine = subst (λ ls. list_all (is_system_line rate) (lines_of_section ls) ≡ true)
-          (kept_is_all (texts content) _ p.header.system f.1.system) sound.settings in
+          (kept_is_all (texts part.content) _ p.header.system f.1.system) sound.settings in
           header_walked section.System system_part fits none c.header.rates
-          (told_in-system rate c.header.rates (texts content) fine) counts.told
+          (told_in-system rate c.header.rates (texts part.content) fine) counts.told
 
-      sequence_walked : Stands section.Sequence → notices ≡ [] → Walked section.Sequence
+      sequence_walked : Stands section.Sequence → part.notices ≡ [] → Walked section.Sequence
       sequence_walked fits none =
-          let f = sequence_part.behind name opening content ending notices blocks c.header.lines p.header fits.header in
+          let f = sequence_part.behind part blocks c.header.lines p.header fits.header in
           let both = subst (λ ls. told_rates rate no_rates (lines_of_section ls) ≡ Ok both_rates)
-          (kept_is_all (texts content) _ p.header.sequence f.1.sequence) sound.rates in
+          (kept_is_all (texts part.content) _ p.header.sequence f.1.sequence) sound.rates in
           let none_told : no_rates ≡ c.header.rates =
           ok_same _ _ (subst (λ ls. told_rates rate no_rates (lines_of_section ls) ≡ Ok c.header.rates) f.0 counts.told) in
           header_walked section.Sequence sequence_part fits none both_rates
-          (told_in-sequence rate c.header.rates (texts content)
-          ∙ (ap (λ r. told_rates rate r (texts content)) (sym none_told) ∙ both)) both
+          (told_in-sequence rate c.header.rates (texts part.content)
+          ∙ (ap (λ r. told_rates rate r (texts part.content)) (sym none_told) ∙ both)) both
 
       index_walked : Stands section.SourceIndex → Walked section.SourceIndex
       index_walked fits =
-          let part = titled section.SourceIndex name opening content ending notices in
-          let i = index_free c.has_index c.sources part (sections section.SourceIndex blocks) p.sources fits.index in
-          let b = begun c opening.number section.SourceIndex name in
+          let this = record part { meaning = section.SourceIndex } in
+          let i = index_free c.has_index c.sources this (sections section.SourceIndex blocks) p.sources fits.index in
+          let b = begun c part.opening.number section.SourceIndex part.name in
           let distinct = subst (λ ss. AreDistinct (index_numbers (ss ++ p.sources))) (sym i.1.0) sound.indexes in (
             i.0,
             record {
-              last = record b { sources = p.sources; notices = c.notices ++ notices };
+              last = record b { sources = p.sources; notices = c.notices ++ part.notices };
               walked =
                   read_sources rate i.1.1.1 b distinct ∙ ap
-                  (λ ss. Ok (record b { sources = ss ++ p.sources; notices = c.notices ++ notices })) i.1.0;
+                  (λ ss. Ok (record b { sources = ss ++ p.sources; notices = c.notices ++ part.notices })) i.1.0;
               fits = record {
                 header = fits.header;
                 index = (i.1.1.0, refl);
                 events = fits.events;
-                notices = told_behind notices refl fits.notices;
+                notices = told_behind part.notices refl fits.notices;
               };
               counts = counts;
             },
           )
 
-      events_walked : Stands section.EventList → notices ≡ [] → Walked section.EventList
+      events_walked : Stands section.EventList → part.notices ≡ [] → Walked section.EventList
       events_walked fits none =
-          let part = titled section.EventList name opening content ending notices in
-          let i = events_free c.has_events c.entries part
+          let this = record part { meaning = section.EventList } in
+          let i = events_free c.has_events c.entries this
           (sections section.EventList blocks) p.events p.separators fits.events in
-          let b = begun c opening.number section.EventList name in
+          let b = begun c part.opening.number section.EventList part.name in
           let r = read_entries rate i.spells b (subst (λ es. AreDistinct (entry_numbers es)) i.events_are sound.entries) in
           let separators = ap (λ s. unwrap_or s default_separators) r.separators_are ∙ first_are i.entries in (
             i.free,
             record {
               last = with_entries b r.last;
-              walked = ap (λ es. walk rate section.EventList (with_entries b es) content) i.none ∙ r.walked;
+              walked = ap (λ es. walk rate section.EventList (with_entries b es) part.content) i.none ∙ r.walked;
               fits = record {
                 header = fits.header;
                 index = fits.index;
@@ -436,47 +430,47 @@ module _ (rate : ℕ) where
             },
           )
 
-      skipped_walked : Stands section.Skipped → notices ≡ notice 1 opening ∷ [] → Walked section.Skipped
+      skipped_walked : Stands section.Skipped → part.notices ≡ notice 1 part.opening ∷ [] → Walked section.Skipped
       skipped_walked fits told =
-          let b = begun c opening.number section.Skipped name in
-          let behind = told_behind (notice 1 opening ∷ []) told fits.notices in (
+          let b = begun c part.opening.number section.Skipped part.name in
+          let behind = told_behind (notice 1 part.opening ∷ []) told fits.notices in (
             refl,
             record {
               last = b;
-              walked = skipped_lines content b;
+              walked = skipped_lines part.content b;
               fits = record { header = fits.header; index = fits.index; events = fits.events; notices = behind };
               counts = counts;
             },
           )
 
       unsupported_walked :
-          Stands section.Unsupported → IsTrue (list_all is_empty (texts content)) → notices ≡ notice 1 opening ∷ []
+          Stands section.Unsupported → IsTrue (list_all is_empty (texts part.content)) → part.notices ≡ notice 1 part.opening ∷ []
           → Walked section.Unsupported
       unsupported_walked fits empty told =
-          let b = begun c opening.number section.Unsupported name in
-          let behind = told_behind (notice 1 opening ∷ []) told fits.notices in (
+          let b = begun c part.opening.number section.Unsupported part.name in
+          let behind = told_behind (notice 1 part.opening ∷ []) told fits.notices in (
             refl,
             record {
               last = b;
-              walked = unsupported_lines content b empty;
+              walked = unsupported_lines part.content b empty;
               fits = record { header = fits.header; index = fits.index; events = fits.events; notices = behind };
               counts = counts;
             },
           )
 
       pub section_walked :
-          (s : Section) → Stands s → IsPassedOver s (titled s name opening content ending notices) → Walked s
+          (s : Section) → Stands s → IsPassedOver s (record part { meaning = s }) → Walked s
       section_walked section.Version fits over =
           header_walked section.Version version_part fits over c.header.rates
-          (told_in-none rate section.Version (λ rates text. refl) c.header.rates (texts content)) counts.told
+          (told_in-none rate section.Version (λ rates text. refl) c.header.rates (texts part.content)) counts.told
       section_walked section.Project fits over =
           header_walked section.Project project_part fits over c.header.rates
-          (told_in-none rate section.Project (λ rates text. refl) c.header.rates (texts content)) counts.told
+          (told_in-none rate section.Project (λ rates text. refl) c.header.rates (texts part.content)) counts.told
       section_walked section.System fits over = system_walked fits over
       section_walked section.Sequence fits over = sequence_walked fits over
       section_walked section.TrackList fits over =
           header_walked section.TrackList track_list_part fits over c.header.rates
-          (told_in-none rate section.TrackList (λ rates text. refl) c.header.rates (texts content)) counts.told
+          (told_in-none rate section.TrackList (λ rates text. refl) c.header.rates (texts part.content)) counts.told
       section_walked section.SourceIndex fits over = index_walked fits
       section_walked section.EventList fits over = events_walked fits over
       section_walked section.Skipped fits over = skipped_walked fits over

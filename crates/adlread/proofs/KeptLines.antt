@@ -1,17 +1,16 @@
 -- The lines of a section that is kept: each of them, in their order.
-use Rattle.std.proofs.Common.{◌≡◌, ℕ, ◌+◌, ◌≤◌, false, List, [], ◌∷◌, ◌++◌, length, Some, Result, Ok, refl, ap, sym, ◌∙◌, append_assoc, arith}
+use Rattle.std.proofs.Common.{◌≡◌, ℕ, ◌+◌, ◌≤◌, false, List, [], ◌∷◌, ◌++◌, length, Some, Ok, refl, ap, sym, ◌∙◌, append_assoc, arith}
 use Rattle.std.specs.Prelude.{nat_le}
 use Rattle.std.proofs.lemmas.Bool.Decides.{nat_tests}
 use Rattle.std.proofs.lemmas.List.{append-nil}
 use Rattle.list_terms.specs.declared.Rates.{Rates}
 use Rattle.list_terms.specs.declared.Section.{Section}
-use Rattle.list_terms.specs.declared.TextFault.{TextFault}
-use Rattle.list_terms.specs.declared.TextFault.TheVariants.{TooMany}
 use Rattle.list_terms.specs.Project.{Header}
 use Rattle.list_terms.specs.HeaderLaws.{IsKept, put_lines, told_in}
-use Rattle.list_terms.specs.Text.{Context, HeaderRead, at_line, in_header, in_section, keep, kept_line, rates_with}
+use Rattle.list_terms.specs.ReadingLaws.{header_line_is}
+use Rattle.list_terms.specs.Text.{Context, HeaderRead, in_header, in_section, keep, kept_line, rates_with}
 use Rattle.adlread.specs.CutLines.{NumberedLine, texts}
-use Rattle.adlread.proofs.FieldLaws.{chain, err_map_ok, ok_map_ok, ok_same, unless_ok}
+use Rattle.adlread.proofs.FieldLaws.{chain, ok_same}
 use Rattle.adlread.proofs.Walk.{walk, walk_step}
 
 abbrev pub with_header : Context → HeaderRead → Context
@@ -33,39 +32,10 @@ keep_all-put s kept h front (t ∷ lines) =
 
 -- ---- the lines that were read
 
-pub record IsHeaderLine (s : Section) (c next : Context) (text : List ℕ) : Type 0 where
-  pub kept : ℕ
-  pub rates : Rates
-  pub is : next ≡ with_header c (record { lines = keep s text c.header.lines; kept = kept; rates = rates })
-
-kept_line_is :
-    (header next : HeaderRead) (s : Section) (text : List ℕ) (said : Result Rates TextFault)
-    → kept_line header s text said ≡ Ok next
-    → (kept : ℕ) × ((rates : Rates) × (next ≡ record { lines = keep s text header.lines; kept = kept; rates = rates }))
-unfolding kept_line
-kept_line_is header next s text said e =
-    let few = unless_ok (nat_le 65535 header.kept) TooMany _ next e in
-    let f = ok_map_ok
-    (λ (rates : Rates). let h : HeaderRead =
-    record { lines = keep s text header.lines; kept = header.kept + 1; rates = rates } in h) said next few.1 in
-    (header.kept + 1, (f.value, sym f.same))
-
 pub record AreHeaderLines (s : Section) (c next : Context) (lines : List (List ℕ)) : Type 0 where
   pub kept : ℕ
   pub rates : Rates
   pub is : next ≡ with_header c (record { lines = keep_all s lines c.header.lines; kept = kept; rates = rates })
-
-with_first :
-    (s : Section) (c middle next : Context) (text : List ℕ) (lines : List (List ℕ)) → IsHeaderLine s c middle text
-    → AreHeaderLines s middle next lines → AreHeaderLines s c next (text ∷ lines)
-with_first s c middle next text lines f r =
-    record {
-      kept = r.kept;
-      rates = r.rates;
-      is = r.is
-          ∙ ap (λ m. with_header m (record { lines = keep_all s lines m.header.lines; kept = r.kept; rates = r.rates }))
-          f.is;
-    }
 
 module _ (rate : ℕ) where
   -- ---- the lines, as they are read
@@ -96,22 +66,21 @@ module _ (rate : ℕ) where
       (same.read rate c line.number line.text ∙ header_line_read s c line.number line.text first.value under first.is)
       ∙ read_header s same lines next told count (omega arith) few first.others
 
-  pub header_line_is :
-      (s : Section) (c next : Context) (n : ℕ) (text : List ℕ) → in_header rate c n text s ≡ Ok next
-      → IsHeaderLine s c next text
-  unfolding in_header
-  header_line_is s c next n text e =
-      let f = ok_map_ok (with_header c) (kept_line c.header s text (rates_with rate s c.header.rates text)) next
-      (err_map_ok (at_line n) _ next e) in
-      let k = kept_line_is c.header f.value s text (rates_with rate s c.header.rates text) f.is in
-      record { kept = k.0; rates = k.1.0; is = sym f.same ∙ ap (with_header c) k.1.1 }
-
   pub header_is_read :
       (s : Section) → IsKept s → (lines : List NumberedLine) (c next : Context) → walk rate s c lines ≡ Ok next
       → AreHeaderLines s c next (texts lines)
   header_is_read s same [] c next e = record { kept = c.header.kept; rates = c.header.rates; is = sym (ok_same _ _ e) }
   header_is_read s same (line ∷ lines) c next e =
       let f = chain (in_section rate c line.number line.text s) (λ m. walk rate s m lines) next e in
-      with_first s c f.value next line.text (texts lines)
-      (header_line_is s c f.value line.number line.text (sym (same.read rate c line.number line.text) ∙ f.is))
-      (header_is_read s same lines f.value next f.others)
+      let h = header_line_is rate s c f.value line.number line.text
+      (sym (same.read rate c line.number line.text) ∙ f.is) in
+      let r = header_is_read s same lines f.value next f.others in
+      record {
+        kept = r.kept;
+        rates = r.rates;
+        is = r.is ∙ ap (λ m. with_header m (record {
+          lines = keep_all s (texts lines) m.header.lines;
+          kept = r.kept;
+          rates = r.rates;
+        })) h.is;
+      }

@@ -1,57 +1,29 @@
 -- The texts of a source that a line says: its URL can be quoted, and its identifier is one token.
-use Rattle.std.proofs.Common.{◌≡◌, ℕ, length, Bool, true, false, List, [], ◌∷◌, ◌++◌, Result, Ok, Err, IfOk, IsTrue, refl, ap, sym, ◌∙◌, arith}
-use Rattle.std.specs.Prelude.{codes, is_some, if◌then◌else◌, ◌==◌, ◌&&◌}
-use Rattle.std.specs.List.{list_all, list_any}
+use Rattle.std.proofs.Common.{◌≡◌, ℕ, length, Bool, true, List, [], ◌∷◌, Ok, refl, ap, sym, ◌∙◌, arith}
+use Rattle.std.specs.Prelude.{codes, is_some, ◌&&◌}
+use Rattle.std.specs.List.{list_all}
 use Rattle.std.proofs.lemmas.Bool.Decides.{nat_tests}
 use Rattle.std.proofs.lemmas.List.{append-nil}
 use Rattle.std.proofs.lemmas.Slice.Eq.{bytes_eq-Decides}
 use Rattle.facts.specs.Lists.{all_push}
 use Rattle.facts.specs.Tests.{and_both, and_left, and_right}
-use Rattle.list_terms.specs.declared.TextFault.{TextFault}
-use Rattle.list_terms.specs.declared.TextFault.TheVariants.{BadUrl, DuplicateNumber}
+use Rattle.list_terms.specs.declared.TextFault.TheVariants.{BadUrl}
 use Rattle.list_terms.specs.declared.TokenKind.{TokenKind}
 use Rattle.list_terms.specs.declared.TokenKind.TheVariants.{Quoted, Keyword, Word}
 use Rattle.list_terms.specs.EntryLines.{source_fields}
-use Rattle.list_terms.specs.FormLaws.{found}
-use Rattle.list_terms.specs.Forms.{Field, Identifier, MayTime, Number, Url, Value, any, keyword, reads, value_at, value_of}
+use Rattle.list_terms.specs.FormLaws.{found, is_numbered}
+use Rattle.list_terms.specs.Forms.{Field, Then, Identifier, MayTime, Number, Url, Value, any, keyword, reads, value_at, value_of}
 use Rattle.list_terms.specs.Names.{place_of_url}
 use Rattle.list_terms.specs.Project.{Source}
+use Rattle.list_terms.specs.ReadingLaws.{IsNamed}
 use Rattle.list_terms.specs.StepLaws.{chain, if_ok, ok_same}
-use Rattle.list_terms.specs.Steps.{◌>>=◌, ok_map, err_map}
-use Rattle.list_terms.specs.Text.{source_with}
 use Rattle.list_terms.specs.Tokens.{TokenText, all_tokens, is_quoted_byte, is_word_byte, token_at, token_text}
 use Rattle.list_terms.specs.TokenLaws.{is_content, is_word, token_at-cut, token_at-token_text}
 use Rattle.list_terms.specs.WholeProject.{has_whole_texts, is_line_byte, is_one_token, is_quotable}
 
--- ---- steps that may fail
-
-pub if_bind :
-    {A B E : Type 0} (r : Result A E) (f : A → Result B E) (P : B → Type 0) → ((x : A) → IfOk (f x) P)
-    → IfOk (r >>= f) P
-if_bind (Ok x) f P h = h x
-if_bind (Err e) f P h = tt
-
--- where the first step's value has a fact
-pub if_then :
-    {A B E : Type 0} (r : Result A E) (f : A → Result B E) (Q : A → Type 0) (P : B → Type 0) → IfOk r Q
-    → ((x : A) → Q x → IfOk (f x) P) → IfOk (r >>= f) P
-if_then (Ok x) f Q P q h = h x q
-if_then (Err e) f Q P q h = tt
-
-pub if_mapped :
-    {A B D E : Type 0} (r : Result A D) (f : A → B) (g : D → E) (Q : A → Type 0) (P : B → Type 0) → IfOk r Q
-    → ((x : A) → Q x → P (f x))
-    → IfOk (err_map g (ok_map f r)) P
-if_mapped (Ok x) f g Q P q h = h x q
-if_mapped (Err e) f g Q P q h = tt
-
-pub if_same : {A D E : Type 0} (r : Result A D) (g : D → E) (Q : A → Type 0) → IfOk r Q → IfOk (err_map g r) Q
-if_same (Ok x) g Q q = q
-if_same (Err e) g Q q = tt
-
 -- ---- fields of a line without a line feed
 
-abbrev pub IsText : List ℕ → Type 0
+abbrev IsText : List ℕ → Type 0
 IsText text = list_all is_line_byte text ≡ true
 
 -- a field of such a line: its token, and what follows, are such bytes
@@ -67,13 +39,6 @@ inside f line h next e =
     let x = found f line next e in
     let cut = token_at-cut is_line_byte line next.1 x.token h x.at in
     record { token = x.token; inside = cut.inside; content = cut.content; is = x.is; rest_is = cut.behind }
-
-pub number_rest : (line : List ℕ) → IsText line → IfOk (value_at Number line) (λ f. IsText f.1)
-number_rest line h = by_value (value_at Number line) refl where
-  by_value :
-      (r : Result (ℕ × List ℕ) TextFault) → value_at Number line ≡ r → IfOk (value_at Number line) (λ f. IsText f.1)
-  by_value (Ok next) e = rw e (inside Number line h next e).rest_is
-  by_value (Err fault) e = rw e tt
 
 -- ---- the URL and the identifier
 
@@ -151,22 +116,11 @@ module _ (rate : ℕ) where
       rw (← ok_same _ _ d.others)
       (and_both (list_all is_quotable u.value.0) _ (url_is_quotable u.value url) (uid_is_one_token i.value uid))
 
-  pub sources_have_texts :
-      (sources : List Source) (number : ℕ) (text : List ℕ) → IsTrue (list_all has_whole_texts sources) → IsText text
-      → IfOk (source_with rate sources number text) (λ new. IsTrue (list_all has_whole_texts new))
-  unfolding source_with
-  sources_have_texts sources number text all h = by_test (list_any (λ other. other.number == number) sources) refl where
-    by_test :
-        (taken : Bool) → list_any (λ other. other.number == number) sources ≡ taken
-        → IfOk (if list_any (λ other. other.number == number) sources then Err DuplicateNumber
-        else reads (source_fields rate number) text >>= (λ source. Ok (sources ++ source ∷ [])))
-        (λ new. IsTrue (list_all has_whole_texts new))
-    by_test true e = rw e tt
-    by_test false e = rw e (by_source (reads (source_fields rate number) text) refl) where
-      by_source :
-          (r : Result Source TextFault) → reads (source_fields rate number) text ≡ r
-          → IfOk (reads (source_fields rate number) text >>= (λ source. Ok (sources ++ source ∷ [])))
-          (λ new. IsTrue (list_all has_whole_texts new))
-      by_source (Ok source) f =
-          rw f (all_push has_whole_texts sources source all (source_has_texts number text h source f))
-      by_source (Err fault) f = rw f tt
+  pub named_has_texts :
+      (text : List ℕ) → IsText text → (source : Source)
+      → IsNamed (codes "Index") (Then Number (source_fields rate)) text source → HasTexts source
+  named_has_texts text whole source h =
+      let behind = (token_at-cut is_line_byte text h.rest h.keyword whole h.at).behind in
+      let f = is_numbered (source_fields rate) h.rest source h.says in
+      let number = inside Number h.rest behind (f.number, f.rest) f.numbered in
+      source_has_texts f.number f.rest number.rest_is source f.says

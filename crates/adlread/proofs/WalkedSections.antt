@@ -1,5 +1,5 @@
 -- A section that was read is spelled by its lines.
-use Rattle.std.proofs.Common.{◌≡◌, ℕ, Bool, true, false, List, [], ◌∷◌, ◌++◌, Some, Result, Ok, Err, refl, ap, sym, subst, ◌∙◌, append_assoc}
+use Rattle.std.proofs.Common.{◌≡◌, ℕ, true, false, List, [], ◌∷◌, ◌++◌, Some, Ok, refl, ap, sym, subst, ◌∙◌, append_assoc}
 use Rattle.std.specs.Prelude.{flat_map, unwrap_or}
 use Rattle.std.specs.List.{list_all}
 use Rattle.facts.specs.Tests.{and_both, not_some}
@@ -11,43 +11,22 @@ use Rattle.list_terms.specs.declared.Stage.TheVariants as stage
 use Rattle.list_terms.specs.declared.TextFault.TheVariants.{Unsupported}
 use Rattle.list_terms.specs.HeaderLaws.{lines_at, put_lines}
 use Rattle.list_terms.specs.Project.{ListProject}
-use Rattle.list_terms.specs.Text.{Context, LocatedFault, all_events, at_line, in_section, in_unsupported, is_opened, no_entry, with_lines}
-use Rattle.list_terms.specs.WholeProject.{AreDistinct, entry_numbers, index_numbers}
+use Rattle.list_terms.specs.ReadingLaws.{begun, unsupported_line_is}
+use Rattle.list_terms.specs.Text.{Context, in_section, is_opened, no_entry, with_lines}
 use Rattle.adlread.specs.CutLines.{NumberedLine, is_empty, texts}
-use Rattle.adlread.specs.Spells.{Block, IsPassedOver, Titled, notice, notices_of_block, sections}
+use Rattle.adlread.specs.Spells.{Block, SectionText, IsPassedOver, Titled, notice, notices_of_block, sections}
 use Rattle.adlread.proofs.EventLines.{entries_are_read, nothing, with_entries}
 use Rattle.adlread.proofs.FieldLaws.{chain, ok_same}
-use Rattle.adlread.proofs.Fits.{EventsFit, Fits, IndexFits, IsHeaderPart, begun, begun_kept, first_are, other_section, project_part, sequence_part, skipped_lines, system_part, titled, track_list_part, version_part}
+use Rattle.adlread.proofs.Fits.{EventsFit, Fits, IndexFits, IsHeaderPart, begun_kept, first_are, other_section, project_part, sequence_part, skipped_lines, system_part, track_list_part, version_part}
 use Rattle.adlread.proofs.KeptLines.{header_is_read, keep_all-put, with_header}
 use Rattle.adlread.proofs.SourceLines.{sources_are_read}
 use Rattle.adlread.proofs.Stages.{outside_of}
 use Rattle.adlread.proofs.Walk.{walk}
 
--- a section that wasn't begun has left nothing, and numbers differ
+-- a section that wasn't begun has left nothing
 pub record IsFresh (c : Context) : Type 0 where
   pub index : c.has_index ≡ false → c.sources ≡ []
   pub events : c.has_events ≡ false → c.entries ≡ no_entry
-  pub indexes : AreDistinct (index_numbers c.sources)
-  pub numbers : AreDistinct (entry_numbers (all_events c.entries.events c.entries.entry))
-
-unsupported_line :
-    (c next : Context) (n : ℕ) (text : List ℕ) → (empty : Bool) → is_empty text ≡ empty
-    → in_unsupported c n text ≡ Ok next → (is_empty text ≡ true) × (next ≡ c)
-unfolding in_unsupported
-unsupported_line c next n text true h e = (h, sym (ok_same {E = LocatedFault} _ _ (rw h at e)))
-unsupported_line c next n text false h e =
-    absurd (let no : ◌≡◌ {A = Result Context LocatedFault} (Err (at_line n Unsupported)) (Ok next) = rw h at e in cc)
-
--- a section that gives a notice at its opening line
-noticed :
-    (c : Context) (n : ℕ) (opening : NumberedLine) (blocks : List Block) (p : ListProject) → opening.number ≡ n
-    → (c.notices ++ record { kind = 1; at = n } ∷ []) ++ flat_map notices_of_block blocks ≡ p.notices
-    → c.notices ++ (notice 1 opening ∷ flat_map notices_of_block blocks) ≡ p.notices
-noticed c n opening blocks p at told =
-    let x = notice 1 opening in
-    sym (append_assoc c.notices (x ∷ []) (flat_map notices_of_block blocks))
-    ∙ subst (λ m. (c.notices ++ record { kind = 1; at = m } ∷ []) ++ flat_map notices_of_block blocks ≡ p.notices)
-    (sym at) told
 
 module _ (rate : ℕ) where
   unsupported_are : (content : List NumberedLine) (c last : Context) → walk rate section.Unsupported c content ≡ Ok last
@@ -57,191 +36,172 @@ module _ (rate : ℕ) where
   unsupported_are (line ∷ content) c last e =
       let f = chain (in_section rate c line.number line.text section.Unsupported)
       (λ m. walk rate section.Unsupported m content) last e in
-      let first = unsupported_line c f.value line.number line.text (is_empty line.text) refl f.is in
+      let first = unsupported_line_is c f.value line.number line.text f.is in
       let others = unsupported_are content f.value last f.others in
-      (and_both (is_empty line.text) (list_all is_empty (texts content)) first.0 others.0, others.1 ∙ first.1)
+      (and_both (is_empty line.text) (list_all is_empty (texts content)) first.0 others.0, others.1 ∙ sym first.1)
 
-  -- what is left of a section that was read
-  pub record IsWalkedOver (c : Context) (n : ℕ) (s : Section) (name : List ℕ) (content : List NumberedLine)
-      (last : Context) : Type 0 where
+  -- what is left of a section that was read, and gave some notices
+  pub record IsWalkedOver (c : Context) (s : Section) (part : SectionText) (last : Context) : Type 0 where
     pub fresh : IsFresh (outside_of last)
     pub fits :
-        (blocks : List Block) (p : ListProject) (opening ending : NumberedLine) → opening.number ≡ n
-        → Fits rate (outside_of last) blocks p
-        → (notices : List Notice) × (Fits rate c (Titled (titled s name opening content ending notices) ∷ blocks) p
-        × IsPassedOver s (titled s name opening content ending notices))
+        (blocks : List Block) (p : ListProject) → Fits rate (outside_of last) blocks p
+        → (notices : List Notice) × (Fits rate c (Titled (record part { meaning = s; notices = notices }) ∷ blocks) p
+        × IsPassedOver s (record part { meaning = s; notices = notices }))
 
-  -- a section of the header
-  header_over :
-      (s : Section) → IsHeaderPart s → (c : Context) (n : ℕ) (name : List ℕ) (content : List NumberedLine)
-      (last : Context) → IsFresh c → is_opened c s ≡ false → walk rate s (begun c n s name) content ≡ Ok last
-      → IsWalkedOver c n s name content last
-  header_over s part c n name content last fresh free e =
-      let b = record (with_lines c (put_lines s (Some []) c.header.lines)) { stage = stage.Inside s; name = name } in
-      let h = header_is_read rate s part.kept content b last
-      (subst (λ d. walk rate s d content ≡ Ok last) (begun_kept s part.kept c n name) e) in
-      let none = not_some (lines_at s c.header.lines) (sym (part.kept.opened c) ∙ free) in
-      let lines = put_lines s (Some (texts content)) c.header.lines in
-      let is : last ≡ with_header b (record { lines = lines; kept = h.kept; rates = h.rates }) =
-      h.is ∙ ap (λ ls. with_header b (record { lines = ls; kept = h.kept; rates = h.rates }))
-      (keep_all-put s part.kept c.header.lines [] (texts content)) in
-      subst (IsWalkedOver c n s name content) (sym is) (record {
-        fresh = record { index = fresh.index; events = fresh.events; indexes = fresh.indexes; numbers = fresh.numbers };
-        fits = λ blocks p opening ending at known.
-            let this = titled s name opening content ending [] in (
-              [],
-              (
-                record {
-                  header = part.before name opening content ending [] blocks c.header.lines p.header none known.header;
-                  index = subst (λ parts. IndexFits rate c.has_index c.sources parts p.sources)
-                      (other_section section.SourceIndex this blocks part.no_index) known.index;
-                  events = subst (λ parts. EventsFit rate c.has_events c.entries parts p.events p.separators)
-                      (other_section section.EventList this blocks part.no_events) known.events;
-                  notices = known.notices;
-                },
-                part.silent this refl,
-              ),
-            );
-      })
+  module _ (c : Context) (part : SectionText) (last : Context) (fresh : IsFresh c) where
+    -- the section of this meaning, with these notices
+    abbrev with : Section → List Notice → SectionText
+    with s notices = record part { meaning = s; notices = notices }
 
-  index_over :
-      (c : Context) (n : ℕ) (name : List ℕ) (content : List NumberedLine) (last : Context) → IsFresh c
-      → is_opened c section.SourceIndex ≡ false
-      → walk rate section.SourceIndex (begun c n section.SourceIndex name) content ≡ Ok last
-      → IsWalkedOver c n section.SourceIndex name content last
-  index_over c n name content last fresh free e =
-      let b = begun c n section.SourceIndex name in
-      let h = sources_are_read rate content b last e in
-      let none = fresh.index free in
-      record {
-        fresh = subst (λ l. IsFresh (outside_of l)) (sym h.is) (record {
-          index = λ no. absurd (cc);
-          events = fresh.events;
-          numbers = fresh.numbers;
-          indexes = subst (λ (l : Context). AreDistinct (index_numbers l.sources)) h.is (h.distinct fresh.indexes);
-        });
-        fits = λ blocks p opening ending at fits.
-            let known = subst (λ l. Fits rate (outside_of l) blocks p) h.is fits in
-            let part = titled section.SourceIndex name opening content ending h.dropped in
-            let are : h.sources ≡ p.sources = ap (λ ss. ss ++ h.sources) (sym none) ∙ known.index.1 in
-            let index : IndexFits rate false c.sources (part ∷ sections section.SourceIndex blocks) p.sources =
-            (none, (part, (ap (λ ss. part ∷ ss) known.index.0, rw (← are) h.spells))) in (
-              h.dropped,
-              (
-                record {
-                  header = known.header;
-                  index =
-                      subst (λ has. IndexFits rate has c.sources (part ∷ sections section.SourceIndex blocks) p.sources)
-                      (sym free) index;
-                  events = known.events;
-                  notices = sym (append_assoc c.notices h.dropped (flat_map notices_of_block blocks)) ∙ known.notices;
-                },
-                tt,
-              ),
-            );
-      }
+    abbrev Walks : Section → Type 0
+    Walks s = walk rate s (begun c part.opening.number s part.name) part.content ≡ Ok last
 
-  events_over :
-      (c : Context) (n : ℕ) (name : List ℕ) (content : List NumberedLine) (last : Context) → IsFresh c
-      → is_opened c section.EventList ≡ false
-      → walk rate section.EventList (begun c n section.EventList name) content ≡ Ok last
-      → IsWalkedOver c n section.EventList name content last
-  events_over c n name content last fresh free e =
-      let b = begun c n section.EventList name in
-      let none = fresh.events free in
-      let same : b ≡ with_entries b nothing = ap (λ es. with_entries b es) none in
-      let h = entries_are_read rate content b last (subst (λ d. walk rate section.EventList d content ≡ Ok last) same e) in
-      record {
-        fresh =
-            subst (λ l. IsFresh (outside_of l)) (sym h.is)
-            (record {
-              index = fresh.index;
-              events = λ no. absurd (cc);
-              indexes = fresh.indexes;
-              numbers =
-                  h.distinct;
-            });
-        fits = λ blocks p opening ending at fits.
-            let known = subst (λ l. Fits rate (outside_of l) blocks p) h.is fits in
-            let part = titled section.EventList name opening content ending [] in
-            let separators = sym known.events.1.1
-            ∙ (ap (λ s. unwrap_or s default_separators) h.separators_are ∙ first_are h.entries) in
-            let events : EventsFit rate false c.entries (part ∷ sections section.EventList blocks) p.events p.separators = (
-              none,
-              (
-                part,
+    -- the notice at the opening line
+    noticed :
+        (blocks : List Block) (p : ListProject)
+        → (c.notices ++ notice 1 part.opening ∷ []) ++ flat_map notices_of_block blocks ≡ p.notices
+        → c.notices ++ (notice 1 part.opening ∷ flat_map notices_of_block blocks) ≡ p.notices
+    noticed blocks p told =
+        sym (append_assoc c.notices (notice 1 part.opening ∷ []) (flat_map notices_of_block blocks)) ∙ told
+
+    -- a section of the header
+    header_over : (s : Section) → IsHeaderPart s → is_opened c s ≡ false → Walks s → IsWalkedOver c s part last
+    header_over s is free e =
+        let lines = put_lines s (Some (texts part.content)) c.header.lines in
+        let b = record (with_lines c (put_lines s (Some []) c.header.lines)) { stage = stage.Inside s; name = part.name } in
+        let h = header_is_read rate s is.kept part.content b last
+        (subst (λ d. walk rate s d part.content ≡ Ok last) (begun_kept s is.kept c part.opening.number part.name) e) in
+        let none = not_some (lines_at s c.header.lines) (sym (is.kept.opened c) ∙ free) in
+        let same : last ≡ with_header b (record { lines = lines; kept = h.kept; rates = h.rates }) =
+        h.is ∙ ap (λ ls. with_header b (record { lines = ls; kept = h.kept; rates = h.rates }))
+        (keep_all-put s is.kept c.header.lines [] (texts part.content)) in
+        subst (IsWalkedOver c s part) (sym same) (record {
+          fresh = record { index = fresh.index; events = fresh.events };
+          fits = λ blocks p known. (
+            [],
+            (
+              record {
+                header = is.before (with s []) blocks c.header.lines p.header none known.header;
+                index = subst (λ parts. IndexFits rate c.has_index c.sources parts p.sources)
+                    (other_section section.SourceIndex (with s []) blocks is.no_index) known.index;
+                events = subst (λ parts. EventsFit rate c.has_events c.entries parts p.events p.separators)
+                    (other_section section.EventList (with s []) blocks is.no_events) known.events;
+                notices = known.notices;
+              },
+              is.silent (with s []) refl,
+            ),
+          );
+        })
+
+    index_over :
+        is_opened c section.SourceIndex ≡ false → Walks section.SourceIndex
+        → IsWalkedOver c section.SourceIndex part last
+    index_over free e =
+        let h = sources_are_read rate part.content (begun c part.opening.number section.SourceIndex part.name) last e in
+        let none = fresh.index free in
+        record {
+          fresh =
+              subst (λ l. IsFresh (outside_of l)) (sym h.is) (record { index = λ no. absurd (cc); events = fresh.events });
+          fits = λ blocks p fits.
+              let known = subst (λ l. Fits rate (outside_of l) blocks p) h.is fits in
+              let this = with section.SourceIndex h.dropped in
+              let are : h.sources ≡ p.sources = ap (λ ss. ss ++ h.sources) (sym none) ∙ known.index.1 in
+              let index : IndexFits rate false c.sources (this ∷ sections section.SourceIndex blocks) p.sources =
+              (none, (this, (ap (λ ss. this ∷ ss) known.index.0, rw (← are) h.spells))) in (
+                h.dropped,
                 (
-                  h.entries,
+                  record {
+                    header = known.header;
+                    index =
+                        subst (λ has. IndexFits rate has c.sources (this ∷ sections section.SourceIndex blocks) p.sources)
+                        (sym free) index;
+                    events = known.events;
+                    notices = sym (append_assoc c.notices h.dropped (flat_map notices_of_block blocks)) ∙ known.notices;
+                  },
+                  tt,
+                ),
+              );
+        }
+
+    events_over :
+        is_opened c section.EventList ≡ false → Walks section.EventList → IsWalkedOver c section.EventList part last
+    events_over free e =
+        let b = begun c part.opening.number section.EventList part.name in
+        let none = fresh.events free in
+        let same : b ≡ with_entries b nothing = ap (λ es. with_entries b es) none in
+        let h = entries_are_read rate part.content b last
+        (subst (λ d. walk rate section.EventList d part.content ≡ Ok last) same e) in
+        record {
+          fresh =
+              subst (λ l. IsFresh (outside_of l)) (sym h.is) (record { index = fresh.index; events = λ no. absurd (cc) });
+          fits = λ blocks p fits.
+              let known = subst (λ l. Fits rate (outside_of l) blocks p) h.is fits in
+              let this = with section.EventList [] in
+              let separators = sym known.events.1.1
+              ∙ (ap (λ s. unwrap_or s default_separators) h.separators_are ∙ first_are h.entries) in
+              let events : EventsFit rate false c.entries (this ∷ sections section.EventList blocks) p.events p.separators
+              = (
+                none,
+                (
+                  this,
                   (
-                    ap (λ ss. part ∷ ss) known.events.0,
-                    (h.spells, (sym known.events.1.0 ∙ h.all_are, separators)),
+                    h.entries,
+                    (
+                      ap (λ ss. this ∷ ss) known.events.0,
+                      (h.spells, (sym known.events.1.0 ∙ h.all_are, separators)),
+                    ),
                   ),
                 ),
-              ),
-            ) in (
-              [],
-              (
-                record {
-                  header = known.header;
-                  index = known.index;
-                  events =
-                      subst (λ has. EventsFit rate has c.entries
-                      (part ∷ sections section.EventList blocks) p.events p.separators) (sym free) events;
-                  notices = known.notices;
-                },
-                refl,
-              ),
-            );
-      }
+              ) in (
+                [],
+                (
+                  record {
+                    header = known.header;
+                    index = known.index;
+                    events =
+                        subst (λ has. EventsFit rate has c.entries
+                        (this ∷ sections section.EventList blocks) p.events p.separators) (sym free) events;
+                    notices = known.notices;
+                  },
+                  refl,
+                ),
+              );
+        }
 
-  skipped_over :
-      (c : Context) (n : ℕ) (name : List ℕ) (content : List NumberedLine) (last : Context) → IsFresh c
-      → walk rate section.Skipped (begun c n section.Skipped name) content ≡ Ok last
-      → IsWalkedOver c n section.Skipped name content last
-  skipped_over c n name content last fresh e =
-      let b = begun c n section.Skipped name in
-      subst (IsWalkedOver c n section.Skipped name content) (ok_same _ _ (sym (skipped_lines rate content b) ∙ e)) (record {
-        fresh = record { index = fresh.index; events = fresh.events; indexes = fresh.indexes; numbers = fresh.numbers };
-        fits = λ blocks p opening ending at known.
-            let told = noticed c n opening blocks p at known.notices in (
-              notice 1 opening ∷ [],
-              (record { header = known.header; index = known.index; events = known.events; notices = told }, refl),
-            );
-      })
+    skipped_over : Walks section.Skipped → IsWalkedOver c section.Skipped part last
+    skipped_over e =
+        let b = begun c part.opening.number section.Skipped part.name in
+        subst (IsWalkedOver c section.Skipped part) (ok_same _ _ (sym (skipped_lines rate part.content b) ∙ e)) (record {
+          fresh = record { index = fresh.index; events = fresh.events };
+          fits = λ blocks p known.
+              let told = noticed blocks p known.notices in (
+                notice 1 part.opening ∷ [],
+                (record { header = known.header; index = known.index; events = known.events; notices = told }, refl),
+              );
+        })
 
-  unsupported_over :
-      (c : Context) (n : ℕ) (name : List ℕ) (content : List NumberedLine) (last : Context) → IsFresh c
-      → walk rate section.Unsupported (begun c n section.Unsupported name) content ≡ Ok last
-      → IsWalkedOver c n section.Unsupported name content last
-  unsupported_over c n name content last fresh e =
-      let empty = unsupported_are content (begun c n section.Unsupported name) last e in
-      subst (IsWalkedOver c n section.Unsupported name content) (sym empty.1) (record {
-        fresh = record { index = fresh.index; events = fresh.events; indexes = fresh.indexes; numbers = fresh.numbers };
-        fits = λ blocks p opening ending at known.
-            let told = noticed c n opening blocks p at known.notices in (
-              notice 1 opening ∷ [],
-              (
-                record { header = known.header; index = known.index; events = known.events; notices = told },
-                (empty.0, refl),
-              ),
-            );
-      })
+    unsupported_over : Walks section.Unsupported → IsWalkedOver c section.Unsupported part last
+    unsupported_over e =
+        let empty = unsupported_are part.content (begun c part.opening.number section.Unsupported part.name) last e in
+        subst (IsWalkedOver c section.Unsupported part) (sym empty.1) (record {
+          fresh = record { index = fresh.index; events = fresh.events };
+          fits = λ blocks p known.
+              let told = noticed blocks p known.notices in (
+                notice 1 part.opening ∷ [],
+                (
+                  record { header = known.header; index = known.index; events = known.events; notices = told },
+                  (empty.0, refl),
+                ),
+              );
+        })
 
-  pub walked_over :
-      (c : Context) (n : ℕ) (s : Section) (name : List ℕ) (content : List NumberedLine) (last : Context) → IsFresh c
-      → is_opened c s ≡ false
-      → walk rate s (begun c n s name) content ≡ Ok last → IsWalkedOver c n s name content last
-  walked_over c n section.Version name content last fresh free e =
-      header_over section.Version version_part c n name content last fresh free e
-  walked_over c n section.Project name content last fresh free e =
-      header_over section.Project project_part c n name content last fresh free e
-  walked_over c n section.System name content last fresh free e =
-      header_over section.System system_part c n name content last fresh free e
-  walked_over c n section.Sequence name content last fresh free e =
-      header_over section.Sequence sequence_part c n name content last fresh free e
-  walked_over c n section.TrackList name content last fresh free e =
-      header_over section.TrackList track_list_part c n name content last fresh free e
-  walked_over c n section.SourceIndex name content last fresh free e = index_over c n name content last fresh free e
-  walked_over c n section.EventList name content last fresh free e = events_over c n name content last fresh free e
-  walked_over c n section.Skipped name content last fresh free e = skipped_over c n name content last fresh e
-  walked_over c n section.Unsupported name content last fresh free e = unsupported_over c n name content last fresh e
+    pub walked_over : (s : Section) → is_opened c s ≡ false → Walks s → IsWalkedOver c s part last
+    walked_over section.Version free e = header_over section.Version version_part free e
+    walked_over section.Project free e = header_over section.Project project_part free e
+    walked_over section.System free e = header_over section.System system_part free e
+    walked_over section.Sequence free e = header_over section.Sequence sequence_part free e
+    walked_over section.TrackList free e = header_over section.TrackList track_list_part free e
+    walked_over section.SourceIndex free e = index_over free e
+    walked_over section.EventList free e = events_over free e
+    walked_over section.Skipped free e = skipped_over e
+    walked_over section.Unsupported free e = unsupported_over e

@@ -4,6 +4,7 @@ ghost use Rattle.sampletime.specs.FrameRate.{frames_per_second};
 ghost use Rattle.list_terms.specs.Text as text;
 ghost use Rattle.list_terms.specs.Text.{nothing_read};
 ghost use Rattle.list_terms.specs.Tokens.{trimmed};
+ghost use Rattle.list_terms.specs.WholeProject.{IsProject};
 ghost use Rattle.adlread.specs.Fault.{Reads};
 ghost use Rattle.adlread.specs.Context.{context_of};
 ghost use Rattle.adlread.specs.SoFar.{IsSoFar};
@@ -343,7 +344,8 @@ impl<'a> Draft<'a> {
     #[tactic(auto, unfolding(list_terms::specs::Text::finished))]
     pub fn finish(self, line: &[u8], number: u64, rate: Rate) -> Result<Project, AdlFault>
         requires { IsSoFar (frames_per_second rate) (context_of self) }
-        ensures { Reads (λ project. project) result (text.finished (frames_per_second rate) (context_of self.entry) number) }
+        ensures exact { Reads (λ project. project) result (text.finished (frames_per_second rate) (context_of self.entry) number) }
+        ensures whole { IfOk result IsProject }
     {
         if !self.has_sections() {
             return Err(at_line(TextFault::MissingSection, number, first_in(line)));
@@ -379,7 +381,8 @@ impl<'a> Draft<'a> {
     fn project(self, rate: Rate) -> Result<Project, AdlFault>
         requires whole { IsSoFar (frames_per_second rate) (context_of self) }
         requires rates { IsTrue (self.header.rates.sample_rate && self.header.rates.frame_rate) }
-        ensures { Reads (λ project. project) result (Ok (text.project_of (frames_per_second rate) (context_of self.entry))) }
+        ensures exact { Reads (λ project. project) result (Ok (text.project_of (frames_per_second rate) (context_of self.entry))) }
+        ensures whole { IfOk result IsProject }
     {
         let Draft {
             header,
@@ -391,14 +394,16 @@ impl<'a> Draft<'a> {
         let mut list = events;
         list.close()?;
         let separators = list.separators.unwrap_or(Separators::DEFAULT);
-        Ok(Project::new(
+        let project = Project::new(
             header.lines,
             rate,
             index.sources,
             list.events,
             separators,
             notices,
-        ))
+        );
+        let _ = project.header();
+        Ok(project)
     }
 }
 

@@ -10,6 +10,7 @@ ghost use Rattle.sampletime.specs.FrameRate.{frames_per_second};
 ghost use Rattle.list_terms.specs.Project.{ListProject};
 ghost use Rattle.list_terms.specs.Text.{nothing_read, read_from, text_value};
 ghost use Rattle.list_terms.specs.Lines.{lines_of};
+ghost use Rattle.list_terms.specs.WholeProject.{IsProject};
 ghost use Rattle.work_terms.specs.Refusals.{Gives, is_memory};
 ghost use Rattle.adlread.specs.Fault.{Reads, line_of, refusal};
 ghost use Rattle.adlread.specs.Spells.{Spells};
@@ -57,7 +58,8 @@ pub fn read(alloc: Global, text: &[u8]) -> Result<Project, AdlFault>
 /// Reads the lines of a list, one after another.
 #[tactic(auto, unfolding(list_terms::specs::Text::read_from))]
 fn read_lines(alloc: Global, text: &[u8], rate: Rate) -> Result<Project, AdlFault>
-    ensures { Reads (λ project. project) result (read_from (frames_per_second rate) nothing_read 0 (lines_of text.now)) }
+    ensures exact { Reads (λ project. project) result (read_from (frames_per_second rate) nothing_read 0 (lines_of text.now)) }
+    ensures whole { IfOk result IsProject }
 {
     let mut draft = Draft::new(alloc)?;
     let mut lines = Lines::new(text);

@@ -114,9 +114,7 @@ impl EventList {
             has_fall: false,
         });
         self.numbers.insert(number);
-        if self.separators.is_none() {
-            self.separators = Some(separators);
-        }
+        self.separators = Some(self.separators.unwrap_or(separators));
         Ok(())
     }
 

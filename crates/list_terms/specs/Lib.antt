@@ -18,6 +18,7 @@ pub mod Names
 pub mod Project
 pub mod RateLaws
 pub mod RateVectors
+pub mod ReadingLaws
 pub mod Renewed
 pub mod StepLaws
 pub mod Steps

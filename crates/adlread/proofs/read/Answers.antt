@@ -7,6 +7,7 @@ use Rattle.list_terms.specs.Project.{ListProject}
 use Rattle.list_terms.specs.Steps.{err_map}
 use Rattle.list_terms.specs.Lines.{lines_of}
 use Rattle.list_terms.specs.Text.{LocatedFault, fault_number, nothing_read, rate_of, read_from, text_refusal, text_value}
+use Rattle.list_terms.specs.WholeProject.{IsProject}
 use Rattle.adlread.specs.declared.fault.AdlFault.{AdlFault}
 use Rattle.adlread.specs.declared.fault.AdlFault.TheVariants.{Text, Memory}
 use Rattle.adlread.specs.Fault.{Reads, refusal}
@@ -60,10 +61,10 @@ at_its_rate text result rate same h =
 
 spelled_from_exact :
     (text : List ℕ) (result : Result ListProject AdlFault)
-    → Gives (λ p. p) refusal (λ r. r.number) result (text_value text)
+    → Gives (λ p. p) refusal (λ r. r.number) result (text_value text) → IfOk result IsProject
     → IfOk result (λ project. Spells text project)
-spelled_from_exact text (Ok project) h = spelled_of text project h
-spelled_from_exact text (Err fault) h = tt
+spelled_from_exact text (Ok project) h is = spelled_of text project is h
+spelled_from_exact text (Err fault) h is = tt
 
 faulty_from_reads :
     (text : List ℕ) (result : Result ListProject AdlFault)
@@ -82,20 +83,21 @@ faulty_from_reads text (Err Memory) h = λ no project spells. let wrong : true �
 
 pub returns-clause-exact : goal.returns-clause-exact
 returns-clause-exact c = exact_from_reads c.args.text.now c.read_lines.result
-    (at_its_rate c.args.text.now c.read_lines.result _ c.rate_of-rate.ensures c.read_lines.ensures)
+    (at_its_rate c.args.text.now c.read_lines.result _ c.rate_of-rate.ensures c.read_lines.ensures.exact)
 
 pub returns-clause-spelled : goal.returns-clause-spelled
 returns-clause-spelled c =
     spelled_from_exact c.args.text.now c.read_lines.result
     (exact_from_reads c.args.text.now c.read_lines.result
-    (at_its_rate c.args.text.now c.read_lines.result _ c.rate_of-rate.ensures c.read_lines.ensures))
+    (at_its_rate c.args.text.now c.read_lines.result _ c.rate_of-rate.ensures c.read_lines.ensures.exact))
+    c.read_lines.ensures.whole
 
 pub returns-clause-only : goal.returns-clause-only
 returns-clause-only c project spells =
     subst (Gives (λ p. p) refusal (λ r. r.number) c.read_lines.result) (value_of c.args.text.now project spells)
     (exact_from_reads c.args.text.now c.read_lines.result
-    (at_its_rate c.args.text.now c.read_lines.result _ c.rate_of-rate.ensures c.read_lines.ensures))
+    (at_its_rate c.args.text.now c.read_lines.result _ c.rate_of-rate.ensures c.read_lines.ensures.exact))
 
 pub returns-clause-faulty : goal.returns-clause-faulty
 returns-clause-faulty c = faulty_from_reads c.args.text.now c.read_lines.result
-    (at_its_rate c.args.text.now c.read_lines.result _ c.rate_of-rate.ensures c.read_lines.ensures)
+    (at_its_rate c.args.text.now c.read_lines.result _ c.rate_of-rate.ensures c.read_lines.ensures.exact)

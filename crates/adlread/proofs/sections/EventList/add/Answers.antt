@@ -19,16 +19,3 @@ invariant_of-self c =
       flags = grind (arith, common_steps);
       whole = rw before (AreEvents-push _ _ number c.args.self.now.whole free (search rules) (search rules));
     }
-
-pub invariant_of-self-else-is_none : goal.invariant_of-self-else-is_none
-invariant_of-self-else-is_none c =
-    let number = c.args.number in
-    let free : list_any (λ e. e.number == number) (all_events c.args.self.now.events.items c.args.self.now.entry)
-    ≡ false
-    = grind (arith, nat_tests, c.args.self.now.flags number) in
-    let before : c.close.new.self.events.items ≡ all_events c.args.self.now.events.items c.args.self.now.entry =
-    search rules in
-    record {
-      flags = grind (arith, common_steps);
-      whole = rw before (AreEvents-push _ _ number c.args.self.now.whole free (search rules) (search rules));
-    }
