@@ -37,12 +37,12 @@ impl<'a> Faults<'a> {
         Faults::at_rate(alloc, text, rate_of(text))
     }
 
-    /// The faults of this text behind its first one, which [`crate::read`] told. Where that one ends them the text isn't
-    /// read again.
+    /// The faults of this text behind its first one, which [`crate::read`] told. The line of that one isn't read again,
+    /// and where it ends them no line is.
     pub fn behind(alloc: Global, text: &'a [u8], first: AdlFault) -> Result<Self, AllocError> {
         if is_of_its_own(first) {
             let mut faults = Faults::new(alloc, text)?;
-            let _ = faults.next_fault(alloc);
+            faults.go_behind(alloc, first);
             return Ok(faults);
         }
         let mut none = Faults::at_rate(alloc, text, UNTOLD)?;
@@ -62,6 +62,20 @@ impl<'a> Faults<'a> {
             is_in_faulty_entry: false,
             is_over: false,
         })
+    }
+
+    /// Reads the lines in front of that of the first fault, none of which is at fault, and passes over that one: a line at
+    /// fault adds nothing to what was read.
+    fn go_behind(&mut self, alloc: Global, first: AdlFault) {
+        'lines: while let Some(line) = self.lines.next_line() {
+            self.last = line;
+            if self.lines.number() == first.line() {
+                let _ = self.told(Some(first), line);
+                return;
+            }
+            let _ = self.fault_of(alloc, line);
+        }
+        self.is_over = true;
     }
 
     /// The next fault; `None` behind the last one, and where no memory was left.

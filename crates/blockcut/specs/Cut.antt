@@ -28,6 +28,12 @@ AreEven most to stretches = (k : ℕ) (d : Stretch) → k < length stretches
 abbrev pub IsUniform : List Bool → Stretch → Type 0
 IsUniform marked s = (b : ℕ) → s.first ≤ b → b < s.behind → slice_index_or marked b false ≡ s.done
 
+-- none of them could go on: what follows one that isn't full is marked otherwise
+abbrev pub AreLongest : ℕ → List Stretch → Type 0
+AreLongest most stretches = (k : ℕ) (d : Stretch) → k + 1 < length stretches
+    → (slice_index_or stretches k d).done ≡ (slice_index_or stretches (k + 1) d).done
+    → (slice_index_or stretches k d).behind - (slice_index_or stretches k d).first ≡ most
+
 -- how many blocks of so many bytes are done at once: one where there are few, else what makes 4 MiB, at least one
 abbrev pub blocks_at_once : (blocks block_size : ℕ) → ℕ
 blocks_at_once blocks block_size = cond (nat_le blocks 64) 1 (max (4194304 / block_size) 1)

@@ -1,7 +1,7 @@
 // Cuts blocks into stretches.
 ghost use Rattle.std.specs.Prelude.{◌≡◌, ◌≤◌, ◌<◌, ◌-◌, ◌/◌, ◌^◌, true, false, length, max, cond, nat_le, IfOk};
 ghost use Rattle.std.specs.List.{All};
-ghost use Rattle.blockcut.specs.Cut.{AreEven, IsCut, IsFresh, IsShort, IsUniform, blocks_at_once};
+ghost use Rattle.blockcut.specs.Cut.{AreEven, AreLongest, IsCut, IsFresh, IsShort, IsUniform, blocks_at_once};
 
 use crate::Stretch;
 use std::alloc::{AllocError, Global};
@@ -50,6 +50,7 @@ pub fn fresh_stretches(alloc: Global, blocks: u32, most: u32) -> Result<Vec<Stre
 /// Whether a stretch that began at `first` ends before the block `here`, which is marked so.
 fn ends_here(first: u32, here: u32, done: bool, mark: bool, most: u32) -> bool
     ensures some { result ≡ true → first < here }
+    ensures full { result ≡ true → mark ≡ done → most ≤ here - first }
     ensures goes_on { result ≡ false → first < here → (mark ≡ done) × (here - first < most) }
 {
     if first >= here {
@@ -61,14 +62,15 @@ fn ends_here(first: u32, here: u32, done: bool, mark: bool, most: u32) -> bool
     here - first >= most
 }
 
-/// The blocks by their marks: stretches of marked ones, which are done, and of unmarked ones, each of at most so many
-/// blocks.
+/// The blocks by their marks: stretches of marked ones, which are done, and of unmarked ones, each as long as can be,
+/// but of at most so many blocks.
 pub fn stretches_of(alloc: Global, marked: &[bool], most: u32) -> Result<Vec<Stretch>, AllocError>
     requires some { 1 ≤ most }
     requires few { length marked.now < 2 ^ 32 }
     ensures cut { IfOk result (λ stretches. IsCut 0 stretches.items (length marked.now)) }
     ensures uniform { IfOk result (λ stretches. All (IsUniform marked.now) stretches.items) }
     ensures short { IfOk result (λ stretches. All (IsShort most) stretches.items) }
+    ensures longest { IfOk result (λ stretches. AreLongest most stretches.items) }
 {
     let mut stretches = Vec::new(alloc);
     let mut first = 0;

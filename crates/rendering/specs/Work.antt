@@ -13,7 +13,7 @@ use Rattle.renderplan.specs.Planned.{IsPlan, Planned}
 use Rattle.wavwrite.specs.Info.{Fits}
 use Rattle.job_terms.specs.Workers.{JobsBy}
 use Rattle.blockcut.specs.declared.stretch.Stretch.{Stretch}
-use Rattle.blockcut.specs.Cut.{AreEven, IsCut, IsShort, IsUniform, blocks_at_once}
+use Rattle.blockcut.specs.Cut.{AreEven, AreLongest, IsCut, IsShort, IsUniform, blocks_at_once}
 use Rattle.rendering.specs.Written.{bytes_of_blocks, frames_before}
 
 -- a plan over opened files
@@ -39,12 +39,6 @@ pub record IsRenderWork (work : RenderWork) : Type 0 where
   pub short : All (IsShort 1024) work.stretches
   pub fits : Fits (render_info work.planned.range)
 
--- these are all its blocks, not too many in one stretch, each of them marked whole or not at all
-pub record AreCutBy (marked : List Bool) (work : RenderWork) : Type 0 where
-  pub cut : IsCut 0 work.stretches (block_count work.planned.range)
-  pub short : All (IsShort 1024) work.stretches
-  pub uniform : All (IsUniform marked) work.stretches
-
 -- what the plan's pieces sound like over these sources
 abbrev pub heard : Planned → List SoundFacts → Files → ℕ → ℕ → ℤ
 heard planned sounds sources = sum_of (reading_by sources sounds) planned.pieces
@@ -67,10 +61,20 @@ stretch_at stretches k = slice_index_or stretches k no_stretch
 abbrev pub stretch_frames : Range → Stretch → ℕ
 stretch_frames range s = frames_before range s.behind - frames_before range s.first
 
--- as many blocks in each stretch but the last as are done at once
+-- how many blocks are done at once
+abbrev pub at_once : Range → ℕ
+at_once range = blocks_at_once (block_count range) (bytes_for range block_length)
+
+-- as many blocks in each stretch but the last
 abbrev pub AreAtOnce : Range → List Stretch → Type 0
-AreAtOnce range stretches =
-    AreEven (blocks_at_once (block_count range) (bytes_for range block_length)) (block_count range) stretches
+AreAtOnce range stretches = AreEven (at_once range) (block_count range) stretches
+
+-- these are all its blocks, each stretch marked whole or not at all, and as long as can be
+pub record AreCutBy (marked : List Bool) (work : RenderWork) : Type 0 where
+  pub cut : IsCut 0 work.stretches (block_count work.planned.range)
+  pub uniform : All (IsUniform marked) work.stretches
+  pub short : All (IsShort (at_once work.planned.range)) work.stretches
+  pub longest : AreLongest (at_once work.planned.range) work.stretches
 
 -- where a stretch begins in the rendered file
 abbrev pub place_of : Range → Stretch → ℕ

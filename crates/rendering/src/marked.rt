@@ -1,13 +1,12 @@
 // A rendering whose blocks are marked as they come to stand on the disk.
 ghost use Rattle.std.specs.Prelude.{◌≡◌, ◌+◌, ◌<◌, ◌≤◌, ℕ, Bool, IfErr, IfOk, IfSome, IsTrue, List, None, Ok, OnOk, Some, codes, false, length, map, true, ◌^◌, ⊤, IsErrOf, replicate};
-ghost use Rattle.std.specs.List.{All, count_by};
+ghost use Rattle.std.specs.List.{count_by};
 ghost use Rattle.sha2.specs.Sha256.{sha256};
 ghost use Rattle.sound_terms.specs.Blocks.{block_count};
 ghost use Rattle.work_terms.specs.Disk.{Files, IsDurable, IsUntouched, LeavesOnly, LeavesOthers, ReadsTo, Rises};
 ghost use Rattle.shelf.specs.Frame.{OnlyReads, OnlyWrites};
 ghost use Rattle.job_terms.specs.Board.{fresh_job};
 ghost use Rattle.job_terms.specs.Workers.{Nothing, jobs_over};
-ghost use Rattle.blockcut.specs.Cut.{IsUniform};
 ghost use Rattle.markfile.specs.Fault.{ReadsMarks};
 ghost use Rattle.markfile.specs.Format.{run_bytes, sound_name, marks_name, fresh_marks};
 ghost use Rattle.markfile.specs.Opened.{opened_of};
@@ -145,7 +144,7 @@ impl<'a> Rendering<'a> {
         requires { length marked.now ≡ block_count self.old.planned.range }
         ensures planned { self.new.planned ≡ self.old.planned }
         ensures sounds { self.new.sounds ≡ self.old.sounds }
-        ensures uniform { OnOk result (All (IsUniform marked.now) self.new.stretches) }
+        ensures cut { OnOk result (AreCutBy marked.now self.new) }
         ensures whole { IsRenderWork self.new }
     {
         let block = self.blocks.length_of(BLOCK_LENGTH) as u32;

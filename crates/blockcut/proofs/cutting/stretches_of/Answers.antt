@@ -1,9 +1,9 @@
-use Rattle.std.proofs.Common.{◌≡◌, ◌++◌, ℕ, Bool, List, [], ◌∷◌, false, inl, inr, get_or, length, refl, sym, ap, subst, ◌∙◌, arith}
+use Rattle.std.proofs.Common.{◌≡◌, ◌+◌, ◌<◌, ◌≤◌, ◌++◌, ℕ, Bool, List, [], ◌∷◌, false, inl, inr, get_or, length, refl, sym, ap, subst, ◌∙◌, arith}
 use Rattle.std.specs.List.{All}
 use Rattle.std.proofs.lemmas.Bool.{cases_lt}
 use Rattle.blockcut.specs.declared.stretch.Stretch.{Stretch}
-use Rattle.blockcut.specs.Cut.{IsCut, IsShort, IsUniform}
-use Rattle.blockcut.proofs.Cuts.{all-push, cut-push}
+use Rattle.blockcut.specs.Cut.{AreLongest, IsCut, IsShort, IsUniform}
+use Rattle.blockcut.proofs.Cuts.{CannotGoOn, all-push, cut-push, ends-push, longest-push}
 use Rattle.blockcut.proofs.cutting.stretches_of.Goals as goal
 use Rattle.blockcut.proofs.cutting.stretches_of.Goals.{then-ends_here+in_ok-push, else-ends_here}
 
@@ -32,6 +32,12 @@ loop-i-preserved c =
             same = λ b from to.
                 let at : b ≡ here = omega (arith, from, to, w.first-is) in ap mark_at at ∙ sym w.done-is;
             room = omega (arith, w.first-is, c.requires.some);
+            longest = subst (λ (ss : List Stretch). AreLongest most ss) (sym items)
+                (longest-push most before s is.longest is.ends);
+            begun = λ some. omega (arith, w.first-is);
+            ends = subst (λ (ss : List Stretch). CannotGoOn most ss c.if-ends_here.done) (sym items)
+                (ends-push most before s c.if-ends_here.done (λ alike. omega (arith, is.room,
+                w.if-ends_here.ensures.full refl (sym w.done-is ∙ sym alike))));
           }
       | else-ends_here w ↦
           let goes = w.if-ends_here.ensures.goes_on refl in
@@ -50,6 +56,11 @@ loop-i-preserved c =
               | inl less ↦ omega (arith, w.first-is, (goes less).1)
               | inr past ↦ omega (arith, past, w.first-is, c.requires.some)
             ];
+            longest = subst (λ v. AreLongest most v.items) (sym w.stretches-is) is.longest;
+            begun = subst (λ v. 1 ≤ length v.items → c.if-ends_here.first < here + 1) (sym w.stretches-is)
+                (λ some. omega (arith, w.first-is, is.begun some));
+            ends = subst (λ v. CannotGoOn most v.items c.if-ends_here.done) (sym w.stretches-is) (λ k d last alike.
+                is.ends k d last (alike ∙ w.done-is ∙ (goes (is.begun (omega (arith, last)))).0));
           }
     ]
 

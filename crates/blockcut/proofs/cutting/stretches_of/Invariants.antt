@@ -1,6 +1,7 @@
-use Rattle.std.proofs.Common.{◌≡◌, ◌≤◌, ◌<◌, ◌-◌, ℕ, false, get_or}
+use Rattle.std.proofs.Common.{◌≡◌, ◌≤◌, ◌<◌, ◌-◌, ℕ, false, get_or, length}
 use Rattle.std.specs.List.{All}
-use Rattle.blockcut.specs.Cut.{IsCut, IsShort, IsUniform}
+use Rattle.blockcut.specs.Cut.{AreLongest, IsCut, IsShort, IsUniform}
+use Rattle.blockcut.proofs.Cuts.{CannotGoOn}
 use Rattle.blockcut.proofs.cutting.stretches_of.Given as goal
 
 abbrev pub invariant-loop-i : goal.invariant-loop-i
@@ -11,4 +12,7 @@ invariant-loop-i l = record {
   short : All (IsShort l.most) l.stretches.items;
   same : (b : ℕ) → l.first ≤ b → b < l.i → get_or l.marked b false ≡ l.done;
   room : l.i - l.first ≤ l.most;
+  longest : AreLongest l.most l.stretches.items;
+  begun : 1 ≤ length l.stretches.items → l.first < l.i;
+  ends : CannotGoOn l.most l.stretches.items l.done;
 }

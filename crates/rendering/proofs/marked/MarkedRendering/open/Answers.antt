@@ -32,7 +32,7 @@ returns-in-Ok-cut_by-clause-running g c honest sources left =
     subst (λ (x : MarkedWork). IsLeftByRun (marking_of x sources) (g.B.Bench.may_leave c.args.bench.now))
     (sym c.self.view_is) left in
     let uniform = subst (λ (x : List Bool). All (IsUniform x) c.cut_by.new.self.stretches) c.as_slice.ensures.value
-    cut.uniform in
+    cut.cut.uniform in
     let settled = subst (λ (f : Files). (x : Files) → g.B.Bench.may_leave c.open_marks.new.bench x → AreSettled f x)
     c.in-Ok.ensures.only_reads.same (c.in-Ok.ensures.settled honest) in
     goes_on_running c.self.inside.rendering c.cut_by.new.self c.self.inside.run sources cut.whole
@@ -63,12 +63,7 @@ returns-in-Ok-cut_by-clause-cut g c honest =
     × AreCutBy marked c.cut_by.new.self) c.self.view_is (
       c.in-Some.marks.marked.items,
       found,
-      record {
-        cut = cut.whole.cut;
-        short = cut.whole.short;
-        uniform = subst (λ (x : List Bool). All (IsUniform x) c.cut_by.new.self.stretches) c.as_slice.ensures.value
-            cut.uniform;
-      },
+      subst (λ (x : List Bool). AreCutBy x c.cut_by.new.self) c.as_slice.ensures.value cut.cut,
     )
 
 pub returns-in-Err-cut_by-clause-found : goal.returns-in-Err-cut_by-clause-found
