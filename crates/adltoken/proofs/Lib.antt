@@ -1,1 +1,2 @@
+pub mod FirstByte
 pub mod FirstLine

@@ -135,6 +135,7 @@ pub struct Cut<'a> {
 }
 
 /// The token that a line begins with; `None` in an empty line.
+#[inline(always)]
 fn first_token(line: &[u8]) -> Result<Option<Cut<'_>>, TextFault>
     ensures exact { ok_map (λ next. option_map cut_view next) result ≡ spec.token_from line.now }
     ensures whole { IfOk result (λ next. IfSome next (λ cut. line.now ≡ token_text (cut_view cut).0 ++ cut.rest.now)) }
