@@ -1,6 +1,6 @@
 // Words of a list that are passed over though they may be meant to be heard.
 use crate::explanation::Shown;
-use adltoken::{Token, TokenKind, Tokens, is_same_name, trimmed};
+use adltoken::{Lines, Token, TokenKind, Tokens, is_same_name, trimmed};
 use std::fmt;
 
 /// How many lines are told.
@@ -22,15 +22,16 @@ impl fmt::Display for PassedWords<'_> {
     fn fmt<W: fmt::Write>(&self, f: &mut fmt::Formatter<W>) -> fmt::Result {
         let mut section: &[u8] = b"";
         let mut count: usize = 0;
-        for (place, line) in self.0.split(|byte| *byte == b'\n').enumerate() {
-            let text = trimmed(line.strip_suffix(b"\r").unwrap_or(line));
+        let mut lines = Lines::new(self.0);
+        'lines: while let Some(line) = lines.next_line() {
+            let text = trimmed(line);
             if is_same_name(text, b"</ADL>") {
                 break;
             }
             if let Some(word) = word_in(section, text) {
                 count = count.saturating_add(1);
                 if count <= MOST {
-                    let number = place.saturating_add(1);
+                    let number = lines.number();
                     let word = Shown(word, WORD_BYTES);
                     writeln!(f, "not honoured at line {number}: {word}")?;
                 }
