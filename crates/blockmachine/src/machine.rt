@@ -1,6 +1,6 @@
 // The machine.
-ghost use Rattle.std.specs.Prelude.{◌≡◌, ◌*◌, ◌^◌, ◌<◌, ◌≤◌, ◌++◌, ◌∷◌, [], ℕ, List, Some, IsTrue, IfOk, IfErr, OnOk, length};
-ghost use Rattle.std.specs.List.{All};
+ghost use Rattle.std.specs.Prelude.{◌≡◌, ◌*◌, ◌/◌, ◌^◌, ◌<◌, ◌≤◌, ◌++◌, ◌∷◌, [], ℕ, List, Some, IsTrue, IfOk, IfErr, OnOk, length};
+ghost use Rattle.std.specs.List.{All, flat_map};
 ghost use Rattle.sound_terms.specs.declared.Depth as declared;
 ghost use Rattle.sound_terms.specs.declared.block.Instruction as word;
 ghost use Rattle.sound_terms.specs.declared.block.Instruction.TheVariants as instruction;
@@ -8,6 +8,7 @@ ghost use Rattle.sound_terms.specs.Depth.{bits_of};
 ghost use Rattle.pcm.specs.Samples.{FitsDepth};
 ghost use Rattle.sound_terms.specs.Blocks.{BlockState, IsBlockProgram, IsFormed, AddsOne, LiesInFiles, PlaysFull, executed, executed_all};
 ghost use Rattle.sound_terms.specs.Sounds.{reading_by};
+ghost use Rattle.sound_terms.specs.Waves.{sample_bytes};
 ghost use Rattle.shelf.specs.Frame.{OnlyReads};
 ghost use Rattle.blockmachine.specs.Fault.{FailsAt, IsSource};
 ghost use Rattle.blockmachine.specs.Holding.{Holds};
@@ -15,9 +16,10 @@ ghost use Rattle.blockmachine.specs.Sums.{AreSums};
 
 use crate::MachineFault;
 use crate::alone::fills_alone;
-use crate::buffer::{Buffer, SAMPLES};
-use crate::stretches::{add_stretch, read_part};
+use crate::buffer::Buffer;
+use crate::stretches::{add_stretch, read_stored};
 use crate::sums::Sums;
+use pcm::pack;
 use shelf::Shelf;
 use sound_terms::{Depth, Instruction};
 use std::alloc::Global;
@@ -125,8 +127,7 @@ impl Machine {
         Ok(Machine { sums, buffer })
     }
 
-    /// Adds what these instructions play to sums of zero, and hands the sums out. The frames of a file that fills the
-    /// block as it is are handed out as they are read.
+    /// Adds what these instructions play to sums of zero, and hands the sums out.
     fn run_lines<S: Shelf>(
         &mut self,
         lines: &[Instruction],
@@ -151,19 +152,6 @@ impl Machine {
         ensures only_reads { OnlyReads S.Shelf shelf.old shelf.new result (λ fault. IsSource fault)
             (λ fault failed. FailsAt sounds.now fault failed) }
     {
-        let channels = self.sums.channels() as usize;
-        let frames = out.len() / channels;
-        if out.len() <= SAMPLES {
-            if let Some(stretch) = fills_alone(lines, frames, channels, depth, sounds) {
-                return read_part(
-                    &stretch,
-                    sounds,
-                    shelf,
-                    self.buffer.bytes.as_mut_slice(),
-                    out,
-                );
-            }
-        }
         let sums = &mut self.sums;
         sums.clear(depth);
         self.buffer.held = None;
@@ -203,6 +191,45 @@ impl Machine {
             let lines = &program[1..program.len() - 1];
             self.run_lines(lines, depth, sounds, shelf, out)?;
         }
+        Ok(())
+    }
+
+    /// Runs the program of a block, which hands its samples out at this depth, and writes them over `bytes` as a file of
+    /// this depth stores them. `samples` has room for them. The frames of a file that fills the block as it is are read
+    /// to where they go. It takes no memory. `Source` where a read fails; what was written is then unspecified, and the
+    /// machine as ready as before.
+    pub fn run_packed<S: Shelf>(
+        &mut self,
+        program: &[Instruction],
+        depth: Depth,
+        sounds: &[Sound],
+        shelf: &mut S,
+        samples: &mut [i32],
+        bytes: &mut [u8],
+    ) -> Result<(), MachineFault>
+        requires fits { (frames : ℕ) × (frames ≤ self.old.frames)
+            × IsBlockProgram frames self.old.channels depth program.now
+            × (length samples.old ≡ frames * self.old.channels) }
+        requires room { length bytes.old ≡ length samples.old * (bits_of depth / 8) }
+        requires inside { All (LiesInFiles sounds.now) program.now }
+        ensures ran { IsTrue (S.honest shelf.old) → OnOk result ((start : BlockState)
+            → bytes.new ≡ flat_map (sample_bytes (bits_of depth)) (executed_all (reading_by (S.stored shelf.old) sounds.now)
+            self.old.channels program.now start).out) }
+        ensures full { IsTrue (S.honest shelf.old)
+            → OnOk result (All (PlaysFull (reading_by (S.stored shelf.old) sounds.now)) program.now) }
+        ensures ready { self.new ≡ self.old }
+        ensures source { IfErr result IsSource }
+        ensures only_reads { OnlyReads S.Shelf shelf.old shelf.new result (λ fault. IsSource fault)
+            (λ fault failed. FailsAt sounds.now fault failed) }
+    {
+        let channels = self.sums.channels() as usize;
+        let lines = &program[1..program.len() - 1];
+        let frames = samples.len() / channels;
+        if let Some(stretch) = fills_alone(lines, frames, channels, depth, sounds) {
+            return read_stored(&stretch, sounds, shelf, bytes);
+        }
+        self.run(program, sounds, shelf, samples)?;
+        pack(depth, samples, bytes);
         Ok(())
     }
 }

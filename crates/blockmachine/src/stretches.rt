@@ -1,6 +1,5 @@
 // Stretches of files, read and added.
-ghost use Rattle.std.specs.Prelude.{◌≡◌, ◌+◌, ◌*◌, ◌^◌, ◌<◌, ◌≤◌, ℕ, ℤ, IsTrue, IfErr, OnOk, Some, slice_get, length};
-ghost use Rattle.std.specs.List.{All};
+ghost use Rattle.std.specs.Prelude.{◌≡◌, ◌+◌, ◌*◌, ◌/◌, ◌^◌, ◌<◌, ◌≤◌, ℕ, ℤ, IsTrue, IfErr, OnOk, Some, slice_get, length};
 ghost use Rattle.sound_terms.specs.Depth.{bits_of};
 ghost use Rattle.sound_terms.specs.Sounds.{SoundFacts, reading_by};
 ghost use Rattle.sound_terms.specs.Media.{LiesInFile, frame_length};
@@ -8,7 +7,7 @@ ghost use Rattle.sound_terms.specs.Groups.{IsRamp};
 ghost use Rattle.sound_terms.specs.Blocks.{FitsBlock, IsFull, sums_with};
 ghost use Rattle.shelf.specs.Frame.{OnlyReads};
 ghost use Rattle.blockmachine.specs.Fault.{FailsAt, IsSource};
-ghost use Rattle.pcm.specs.Samples.{FitsDepth};
+ghost use Rattle.pcm.specs.Samples.{samples_in};
 ghost use Rattle.blockmachine.specs.Holding.{Holds};
 ghost use Rattle.blockmachine.specs.Playing.{Plays};
 ghost use Rattle.blockmachine.specs.Sums.{AreSums};
@@ -21,34 +20,29 @@ use shelf::Shelf;
 use sound_terms::{Shape, Stretch};
 use wavread::Sound;
 
-/// Reads the frames of a stretch, with all channels of their file.
-pub fn read_part<S: Shelf>(
+/// Reads the frames of a stretch as they are stored, with all channels of their file.
+pub fn read_stored<S: Shelf>(
     part: &Stretch,
     sounds: &[Sound],
     shelf: &mut S,
     bytes: &mut [u8],
-    frames: &mut [i32],
 ) -> Result<(), MachineFault>
     requires lies { LiesInFile sounds.now part.now.file part.now.first part.now.width part.now.frame part.now.length }
     requires first { 1 ≤ part.now.first }
     requires whole { (facts : SoundFacts) → slice_get sounds.now part.now.file ≡ Some facts
-        → length frames.old ≡ part.now.length * facts.channels }
-    requires room { length frames.old * 4 ≤ length bytes.old }
+        → length bytes.old ≡ part.now.length * facts.channels * (bits_of facts.depth / 8) }
     ensures plays { IsTrue (S.honest shelf.old)
         → OnOk result ((facts : SoundFacts) → slice_get sounds.now part.now.file ≡ Some facts
         → Plays (reading_by (S.stored shelf.old) sounds.now) part.now facts.channels (bits_of facts.depth)
-        frames.new) }
+        (samples_in (bits_of facts.depth) (part.now.length * facts.channels) bytes.new)) }
     ensures full { IsTrue (S.honest shelf.old)
         → OnOk result (IsFull (reading_by (S.stored shelf.old) sounds.now) part.now) }
-    ensures fit { OnOk result ((facts : SoundFacts) → slice_get sounds.now part.now.file ≡ Some facts
-        → All (FitsDepth (bits_of facts.depth)) frames.new) }
     ensures source { IfErr result IsSource }
     ensures only_reads { OnlyReads S.Shelf shelf.old shelf.new result (λ fault. IsSource fault)
         (λ fault failed. FailsAt sounds.now fault failed) }
 {
     let sound = &sounds[part.file as usize];
-    let _ = (sound.channels(), sound.depth());
-    match sound.read_frames(shelf, part.frame, part.length as usize, bytes, frames) {
+    match sound.read_bytes(shelf, part.frame, bytes) {
         Ok(()) => Ok(()),
         Err(_) => Err(MachineFault::Source { file: part.file }),
     }

@@ -12,7 +12,6 @@ ghost use Rattle.rendering.specs.declared.fault.RenderFault.TheVariants.{Memory}
 use crate::RenderFault;
 use blockcut::Stretch;
 use blockmachine::Machine;
-use pcm::pack;
 use renderplan::{Instruction, Plan, SourceFrame};
 use shelf::{DeviceFault, Shelf};
 use std::alloc::Global;
@@ -74,12 +73,11 @@ fn play_block<S: Shelf>(
     let count = plan.frames_of(k) as usize * usize::from(format.channels);
     let end = plan.block(k, program);
     let samples = &mut samples[..count];
-    match machine.run(&program[..end], sounds, shelf, samples) {
-        Ok(()) => {}
-        Err(_) => return Err(DeviceFault),
+    let program = &program[..end];
+    match machine.run_packed(program, format.depth, sounds, shelf, samples, bytes) {
+        Ok(()) => Ok(()),
+        Err(_) => Err(DeviceFault),
     }
-    pack(format.depth, samples, bytes);
-    Ok(())
 }
 
 impl<'a> Blocks<'a> {

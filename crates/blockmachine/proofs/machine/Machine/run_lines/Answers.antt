@@ -21,58 +21,6 @@ use Rattle.blockmachine.proofs.Fits.{fits_block}
 use Rattle.blockmachine.proofs.Filled.{hands_itself_out}
 use Rattle.blockmachine.proofs.machine.Machine.run_lines.Goals as goal
 
-on_both : {X E P Q R : Type 0} (result : Result X E) → OnOk result P → OnOk result Q → (P → Q → R) → OnOk result R
-on_both (Ok x) p q both = both p q
-on_both (Err e) p q both = tt
-
-pub read_part-requires-clause-lies : goal.read_part-requires-clause-lies
-read_part-requires-clause-lies g c =
-    let fills = c.in-Some.ensures in
-    All-head (LiesInFiles c.args.sounds.now) (Add c.in-Some.stretch Flat) [] (rw fills.alone at c.requires.inside)
-
-pub read_part-requires-clause-whole : goal.read_part-requires-clause-whole
-read_part-requires-clause-whole g c = λ facts there.
-    let fills = c.in-Some.ensures in
-    let same = same_Some fills.facts facts (sym fills.there ∙ there) in
-    let channels = c.channels-channels.result in
-    let told : channels ≡ c.args.self.now.channels =
-    c.channels-channels.ensures.channels ∙ ap (λ (e : Extent). e.channels) c.self.view_is in
-    let wide : facts.channels ≡ channels = rw same at fills.channels_alike in
-    let whole : length c.args.out.now ≡ c.requires.whole.0 * channels =
-    c.requires.whole.2 ∙ ap (λ n. c.requires.whole.0 * n) (sym told) in
-    let count : length c.args.out.now / channels ≡ c.requires.whole.0 =
-    ap (λ n. n / channels) whole ∙ mul-div_left c.requires.whole.0 c.channels-channels.ensures.within.0 in
-    let long : c.in-Some.stretch.length ≡ length c.args.out.now / channels =
-    ap (λ (s : Stretch). s.length) fills.whole in
-    rw (wide, long, count) whole
-
-pub returns-in-Some-clause-ran : goal.returns-in-Some-clause-ran
-returns-in-Some-clause-ran g c = λ honest.
-    on_both c.read_part.result (c.read_part.ensures.plays honest) c.read_part.ensures.fit (λ plays fit frames start long.
-    let fills = c.in-Some.ensures in
-    let out = c.read_part.new.frames in
-    let channels = c.channels-channels.result in
-    let n = c.args.self.now.channels in
-    let told : channels ≡ n = c.channels-channels.ensures.channels ∙ ap (λ (e : Extent). e.channels) c.self.view_is in
-    let reading : Reading = reading_by (g.S.Shelf.stored c.args.shelf.now) c.args.sounds.now in
-    let count : length c.args.out.now / channels ≡ frames =
-    ap (λ m. m / channels) (long ∙ ap (λ m. frames * m) (sym told))
-    ∙ mul-div_left frames c.channels-channels.ensures.within.0 in
-    let stretch : c.in-Some.stretch ≡ filling c.in-Some.stretch.file c.in-Some.stretch.frame frames n =
-    fills.whole
-    ∙ ap (λ m. filling c.in-Some.stretch.file c.in-Some.stretch.frame m channels) count
-    ∙ ap (λ m. filling c.in-Some.stretch.file c.in-Some.stretch.frame frames m) told in
-    let played : Plays reading c.in-Some.stretch n (bits_of c.args.depth) out =
-    rw (fills.channels_alike, told, fills.depth_alike) at (plays fills.facts fills.there) in
-    let fitting : All (FitsDepth (bits_of c.args.depth)) out = rw fills.depth_alike at (fit fills.facts fills.there) in
-    let same : length out ≡ frames * n = c.read_part.auto.frames ∙ long in
-    let whole =
-    hands_itself_out reading c.in-Some.stretch.file c.in-Some.stretch.frame frames n c.args.depth out
-    (subst (λ (s : Stretch). Plays reading s n (bits_of c.args.depth) out) stretch played) fitting same in
-    whole ∙ ap (λ (lines : List Instruction).
-    (executed_all reading n (Start frames ∷ (lines ++ Emit c.args.depth ∷ [])) start).out)
-    (sym (fills.alone ∙ ap (λ (s : Stretch). Add s Flat ∷ []) stretch)))
-
 -- what was handed out, by the channels of the sums
 same_channels : (depth : Depth) (n m : ℕ) (all : ℕ → ℕ → ℤ) (frames : ℕ) → n ≡ m
     → block_samples (bits_of depth) all n 0 frames ≡ block_samples (bits_of depth) all m 0 frames

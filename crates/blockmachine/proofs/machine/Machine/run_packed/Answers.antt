@@ -1,0 +1,89 @@
+use Rattle.std.proofs.Common.{◌≡◌, ℕ, ◌-◌, ◌*◌, ◌/◌, ◌≤◌, All, List, [], ◌∷◌, ◌++◌, Ok, Err, Result, OnOk, length, take, drop, rules, sym, ap, ◌∙◌, subst}
+use Rattle.std.specs.Prelude.{ℤ}
+use Rattle.std.specs.List.{flat_map}
+use Rattle.std.proofs.Math.Nat.{mul-div_left}
+use Rattle.std.proofs.lemmas.Option.{same_Some}
+use Rattle.sound_terms.specs.declared.block.Stretch.{Stretch}
+use Rattle.sound_terms.specs.declared.block.Instruction.{Instruction}
+use Rattle.sound_terms.specs.declared.block.Instruction.TheVariants.{Start, Add, Emit}
+use Rattle.sound_terms.specs.declared.piece.Shape.TheVariants.{Flat}
+use Rattle.sound_terms.specs.Depth.{bits_of}
+use Rattle.sound_terms.specs.Mix.{Reading}
+use Rattle.sound_terms.specs.Blocks.{executed_all}
+use Rattle.sound_terms.specs.Sounds.{reading_by}
+use Rattle.sound_terms.specs.Waves.{sample_bytes}
+use Rattle.pcm.specs.Laws.{AreBytes, all_fit, bytes_again, length-samples_in}
+use Rattle.pcm.specs.Samples.{samples_in}
+use Rattle.blockmachine.specs.Alone.{filling}
+use Rattle.blockmachine.specs.Playing.{Plays}
+use Rattle.blockmachine.specs.Sums.{Extent}
+use Rattle.blockmachine.proofs.Filled.{hands_itself_out}
+use Rattle.blockmachine.proofs.Ran.{between_ends}
+use Rattle.blockmachine.proofs.machine.Machine.run_packed.Goals as goal
+
+on_ok : {X E P Q : Type 0} (result : Result X E) → OnOk result P → (P → Q) → OnOk result Q
+on_ok (Ok x) p further = further p
+on_ok (Err e) p further = tt
+
+-- a whole number of frames, by the channels of the machine
+count_of : (samples frames n channels : ℕ) → samples ≡ frames * n → channels ≡ n → 1 ≤ channels → samples / channels ≡ frames
+count_of samples frames n channels long told some =
+    ap (λ m. m / channels) (long ∙ ap (λ m. frames * m) (sym told)) ∙ mul-div_left frames some
+
+pub read_stored-requires-clause-whole : goal.read_stored-requires-clause-whole
+read_stored-requires-clause-whole g c = λ facts there.
+    let fills = c.in-Some.ensures in
+    let same = same_Some fills.facts facts (sym fills.there ∙ there) in
+    let channels = c.channels-channels.result in
+    let frames = c.requires.fits.0 in
+    let told : channels ≡ c.args.self.now.channels =
+    c.channels-channels.ensures.channels ∙ ap (λ (e : Extent). e.channels) c.self.view_is in
+    let count =
+    count_of (length c.args.samples.now) frames c.args.self.now.channels channels c.requires.fits.3 told
+    c.channels-channels.ensures.within.0 in
+    let long : c.in-Some.stretch.length ≡ frames = ap (λ (s : Stretch). s.length) fills.whole ∙ count in
+    let wide : facts.channels ≡ c.args.self.now.channels = rw same at (fills.channels_alike ∙ told) in
+    let deep : bits_of facts.depth ≡ bits_of c.args.depth =
+    rw same at (ap bits_of fills.depth_alike) in
+    rw (long, wide, deep) (c.requires.room ∙ ap (λ m. m * (bits_of c.args.depth / 8)) c.requires.fits.3)
+
+pub returns-in-Some-clause-ran : goal.returns-in-Some-clause-ran
+returns-in-Some-clause-ran g c = λ honest. on_ok c.read_stored.result (c.read_stored.ensures.plays honest) (λ plays start.
+    let fills = c.in-Some.ensures in
+    let block = c.requires.fits.2 in
+    let depth = c.args.depth in
+    let bits = bits_of depth in
+    let bytes = c.read_stored.new.bytes in
+    let channels = c.channels-channels.result in
+    let n = c.args.self.now.channels in
+    let frames = c.requires.fits.0 in
+    let reading : Reading = reading_by (g.S.Shelf.stored c.args.shelf.now) c.args.sounds.now in
+    let told : channels ≡ n = c.channels-channels.ensures.channels ∙ ap (λ (e : Extent). e.channels) c.self.view_is in
+    let count =
+    count_of (length c.args.samples.now) frames n channels c.requires.fits.3 told
+    c.channels-channels.ensures.within.0 in
+    let stretch : c.in-Some.stretch ≡ filling c.in-Some.stretch.file c.in-Some.stretch.frame frames n =
+    fills.whole
+    ∙ ap (λ m. filling c.in-Some.stretch.file c.in-Some.stretch.frame m channels) count
+    ∙ ap (λ m. filling c.in-Some.stretch.file c.in-Some.stretch.frame frames m) told in
+    let long : c.in-Some.stretch.length ≡ frames = ap (λ (s : Stretch). s.length) stretch in
+    let out : List ℤ = samples_in bits (frames * n) bytes in
+    let played : Plays reading c.in-Some.stretch n bits out =
+    subst (λ m. Plays reading c.in-Some.stretch n bits (samples_in bits (m * n) bytes)) long
+    (rw (fills.channels_alike ∙ told, ap bits_of fills.depth_alike) at (plays fills.facts fills.there)) in
+    let small : AreBytes bytes = λ k. search rules in
+    let room : length bytes ≡ frames * n * (bits / 8) =
+    c.read_stored.auto.bytes ∙ c.requires.room ∙ ap (λ m. m * (bits / 8)) c.requires.fits.3 in
+    let handed =
+    hands_itself_out reading c.in-Some.stretch.file c.in-Some.stretch.frame frames n depth out
+    (subst (λ (s : Stretch). Plays reading s n bits out) stretch played) (all_fit depth (frames * n) bytes small)
+    (length-samples_in bits (frames * n) bytes) in
+    let lines : Add (filling c.in-Some.stretch.file c.in-Some.stretch.frame frames n) Flat ∷ [] ≡ block.lines =
+    sym (fills.alone ∙ ap (λ (s : Stretch). Add s Flat ∷ []) stretch)
+    ∙ between_ends c.args.program.now block.lines (Start frames) (Emit depth) block.whole in
+    sym (bytes_again depth (frames * n) bytes small room) ∙ ap (flat_map (sample_bytes bits)) (handed
+    ∙ ap (λ (l : List Instruction). (executed_all reading n (Start frames ∷ (l ++ Emit depth ∷ [])) start).out) lines
+    ∙ ap (λ (p : List Instruction). (executed_all reading n p start).out) (sym block.whole)))
+
+pub pack-requires-clause-fit : goal.pack-requires-clause-fit
+pack-requires-clause-fit g c = c.in_ok-run.ensures.fit c.requires.fits.0 c.args.depth c.requires.fits.2
