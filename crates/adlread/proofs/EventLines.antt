@@ -8,6 +8,7 @@ use Rattle.sound_terms.specs.declared.Event.{Event}
 use Rattle.list_terms.specs.declared.OpenEntry.{OpenEntry}
 use Rattle.list_terms.specs.declared.Section.TheVariants as section
 use Rattle.list_terms.specs.declared.TextFault.TheVariants.{RepeatedFade, Unplaced, Unsupported}
+use Rattle.list_terms.specs.KeywordLaws.{other_keyword}
 use Rattle.list_terms.specs.ReadingLaws.{BlankEvent, FrontRemark, Further, IsEventLine, ToldEntry, entry_number, event_line_is}
 use Rattle.list_terms.specs.Tokens.{TokenText, token_at}
 use Rattle.list_terms.specs.Fields.{is_keyword, is_zero}
@@ -21,7 +22,6 @@ use Rattle.adlread.specs.LineGrammar.{IsLineOf, SpellsLine, entry_line, fade_lin
 use Rattle.adlread.specs.Spells.{EntriesEnd, FallLine, FirstEntry, GainLine, NextEntry, NoEntries, RemarkBehind, RemarkLine, RiseLine, SpelledEntry, SpellsBehind, SpellsEntries, faded, with_fades}
 use Rattle.adlread.proofs.CutLaws.{cut_next, cut_none, first_cut, no_cut}
 use Rattle.adlread.proofs.FieldLaws.{all_cut, all_tokens_are, chain, ends, is_end_of, is_named, is_numbered, ok_map_ok, ok_same, reads_all, reads_end, reads_mapped, refused, spells_named, told_read, unless_read}
-use Rattle.adlread.proofs.Keywords.{other_keyword}
 use Rattle.adlread.proofs.Walk.{walk, walk_step}
 
 abbrev pub with_entries : Context → Entries → Context

@@ -22,7 +22,7 @@ use Rattle.list_terms.specs.Text.{is_tag, untagged}
 use Rattle.adlread.specs.CutLines.{CutsTo, OnlyBlanks}
 use Rattle.adlread.specs.LineGrammar.{Spell, SpellByFirst, SpellsByFirst, SpellsLine, Tells, TellsTime, named}
 use Rattle.adlread.proofs.CutLaws.{cut_next, cut_none, first_cut, no_cut, rest_shorter}
-use Rattle.adlread.proofs.NumberLaws.{channels_read, channels_told, number_read, number_told}
+use Rattle.list_terms.specs.NumberLaws.{channels_read, channels_told, number_read, number_told}
 use Rattle.adlread.proofs.TokenRun.{all_tokens-step, all_tokens-refused, all_tokens-fault, all_tokens-none, no_bytes}
 
 -- ---- the end of a line

@@ -1,16 +1,18 @@
 -- A list that was read up to its end gives all that holds of a project; and no line has a line feed.
 use Rattle.std.proofs.Common.{◌≡◌, ℕ, ◌+◌, Bool, true, false, List, [], ◌∷◌, Option, None, Ok, IsTrue, refl, ap, sym, ◌∙◌, arith}
 use Rattle.std.specs.Prelude.{unwrap_or, ◌==◌, ◌&&◌, map}
-use Rattle.std.specs.List.{list_all, onto_first}
+use Rattle.std.specs.List.{list_all}
 use Rattle.facts.specs.Tests.{and_both, and_left, and_right}
 use Rattle.sampletime.specs.TimeCode.{default_separators}
 use Rattle.sound_terms.specs.declared.Event.{Event}
 use Rattle.list_terms.specs.declared.OpenEntry.{OpenEntry}
 use Rattle.list_terms.specs.declared.Rates.{Rates}
-use Rattle.list_terms.specs.Lines.{cut_lines, lines_of, without_cr, without_mark}
+use Rattle.list_terms.specs.Lines.{lines_of, without_cr}
 use Rattle.list_terms.specs.Text.{Context, HeaderRead, all_events, is_behind, read_from, with_line}
 use Rattle.list_terms.specs.WholeProject.{IsHeader, is_line_byte}
+use Rattle.adlread.specs.CutLines.{EndedPart, HasParts, LastPart, NoPart}
 use Rattle.adlread.specs.SoFar.{IsHeaderSoFar}
+use Rattle.adlread.proofs.LineLaws.{has_lines}
 
 both_told :
     (rates : Rates) → (rates.sample_rate && rates.frame_rate) ≡ true
@@ -23,20 +25,11 @@ both_told rates h =
 abbrev are_lines : List (List ℕ) → Bool
 are_lines lines = list_all (list_all is_line_byte) lines
 
-onto_first-line :
-    (b : ℕ) (lines : List (List ℕ)) → is_line_byte b ≡ true → are_lines lines ≡ true
-    → are_lines (onto_first b lines) ≡ true
-onto_first-line b [] h all = rw h refl
-onto_first-line b (l ∷ lines) h all = rw h all
-
-cut_lines-lines : (text : List ℕ) → are_lines (cut_lines text) ≡ true
-unfolding cut_lines
-cut_lines-lines [] = refl
-cut_lines-lines (b ∷ text) = by_test (b == 10) refl (cut_lines-lines text) where
-  by_test :
-      (ends : Bool) → (b == 10) ≡ ends → are_lines (cut_lines text) ≡ true → are_lines (cut_lines (b ∷ text)) ≡ true
-  by_test true e ih = rw e ih
-  by_test false e ih = rw e (onto_first-line b (cut_lines text) (rw e refl) ih)
+parts_are_lines : {text : List ℕ} {parts : List (List ℕ)} → HasParts text parts → are_lines parts ≡ true
+parts_are_lines NoPart = refl
+parts_are_lines (LastPart byte part h) = and_both (list_all is_line_byte (byte ∷ part)) true h refl
+parts_are_lines (EndedPart part rest {parts} h others) =
+    and_both (list_all is_line_byte part) (are_lines parts) h (parts_are_lines others)
 
 without_cr-line : (text : List ℕ) → list_all is_line_byte text ≡ true → list_all is_line_byte (without_cr text) ≡ true
 without_cr-line [] h = refl
@@ -57,8 +50,8 @@ map-lines (l ∷ lines) h =
     (map-lines lines (and_right (list_all is_line_byte l) (are_lines lines) h))
 
 pub lines_of-lines : (text : List ℕ) → list_all (list_all is_line_byte) (lines_of text) ≡ true
-unfolding lines_of
-lines_of-lines text = map-lines (cut_lines (without_mark text)) (cut_lines-lines (without_mark text))
+lines_of-lines text =
+    let lines = has_lines text in rw lines.lines_are (map-lines lines.parts (parts_are_lines lines.cut))
 
 -- the first of some lines, and the others
 pub first_of-lines :

@@ -1,15 +1,18 @@
 -- The header that was read so far, with one section or one line more.
-use Rattle.std.proofs.Common.{◌≡◌, ℕ, ◌+◌, ◌≤◌, Bool, true, false, List, [], ◌∷◌, ◌++◌, length, Option, None, Some, Result, Ok, Err, refl, ap, sym, ◌∙◌, length-append, arith}
+use Rattle.std.proofs.Common.{◌≡◌, ℕ, ◌+◌, ◌≤◌, Bool, true, false, List, [], ◌∷◌, ◌++◌, length, Option, None, Some, Result, Ok, refl, ap, sym, ◌∙◌, length-append, arith}
 use Rattle.std.specs.Prelude.{codes, is_some, nat_le, not}
 use Rattle.std.specs.List.{list_all}
 use Rattle.std.proofs.lemmas.Bool.Decides.{nat_tests}
 use Rattle.facts.specs.Lists.{all_push}
 use Rattle.facts.specs.Tests.{and_both}
 use Rattle.list_terms.specs.declared.Rates.{Rates}
+use Rattle.list_terms.specs.declared.Section.{Section}
 use Rattle.list_terms.specs.declared.Section.TheVariants as section
 use Rattle.list_terms.specs.declared.TextFault.{TextFault}
 use Rattle.list_terms.specs.declared.TextFault.TheVariants.{SectionMismatch}
 use Rattle.list_terms.specs.EntryLines.{system_line}
+use Rattle.list_terms.specs.StepLaws.{chain, ok_same, unless_ok}
+use Rattle.list_terms.specs.Steps.{◌>>=◌}
 use Rattle.list_terms.specs.Text.{HeaderRead, is_end, is_tag, keep, no_header, rates_with, sequence_rates, system_rates, with_text}
 use Rattle.list_terms.specs.Tokens.{trimmed}
 use Rattle.list_terms.specs.WholeProject.{are_kept, is_kept, is_line_byte, is_system_line, line_count, lines_of_section, no_rates, told_rates}
@@ -68,13 +71,8 @@ module _ (rate : ℕ) where
       → sequence_rates rate told text ≡ Ok next → told_rates rate rates (front ++ text ∷ []) ≡ Ok next
   told_rates-push rates told next [] text h k = let e : rates ≡ told = cc in rw (e, k) refl
   told_rates-push rates told next (line ∷ front) text h k =
-      by_first (sequence_rates rate rates line) refl (λ mid e. told_rates-push mid told next front text e k) where
-        by_first :
-            (first : Result Rates TextFault) → sequence_rates rate rates line ≡ first
-            → ((mid : Rates) → told_rates rate mid front ≡ Ok told → told_rates rate mid (front ++ text ∷ []) ≡ Ok next)
-            → told_rates rate rates (line ∷ front ++ text ∷ []) ≡ Ok next
-        by_first (Ok mid) e ih = rw e (ih mid (rw e at h))
-        by_first (Err fault) e ih = let f : Err fault ≡ Ok told = rw e at h in absurd (cc)
+      let c = chain (sequence_rates rate rates line) (λ mid. told_rates rate mid front) told h in
+      rw c.is (told_rates-push c.value told next front text c.others k)
 
   told_with :
       (told next : Rates) (lines : Option (List (List ℕ))) (text : List ℕ) → is_some lines ≡ true
@@ -90,40 +88,36 @@ module _ (rate : ℕ) where
 
   system_rates-says :
       (rates told : Rates) (text : List ℕ) → system_rates rate rates text ≡ Ok told → SaysNothing rates told text
-  system_rates-says rates told text h = by_parts (is_tag text) refl (system_line rate text) refl where
-    by_parts :
-        (tag : Bool) → is_tag text ≡ tag → (said : Result (Unit {0}) TextFault) → system_line rate text ≡ said
-        → SaysNothing rates told text
-    by_parts true t said s = let f : system_rates rate rates text ≡ Err SectionMismatch = rw t refl in absurd (cc)
-    by_parts false t (Err fault) s = let f : system_rates rate rates text ≡ Err fault = rw (t, s) refl in absurd (cc)
-    by_parts false t (Ok said) s =
-        let f : system_rates rate rates text ≡ Ok rates = rw (t, s) refl in
-        record { same = cc; line = rw (t, s) refl }
+  system_rates-says rates told text h =
+      let u = unless_ok (is_tag text) SectionMismatch (system_line rate text >>= (λ _. Ok rates)) told h in
+      let l = chain (system_line rate text) (λ _. Ok rates) told u.1 in
+      record { same = ok_same _ _ l.others; line = rw (u.0, l.is) refl }
 
   module _ (header : HeaderRead) (is : IsHeaderSoFar rate header) (text : List ℕ) (told : Rates)
       (room : nat_le 65535 header.kept ≡ false) where
     room_for_one : header.kept + 1 ≤ 65535
     room_for_one = grind (arith, nat_tests)
 
-    pub with_version :
-        is_kept (codes "VERSION") text ≡ true → rates_with rate section.Version header.rates text ≡ Ok told
-        → IsHeaderSoFar rate (record { lines = keep section.Version text header.lines; kept = header.kept + 1; rates = told })
+    -- what a line of this section tells, and the header with it
+    abbrev Tells : Section → Type 0
+    Tells s = rates_with rate s header.rates text ≡ Ok told
+
+    abbrev Keeps : Section → Type 0
+    Keeps s = IsHeaderSoFar rate (record { lines = keep s text header.lines; kept = header.kept + 1; rates = told })
+
+    pub with_version : is_kept (codes "VERSION") text ≡ true → Tells section.Version → Keeps section.Version
     with_version kept says =
         so_far (all_with (is_kept (codes "VERSION")) text header.lines.version is.version kept)
         is.project is.system is.sequence is.track_list is.settings (is.rates ∙ says)
         (omega (arith, length_with text header.lines.version, is.counted)) room_for_one
 
-    pub with_project :
-        is_kept (codes "PROJECT") text ≡ true → rates_with rate section.Project header.rates text ≡ Ok told
-        → IsHeaderSoFar rate (record { lines = keep section.Project text header.lines; kept = header.kept + 1; rates = told })
+    pub with_project : is_kept (codes "PROJECT") text ≡ true → Tells section.Project → Keeps section.Project
     with_project kept says =
         so_far is.version (all_with (is_kept (codes "PROJECT")) text header.lines.project is.project kept)
         is.system is.sequence is.track_list is.settings (is.rates ∙ says)
         (omega (arith, length_with text header.lines.project, is.counted)) room_for_one
 
-    pub with_system :
-        is_kept (codes "SYSTEM") text ≡ true → rates_with rate section.System header.rates text ≡ Ok told
-        → IsHeaderSoFar rate (record { lines = keep section.System text header.lines; kept = header.kept + 1; rates = told })
+    pub with_system : is_kept (codes "SYSTEM") text ≡ true → Tells section.System → Keeps section.System
     with_system kept says =
         let nothing = system_rates-says header.rates told text says in
         so_far is.version is.project (all_with (is_kept (codes "SYSTEM")) text header.lines.system is.system kept)
@@ -132,22 +126,15 @@ module _ (rate : ℕ) where
         (omega (arith, length_with text header.lines.system, is.counted)) room_for_one
 
     pub with_sequence :
-        is_some header.lines.sequence ≡ true → is_kept (codes "SEQUENCE") text ≡ true
-        → rates_with rate section.Sequence header.rates text ≡ Ok told
-        → IsHeaderSoFar rate (record { lines = keep section.Sequence text header.lines; kept = header.kept + 1; rates = told })
+        is_some header.lines.sequence ≡ true → is_kept (codes "SEQUENCE") text ≡ true → Tells section.Sequence
+        → Keeps section.Sequence
     with_sequence there kept says =
         so_far is.version is.project is.system (all_with (is_kept (codes "SEQUENCE"))
         text header.lines.sequence is.sequence kept) is.track_list is.settings
         (told_with header.rates told header.lines.sequence text there is.rates says)
         (omega (arith, length_with text header.lines.sequence, is.counted)) room_for_one
 
-    pub with_track_list :
-        is_kept (codes "TRACKLIST") text ≡ true → rates_with rate section.TrackList header.rates text ≡ Ok told
-        → IsHeaderSoFar rate (record {
-          lines = keep section.TrackList text header.lines;
-          kept = header.kept + 1;
-          rates = told;
-        })
+    pub with_track_list : is_kept (codes "TRACKLIST") text ≡ true → Tells section.TrackList → Keeps section.TrackList
     with_track_list kept says =
         so_far is.version is.project is.system is.sequence
         (all_with (is_kept (codes "TRACKLIST")) text header.lines.track_list is.track_list kept) is.settings

@@ -5,10 +5,8 @@ pub mod FieldLaws
 pub mod Finished
 pub mod Fits
 pub mod HeaderSoFar
-pub mod Keywords
 pub mod KeptLines
 pub mod LineLaws
-pub mod NumberLaws
 pub mod Numbered
 pub mod SectionNames
 pub mod SettingLines

@@ -1,5 +1,5 @@
 -- A line that doesn't end the open section doesn't end the section of that meaning.
-use Rattle.std.proofs.Common.{◌≡◌, ℕ, Bool, true, false, List, [], ◌∷◌, Option, None, Some, refl, sym, subst}
+use Rattle.std.proofs.Common.{◌≡◌, ℕ, Bool, true, false, List, [], ◌∷◌, Option, None, Some, refl, subst}
 use Rattle.std.specs.Prelude.{codes, if◌then◌else◌}
 use Rattle.std.specs.Str.{str_to_ascii_lowercase}
 use Rattle.std.proofs.lemmas.Slice.Eq.{bytes_eq-Decides}
@@ -17,7 +17,7 @@ chosen a b c d e f g h =
     else if h then section.Unsupported else section.Skipped
 
 -- the test that a section of the header was chosen by
-abbrev Passed : (a b c d e : Bool) → Section → Type 0
+abbrev pub Passed : (a b c d e : Bool) → Section → Type 0
 Passed a b c d e section.Version = a ≡ true
 Passed a b c d e section.Project = b ≡ true
 Passed a b c d e section.System = c ≡ true
@@ -39,7 +39,7 @@ passed false false false false false false true h = tt
 passed false false false false false false false true = tt
 passed false false false false false false false false = tt
 
-abbrev PassedBy : List ℕ → Section → Type 0
+abbrev pub PassedBy : List ℕ → Section → Type 0
 PassedBy name =
     Passed (is_same_name name (codes "VERSION")) (is_same_name name (codes "PROJECT"))
     (is_same_name name (codes "SYSTEM"))
@@ -54,10 +54,10 @@ passed_by_name name =
     (is_same_name name (codes "SOURCE_INDEX"))
     (is_same_name name (codes "EVENT_LIST")) (is_unsupported name)
 
-passed_as : (name : List ℕ) (s : Section) → section_of name ≡ s → PassedBy name s
+pub passed_as : (name : List ℕ) (s : Section) → section_of name ≡ s → PassedBy name s
 passed_as name s e = subst (PassedBy name) e (passed_by_name name)
 
-is_end-same : (name other text : List ℕ) → is_same_name name other ≡ true → is_end name text ≡ is_end other text
+pub is_end-same : (name other text : List ℕ) → is_same_name name other ≡ true → is_end name text ≡ is_end other text
 is_end-same name other text h = by_tag (tag_of text) refl where
   same : str_to_ascii_lowercase name ≡ str_to_ascii_lowercase other
   same = (bytes_eq-Decides (str_to_ascii_lowercase name) (str_to_ascii_lowercase other)).0 h
@@ -66,23 +66,3 @@ is_end-same name other text h = by_tag (tag_of text) refl where
   by_tag None t = rw t refl
   by_tag (Some []) t = rw t refl
   by_tag (Some (b ∷ rest)) t = rw (t, same) refl
-
-pub ends_version :
-    (name text : List ℕ) → section_of name ≡ section.Version → is_end (codes "VERSION") text ≡ is_end name text
-ends_version name text e = sym (is_end-same name (codes "VERSION") text (passed_as name section.Version e))
-
-pub ends_project :
-    (name text : List ℕ) → section_of name ≡ section.Project → is_end (codes "PROJECT") text ≡ is_end name text
-ends_project name text e = sym (is_end-same name (codes "PROJECT") text (passed_as name section.Project e))
-
-pub ends_system :
-    (name text : List ℕ) → section_of name ≡ section.System → is_end (codes "SYSTEM") text ≡ is_end name text
-ends_system name text e = sym (is_end-same name (codes "SYSTEM") text (passed_as name section.System e))
-
-pub ends_sequence :
-    (name text : List ℕ) → section_of name ≡ section.Sequence → is_end (codes "SEQUENCE") text ≡ is_end name text
-ends_sequence name text e = sym (is_end-same name (codes "SEQUENCE") text (passed_as name section.Sequence e))
-
-pub ends_track_list :
-    (name text : List ℕ) → section_of name ≡ section.TrackList → is_end (codes "TRACKLIST") text ≡ is_end name text
-ends_track_list name text e = sym (is_end-same name (codes "TRACKLIST") text (passed_as name section.TrackList e))

@@ -1,5 +1,5 @@
 -- What holds of a list that was read so far holds with one line more.
-use Rattle.std.proofs.Common.{◌≡◌, ℕ, ◌+◌, true, false, List, [], ◌∷◌, ◌++◌, Option, None, Some, Result, Ok, refl, subst, ◌∙◌}
+use Rattle.std.proofs.Common.{◌≡◌, ℕ, ◌+◌, true, false, List, [], ◌∷◌, ◌++◌, Option, None, Some, Result, Ok, refl, subst, sym, ◌∙◌}
 use Rattle.std.specs.Prelude.{codes, is_some, nat_le, if◌then◌else◌}
 use Rattle.std.specs.List.{list_all}
 use Rattle.facts.specs.Lists.{all_push}
@@ -8,14 +8,15 @@ use Rattle.list_terms.specs.declared.Section.{Section}
 use Rattle.list_terms.specs.declared.Section.TheVariants as section
 use Rattle.list_terms.specs.declared.Stage.{Stage}
 use Rattle.list_terms.specs.declared.Stage.TheVariants as stage
+use Rattle.list_terms.specs.Fields.{is_same_name}
 use Rattle.list_terms.specs.ReadingLaws.{Begins, BlankBefore, BlankEvent, BlankOutside, BlankSource, Closes, DroppedSource, Ends, FrontRemark, Further, IsBeforeLine, IsEventLine, IsInsideLine, IsOutsideLine, IsSourceLine, Opens, ToldEntry, ToldSource, Within, before_is, event_line_is, header_line_is, inside_is, outside_is, source_line_is, unsupported_line_is}
 use Rattle.list_terms.specs.StepLaws.{ok_same}
 use Rattle.list_terms.specs.Text.{Context, LocatedFault, all_events, before_list, in_header, in_section, is_end, is_opened, keep, nothing_read, outside, rates_with, section_of, with_line, with_section, with_text}
 use Rattle.list_terms.specs.Tokens.{trimmed}
-use Rattle.list_terms.specs.WholeProject.{has_whole_texts, is_line_byte}
+use Rattle.list_terms.specs.WholeProject.{has_whole_texts, is_kept, is_line_byte}
 use Rattle.adlread.specs.SoFar.{IsHeaderSoFar, IsOpen, IsSoFar}
 use Rattle.adlread.proofs.HeaderSoFar.{IsHeaderSoFar-none, is_kept_line, opens_project, opens_sequence, opens_system, opens_track_list, opens_version, with_project, with_sequence, with_system, with_track_list, with_version}
-use Rattle.adlread.proofs.SectionNames.{ends_project, ends_sequence, ends_system, ends_track_list, ends_version}
+use Rattle.adlread.proofs.SectionNames.{is_end-same, passed_as}
 use Rattle.adlread.proofs.SourceTexts.{named_has_texts}
 
 not_nil : {X : Type 0} (xs : List X) (x : X) → xs ++ x ∷ [] ≡ [] → ⊥
@@ -74,35 +75,30 @@ module _ (rate : ℕ) where
         so_far is.name is.in_sequence is.header is.texts (λ none. absurd (not_nil c.entries.events new.event none))
 
     module _ (inside : is_end c.name (trimmed text) ≡ false) where
+      -- a line that doesn't end the open section is kept under the name of its meaning
+      kept : (title : List ℕ) → is_same_name c.name title ≡ true → is_kept title text ≡ true
+      kept title same = is_kept_line title text whole (sym (is_end-same c.name title (trimmed text) same) ∙ inside)
+
       in_section_so_far :
           (next : Context) (s : Section) → c.stage ≡ stage.Inside s → section_of c.name ≡ s
           → in_section rate c n text s ≡ Ok next → IsSoFar rate next
       unfolding in_section
       in_section_so_far next section.Version st e =
-          header_so_far next section.Version
-          (λ told room. with_version rate c.header is.header text told room
-          (is_kept_line (codes "VERSION") text whole (ends_version c.name (trimmed text) e ∙ inside)))
-          is.in_sequence
+          header_so_far next section.Version (λ told room. with_version rate c.header is.header text told room
+          (kept (codes "VERSION") (passed_as c.name section.Version e))) is.in_sequence
       in_section_so_far next section.Project st e =
-          header_so_far next section.Project
-          (λ told room. with_project rate c.header is.header text told room
-          (is_kept_line (codes "PROJECT") text whole (ends_project c.name (trimmed text) e ∙ inside)))
-          is.in_sequence
+          header_so_far next section.Project (λ told room. with_project rate c.header is.header text told room
+          (kept (codes "PROJECT") (passed_as c.name section.Project e))) is.in_sequence
       in_section_so_far next section.System st e =
-          header_so_far next section.System
-          (λ told room. with_system rate c.header is.header text told room
-          (is_kept_line (codes "SYSTEM") text whole (ends_system c.name (trimmed text) e ∙ inside)))
-          is.in_sequence
+          header_so_far next section.System (λ told room. with_system rate c.header is.header text told room
+          (kept (codes "SYSTEM") (passed_as c.name section.System e))) is.in_sequence
       in_section_so_far next section.Sequence st e =
-          header_so_far next section.Sequence
-          (λ told room. with_sequence rate c.header is.header text told room (is.in_sequence st)
-          (is_kept_line (codes "SEQUENCE") text whole (ends_sequence c.name (trimmed text) e ∙ inside)))
+          header_so_far next section.Sequence (λ told room. with_sequence rate c.header is.header text told room
+          (is.in_sequence st) (kept (codes "SEQUENCE") (passed_as c.name section.Sequence e)))
           (λ now. with_text_there text c.header.lines.sequence (is.in_sequence now))
       in_section_so_far next section.TrackList st e =
-          header_so_far next section.TrackList
-          (λ told room. with_track_list rate c.header is.header text told room
-          (is_kept_line (codes "TRACKLIST") text whole (ends_track_list c.name (trimmed text) e ∙ inside)))
-          is.in_sequence
+          header_so_far next section.TrackList (λ told room. with_track_list rate c.header is.header text told room
+          (kept (codes "TRACKLIST") (passed_as c.name section.TrackList e))) is.in_sequence
       in_section_so_far next section.SourceIndex st e = λ f. source_line_so_far (source_line_is rate c next n text f).1
       in_section_so_far next section.EventList st e = λ f. event_line_so_far (event_line_is rate c next n text f).1
       in_section_so_far next section.Skipped st e = λ f. subst (IsSoFar rate) (ok_same {E = LocatedFault} c next f) is

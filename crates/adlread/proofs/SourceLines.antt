@@ -13,7 +13,7 @@ use Rattle.list_terms.specs.Tokens.{TokenText}
 use Rattle.list_terms.specs.Fields.{is_keyword}
 use Rattle.list_terms.specs.Forms.{Number, Then}
 use Rattle.list_terms.specs.EntryLines.{source_fields}
-use Rattle.list_terms.specs.Text.{Context, dropped_line, in_source_index, index_line, is_tag, source_with, untagged, with_notice}
+use Rattle.list_terms.specs.Text.{Context, dropped_line, in_source_index, index_line, is_tag, source_with, with_notice}
 use Rattle.list_terms.specs.Text.{in_section}
 use Rattle.list_terms.specs.WholeProject.{AreDistinct, index_numbers}
 use Rattle.adlread.specs.CutLines.{HasTokens, NumberedLine}

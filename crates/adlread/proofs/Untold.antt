@@ -16,6 +16,7 @@ use Rattle.list_terms.specs.declared.TokenKind.TheVariants.{Quoted, Keyword, Wor
 use Rattle.list_terms.specs.Fields.{is_keyword}
 use Rattle.list_terms.specs.Lines.{lines_of, without_cr, without_mark}
 use Rattle.list_terms.specs.Names.{begins_with}
+use Rattle.list_terms.specs.RateLaws.{rate_from-next}
 use Rattle.list_terms.specs.Tokens.{Cut, TokenText, is_blank, token_at, token_text}
 use Rattle.list_terms.specs.TokenLaws.{is_content, token_at-front}
 use Rattle.list_terms.specs.Text.{Outline, has_word, is_in_sequence, nothing_passed, passed, rate_from, rate_in, rate_of, rate_of_line, whole_token}
@@ -146,12 +147,6 @@ untold_in o line h = rw (untold_line line h) (neither (is_in_sequence o line)) w
   neither true = refl
   neither false = refl
 
-untold_next :
-    (o next : Outline) (text : List ℕ) (lines : List (List ℕ)) → rate_in o text ≡ None → passed o text ≡ Some next
-    → rate_from o (text ∷ lines) ≡ rate_from next lines
-unfolding rate_from
-untold_next o next text lines e f = rw (e, f, rate_from)
-
 untold_stop :
     (o : Outline) (text : List ℕ) (lines : List (List ℕ)) → rate_in o text ≡ None → passed o text ≡ None
     → rate_from o (text ∷ lines) ≡ 25
@@ -172,7 +167,7 @@ untold_from (text ∷ lines) o h =
           (found : Option Outline) → passed o text ≡ found → ((next : Outline) → rate_from next lines ≡ 25)
           → rate_from o (text ∷ lines) ≡ 25
       by_next None f ih = untold_stop o text lines none f
-      by_next (Some next) f ih = untold_next o next text lines none f ∙ ih next
+      by_next (Some next) f ih = rate_from-next o next text lines none f ∙ ih next
 
 pub rate_of-untold : (text : List ℕ) → has_word told_by text ≡ false → rate_of text ≡ 25
 unfolding rate_of

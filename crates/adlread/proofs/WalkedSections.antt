@@ -8,7 +8,6 @@ use Rattle.list_terms.specs.declared.Notice.{Notice}
 use Rattle.list_terms.specs.declared.Section.{Section}
 use Rattle.list_terms.specs.declared.Section.TheVariants as section
 use Rattle.list_terms.specs.declared.Stage.TheVariants as stage
-use Rattle.list_terms.specs.declared.TextFault.TheVariants.{Unsupported}
 use Rattle.list_terms.specs.HeaderLaws.{lines_at, put_lines}
 use Rattle.list_terms.specs.Project.{ListProject}
 use Rattle.list_terms.specs.ReadingLaws.{begun, unsupported_line_is}

@@ -1,12 +1,12 @@
 -- What lines say by their tokens, without a reader.
-use Rattle.std.specs.Prelude.{◌≡◌, ℕ, ◌≤◌, ◌++◌, decimal, length, replicate, ◌&&◌, not, Bool, true, false, List, [], ◌∷◌, Option, None, Some, IsTrue, codes, is_some}
+use Rattle.std.specs.Prelude.{◌≡◌, ℕ, ◌&&◌, not, Bool, true, false, List, [], ◌∷◌, Option, None, Some, IsTrue, codes, is_some}
 use Rattle.std.specs.List.{list_all}
 use Rattle.sampletime.specs.TimeCode.{samples_of}
-use Rattle.sound_terms.specs.declared.Channels.{Channels}
 use Rattle.sound_terms.specs.declared.Event.{Event}
 use Rattle.list_terms.specs.declared.Rates.{Rates}
 use Rattle.list_terms.specs.Names.{place_of_url}
 use Rattle.list_terms.specs.Project.{Source}
+pub use Rattle.list_terms.specs.Spelling.{ChannelRun, IsNumber, OneChannel, SpellsChannels}
 use Rattle.list_terms.specs.Tokens.{TokenText, token_text}
 use Rattle.list_terms.specs.Fields.{is_keyword, is_missing, is_zero}
 use Rattle.list_terms.specs.Forms.{Done, Field, Form, Identifier, May, MayTime, Number, Passes, Refused, Run, Then, Time, Unless, Url, Value, keyword}
@@ -23,22 +23,6 @@ pub record IsLineOf (test : List TokenText → Bool) (text : List ℕ) : Type 0 
   pub tokens : List TokenText
   pub cut : HasTokens text tokens
   pub passes : IsTrue (test tokens)
-
--- the digits of a number from 1 up to a limit, at most six with the zeros in front
-pub record IsNumber (limit : ℕ) (text : List ℕ) (number : ℕ) : Type 0 where
-  pub zeros : ℕ
-  pub digits : text ≡ replicate zeros 48 ++ decimal number
-  pub few : length text ≤ 6
-  pub above : 1 ≤ number
-  pub below : number ≤ limit
-
--- `n` for one channel of 64, `a~b` for those from a to b
-pub data SpellsChannels : List ℕ → Channels → Type 0 where
-  OneChannel : (text : List ℕ) (channel : ℕ) → IsNumber 64 text channel
-      → SpellsChannels text (record { first = channel; last = channel })
-  ChannelRun : (front back : List ℕ) (channels : Channels)
-      → IsNumber 64 front channels.first → IsNumber 64 back channels.last → channels.first ≤ channels.last
-      → SpellsChannels (front ++ (126 ∷ back)) channels
 
 -- the text of this time, with some separators; `_` where there is none
 abbrev pub TellsTime : ℕ → List ℕ → Option ℕ → Type 0

@@ -1,7 +1,8 @@
 -- Laws of the sections of a header: where their lines are kept, and which rates these tell.
-use Rattle.std.specs.Prelude.{◌≡◌, ℕ, Bool, true, false, List, [], ◌∷◌, ◌++◌, Option, None, Some, Result, Ok, Err, is_ok, is_some, not, refl}
+use Rattle.std.specs.Prelude.{◌≡◌, ℕ, true, List, [], ◌∷◌, ◌++◌, Option, None, Some, Result, Ok, Err, is_ok, is_some, not, refl}
 use Rattle.std.specs.List.{list_all}
 use Rattle.std.proofs.Common.{ap}
+use Rattle.std.proofs.lemmas.Bool.{not-true}
 use Rattle.facts.specs.Tests.{and_left, and_right}
 use Rattle.list_terms.specs.declared.Rates.{Rates}
 use Rattle.list_terms.specs.declared.Section.{Section}
@@ -73,6 +74,10 @@ track_list_kept =
 
 -- ---- the rates that lines tell
 
+was_ok : (r : Result (Unit {0}) TextFault) → is_ok r ≡ true → r ≡ Ok tt
+was_ok (Ok u) h = refl
+was_ok (Err fault) h = absurd (cc)
+
 module _ (rate : ℕ) where
   -- the rates that lines of this section tell behind others
   abbrev pub told_in : Section → Rates → List (List ℕ) → Result Rates TextFault
@@ -89,14 +94,10 @@ module _ (rate : ℕ) where
   system_line_told :
       (rates : Rates) (text : List ℕ) → is_system_line rate text ≡ true → system_rates rate rates text ≡ Ok rates
   system_line_told rates text h =
-      by_parts (is_tag text) refl (system_line rate text) refl (and_left (not (is_tag text)) _ h)
-      (and_right (not (is_tag text)) _ h) where
-        by_parts :
-            (tag : Bool) → is_tag text ≡ tag → (said : Result (Unit {0}) TextFault) → system_line rate text ≡ said
-            → not (is_tag text) ≡ true → is_ok (system_line rate text) ≡ true → system_rates rate rates text ≡ Ok rates
-        by_parts true t said s untagged ok = let f : false ≡ true = rw t at untagged in absurd (cc)
-        by_parts false t (Err fault) s untagged ok = let f : false ≡ true = rw s at ok in absurd (cc)
-        by_parts false t (Ok said) s untagged ok = rw (t, s) refl
+      rw (
+        not-true (is_tag text) (and_left (not (is_tag text)) (is_ok (system_line rate text)) h),
+        was_ok (system_line rate text) (and_right (not (is_tag text)) (is_ok (system_line rate text)) h),
+      ) refl
 
   pub told_in-system :
       (rates : Rates) (lines : List (List ℕ)) → list_all (is_system_line rate) lines ≡ true

@@ -15,11 +15,13 @@ pub mod LineLaws
 pub mod Lines
 pub mod MediaNames
 pub mod Names
+pub mod NumberLaws
 pub mod Project
 pub mod RateLaws
 pub mod RateVectors
 pub mod ReadingLaws
 pub mod Renewed
+pub mod Spelling
 pub mod StepLaws
 pub mod Steps
 pub mod Text

@@ -23,7 +23,7 @@ use Rattle.list_terms.specs.Project.{ListProject}
 use Rattle.list_terms.specs.ReadingLaws.{Begins, BlankBefore, BlankEvent, BlankOutside, BlankSource, Closes, DroppedSource, Ends, FrontRemark, Further, IsBeforeLine, IsEventLine, IsHeaderLine, IsInsideLine, IsOutsideLine, IsSourceLine, Opens, ToldEntry, ToldSource, Within, before_is, event_line_is, header_line_is, inside_is, line_leaves, named_whole, outline_of, outside_is, source_line_is, unsupported_line_is}
 use Rattle.list_terms.specs.StepLaws.{chain, if_ok, ok_same, unless_ok}
 use Rattle.list_terms.specs.Steps.{◌>>=◌}
-use Rattle.list_terms.specs.Text.{is_cut_whole, Context, LocatedFault, Outline, at_line, finished, has_opened, in_header, in_section, is_behind, is_end, is_opened, is_tag, may_stand, nothing_read, opened, opens, passed, passed_before, passed_inside, passed_outside, rate_from, rate_in, rate_of, rate_of_line, rates_with, read_from, section_of, system_rates, untagged, whole_token, with_line, with_opened, with_section}
+use Rattle.list_terms.specs.Text.{is_cut_whole, Context, LocatedFault, Outline, at_line, finished, has_opened, in_header, in_section, is_behind, is_end, is_opened, is_tag, may_stand, nothing_read, opens, passed, passed_before, passed_inside, passed_outside, rate_from, rate_in, rate_of, rate_of_line, rates_with, read_from, section_of, system_rates, untagged, whole_token, with_line, with_opened, with_section}
 use Rattle.list_terms.specs.Tokens.{Cut, token_at, trimmed}
 
 -- ---- one line
@@ -238,54 +238,26 @@ module _ (rate : ℕ) where
 
   -- ---- lines outside every section
 
-  has_opened-of : (c : Context) (s : Section) → has_opened (outline_of c).opened s ≡ is_opened c s
-  has_opened-of c section.Version = refl
-  has_opened-of c section.Project = refl
-  has_opened-of c section.System = refl
-  has_opened-of c section.Sequence = refl
-  has_opened-of c section.TrackList = refl
-  has_opened-of c section.SourceIndex = refl
-  has_opened-of c section.EventList = refl
-  has_opened-of c section.Skipped = refl
-  has_opened-of c section.Unsupported = refl
+  -- a section that begins is opened, and tells no rate
+  record IsBegun (c : Context) (n : ℕ) (s : Section) : Type 0 where
+    opened : has_opened (outline_of c).opened s ≡ is_opened c s
+    marked : with_opened (outline_of c).opened s ≡ (outline_of (with_section c n s)).opened
+    told : has_rate (with_section c n s) ≡ has_rate c
+    ends : (text : List ℕ) → is_end c.name (trimmed text) ≡ true → rate_in (outline_of (inside s c)) text ≡ None
 
-  with_opened-of : (c : Context) (n : ℕ) (s : Section) → with_opened (outline_of c).opened s ≡ (outline_of (with_section c n s)).opened
-  with_opened-of c n section.Version = refl
-  with_opened-of c n section.Project = refl
-  with_opened-of c n section.System = refl
-  with_opened-of c n section.Sequence = refl
-  with_opened-of c n section.TrackList = refl
-  with_opened-of c n section.SourceIndex = refl
-  with_opened-of c n section.EventList = refl
-  with_opened-of c n section.Skipped = refl
-  with_opened-of c n section.Unsupported = refl
+  is_begun : (c : Context) (n : ℕ) (s : Section) → IsBegun c n s
+  is_begun c n section.Version = record { opened = refl; marked = refl; told = refl; ends = λ text ends. refl }
+  is_begun c n section.Project = record { opened = refl; marked = refl; told = refl; ends = λ text ends. refl }
+  is_begun c n section.System = record { opened = refl; marked = refl; told = refl; ends = λ text ends. refl }
+  is_begun c n section.Sequence =
+      record { opened = refl; marked = refl; told = refl; ends = λ text ends. rw ends refl }
+  is_begun c n section.TrackList = record { opened = refl; marked = refl; told = refl; ends = λ text ends. refl }
+  is_begun c n section.SourceIndex = record { opened = refl; marked = refl; told = refl; ends = λ text ends. refl }
+  is_begun c n section.EventList = record { opened = refl; marked = refl; told = refl; ends = λ text ends. refl }
+  is_begun c n section.Skipped = record { opened = refl; marked = refl; told = refl; ends = λ text ends. refl }
+  is_begun c n section.Unsupported = record { opened = refl; marked = refl; told = refl; ends = λ text ends. refl }
 
-  has_rate-begun : (c : Context) (n : ℕ) (s : Section) → has_rate (with_section c n s) ≡ has_rate c
-  has_rate-begun c n section.Version = refl
-  has_rate-begun c n section.Project = refl
-  has_rate-begun c n section.System = refl
-  has_rate-begun c n section.Sequence = refl
-  has_rate-begun c n section.TrackList = refl
-  has_rate-begun c n section.SourceIndex = refl
-  has_rate-begun c n section.EventList = refl
-  has_rate-begun c n section.Skipped = refl
-  has_rate-begun c n section.Unsupported = refl
-
-  -- the outline behind a line, and the rate as it was
   -- ---- the whole list
-
-  in_sequence_end :
-      (s : Section) (c : Context) (text : List ℕ) → is_end c.name (trimmed text) ≡ true
-      → rate_in (outline_of (inside s c)) text ≡ None
-  in_sequence_end section.Version c text ends = refl
-  in_sequence_end section.Project c text ends = refl
-  in_sequence_end section.System c text ends = refl
-  in_sequence_end section.Sequence c text ends = rw ends refl
-  in_sequence_end section.TrackList c text ends = refl
-  in_sequence_end section.SourceIndex c text ends = refl
-  in_sequence_end section.EventList c text ends = refl
-  in_sequence_end section.Skipped c text ends = refl
-  in_sequence_end section.Unsupported c text ends = refl
 
   line_goes :
       (st : Stage) (c next : Context) (n : ℕ) (text : List ℕ) → is_behind st ≡ false
@@ -304,12 +276,13 @@ module _ (rate : ℕ) where
     by_line (Opens name some more named free) =
         let d = record c { stage = stage.Outside } in
         let s = section_of name in
-        let goes = ap (λ o. Some (record { stage = stage.Inside s; name = name; opened = o })) (with_opened-of d n s) in
-        inr (refl, (rw (some, more, named, has_opened-of d s, free) goes, has_rate-begun d n s))
+        let b = is_begun d n s in
+        let goes = ap (λ o. Some (record { stage = stage.Inside s; name = name; opened = o })) b.marked in
+        inr (refl, (rw (some, more, named, b.opened, free) goes, b.told))
   line_goes (stage.Inside s) c next n text before e = by_line (inside_is rate s (inside s c) next n text e) where
     by_line : IsInsideLine rate s (inside s c) n text next → Passes (inside s c) next text
     by_line (Closes ends same) =
-        inr (in_sequence_end s c text ends, (rw ends (ap (λ d. Some (outline_of d)) same), ap has_rate (sym same)))
+        inr ((is_begun c n s).ends text ends, (rw ends (ap (λ d. Some (outline_of d)) same), ap has_rate (sym same)))
     by_line (Within more e) = inside_passes s c next n text more e
   line_goes stage.Behind c next n text before e = absurd (cc)
 

@@ -1,11 +1,11 @@
 -- Digits spell the number that they print, with zeros in front.
-use Rattle.std.proofs.Common.{◌≡◌, ℕ, zero, suc, ◌+◌, ◌-◌, ◌*◌, ◌/◌, ◌%◌, ◌<◌, ◌≤◌, Bool, true, false, List, [], ◌∷◌, ◌++◌, length, Option, None, Some, refl, ap, sym, subst, ◌∙◌, append_assoc, length-append, ⊎_elim, arith}
+use Rattle.std.proofs.Common.{◌≡◌, ℕ, zero, suc, ◌+◌, ◌-◌, ◌*◌, ◌/◌, ◌%◌, ◌<◌, ◌≤◌, Bool, true, false, List, [], ◌∷◌, ◌++◌, length, Option, None, Some, refl, ap, sym, subst, ◌∙◌, append_assoc, length-append, arith}
 use Rattle.std.specs.Prelude.{decimal, if◌then◌else◌, nat_le, replicate, unwrap_or, ◌==◌, ◌&&◌}
 use Rattle.std.specs.List.{before_first, fold, list_all}
-use Rattle.std.proofs.lemmas.Bool.{cases_lt}
 use Rattle.std.proofs.lemmas.Bool.Decides.{nat_tests}
-use Rattle.std.proofs.lemmas.Fmt.{decimal_digit, decimal_nonempty, decimal_step}
+use Rattle.std.proofs.lemmas.Fmt.{decimal_by_steps, decimal_digit, decimal_nonempty, decimal_step}
 use Rattle.std.proofs.lemmas.List.{append-nil}
+use Rattle.std.proofs.lemmas.List.Folds.{list_all-append}
 use Rattle.std.proofs.lemmas.List.Sums.{fold-append}
 use Rattle.facts.specs.Tests.{and_both, and_left, and_right}
 use Rattle.sampletime.specs.TimeCode.{is_digit}
@@ -13,7 +13,7 @@ use Rattle.sound_terms.specs.declared.Channels.{Channels}
 use Rattle.list_terms.specs.Fields.{are_digits, channel_range, channels_of, is_tilde, number_up_to, spelled}
 use Rattle.list_terms.specs.FieldLaws.{before_more, before_none, before_tilde, behind_none, behind_tilde}
 use Rattle.list_terms.specs.Names.{behind_byte}
-use Rattle.adlread.specs.LineGrammar.{ChannelRun, IsNumber, OneChannel, SpellsChannels}
+use Rattle.list_terms.specs.Spelling.{ChannelRun, IsNumber, OneChannel, SpellsChannels}
 
 -- one digit more
 abbrev with_digit : ℕ → ℕ → ℕ
@@ -92,10 +92,7 @@ spelled-zeros (suc zeros) text = spelled-zeros zeros text
 
 all_append :
     (a b : List ℕ) → list_all is_digit a ≡ true → list_all is_digit b ≡ true → list_all is_digit (a ++ b) ≡ true
-all_append [] b h k = k
-all_append (d ∷ a) b h k =
-    and_both (is_digit d) (list_all is_digit (a ++ b)) (and_left (is_digit d) (list_all is_digit a) h)
-    (all_append a b (and_right (is_digit d) (list_all is_digit a) h) k)
+all_append a b h k = list_all-append is_digit a b ∙ and_both (list_all is_digit a) (list_all is_digit b) h k
 
 all_zeros : (zeros : ℕ) → list_all is_digit (replicate zeros 48) ≡ true
 all_zeros zero = refl
@@ -104,35 +101,26 @@ all_zeros (suc zeros) = all_zeros zeros
 is_one_digit : (d : ℕ) → d < 10 → is_digit (48 + d) ≡ true
 is_one_digit d h = grind (arith, nat_tests)
 
-record Prints (n : ℕ) : Type 0 where
-  value : spelled (decimal n) ≡ n
-  digits : list_all is_digit (decimal n) ≡ true
+-- digits that print a number spell it
+record Prints (n : ℕ) (text : List ℕ) : Type 0 where
+  value : spelled text ≡ n
+  digits : list_all is_digit text ≡ true
 
-one_digit : (n : ℕ) → n < 10 → Prints n
+one_digit : (n : ℕ) → n < 10 → Prints n ((48 + n) ∷ [])
 one_digit n one =
-    let is = decimal_digit n one in
-    record {
-      value = ap spelled is ∙ omega arith;
-      digits = ap (list_all is_digit) is
-          ∙ and_both (is_digit (48 + n)) true (is_one_digit n one) refl;
-    }
+    record { value = omega arith; digits = and_both (is_digit (48 + n)) true (is_one_digit n one) refl }
 
-one_more : (n : ℕ) → 10 ≤ n → n ≤ 32767 → Prints (n / 10) → Prints n
-one_more n more small front =
-    let is = decimal_step n more (omega arith) in
-    let last = (48 + n % 10) ∷ [] in
-    record {
-      value = ap spelled is ∙ fold-append with_digit 0 (decimal (n / 10)) last
-          ∙ ap (λ a. with_digit a (48 + n % 10)) front.value ∙ omega arith;
-      digits = ap (list_all is_digit) is ∙ all_append (decimal (n / 10)) last front.digits
-          (and_both (is_digit (48 + n % 10)) true (is_one_digit (n % 10) (omega arith)) refl);
-    }
+one_more :
+    (n : ℕ) (front : List ℕ) → 10 ≤ n → Prints (n / 10) front → Prints n (front ++ ((48 + n % 10) ∷ []))
+one_more n front more h = record {
+  value = fold-append with_digit 0 front ((48 + n % 10) ∷ [])
+      ∙ ap (λ a. with_digit a (48 + n % 10)) h.value ∙ omega arith;
+  digits = all_append front ((48 + n % 10) ∷ []) h.digits
+      (and_both (is_digit (48 + n % 10)) true (is_one_digit (n % 10) (omega arith)) refl);
+}
 
-prints : (fuel n : ℕ) → n ≤ fuel → n ≤ 32767 → Prints n
-prints zero n short small = one_digit n (omega arith)
-prints (suc fuel) n short small =
-    ⊎_elim (λ one. one_digit n one)
-    (λ more. one_more n more small (prints fuel (n / 10) (omega arith) (omega arith))) (cases_lt n 10)
+prints : (n : ℕ) → n ≤ 32767 → Prints n (decimal n)
+prints n small = decimal_by_steps Prints one_digit one_more n (omega arith)
 
 -- ---- numbers up to a limit
 
@@ -168,15 +156,15 @@ number_told limit n text low e =
       below = omega (arith, below, t.1);
     }
 
-pub number_read :
-    (limit n : ℕ) (text : List ℕ) → limit ≤ 32767 → IsNumber limit text n → number_up_to limit text ≡ Some n
-unfolding number_up_to
-number_read limit n text low h =
-    let v = spelled text in
-    let above = h.above in
+-- the text of a number is one to six digits, which spell it
+record HasDigits (text : List ℕ) (n : ℕ) : Type 0 where
+  digits : are_digits text ≡ true
+  value : spelled text ≡ n
+
+has_digits : (limit n : ℕ) (text : List ℕ) → limit ≤ 32767 → IsNumber limit text n → HasDigits text n
+has_digits limit n text low h =
     let below = h.below in
-    let p = prints n n (omega arith) (omega (arith, below, low)) in
-    let same : v ≡ n = ap spelled h.digits ∙ (spelled-zeros h.zeros (decimal n) ∙ p.value) in
+    let p = prints n (omega (arith, below, low)) in
     let all : list_all is_digit text ≡ true =
     ap (list_all is_digit) h.digits ∙ all_append (replicate h.zeros 48) (decimal n) (all_zeros h.zeros) p.digits in
     let some = decimal_nonempty n (omega (arith, below, low)) in
@@ -185,17 +173,24 @@ number_read limit n text low h =
     let lengths = and_both (nat_le 1 (length text)) (nat_le (length text) 6)
     (is_up_to 1 (length text) (omega (arith, length_is, some)))
     (is_up_to (length text) 6 h.few) in
-    let digits = and_both (nat_le 1 (length text) && nat_le (length text) 6) (list_all is_digit text) lengths all in
-    let test = and_both (are_digits text && nat_le 1 v) (nat_le v limit)
-    (and_both (are_digits text) (nat_le 1 v) digits (is_up_to 1 v (omega (arith, same, above))))
-    (is_up_to v limit (omega (arith, same, below))) in
-    rw test (ap Some same)
+    record {
+      digits = and_both (nat_le 1 (length text) && nat_le (length text) 6) (list_all is_digit text) lengths all;
+      value = ap spelled h.digits ∙ (spelled-zeros h.zeros (decimal n) ∙ p.value);
+    }
 
-number_digits : (limit n : ℕ) (text : List ℕ) → limit ≤ 32767 → IsNumber limit text n → list_all is_digit text ≡ true
-number_digits limit n text low h =
-    let below = h.below in
-    let p = prints n n (omega arith) (omega (arith, below, low)) in
-    ap (list_all is_digit) h.digits ∙ all_append (replicate h.zeros 48) (decimal n) (all_zeros h.zeros) p.digits
+pub number_read :
+    (limit n : ℕ) (text : List ℕ) → limit ≤ 32767 → IsNumber limit text n → number_up_to limit text ≡ Some n
+unfolding number_up_to
+number_read limit n text low h =
+    let d = has_digits limit n text low h in
+    rw (d.digits, d.value, is_up_to 1 n h.above, is_up_to n limit h.below) refl
+
+pub number_digits : (limit n : ℕ) (text : List ℕ) → limit ≤ 32767 → IsNumber limit text n → are_digits text ≡ true
+number_digits limit n text low h = (has_digits limit n text low h).digits
+
+all_digits : (limit n : ℕ) (text : List ℕ) → limit ≤ 32767 → IsNumber limit text n → list_all is_digit text ≡ true
+all_digits limit n text low h =
+    and_right (nat_le 1 (length text) && nat_le (length text) 6) (list_all is_digit text) (number_digits limit n text low h)
 
 -- ---- channels
 
@@ -203,7 +198,7 @@ pub channels_read :
     (text : List ℕ) (channels : Channels) → SpellsChannels text channels → channels_of text ≡ Some channels
 unfolding channels_of
 channels_read text channels (OneChannel t channel h) =
-    let digits = number_digits 64 channel t (omega arith) h in
+    let digits = all_digits 64 channel t (omega arith) h in
     rw (
       before_none t digits,
       behind_none t digits,
@@ -212,7 +207,7 @@ channels_read text channels (OneChannel t channel h) =
           (omega arith),
     ) refl
 channels_read text channels (ChannelRun front back c a b order) =
-    let digits = number_digits 64 c.first front (omega arith) a in
+    let digits = all_digits 64 c.first front (omega arith) a in
     rw (
       before_tilde front back digits,
       behind_tilde front back digits,
