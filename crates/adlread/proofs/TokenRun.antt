@@ -1,5 +1,5 @@
 -- The tokens up to the end of a line, one taken off.
-use Rattle.std.proofs.Common.{◌≡◌, Bool, ℕ, zero, suc, ◌<◌, ◌≤◌, true, false, List, length, None, Some, Ok, Err, refl, sym, ap, ◌∙◌, arith}
+use Rattle.std.proofs.Common.{◌≡◌, Bool, ℕ, zero, suc, ◌<◌, ◌≤◌, false, List, length, None, Some, Ok, Err, sym, ap, ◌∙◌, arith}
 use Rattle.list_terms.specs.declared.TextFault.{TextFault}
 use Rattle.list_terms.specs.declared.TextFault.TheVariants.{Unsupported}
 pub use Rattle.list_terms.specs.EndLaws.{all_tokens-fault, all_tokens-none, all_tokens-refused, all_tokens-step, no_bytes, token_at-nil}
@@ -10,21 +10,6 @@ pub record IsLeft (allowed : TokenText → Bool) (line rest : List ℕ) : Type 0
   pub steps : ℕ
   pub enough : length rest ≤ steps
   pub same : all_tokens allowed steps rest ≡ all_tokens allowed (length line) line
-
-pub IsLeft-whole : (allowed : TokenText → Bool) (line : List ℕ) → IsLeft allowed line line
-IsLeft-whole allowed line = record { steps = length line; enough = omega arith; same = refl }
-
--- one token more
-pub IsLeft-next :
-    (allowed : TokenText → Bool) (line left rest : List ℕ) (token : TokenText) → IsLeft allowed line left
-    → token_at left ≡ Ok (Some (token, rest)) → allowed token ≡ true → length rest < length left
-    → IsLeft allowed line rest
-IsLeft-next allowed line left rest token h e is shorter = by_steps h.steps h.enough h.same where
-  by_steps : (n : ℕ) → length left ≤ n → all_tokens allowed n left ≡ all_tokens allowed (length line) line
-      → IsLeft allowed line rest
-  by_steps zero enough same = absurd (omega arith)
-  by_steps (suc n) enough same =
-      record { steps = n; enough = omega arith; same = sym (all_tokens-step allowed n left rest token e is) ∙ same }
 
 pub IsLeft-refused :
     (allowed : TokenText → Bool) (line left rest : List ℕ) (token : TokenText) → IsLeft allowed line left
@@ -45,8 +30,3 @@ IsLeft-fault allowed line left fault h e = by_steps h.steps h.enough h.same wher
   by_steps zero enough same = let none : token_at left ≡ Ok None = ap token_at (no_bytes left enough) ∙ token_at-nil in
       absurd (cc)
   by_steps (suc n) enough same = sym same ∙ all_tokens-fault allowed n left fault e
-
-pub IsLeft-end :
-    (allowed : TokenText → Bool) (line left : List ℕ) → IsLeft allowed line left → token_at left ≡ Ok None
-    → all_tokens allowed (length line) line ≡ Ok tt
-IsLeft-end allowed line left h e = sym h.same ∙ all_tokens-none allowed h.steps left e

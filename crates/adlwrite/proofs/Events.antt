@@ -179,13 +179,6 @@ module _
   found_again None events h = refl
   found_again (Some found) events h = h
 
-  list_ends :
-      (entries : Entries) (n : ℕ)
-      → with_line project.rate (in_list entries) n (ending (codes "EVENT_LIST"))
-      ≡ Ok (so_far Outside (codes "EVENT_LIST") header true sources true entries)
-  unfolding with_line
-  list_ends entries n = refl
-
   pub events_are_read :
       (entries : Entries) (front written : List Event) (rest : List (List ℕ)) (result : ListProject)
       → all_events entries.events entries.entry ≡ front → AreFound entries.separators front
@@ -195,8 +188,9 @@ module _
       → Gives project.rate (so_far Outside (codes "EVENT_LIST") header true sources true last) rest result)
       → Gives project.rate (in_list entries)
       (flat_map (event_lines project) written ++ (ending (codes "EVENT_LIST") ∷ rest)) result
+  unfolding with_line
   events_are_read entries front [] rest result same found all distinct gives =
-      one_line project.rate _ _ (ending (codes "EVENT_LIST")) rest result (list_ends entries) refl
+      one_line project.rate _ _ (ending (codes "EVENT_LIST")) rest result (λ n. refl) refl
       (gives entries (same ∙ sym (append-nil front))
       (subst (AreFound entries.separators) (sym (append-nil front)) found))
   events_are_read entries front (e ∷ written) rest result same found all distinct gives =

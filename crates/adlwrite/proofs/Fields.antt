@@ -31,7 +31,7 @@ pub number_field-written :
     → value_at Number (32 ∷ (number_text n ++ rest)) ≡ Ok (n, rest)
 unfolding value_at
 number_field-written n rest h s =
-    rw (field-word (number_text n) rest (number_is_a_word n (grind (arith, nat_tests))) s, number_is_read n h)
+    rw (field-word (number_text n) rest (number_is_a_word n h) s, number_is_read n h)
 
 pub channels_field-written :
     (channels : Channels) (rest : List ℕ) → IsTrue (are_channels channels) → stops is_word_byte rest ≡ true
@@ -104,20 +104,13 @@ unfolding value_at field
 cut_again token rest h s =
     rw (token_at-space (token_text token ++ rest), token_at-token_text token.kind token.content rest h s)
 
-bytes_eq-same : (s t : List ℕ) → bytes_eq s t ≡ true → s ≡ t
-bytes_eq-same s t h = (bytes_eq-Decides s t).0 h
-
 uid_is_cut :
     (uid rest : List ℕ) (cut : Result (Option Cut) TextFault) → token_at uid ≡ cut → is_one_token uid ≡ true
     → stops is_word_byte rest ≡ true → value_at Identifier (32 ∷ (uid ++ rest)) ≡ Ok (uid, rest)
-uid_is_cut uid rest (Err fault) e h s = absurd (not_one (rw e at h)) where
-  not_one : false ≡ true → ⊥
-  not_one f = cc
-uid_is_cut uid rest (Ok None) e h s = absurd (not_one (rw e at h)) where
-  not_one : false ≡ true → ⊥
-  not_one f = cc
+uid_is_cut uid rest (Err fault) e h s = absurd (let no : false ≡ true = rw e at h in cc)
+uid_is_cut uid rest (Ok None) e h s = absurd (let no : false ≡ true = rw e at h in cc)
 uid_is_cut uid rest (Ok (Some (token, behind))) e h s =
-    let same : token_text token ≡ uid = bytes_eq-same (token_text token) uid (rw e at h) in
+    let same : token_text token ≡ uid = (bytes_eq-Decides (token_text token) uid).0 (rw e at h) in
     let content = (token_at-cut (λ b. true) uid behind token (all_pass uid) e).content in
     rw (← same) (cut_again token rest content s)
 

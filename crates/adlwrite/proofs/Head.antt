@@ -1,49 +1,20 @@
 -- The written header is read as the header.
-use Rattle.std.proofs.Common.{◌≡◌, ℕ, ◌+◌, false, List, [], ◌++◌, length, Option, None, Some, Ok, refl, ◌∙◌, arith}
-use Rattle.std.specs.Prelude.{codes, is_some}
+use Rattle.std.proofs.Common.{ℕ, ◌+◌, List, ◌++◌, length, Option, None, refl, ◌∙◌, arith}
+use Rattle.std.specs.Prelude.{codes}
 use Rattle.list_terms.specs.declared.Rates.{Rates}
-use Rattle.list_terms.specs.declared.Section.{Section}
 use Rattle.list_terms.specs.declared.Section.TheVariants as section
-use Rattle.list_terms.specs.declared.Stage.TheVariants.{Inside, Outside}
+use Rattle.list_terms.specs.declared.Stage.TheVariants.{Outside}
 use Rattle.list_terms.specs.Project.{Header, ListProject}
-use Rattle.list_terms.specs.HeaderLaws.{lines_at, project_kept, put_lines, sequence_kept, system_kept, told_in-none, told_in-sequence, told_in-system, track_list_kept, version_kept}
+use Rattle.list_terms.specs.HeaderLaws.{project_kept, sequence_kept, system_kept, told_in-none, told_in-sequence, told_in-system, track_list_kept, version_kept}
 use Rattle.list_terms.specs.Text.{HeaderRead, opened, outside, section_of, with_line}
 use Rattle.list_terms.specs.WholeProject.{IsHeader, both_rates, lines_of_section, no_rates}
-use Rattle.adlwrite.proofs.Reading.{Gives, in_head, opening, optional_section, written_section}
+use Rattle.adlwrite.proofs.Reading.{Gives, in_head, optional_section, written_section}
 
 -- how many lines a section has
 abbrev pub count : Option (List (List ℕ)) → ℕ
 count lines = length (lines_of_section lines)
 
 module _ (rate : ℕ) where
-  -- ---- the sections
-
-  -- the section of this name may begin behind this header
-  abbrev Opens : Section → List ℕ → Type 0
-  Opens s name = (before : List ℕ) (header : HeaderRead) (n : ℕ) → is_some (lines_at s header.lines) ≡ false
-      → with_line rate (in_head Outside before header) n (opening name)
-      ≡ Ok (in_head (Inside s) name (record header { lines = put_lines s (Some []) header.lines }))
-
-  version_opens : Opens section.Version (codes "VERSION")
-  unfolding with_line outside opened section_of
-  version_opens before header n none = rw none
-
-  project_opens : Opens section.Project (codes "PROJECT")
-  unfolding with_line outside opened section_of
-  project_opens before header n none = rw none
-
-  system_opens : Opens section.System (codes "SYSTEM")
-  unfolding with_line outside opened section_of
-  system_opens before header n none = rw none
-
-  sequence_opens : Opens section.Sequence (codes "SEQUENCE")
-  unfolding with_line outside opened section_of
-  sequence_opens before header n none = rw none
-
-  track_list_opens : Opens section.TrackList (codes "TRACKLIST")
-  unfolding with_line outside opened section_of
-  track_list_opens before header n none = rw none
-
   -- the header up to a section, and how many lines it has
   module _ (header : Header) (is : IsHeader rate header) (rest : List (List ℕ)) (project : ListProject) where
     abbrev Lines : Type 0
@@ -114,40 +85,45 @@ module _ (rate : ℕ) where
     head_none = head_of None None None None None 0 no_rates
 
     track_list_is_read : GivesBehind head_five rest → GivesBehind head_four behind_four
+    unfolding with_line outside opened section_of
     track_list_is_read gives before =
         optional_section rate section.TrackList (codes "TRACKLIST") track_list_kept refl before header.track_list
         head_four.lines four both_rates both_rates rest project refl
-        (λ n. track_list_opens before head_four n refl) is.track_list (omega (arith, is.few))
+        (λ n. refl) is.track_list (omega (arith, is.few))
         (told_in-none rate section.TrackList (λ rates text. refl) both_rates (lines_of_section header.track_list)) gives
 
     sequence_is_read : GivesBehind head_five rest → GivesBehind head_three behind_three
+    unfolding with_line outside opened section_of
     sequence_is_read gives before =
         optional_section rate section.Sequence (codes "SEQUENCE") sequence_kept refl before header.sequence
         head_three.lines three no_rates both_rates behind_four project refl
-        (λ n. sequence_opens before head_three n refl) is.sequence (omega (arith, is.few))
+        (λ n. refl) is.sequence (omega (arith, is.few))
         (told_in-sequence rate no_rates (lines_of_section header.sequence) ∙ is.rates) (track_list_is_read gives)
 
     system_is_read : GivesBehind head_five rest → GivesBehind head_two behind_two
+    unfolding with_line outside opened section_of
     system_is_read gives before =
         optional_section rate section.System (codes "SYSTEM") system_kept refl before header.system
         head_two.lines two no_rates no_rates behind_three project refl
-        (λ n. system_opens before head_two n refl) is.system (omega (arith, is.few))
+        (λ n. refl) is.system (omega (arith, is.few))
         (told_in-system rate no_rates (lines_of_section header.system) is.settings) (sequence_is_read gives)
 
     project_is_read : GivesBehind head_five rest → GivesBehind head_one behind_one
+    unfolding with_line outside opened section_of
     project_is_read gives before =
         optional_section rate section.Project (codes "PROJECT") project_kept refl before header.project
         head_one.lines one no_rates no_rates behind_two project refl
-        (λ n. project_opens before head_one n refl) is.project (omega (arith, is.few))
+        (λ n. refl) is.project (omega (arith, is.few))
         (told_in-none rate section.Project (λ rates text. refl) no_rates (lines_of_section header.project))
         (system_is_read gives)
 
     pub header_is_read :
         GivesBehind head_five rest
         → GivesBehind head_none (written_section (codes "VERSION") header.version ++ behind_one)
+    unfolding with_line outside opened section_of
     header_is_read gives before =
         optional_section rate section.Version (codes "VERSION") version_kept refl before header.version
         head_none.lines 0 no_rates no_rates behind_one project refl
-        (λ n. version_opens before head_none n refl) is.version (omega (arith, is.few))
+        (λ n. refl) is.version (omega (arith, is.few))
         (told_in-none rate section.Version (λ rates text. refl) no_rates (lines_of_section header.version))
         (project_is_read gives)

@@ -1,5 +1,5 @@
 -- What a crash may leave of a text that grew.
-use Rattle.std.proofs.Common.{◌≡◌, ◌≢◌, ℕ, ◌+◌, ◌≤◌, ◌==◌, if◌then◌else◌, min, Some, None, List, [], ◌∷◌, ◌++◌, length, take, drop, refl, sym, ◌∙◌, ap, arith}
+use Rattle.std.proofs.Common.{◌≡◌, ◌≢◌, ℕ, ◌+◌, ◌≤◌, ◌==◌, if◌then◌else◌, min, Some, None, List, [], ◌∷◌, ◌++◌, length, take, refl, sym, ◌∙◌, arith}
 use Rattle.std.proofs.lemmas.List.{length-append, length-take, take_all, drop_all}
 use Rattle.work_terms.specs.Disk.{Files, Changes, IsTornBehind, HasTornEnd, end_of, IsDurable}
 use Rattle.adlwrite.specs.LeftText.{IsLeftText, none_there}

@@ -1,5 +1,4 @@
 pub mod Appending
-pub mod Digits
 pub mod Events
 pub mod Facts
 pub mod Fields

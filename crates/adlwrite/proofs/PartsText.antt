@@ -16,25 +16,14 @@ entry_is_its_line : (project : ListProject) (event : Event) → entry_text proje
 unfolding entry_text entry_numbers channels_behind entry_times
 entry_is_its_line project event = simp append_assoc
 
-rise_is_its_line :
-    (project : ListProject) (length : ℕ)
-    → fade_text project (codes "(Infade) ") length ≡ flat_map line (fade_lines project (codes "(Infade)") length)
+fade_is_its_line :
+    (project : ListProject) (keyword : List ℕ) (length : ℕ)
+    → fade_text project (keyword ++ codes " ") length ≡ flat_map line (fade_lines project keyword length)
 unfolding fade_text fade_line curve_text
-rise_is_its_line project length = by_test (length == 0) refl where
+fade_is_its_line project keyword length = by_test (length == 0) refl where
   by_test :
       (none : Bool) → (length == 0) ≡ none
-      → fade_text project (codes "(Infade) ") length ≡ flat_map line (fade_lines project (codes "(Infade)") length)
-  by_test true e = rw e refl
-  by_test false e = rw e (simp (append_assoc, append-nil))
-
-fall_is_its_line :
-    (project : ListProject) (length : ℕ)
-    → fade_text project (codes "(Outfade) ") length ≡ flat_map line (fade_lines project (codes "(Outfade)") length)
-unfolding fade_text fade_line curve_text
-fall_is_its_line project length = by_test (length == 0) refl where
-  by_test :
-      (none : Bool) → (length == 0) ≡ none
-      → fade_text project (codes "(Outfade) ") length ≡ flat_map line (fade_lines project (codes "(Outfade)") length)
+      → fade_text project (keyword ++ codes " ") length ≡ flat_map line (fade_lines project keyword length)
   by_test true e = rw e refl
   by_test false e = rw e (simp (append_assoc, append-nil))
 
@@ -48,8 +37,8 @@ unfolding event_text
 event_is_its_lines project event =
     rw (
       entry_is_its_line project event,
-      rise_is_its_line project event.rise.length,
-      fall_is_its_line project event.fall.length,
+      fade_is_its_line project (codes "(Infade)") event.rise.length,
+      fade_is_its_line project (codes "(Outfade)") event.fall.length,
       lines_append (fade_lines project (codes "(Infade)") event.rise.length)
           (fade_lines project (codes "(Outfade)") event.fall.length),
     ) refl

@@ -1,5 +1,5 @@
 -- Reading on from a context: one line, and the lines of a section that are kept.
-use Rattle.std.proofs.Common.{◌≡◌, ℕ, ◌+◌, ◌≤◌, ◌<◌, Bool, true, false, List, [], ◌∷◌, ◌++◌, length, Option, None, Some, Result, Ok, Err, refl, sym, subst, append_assoc, arith}
+use Rattle.std.proofs.Common.{◌≡◌, ℕ, ◌+◌, ◌≤◌, ◌<◌, Bool, true, false, List, [], ◌∷◌, ◌++◌, length, Option, None, Some, Ok, refl, sym, subst, append_assoc, arith}
 use Rattle.std.specs.Prelude.{codes, nat_le}
 use Rattle.std.specs.List.{list_all}
 use Rattle.std.proofs.lemmas.Bool.{not-true}
@@ -10,9 +10,9 @@ use Rattle.list_terms.specs.declared.Rates.{Rates}
 use Rattle.list_terms.specs.declared.Section.{Section}
 use Rattle.list_terms.specs.declared.Stage.{Stage}
 use Rattle.list_terms.specs.declared.Stage.TheVariants.{Inside, Outside}
-use Rattle.list_terms.specs.declared.TextFault.{TextFault}
 use Rattle.list_terms.specs.Project.{Header, ListProject, Source}
 use Rattle.list_terms.specs.HeaderLaws.{IsKept, put_lines, told_in}
+use Rattle.list_terms.specs.StepLaws.{chain}
 use Rattle.list_terms.specs.Text.{Context, Entries, HeaderRead, finished, in_header, is_behind, is_end, kept_line, no_entry, rates_with, read_from, with_line}
 use Rattle.list_terms.specs.Tokens.{trimmed}
 use Rattle.list_terms.specs.WholeProject.{is_kept, is_line_byte, lines_of_section}
@@ -67,13 +67,6 @@ module _ (rate : ℕ) where
   unfolding read_from
   last_line c next line project e behind ends n = rw (e (n + 1), behind) (ends (n + 1))
 
-  told-first :
-      (section : Section) (rates after : Rates) (text : List ℕ) (lines : List (List ℕ)) (first : Result Rates TextFault)
-      → rates_with rate section rates text ≡ first → told_in rate section rates (text ∷ lines) ≡ Ok after
-      → (next : Rates) × (first ≡ Ok next) × (told_in rate section next lines ≡ Ok after)
-  told-first section rates after text lines (Ok next) e h = (next, refl, rw e at h)
-  told-first section rates after text lines (Err fault) e h = let no : Err fault ≡ Ok after = rw e at h in absurd (cc)
-
   -- a section whose lines are kept
   module _ (section : Section) (name : List ℕ) (is : IsKept section) (ends : is_end name (trimmed (ending name)) ≡ true)
     where
@@ -116,13 +109,13 @@ module _ (rate : ℕ) where
           (gives_same (front ++ []) front h (kept + 0) kept after rates rest project (append-nil front) (omega arith) (cc)
           gives)
       kept_lines front (text ∷ lines) h kept rates after rest project all few says gives =
-          let next = told-first section rates after text lines (rates_with rate section rates text) refl says in
+          let next = chain (rates_with rate section rates text) (λ told. told_in rate section told lines) after says in
           let fine = and_left (is_kept name text) (list_all (is_kept name) lines) all in
           let inside = not-true (is_end name (trimmed text)) (and_right (list_all is_line_byte text) _ fine) in
           one_line _ _ text (lines ++ (ending name ∷ rest)) project
-          (λ n. line_is_kept text front h kept rates next.0 n inside (omega (arith, few)) next.1) refl
-          (kept_lines (front ++ text ∷ []) lines h (kept + 1) next.0 after rest project
-          (and_right (is_kept name text) (list_all (is_kept name) lines) all) (omega (arith, few)) next.2
+          (λ n. line_is_kept text front h kept rates next.value n inside (omega (arith, few)) next.is) refl
+          (kept_lines (front ++ text ∷ []) lines h (kept + 1) next.value after rest project
+          (and_right (is_kept name text) (list_all (is_kept name) lines) all) (omega (arith, few)) next.others
           (gives_same (front ++ text ∷ lines) ((front ++ text ∷ []) ++ lines) h (kept + length (text ∷ lines))
           (kept + 1 + length lines) after after rest project
           (sym (append_assoc front (text ∷ []) lines)) (omega arith) refl gives))

@@ -2,10 +2,9 @@
 use Rattle.std.proofs.Common.{◌≡◌, ℕ, ◌+◌, true, false, List, [], ◌∷◌, ◌++◌, Option, None, Some, Ok, MatchOption, refl, ap, sym, ◌∙◌, subst, append_assoc}
 use Rattle.std.specs.Prelude.{codes, flat_map, map, unwrap_or}
 use Rattle.sampletime.specs.TimeCode.{default_separators}
-use Rattle.list_terms.specs.declared.Section.TheVariants as section
-use Rattle.list_terms.specs.declared.Stage.TheVariants.{Behind, Inside, Outside}
+use Rattle.list_terms.specs.declared.Stage.TheVariants.{Behind, Outside}
 use Rattle.list_terms.specs.HeaderLaws.{has_sequence}
-use Rattle.list_terms.specs.Project.{ListProject, Source}
+use Rattle.list_terms.specs.Project.{ListProject}
 use Rattle.list_terms.specs.Lines.{lines_of}
 use Rattle.list_terms.specs.RateLaws.{rate_of-read}
 use Rattle.list_terms.specs.Text.{Entries, HeaderRead, all_events, before_list, finished, no_entry, no_header, nothing_read, opened, outside, read_from, section_of, text_value, with_line}
@@ -16,32 +15,6 @@ use Rattle.adlwrite.proofs.Head.{count, header_is_read}
 use Rattle.adlwrite.proofs.Reading.{Gives, ending, in_head, last_line, one_line, opening, so_far, written_section}
 use Rattle.adlwrite.proofs.Sources.{sources_are_read}
 use Rattle.adlwrite.proofs.TextLines.{lines_of-text_of_project, written_lines}
-
-module _ (rate : ℕ) where
-  list_begins : (n : ℕ) → with_line rate nothing_read n (codes "<ADL>") ≡ Ok (in_head Outside [] no_header)
-  unfolding with_line before_list
-  list_begins n = refl
-
-  index_begins :
-      (known : List ℕ) (header : HeaderRead) (n : ℕ)
-      → with_line rate (in_head Outside known header) n (codes "<SOURCE_INDEX>")
-      ≡ Ok (so_far (Inside section.SourceIndex) (codes "SOURCE_INDEX") header true [] false no_entry)
-  unfolding with_line outside opened section_of
-  index_begins known header n = refl
-
-  events_begin :
-      (known : List ℕ) (header : HeaderRead) (sources : List Source) (n : ℕ)
-      → with_line rate (so_far Outside known header true sources false no_entry) n (codes "<EVENT_LIST>")
-      ≡ Ok (so_far (Inside section.EventList) (codes "EVENT_LIST") header true sources true no_entry)
-  unfolding with_line outside opened section_of
-  events_begin known header sources n = refl
-
-  list_ends :
-      (known : List ℕ) (header : HeaderRead) (sources : List Source) (entries : Entries) (n : ℕ)
-      → with_line rate (so_far Outside known header true sources true entries) n (codes "</ADL>")
-      ≡ Ok (so_far Behind known header true sources true entries)
-  unfolding with_line outside
-  list_ends known header sources entries n = refl
 
 -- the separators that were found are those of the project
 separators_again :
@@ -78,6 +51,7 @@ module _ (project : ListProject) (h : IsProject project) where
       Gives project.rate (so_far Outside (codes "SOURCE_INDEX") header_read true project.sources false no_entry)
       (written_section (codes "EVENT_LIST") (Some (flat_map (event_lines project) project.events))
       ++ (codes "</ADL>" ∷ [])) (without_notices project)
+  unfolding with_line outside opened section_of
   events_end =
       let lines = flat_map (event_lines project) project.events in
       let end = ending (codes "EVENT_LIST") in
@@ -85,12 +59,12 @@ module _ (project : ListProject) (h : IsProject project) where
       (opening (codes "EVENT_LIST") ∷ more) (without_notices project))
       (sym (append_assoc lines (end ∷ []) (codes "</ADL>" ∷ [])))
       (one_line project.rate _ _ (opening (codes "EVENT_LIST")) (lines ++ (end ∷ codes "</ADL>" ∷ [])) (without_notices project)
-      (events_begin project.rate (codes "SOURCE_INDEX") header_read project.sources) refl
+      (λ n. refl) refl
       (events_are_read project h.rate h.separators header_read project.sources no_entry [] project.events
       (codes "</ADL>" ∷ []) (without_notices project)
       refl refl h.events.each h.events.distinct
       (λ last same found. last_line project.rate _ _ (codes "</ADL>") (without_notices project)
-      (list_ends project.rate (codes "EVENT_LIST") header_read project.sources last) refl (ends last same found))))
+      (λ n. refl) refl (ends last same found))))
 
   index_and_events :
       (known : List ℕ)
@@ -98,6 +72,7 @@ module _ (project : ListProject) (h : IsProject project) where
       (written_section (codes "SOURCE_INDEX") (Some (map (source_line project) project.sources))
       ++ (written_section (codes "EVENT_LIST") (Some (flat_map (event_lines project) project.events))
       ++ (codes "</ADL>" ∷ []))) (without_notices project)
+  unfolding with_line outside opened section_of
   index_and_events known =
       let lines = map (source_line project) project.sources in
       let end = ending (codes "SOURCE_INDEX") in
@@ -108,13 +83,14 @@ module _ (project : ListProject) (h : IsProject project) where
       (without_notices project))
       (sym (append_assoc lines (end ∷ []) rest))
       (one_line project.rate _ _ (opening (codes "SOURCE_INDEX")) (lines ++ (end ∷ rest)) (without_notices project)
-      (index_begins project.rate known header_read) refl
+      (λ n. refl) refl
       (sources_are_read project h.rate h.separators header_read [] project.sources rest (without_notices project)
       h.sources.numbered.each h.sources.texts h.sources.numbered.distinct events_end))
 
   list_is_read : Gives project.rate nothing_read (written_lines project) (without_notices project)
+  unfolding with_line before_list
   list_is_read =
-      one_line project.rate nothing_read (in_head Outside [] no_header) (codes "<ADL>") _ (without_notices project) (list_begins project.rate) refl
+      one_line project.rate nothing_read (in_head Outside [] no_header) (codes "<ADL>") _ (without_notices project) (λ n. refl) refl
       (header_is_read project.rate project.header h.header _ (without_notices project) index_and_events [])
 
 pub text_value-text_of_project :

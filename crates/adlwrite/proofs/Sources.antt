@@ -55,13 +55,6 @@ module _ (project : ListProject) (rate : IsTrue (is_rate project.rate)) (separat
         source_fields-written project rate separators source h k,
       )
 
-  index_ends :
-      (front : List Source) (n : ℕ)
-      → with_line project.rate (in_index front) n (ending (codes "SOURCE_INDEX"))
-      ≡ Ok (behind_index front)
-  unfolding with_line
-  index_ends front n = refl
-
   pub sources_are_read :
       (front written : List Source) (rest : List (List ℕ)) (result : ListProject)
       → IsTrue (list_all is_source written) → IsTrue (list_all has_whole_texts written)
@@ -69,8 +62,9 @@ module _ (project : ListProject) (rate : IsTrue (is_rate project.rate)) (separat
       → Gives project.rate (behind_index (front ++ written)) rest result
       → Gives project.rate (in_index front)
       (map (source_line project) written ++ (ending (codes "SOURCE_INDEX") ∷ rest)) result
+  unfolding with_line
   sources_are_read front [] rest result all texts distinct gives =
-      one_line project.rate _ _ (ending (codes "SOURCE_INDEX")) rest result (index_ends front) refl
+      one_line project.rate _ _ (ending (codes "SOURCE_INDEX")) rest result (λ n. refl) refl
       (subst (λ sources. Gives project.rate (behind_index sources) rest result) (append-nil front) gives)
   sources_are_read front (s ∷ written) rest result all texts distinct gives =
       let h = and_left (is_source s) (list_all is_source written) all in

@@ -5,7 +5,8 @@ use Rattle.std.specs.Prelude.{codes, flat_map, map, ◌==◌}
 use Rattle.std.specs.List.{list_all}
 use Rattle.std.proofs.lemmas.Bool.Decides.{nat_tests}
 use Rattle.std.proofs.lemmas.List.{append-nil}
-use Rattle.facts.specs.Tests.{and_left, and_right}
+use Rattle.std.proofs.lemmas.List.Folds.{list_all-append}
+use Rattle.facts.specs.Tests.{and_both, and_left, and_right}
 use Rattle.sampletime.specs.FrameRate.{is_rate}
 use Rattle.sampletime.specs.TimeCode.{are_separators, day, text_of}
 use Rattle.sound_terms.specs.declared.Event.{Event}
@@ -95,9 +96,7 @@ pub record IsLine (text : List ℕ) : Type 0 where
 all-append :
     {X : Type 0} (test : X → Bool) (s t : List X) → list_all test s ≡ true → list_all test t ≡ true
     → list_all test (s ++ t) ≡ true
-all-append test [] t a b = b
-all-append test (x ∷ s) t a b =
-    rw (and_left (test x) (list_all test s) a) (all-append test s t (and_right (test x) (list_all test s) a) b)
+all-append test s t a b = list_all-append test s t ∙ and_both (list_all test s) (list_all test t) a b
 
 -- a part in front
 part : (s : List ℕ) {t : List ℕ} → IsLine s → IsLine t → IsLine (s ++ t)
@@ -156,7 +155,7 @@ module _ (project : ListProject) (rate : IsTrue (is_rate project.rate)) (separat
     optional_time_is_line (Some t) h = time_is_line t (grind (arith, nat_tests))
 
     number_is_line : (n : ℕ) → IsTrue (is_number n) → IsLine (number_text n)
-    number_is_line n h = word_is_line (number_text n) (number_is_a_word n (grind (arith, nat_tests)))
+    number_is_line n h = word_is_line (number_text n) (number_is_a_word n h)
 
     source_is_line :
         (source : Source) → IsTrue (is_source source) → IsTrue (has_whole_texts source)

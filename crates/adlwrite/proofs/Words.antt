@@ -1,19 +1,23 @@
 -- Numbers, channels and times are written as words that are read as those numbers, channels and times.
 use Rattle.std.proofs.Common.{◌≡◌, ℕ, ◌+◌, ◌/◌, ◌%◌, ◌<◌, ◌≤◌, Bool, true, false, List, [], ◌∷◌, ◌++◌, Option, Some, IsTrue, refl, ap, ◌∙◌, arith}
-use Rattle.std.specs.Prelude.{decimal, nat_le, ◌==◌, ◌&&◌}
+use Rattle.std.specs.Prelude.{decimal, length, replicate, ◌-◌, ◌==◌, ◌&&◌}
 use Rattle.std.specs.List.{list_all}
 use Rattle.std.proofs.lemmas.Bool.Decides.{nat_tests}
+use Rattle.std.proofs.lemmas.Fmt.{length-decimal-le}
+use Rattle.std.proofs.lemmas.List.{length-append, length-replicate}
+use Rattle.std.proofs.lemmas.List.Folds.{list_all-append}
+use Rattle.facts.specs.Tests.{and_both}
 use Rattle.sampletime.specs.FrameRate.{is_rate}
 use Rattle.sampletime.specs.RateLaws.{divides_day, frame_of, remainder_of}
 use Rattle.sampletime.specs.TimeCode.{are_separators, day, is_digit, is_separator, text_of, text_of_parts}
 use Rattle.sound_terms.specs.declared.Channels.{Channels}
-use Rattle.list_terms.specs.Fields.{are_digits, channels_of, channel_range, number_up_to}
-use Rattle.list_terms.specs.FieldLaws.{before_none, before_tilde, behind_none, behind_tilde}
+use Rattle.list_terms.specs.Fields.{are_digits, channels_of, number_up_to}
+use Rattle.list_terms.specs.NumberLaws.{channels_read, number_digits, number_read}
+use Rattle.list_terms.specs.Spelling.{ChannelRun, IsNumber, OneChannel}
 use Rattle.list_terms.specs.Tokens.{is_word_byte}
 use Rattle.list_terms.specs.TokenLaws.{is_word}
 use Rattle.list_terms.specs.WholeProject.{are_channels, is_number}
 use Rattle.list_terms.specs.WrittenText.{channels_text, number_text}
-use Rattle.adlwrite.proofs.Digits.{decimal-spells, number_text-spells, number_up_to-spelled}
 
 -- ---- words
 
@@ -28,61 +32,40 @@ digits_are_a_word : (text : List ℕ) → are_digits text ≡ true → is_word t
 digits_are_a_word [] h = absurd (cc)
 digits_are_a_word (b ∷ text) h = words_from_digits (b ∷ text) (all_digits (b ∷ text) h)
 
-pub number_is_a_word : (n : ℕ) → n ≤ 32767 → is_word (number_text n) ≡ true
-number_is_a_word n h = digits_are_a_word (number_text n) (number_text-spells n h).digits
+number_spelled : (n : ℕ) → IsTrue (is_number n) → IsNumber 32767 (number_text n) n
+number_spelled n h =
+    let high : n ≤ 32767 = grind (arith, nat_tests) in
+    let zeros = 4 - length (decimal n) in
+    let digits = length-decimal-le 5 n (omega arith) (omega arith) (omega arith) in
+    record {
+      zeros = zeros;
+      digits = refl;
+      few = omega (arith, digits, length-append (replicate zeros 48) (decimal n), length-replicate {A = ℕ} zeros 48);
+      above = grind (arith, nat_tests);
+      below = high;
+    }
+
+pub number_is_a_word : (n : ℕ) → IsTrue (is_number n) → is_word (number_text n) ≡ true
+number_is_a_word n h =
+    digits_are_a_word (number_text n) (number_digits 32767 n (number_text n) (omega arith) (number_spelled n h))
 
 pub number_is_read : (n : ℕ) → IsTrue (is_number n) → number_up_to 32767 (number_text n) ≡ Some n
-number_is_read n h =
-    let low : 1 ≤ n = grind (arith, nat_tests) in
-    let high : n ≤ 32767 = grind (arith, nat_tests) in
-    number_up_to-spelled 32767 n (number_text n) low high (number_text-spells n high)
+number_is_read n h = number_read 32767 n (number_text n) (omega arith) (number_spelled n h)
 
 -- ---- channels
 
-words_append :
-    (s t : List ℕ) → list_all is_word_byte s ≡ true → list_all is_word_byte t ≡ true
-    → list_all is_word_byte (s ++ t) ≡ true
-words_append [] t hs ht = ht
-words_append (b ∷ s) t hs ht = grind (arith, nat_tests, words_append s t)
-
 is_word_append : (s t : List ℕ) → is_word s ≡ true → list_all is_word_byte t ≡ true → is_word (s ++ t) ≡ true
 is_word_append [] t hs ht = absurd (cc)
-is_word_append (b ∷ s) t hs ht = words_append (b ∷ s) t hs ht
+is_word_append (b ∷ s) t hs ht =
+    list_all-append is_word_byte (b ∷ s) t ∙ and_both (list_all is_word_byte (b ∷ s)) (list_all is_word_byte t) hs ht
 
-range_is_read :
-    (first last : ℕ) → nat_le first last ≡ true
-    → channel_range (Some first) (Some last) ≡ Some (record { first = first; last = last })
-range_is_read first last h = rw h refl
+channel_spelled : (n : ℕ) → 1 ≤ n → n ≤ 64 → IsNumber 64 (decimal n) n
+channel_spelled n low high =
+    let few = length-decimal-le 2 n (omega arith) (omega arith) (omega arith) in
+    record { zeros = 0; digits = refl; few = omega (arith, few); above = low; below = high }
 
-one_is_read : (n : ℕ) → 1 ≤ n → n ≤ 64 → channels_of (decimal n) ≡ Some (record { first = n; last = n })
-unfolding channels_of
-one_is_read n low high =
-    let h = decimal-spells n high in
-    let digits = all_digits (decimal n) h.digits in
-    let n-le : nat_le n n ≡ true = grind (arith, nat_tests) in
-    rw (
-      behind_none (decimal n) digits,
-      before_none (decimal n) digits,
-      number_up_to-spelled 64 n (decimal n) low high h,
-      n-le,
-    )
-
-two_are_read :
-    (first last : ℕ) → 1 ≤ first → first ≤ last → last ≤ 64
-    → channels_of (decimal first ++ (126 ∷ decimal last)) ≡ Some (record { first = first; last = last })
-unfolding channels_of
-two_are_read first last low order high =
-    let h = decimal-spells first (omega arith) in
-    let k = decimal-spells last high in
-    let digits = all_digits (decimal first) h.digits in
-    let ordered : nat_le first last ≡ true = grind (arith, nat_tests) in
-    rw (
-      behind_tilde (decimal first) (decimal last) digits,
-      before_tilde (decimal first) (decimal last) digits,
-      number_up_to-spelled 64 first (decimal first) low (omega arith) h,
-      number_up_to-spelled 64 last (decimal last) (omega arith) high k,
-      ordered,
-    )
+channel_digits : (n : ℕ) → 1 ≤ n → n ≤ 64 → are_digits (decimal n) ≡ true
+channel_digits n low high = number_digits 64 n (decimal n) (omega arith) (channel_spelled n low high)
 
 same_channels :
     (channels : Channels) → channels.first ≡ channels.last
@@ -107,19 +90,25 @@ channels_are_read channels h = by_test (channels.first == channels.last) refl wh
   high : channels.last ≤ 64
   high = grind (arith, nat_tests)
 
+  first : are_digits (decimal channels.first) ≡ true
+  first = channel_digits channels.first low (omega (arith, order, high))
+
+  spelled : IsNumber 64 (decimal channels.first) channels.first
+  spelled = channel_spelled channels.first low (omega (arith, order, high))
+
   by_test : (one : Bool) → (channels.first == channels.last) ≡ one → IsReadAs channels (channels_text channels)
   by_test true e = rw e (record {
-    word = digits_are_a_word (decimal channels.first)
-        (decimal-spells channels.first (omega (arith, order, high))).digits;
-    value = one_is_read channels.first low (omega (arith, order, high))
+    word = digits_are_a_word (decimal channels.first) first;
+    value = channels_read _ _ (OneChannel (decimal channels.first) channels.first spelled)
         ∙ same_channels channels (grind (arith, nat_tests));
   })
   by_test false e = rw e (record {
     word = is_word_append (decimal channels.first) (126 ∷ decimal channels.last)
-        (digits_are_a_word (decimal channels.first) (decimal-spells channels.first (omega (arith, order, high))).digits)
+        (digits_are_a_word (decimal channels.first) first)
         (words_from_digits (decimal channels.last)
-        (all_digits (decimal channels.last) (decimal-spells channels.last high).digits));
-    value = two_are_read channels.first channels.last low order high;
+        (all_digits (decimal channels.last) (channel_digits channels.last (omega (arith, low, order)) high)));
+    value = channels_read _ channels (ChannelRun (decimal channels.first) (decimal channels.last) channels spelled
+        (channel_spelled channels.last (omega (arith, low, order)) high) order);
   })
 
 -- ---- times
