@@ -56,19 +56,6 @@ abbrev pub first_separators : List SpelledEntry → Option (List ℕ)
 first_separators [] = None
 first_separators (entry ∷ entries) = Some entry.separators
 
--- ---- one line that was read
-
-line_of :
-    (text rest : List ℕ) (token : TokenText) (tokens : List TokenText) (test : List TokenText → Bool)
-    → is_tag text ≡ false
-    → token_at text ≡ Ok (Some (token, rest)) → CutsTo rest tokens → test (token ∷ tokens) ≡ true → IsLineOf test text
-line_of text rest token tokens test untagged at cut passes =
-    record {
-      tokens = token ∷ tokens;
-      cut = record { untagged = untagged; cut = cut_next text rest token tokens at cut };
-      passes = passes;
-    }
-
 -- ---- all lines that were read
 
 -- what lines behind an entry told: its fades, the entries that follow, and the list behind them
@@ -282,74 +269,74 @@ module _ (rate : ℕ) where
     free : told ≡ false
     same : with fade ≡ new
 
-  fade_is :
-      (name text rest : List ℕ) (token : TokenText) (told : Bool) (with : ℕ → OpenEntry) (new : OpenEntry)
-      → is_tag text ≡ false → token_at text ≡ Ok (Some (token, rest)) → is_keyword name token ≡ true
-      → reads (Unless told RepeatedFade (mapped with (fade_fields rate))) rest ≡ Ok new → IsFade name text told with new
-  fade_is name text rest token told with new untagged at is e =
-      let free = unless_read told RepeatedFade (mapped with (fade_fields rate)) rest new e in
-      let f = ok_map_ok with (reads (fade_fields rate) rest) new (sym (reads_mapped with (fade_fields rate) rest) ∙ free.1) in
-      record {
-        fade = f.value;
-        spells = spells_named name (fade_fields rate) text f.value untagged
-            (record { keyword = token; rest = rest; at = at; is = is; says = f.is });
-        free = free.0;
-        same = f.same;
-      }
+  -- a line whose first token is this one
+  module _ (text rest : List ℕ) (token : TokenText) (untagged : is_tag text ≡ false)
+      (at : token_at text ≡ Ok (Some (token, rest))) where
+    line_of :
+        (tokens : List TokenText) (test : List TokenText → Bool) → CutsTo rest tokens → test (token ∷ tokens) ≡ true
+        → IsLineOf test text
+    line_of tokens test cut passes = record {
+      tokens = token ∷ tokens;
+      cut = record { untagged = untagged; cut = cut_next text rest token tokens at cut };
+      passes = passes;
+    }
 
-  remark_is :
-      (text rest : List ℕ) (token : TokenText) (entry new : OpenEntry) → is_tag text ≡ false
-      → token_at text ≡ Ok (Some (token, rest))
-      → is_keyword (codes "Rem") token ≡ true → reads (Done any entry) rest ≡ Ok new → IsFurther text entry new
-  remark_is text rest token entry new untagged at is e =
-      let f = ends any entry new rest e in
-      let further = all_tokens_are any (length rest) rest (omega arith) f.0 in
-      rw (← f.1)
-      (Remark (line_of text rest token further.tokens is_remark untagged at further.cut is))
+    fade_is :
+        (name : List ℕ) (told : Bool) (with : ℕ → OpenEntry) (new : OpenEntry) → is_keyword name token ≡ true
+        → reads (Unless told RepeatedFade (mapped with (fade_fields rate))) rest ≡ Ok new → IsFade name text told with new
+    fade_is name told with new is e =
+        let free = unless_read told RepeatedFade (mapped with (fade_fields rate)) rest new e in
+        let f = ok_map_ok with (reads (fade_fields rate) rest) new (sym (reads_mapped with (fade_fields rate) rest) ∙ free.1) in
+        record {
+          fade = f.value;
+          spells = spells_named name (fade_fields rate) text f.value untagged
+              (record { keyword = token; rest = rest; at = at; is = is; says = f.is });
+          free = free.0;
+          same = f.same;
+        }
 
-  gain_is :
-      (text rest : List ℕ) (token : TokenText) (entry new : OpenEntry) → is_tag text ≡ false
-      → token_at text ≡ Ok (Some (token, rest))
-      → is_keyword (codes "Gain") token ≡ true
-      → reads (Done (λ t. is_zero t.content) entry) rest ≡ Ok new
-      → IsFurther text entry new
-  gain_is text rest token entry new untagged at is e =
-      let f = ends (λ t. is_zero t.content) entry new rest e in
-      let further = all_tokens_are (λ t. is_zero t.content) (length rest) rest (omega arith) f.0 in
-      rw (← f.1)
-      (Gain (line_of text rest token further.tokens is_zero_gain untagged at further.cut
-      (and_both (is_keyword (codes "Gain") token) _ is further.all)))
+    remark_is :
+        {A : Type 0} (x y : A) → is_keyword (codes "Rem") token ≡ true → reads (Done any x) rest ≡ Ok y
+        → IsLineOf is_remark text × (x ≡ y)
+    remark_is x y is e =
+        let f = ends any x y rest e in
+        let further = all_tokens_are any (length rest) rest (omega arith) f.0 in
+        (line_of further.tokens is_remark further.cut is, f.1)
 
-  entry_with_is :
-      (text rest : List ℕ) (token : TokenText) (entry new : OpenEntry) → is_tag text ≡ false
-      → token_at text ≡ Ok (Some (token, rest))
-      → (rise : Bool) → is_keyword (codes "Infade") token ≡ rise → (fall : Bool)
-      → is_keyword (codes "Outfade") token ≡ fall
-      → (rem : Bool) → is_keyword (codes "Rem") token ≡ rem → (gain : Bool) → is_keyword (codes "Gain") token ≡ gain
-      → reads (entry_with rate entry token) rest ≡ Ok new → IsFurther text entry new
-  unfolding entry_with
-  entry_with_is text rest token entry new t at true a fall b rem c gain d e =
-      let f = fade_is (codes "Infade") text rest token entry.has_rise (with_rise entry) new t at a (rw a at e) in
-      rw (← f.same) (Rise f.fade f.spells f.free)
-  entry_with_is text rest token entry new t at false a true b rem c gain d e =
-      let f = fade_is (codes "Outfade") text rest token entry.has_fall (with_fall entry) new t at b (rw (a, b) at e) in
-      rw (← f.same) (Fall f.fade f.spells f.free)
-  entry_with_is text rest token entry new t at false a false b true c gain d e =
-      remark_is text rest token entry new t at c (rw (a, b, c) at e)
-  entry_with_is text rest token entry new t at false a false b false c true d e =
-      gain_is text rest token entry new t at d (rw (a, b, c, d) at e)
-  entry_with_is text rest token entry new t at false a false b false c false d e =
-      absurd (refused Unsupported rest new (rw (a, b, c, d) at e))
+    gain_is :
+        (entry new : OpenEntry) → is_keyword (codes "Gain") token ≡ true
+        → reads (Done (λ t. is_zero t.content) entry) rest ≡ Ok new → IsFurther text entry new
+    gain_is entry new is e =
+        let f = ends (λ t. is_zero t.content) entry new rest e in
+        let further = all_tokens_are (λ t. is_zero t.content) (length rest) rest (omega arith) f.0 in
+        rw (← f.1) (Gain (line_of further.tokens is_zero_gain further.cut
+        (and_both (is_keyword (codes "Gain") token) _ is further.all)))
 
-  front_remark_is :
-      (text rest : List ℕ) (token : TokenText) → is_tag text ≡ false → token_at text ≡ Ok (Some (token, rest))
-      → (rem : Bool) → is_keyword (codes "Rem") token ≡ rem → reads (remark token) rest ≡ Ok tt → IsLineOf is_remark text
-  unfolding remark
-  front_remark_is text rest token untagged at true is e =
-      let further = all_tokens_are any (length rest) rest (omega arith) (ends any tt tt rest (rw is at e)).0 in
-      line_of text rest token further.tokens is_remark untagged at further.cut is
-  front_remark_is text rest token untagged at false is e =
-      absurd (refused {A = Unit {0}} Unplaced rest tt (rw is at e))
+    entry_with_is : (entry new : OpenEntry) → reads (entry_with rate entry token) rest ≡ Ok new → IsFurther text entry new
+    unfolding entry_with
+    entry_with_is entry new e =
+        by_keyword (is_keyword (codes "Infade") token) refl (is_keyword (codes "Outfade") token) refl
+        (is_keyword (codes "Rem") token) refl (is_keyword (codes "Gain") token) refl where
+          by_keyword :
+              (rise : Bool) → is_keyword (codes "Infade") token ≡ rise → (fall : Bool)
+              → is_keyword (codes "Outfade") token ≡ fall → (rem : Bool) → is_keyword (codes "Rem") token ≡ rem
+              → (gain : Bool) → is_keyword (codes "Gain") token ≡ gain → IsFurther text entry new
+          by_keyword true a fall b rem c gain d =
+              let f = fade_is (codes "Infade") entry.has_rise (with_rise entry) new a (rw a at e) in
+              rw (← f.same) (Rise f.fade f.spells f.free)
+          by_keyword false a true b rem c gain d =
+              let f = fade_is (codes "Outfade") entry.has_fall (with_fall entry) new b (rw (a, b) at e) in
+              rw (← f.same) (Fall f.fade f.spells f.free)
+          by_keyword false a false b true c gain d =
+              let f = remark_is entry new c (rw (a, b, c) at e) in rw (← f.1) (Remark f.0)
+          by_keyword false a false b false c true d = gain_is entry new d (rw (a, b, c, d) at e)
+          by_keyword false a false b false c false d = absurd (refused Unsupported rest new (rw (a, b, c, d) at e))
+
+    front_remark_is :
+        (rem : Bool) → is_keyword (codes "Rem") token ≡ rem → reads (remark token) rest ≡ Ok tt → IsLineOf is_remark text
+    unfolding remark
+    front_remark_is true is e = (remark_is {A = Unit {0}} tt tt is (rw is at e)).0
+    front_remark_is false is e = absurd (refused {A = Unit {0}} Unplaced rest tt (rw is at e))
 
   blank_is : (text : List ℕ) → is_tag text ≡ false → token_at text ≡ Ok None → IsLineOf is_remark text
   blank_is text untagged at =
@@ -414,9 +401,7 @@ module _ (rate : ℕ) where
       absurd (cc)
   with_line_behind line lines c events entry separators middle next t (Further last new token rest at is says) others =
       let same : last ≡ entry = cc in
-      let f = entry_with_is line.text rest token entry new t at (is_keyword (codes "Infade") token) refl
-      (is_keyword (codes "Outfade") token) refl (is_keyword (codes "Rem") token) refl
-      (is_keyword (codes "Gain") token) refl (rw same at says) in
+      let f = entry_with_is line.text rest token t at entry new (rw same at says) in
       with_further line lines c events entry new separators next f (others events new refl)
   with_line_behind line lines c events entry separators middle next t (ToldEntry g h free) others =
       let front = events ++ entry.event ∷ [] in

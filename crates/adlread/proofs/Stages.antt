@@ -98,17 +98,6 @@ module _ (rate : ℕ) where
       (if is_end d.name (trimmed text) then Ok (outside_of d) else in_section rate d n text s)) (sym same)
       (inside_known s c n text)
 
-  inside_line :
-      (s : Section) (c next : Context) (n : ℕ) (text : List ℕ) → c.stage ≡ stage.Inside s
-      → is_end c.name (trimmed text) ≡ false
-      → in_section rate c n text s ≡ Ok next → with_line rate c n text ≡ Ok next
-  inside_line s c next n text open_is more e = inside_line_is s c n text open_is ∙ rw more e
-
-  inside_end :
-      (s : Section) (c : Context) (n : ℕ) (text : List ℕ) → c.stage ≡ stage.Inside s → is_end c.name (trimmed text) ≡ true
-      → with_line rate c n text ≡ Ok (outside_of c)
-  inside_end s c n text open_is ends = inside_line_is s c n text open_is ∙ rw ends refl
-
   pub read_inside :
       (s : Section) (content : List NumberedLine) (c last : Context) (n : ℕ) (end : NumberedLine)
       (rest : List NumberedLine) → c.stage ≡ stage.Inside s
@@ -117,7 +106,7 @@ module _ (rate : ℕ) where
       → read_all c n (content ++ (end ∷ rest)) ≡ read_all (outside_of last) end.number rest
   read_inside s [] c last n end rest open_is inside ends e =
       let same = ok_same _ _ e in
-      read_step c (outside_of c) n end rest (inside_end s c end.number end.text open_is ends) refl
+      read_step c (outside_of c) n end rest (inside_line_is s c end.number end.text open_is ∙ rw ends refl) refl
       ∙ ap (λ l. read_all (outside_of l) end.number rest) same
   read_inside s (line ∷ content) c last n end rest open_is inside ends e =
       let f = chain (in_section rate c line.number line.text s) (λ m. walk rate s m content) last e in
@@ -126,7 +115,7 @@ module _ (rate : ℕ) where
       let others = and_right (stays_inside c.name line.text) (list_all (stays_inside c.name) (texts content)) inside in
       let stays = line_stays s c f.value line.number line.text f.is in
       read_step c f.value n line (content ++ (end ∷ rest))
-      (inside_line s c f.value line.number line.text open_is more f.is)
+      (inside_line_is s c line.number line.text open_is ∙ rw more f.is)
       (ap is_behind (stays.0 ∙ open_is))
       ∙ read_inside s content f.value last line.number end rest (stays.0 ∙ open_is)
       (subst (λ name. list_all (stays_inside name) (texts content) ≡ true) (sym stays.1) others)

@@ -107,33 +107,26 @@ module _ (rate : ℕ) where
         whole = whole-none text f;
         says = inr (rw f refl, ap (λ (r : Rates). r.frame_rate) (sym same));
       }
-  sequence_says rates told text (Ok (Some (token, rest))) f e =
-      by_keyword (is_keyword (codes "SEQ_SAMPLE_RATE") token) refl (is_keyword (codes "SEQ_FRAME_RATE") token) refl
-      (rw f at e) where
-        by_keyword :
-            (sample : Bool) → is_keyword (codes "SEQ_SAMPLE_RATE") token ≡ sample → (frame : Bool)
-            → is_keyword (codes "SEQ_FRAME_RATE") token ≡ frame → reads (sequence_fields rate rates token) rest ≡ Ok told
-            → IsSequenceLine rates told text
-        by_keyword true s frame g o =
-            let other = other_keyword (codes "SEQ_SAMPLE_RATE") (codes "SEQ_FRAME_RATE") token refl s in
-            let sample = Then (form.Passes is_48000 fault.WrongSequence) (λ _. Done any (record rates { sample_rate = true })) in
-            let same = always (λ (r : Rates). r.frame_rate ≡ rates.frame_rate) sample rest told (λ _. refl) (rw s at o) in
-            record {
-              whole = whole-token text rest token f (reads_whole (sequence_fields rate rates token) rest told o);
-              says = inr (rw (f, other) refl, same);
-            }
-        by_keyword false s true g o =
-            record {
-              whole = whole-token text rest token f (reads_whole (sequence_fields rate rates token) rest told o);
-              says = inl (rw (f, g) (rate_tells (record rates { frame_rate = true }) told rest (rw (s, g) at o)));
-            }
-        by_keyword false s false g o =
-            let same = always (λ (r : Rates). r.frame_rate ≡ rates.frame_rate) (Done any rates) rest told refl
-            (rw (s, g) at o) in
-            record {
-              whole = whole-token text rest token f (reads_whole (sequence_fields rate rates token) rest told o);
-              says = inr (rw (f, g) refl, same);
-            }
+  sequence_says rates told text (Ok (Some (token, rest))) f e = by_fields (rw f at e) where
+    by_keyword :
+        (sample : Bool) → is_keyword (codes "SEQ_SAMPLE_RATE") token ≡ sample → (frame : Bool)
+        → is_keyword (codes "SEQ_FRAME_RATE") token ≡ frame → reads (sequence_fields rate rates token) rest ≡ Ok told
+        → SaysRate rates told text
+    by_keyword true s frame g o =
+        let other = other_keyword (codes "SEQ_SAMPLE_RATE") (codes "SEQ_FRAME_RATE") token refl s in
+        let sample = Then (form.Passes is_48000 fault.WrongSequence) (λ _. Done any (record rates { sample_rate = true })) in
+        inr (rw (f, other) refl, always (λ (r : Rates). r.frame_rate ≡ rates.frame_rate) sample rest told (λ _. refl) (rw s at o))
+    by_keyword false s true g o =
+        inl (rw (f, g) (rate_tells (record rates { frame_rate = true }) told rest (rw (s, g) at o)))
+    by_keyword false s false g o =
+        inr (rw (f, g) refl, always (λ (r : Rates). r.frame_rate ≡ rates.frame_rate) (Done any rates) rest told refl (rw (s, g) at o))
+
+    by_fields : reads (sequence_fields rate rates token) rest ≡ Ok told → IsSequenceLine rates told text
+    by_fields o = record {
+      whole = whole-token text rest token f (reads_whole (sequence_fields rate rates token) rest told o);
+      says = by_keyword (is_keyword (codes "SEQ_SAMPLE_RATE") token) refl
+          (is_keyword (codes "SEQ_FRAME_RATE") token) refl o;
+    }
 
   -- a line of the source index may stand there, and leaves the rate as it is
   source_stands :
