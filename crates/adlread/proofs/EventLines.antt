@@ -96,7 +96,8 @@ module _ (rate : ℕ) where
     blank_read old h = rw (h.untagged, no_cut h.cut) refl
 
     -- a remark before the first entry
-    first_remark_read : (tokens : List TokenText) → HasTokens text tokens → IsTrue (is_remark tokens) → Leads nothing nothing
+    first_remark_read :
+        (tokens : List TokenText) → HasTokens text tokens → IsTrue (is_remark tokens) → Leads nothing nothing
     unfolding further_line remark
     first_remark_read [] h is = blank_read nothing h
     first_remark_read (token ∷ tokens) h is =
@@ -164,7 +165,11 @@ module _ (rate : ℕ) where
           further_read f.rest f.keyword (behind events entry separators)
           (behind events (with_rise entry fade) separators) h.cut.untagged f.at
           (other_keyword (codes "Infade") (codes "Entry") f.keyword refl f.is)
-          (rw (f.is, told_read (with_rise entry) entry.has_rise RepeatedFade (fade_fields rate) f.rest fade free f.says) refl)
+          (rw (
+            f.is,
+            told_read (with_rise entry) entry.has_rise RepeatedFade (fade_fields rate) f.rest fade free
+                f.says,
+          ) refl)
 
       fall_read :
           (fade : ℕ) → SpellsLine (fade_line rate (codes "Outfade")) text fade → entry.has_fall ≡ false
@@ -283,10 +288,12 @@ module _ (rate : ℕ) where
 
     fade_is :
         (name : List ℕ) (told : Bool) (with : ℕ → OpenEntry) (new : OpenEntry) → is_keyword name token ≡ true
-        → reads (Unless told RepeatedFade (mapped with (fade_fields rate))) rest ≡ Ok new → IsFade name text told with new
+        → reads (Unless told RepeatedFade (mapped with (fade_fields rate))) rest ≡ Ok new
+        → IsFade name text told with new
     fade_is name told with new is e =
         let free = unless_read told RepeatedFade (mapped with (fade_fields rate)) rest new e in
-        let f = ok_map_ok with (reads (fade_fields rate) rest) new (sym (reads_mapped with (fade_fields rate) rest) ∙ free.1) in
+        let f = ok_map_ok with (reads (fade_fields rate) rest) new
+        (sym (reads_mapped with (fade_fields rate) rest) ∙ free.1) in
         record {
           fade = f.value;
           spells = spells_named name (fade_fields rate) text f.value untagged
@@ -312,7 +319,8 @@ module _ (rate : ℕ) where
         rw (← f.1) (Gain (line_of further.tokens is_zero_gain further.cut
         (and_both (is_keyword (codes "Gain") token) _ is further.all)))
 
-    entry_with_is : (entry new : OpenEntry) → reads (entry_with rate entry token) rest ≡ Ok new → IsFurther text entry new
+    entry_with_is :
+        (entry new : OpenEntry) → reads (entry_with rate entry token) rest ≡ Ok new → IsFurther text entry new
     unfolding entry_with
     entry_with_is entry new e =
         by_keyword (is_keyword (codes "Infade") token) refl (is_keyword (codes "Outfade") token) refl
@@ -333,7 +341,8 @@ module _ (rate : ℕ) where
           by_keyword false a false b false c false d = absurd (refused Unsupported rest new (rw (a, b, c, d) at e))
 
     front_remark_is :
-        (rem : Bool) → is_keyword (codes "Rem") token ≡ rem → reads (remark token) rest ≡ Ok tt → IsLineOf is_remark text
+        (rem : Bool) → is_keyword (codes "Rem") token ≡ rem → reads (remark token) rest ≡ Ok tt
+        → IsLineOf is_remark text
     unfolding remark
     front_remark_is true is e = (remark_is {A = Unit {0}} tt tt is (rw is at e)).0
     front_remark_is false is e = absurd (refused {A = Unit {0}} Unplaced rest tt (rw is at e))

@@ -184,7 +184,8 @@ track_list_part = record {
   silent = λ part none. none;
   counted = λ h lines none. let e = ap (λ ls. line_count (put_lines section.TrackList ls h)) none in omega (arith, e);
   behind = λ part blocks now all h.
-      let f = first_kept now.track_list (texts part.content) (kept section.TrackList blocks) all.track_list h.track_list in
+      let f = first_kept now.track_list (texts part.content) (kept section.TrackList blocks) all.track_list
+      h.track_list in
       (f.0, continued h.version h.project h.system h.sequence f.1);
   before = λ part blocks now all none h.
       continued h.version h.project h.system h.sequence
@@ -334,13 +335,15 @@ module _ (rate : ℕ) where
       header_walked :
           (s : Section) → IsHeaderPart s → Stands s → part.notices ≡ [] → (told : Rates)
           → told_in rate s c.header.rates (texts part.content) ≡ Ok told
-          → told_rates rate no_rates (lines_of_section (put_lines s (Some (texts part.content)) c.header.lines).sequence) ≡ Ok told
+          → told_rates rate no_rates
+          (lines_of_section (put_lines s (Some (texts part.content)) c.header.lines).sequence) ≡ Ok told
           → Walked s
       header_walked s is fits none told e sequence =
           let this = record part { meaning = s } in
           let f = is.behind part blocks c.header.lines p.header fits.header in
           let lines = put_lines s (Some (texts part.content)) c.header.lines in
-          let b = record (with_lines c (put_lines s (Some []) c.header.lines)) { stage = stage.Inside s; name = part.name } in
+          let b = record (with_lines c (put_lines s (Some []) c.header.lines))
+          { stage = stage.Inside s; name = part.name } in
           let last = with_header b (record { lines = lines; kept = line_count lines; rates = told }) in
           let short = no_more_lines lines blocks p.header f.1 in
           let more = is.counted c.header.lines (texts part.content) f.0 in
@@ -352,7 +355,8 @@ module _ (rate : ℕ) where
             is.kept.opened c ∙ ap is_some f.0,
             record {
               last = last;
-              walked = ap (λ d. walk rate s d part.content) (begun_kept s is.kept c part.opening.number part.name) ∙ read;
+              walked = ap (λ d. walk rate s d part.content) (begun_kept s is.kept c part.opening.number part.name)
+                  ∙ read;
               fits = record {
                 header = f.1;
                 index = subst (λ parts. IndexFits c.has_index c.sources parts p.sources)
@@ -444,7 +448,8 @@ module _ (rate : ℕ) where
           )
 
       unsupported_walked :
-          Stands section.Unsupported → IsTrue (list_all is_empty (texts part.content)) → part.notices ≡ notice 1 part.opening ∷ []
+          Stands section.Unsupported → IsTrue (list_all is_empty (texts part.content))
+          → part.notices ≡ notice 1 part.opening ∷ []
           → Walked section.Unsupported
       unsupported_walked fits empty told =
           let b = begun c part.opening.number section.Unsupported part.name in

@@ -142,7 +142,8 @@ module _ (rate : ℕ) where
     outside_line_so_far (Opens name some more named free) = begins_so_far name (section_of name) refl free
 
     inside_line_so_far :
-        (next : Context) (s : Section) → c.stage ≡ stage.Inside s → IsInsideLine rate s c n text next → IsSoFar rate next
+        (next : Context) (s : Section) → c.stage ≡ stage.Inside s → IsInsideLine rate s c n text next
+        → IsSoFar rate next
     inside_line_so_far next s st (Closes ends same) =
         subst (IsSoFar rate) same (in_stage stage.Outside c.name tt (λ f. absurd (cc)))
     inside_line_so_far next s st (Within more e) =

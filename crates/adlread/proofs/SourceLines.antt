@@ -109,7 +109,8 @@ module _ (rate : ℕ) where
       record {
         sources = r.sources;
         dropped = record { kind = 2; at = line.number } ∷ r.dropped;
-        spells = DroppedLine line (record { tokens = token ∷ further.tokens; cut = cut; passes = ap not other }) r.spells;
+        spells = DroppedLine line (record { tokens = token ∷ further.tokens; cut = cut; passes = ap not other })
+            r.spells;
         is =
             r.is ∙ ap (λ all. record c { sources = c.sources ++ r.sources; notices = all })
             (append_assoc c.notices (record { kind = 2; at = line.number } ∷ []) r.dropped);

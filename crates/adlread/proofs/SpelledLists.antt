@@ -123,7 +123,8 @@ module _ (rate : ℕ) where
         → read_all rate c n lines ≡ Ok p → IsBody c lines p
 
     with_first :
-        (c : Context) (line : NumberedLine) (lines : List NumberedLine) (next : Context) (fuel : ℕ) → length lines ≤ fuel
+        (c : Context) (line : NumberedLine) (lines : List NumberedLine) (next : Context) (fuel : ℕ)
+        → length lines ≤ fuel
         → c.stage ≡ stage.Outside → IsFresh c → IsOutsideLine c line.number line.text next
         → read_on rate next line.number lines ≡ Ok p → IsReadWithin fuel → IsBody c (line ∷ lines) p
     with_first c line lines next fuel short is fresh (BlankOutside blank) e ih =
@@ -182,7 +183,8 @@ module _ (rate : ℕ) where
       (sym (before_line_is rate c line.number line.text is) ∙ f.is))
       (λ g. list_is_read lines c line.number p is g) where
         by_line :
-            (next : Context) → read_on rate next line.number lines ≡ Ok p → IsBeforeLine c line.text next → (read_all rate c line.number lines ≡ Ok p → IsList c lines p)
+            (next : Context) → read_on rate next line.number lines ≡ Ok p → IsBeforeLine c line.text next
+            → (read_all rate c line.number lines ≡ Ok p → IsList c lines p)
             → IsList c (line ∷ lines) p
         by_line next g (BlankBefore blank) ih =
             let r = ih (goes_on rate c line.number lines p (ap is_behind is) g) in
@@ -196,7 +198,15 @@ module _ (rate : ℕ) where
               others = r.others;
             }
         by_line next g (Begins some begins) ih =
-            record { before = []; begin = line; rest = lines; lines_are = refl; blank = refl; begins = begins; others = g }
+            record {
+              before = [];
+              begin = line;
+              rest = lines;
+              lines_are = refl;
+              blank = refl;
+              begins = begins;
+              others = g;
+            }
 
   -- a list that was read at this rate
   record IsSpelledAt (text : List ℕ) (p : ListProject) : Type 0 where

@@ -143,7 +143,8 @@ module _ (rate : ℕ) where
       (sym (inside_line_is s c line.number line.text open_is) ∙ f.is))
       (λ next o g. section_is_read s lines next line.number project o g) where
         by_line :
-            (next : Context) → read_on next line.number lines ≡ Ok project → IsInsideLine rate s c line.number line.text next
+            (next : Context) → read_on next line.number lines ≡ Ok project
+            → IsInsideLine rate s c line.number line.text next
             → ((next : Context) → next.stage ≡ stage.Inside s → read_all next line.number lines ≡ Ok project
             → IsSectionRead s next lines project)
             → IsSectionRead s c (line ∷ lines) project

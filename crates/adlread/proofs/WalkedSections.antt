@@ -67,7 +67,8 @@ module _ (rate : ℕ) where
     header_over : (s : Section) → IsHeaderPart s → is_opened c s ≡ false → Walks s → IsWalkedOver c s part last
     header_over s is free e =
         let lines = put_lines s (Some (texts part.content)) c.header.lines in
-        let b = record (with_lines c (put_lines s (Some []) c.header.lines)) { stage = stage.Inside s; name = part.name } in
+        let b = record (with_lines c (put_lines s (Some []) c.header.lines))
+        { stage = stage.Inside s; name = part.name } in
         let h = header_is_read rate s is.kept part.content b last
         (subst (λ d. walk rate s d part.content ≡ Ok last) (begun_kept s is.kept c part.opening.number part.name) e) in
         let none = not_some (lines_at s c.header.lines) (sym (is.kept.opened c) ∙ free) in
@@ -100,7 +101,8 @@ module _ (rate : ℕ) where
         let none = fresh.index free in
         record {
           fresh =
-              subst (λ l. IsFresh (outside_of l)) (sym h.is) (record { index = λ no. absurd (cc); events = fresh.events });
+              subst (λ l. IsFresh (outside_of l)) (sym h.is)
+              (record { index = λ no. absurd (cc); events = fresh.events });
           fits = λ blocks p fits.
               let known = subst (λ l. Fits rate (outside_of l) blocks p) h.is fits in
               let this = with section.SourceIndex h.dropped in
@@ -112,7 +114,8 @@ module _ (rate : ℕ) where
                   record {
                     header = known.header;
                     index =
-                        subst (λ has. IndexFits rate has c.sources (this ∷ sections section.SourceIndex blocks) p.sources)
+                        subst (λ has. IndexFits rate has c.sources (this ∷ sections section.SourceIndex blocks)
+                        p.sources)
                         (sym free) index;
                     events = known.events;
                     notices = sym (append_assoc c.notices h.dropped (flat_map notices_of_block blocks)) ∙ known.notices;
@@ -132,13 +135,15 @@ module _ (rate : ℕ) where
         (subst (λ d. walk rate section.EventList d part.content ≡ Ok last) same e) in
         record {
           fresh =
-              subst (λ l. IsFresh (outside_of l)) (sym h.is) (record { index = fresh.index; events = λ no. absurd (cc) });
+              subst (λ l. IsFresh (outside_of l)) (sym h.is)
+              (record { index = fresh.index; events = λ no. absurd (cc) });
           fits = λ blocks p fits.
               let known = subst (λ l. Fits rate (outside_of l) blocks p) h.is fits in
               let this = with section.EventList [] in
               let separators = sym known.events.1.1
               ∙ (ap (λ s. unwrap_or s default_separators) h.separators_are ∙ first_are h.entries) in
-              let events : EventsFit rate false c.entries (this ∷ sections section.EventList blocks) p.events p.separators
+              let events : EventsFit rate false c.entries (this ∷ sections section.EventList blocks) p.events
+              p.separators
               = (
                 none,
                 (
@@ -170,7 +175,8 @@ module _ (rate : ℕ) where
     skipped_over : Walks section.Skipped → IsWalkedOver c section.Skipped part last
     skipped_over e =
         let b = begun c part.opening.number section.Skipped part.name in
-        subst (IsWalkedOver c section.Skipped part) (ok_same _ _ (sym (skipped_lines rate part.content b) ∙ e)) (record {
+        subst (IsWalkedOver c section.Skipped part) (ok_same _ _ (sym (skipped_lines rate part.content b) ∙ e))
+        (record {
           fresh = record { index = fresh.index; events = fresh.events };
           fits = λ blocks p known.
               let told = noticed blocks p known.notices in (

@@ -344,7 +344,8 @@ impl<'a> Draft<'a> {
     #[tactic(auto, unfolding(list_terms::specs::Text::finished))]
     pub fn finish(self, line: &[u8], number: u64, rate: Rate) -> Result<Project, AdlFault>
         requires { IsSoFar (frames_per_second rate) (context_of self) }
-        ensures exact { Reads (λ project. project) result (text.finished (frames_per_second rate) (context_of self.entry) number) }
+        ensures exact { Reads (λ project. project) result
+            (text.finished (frames_per_second rate) (context_of self.entry) number) }
         ensures whole { IfOk result IsProject }
     {
         if !self.has_sections() {
@@ -381,7 +382,8 @@ impl<'a> Draft<'a> {
     fn project(self, rate: Rate) -> Result<Project, AdlFault>
         requires whole { IsSoFar (frames_per_second rate) (context_of self) }
         requires rates { IsTrue (self.header.rates.sample_rate && self.header.rates.frame_rate) }
-        ensures exact { Reads (λ project. project) result (Ok (text.project_of (frames_per_second rate) (context_of self.entry))) }
+        ensures exact { Reads (λ project. project) result
+            (Ok (text.project_of (frames_per_second rate) (context_of self.entry))) }
         ensures whole { IfOk result IsProject }
     {
         let Draft {

@@ -58,7 +58,8 @@ pub fn read(alloc: Global, text: &[u8]) -> Result<Project, AdlFault>
 /// Reads the lines of a list, one after another.
 #[tactic(auto, unfolding(list_terms::specs::Text::read_from))]
 fn read_lines(alloc: Global, text: &[u8], rate: Rate) -> Result<Project, AdlFault>
-    ensures exact { Reads (λ project. project) result (read_from (frames_per_second rate) nothing_read 0 (lines_of text.now)) }
+    ensures exact { Reads (λ project. project) result
+        (read_from (frames_per_second rate) nothing_read 0 (lines_of text.now)) }
     ensures whole { IfOk result IsProject }
 {
     let mut draft = Draft::new(alloc)?;

@@ -90,7 +90,8 @@ module _ (project : ListProject) (h : IsProject project) where
   list_is_read : Gives project.rate nothing_read (written_lines project) (without_notices project)
   unfolding with_line before_list
   list_is_read =
-      one_line project.rate nothing_read (in_head Outside [] no_header) (codes "<ADL>") _ (without_notices project) (λ n. refl) refl
+      one_line project.rate nothing_read (in_head Outside [] no_header) (codes "<ADL>") _ (without_notices project)
+      (λ n. refl) refl
       (header_is_read project.rate project.header h.header _ (without_notices project) index_and_events [])
 
 pub text_value-text_of_project :

@@ -190,7 +190,8 @@ number_digits limit n text low h = (has_digits limit n text low h).digits
 
 all_digits : (limit n : ℕ) (text : List ℕ) → limit ≤ 32767 → IsNumber limit text n → list_all is_digit text ≡ true
 all_digits limit n text low h =
-    and_right (nat_le 1 (length text) && nat_le (length text) 6) (list_all is_digit text) (number_digits limit n text low h)
+    and_right (nat_le 1 (length text) && nat_le (length text) 6) (list_all is_digit text)
+    (number_digits limit n text low h)
 
 -- ---- channels
 

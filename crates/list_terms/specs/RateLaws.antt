@@ -114,12 +114,21 @@ module _ (rate : ℕ) where
         → SaysRate rates told text
     by_keyword true s frame g o =
         let other = other_keyword (codes "SEQ_SAMPLE_RATE") (codes "SEQ_FRAME_RATE") token refl s in
-        let sample = Then (form.Passes is_48000 fault.WrongSequence) (λ _. Done any (record rates { sample_rate = true })) in
-        inr (rw (f, other) refl, always (λ (r : Rates). r.frame_rate ≡ rates.frame_rate) sample rest told (λ _. refl) (rw s at o))
+        let sample = Then (form.Passes is_48000 fault.WrongSequence)
+        (λ _. Done any (record rates { sample_rate = true })) in
+        inr (
+          rw (f, other) refl,
+          always (λ (r : Rates). r.frame_rate ≡ rates.frame_rate) sample rest told (λ _. refl)
+              (rw s at o),
+        )
     by_keyword false s true g o =
         inl (rw (f, g) (rate_tells (record rates { frame_rate = true }) told rest (rw (s, g) at o)))
     by_keyword false s false g o =
-        inr (rw (f, g) refl, always (λ (r : Rates). r.frame_rate ≡ rates.frame_rate) (Done any rates) rest told refl (rw (s, g) at o))
+        inr (
+          rw (f, g) refl,
+          always (λ (r : Rates). r.frame_rate ≡ rates.frame_rate) (Done any rates) rest told refl
+              (rw (s, g) at o),
+        )
 
     by_fields : reads (sequence_fields rate rates token) rest ≡ Ok told → IsSequenceLine rates told text
     by_fields o = record {
@@ -145,8 +154,10 @@ module _ (rate : ℕ) where
   event_stands text t (ToldEntry g h free) = (whole_line text t (named_whole _ _ text g h), refl)
   event_stands text t (FrontRemark token rest at none says) =
       (whole_line text t (whole-token text rest token at (reads_whole (remark token) rest tt says)), refl)
-  event_stands text t (Further entry new token rest at is says) =
-      (whole_line text t (whole-token text rest token at (reads_whole (entry_with rate entry token) rest new says)), refl)
+  event_stands text t (Further entry new token rest at is says) = (
+    whole_line text t (whole-token text rest token at (reads_whole (entry_with rate entry token) rest new says)),
+    refl,
+  )
 
   -- a kept line that tells no rate
   rate_stays :
@@ -215,7 +226,8 @@ module _ (rate : ℕ) where
   section_stands section.EventList c next n text more e =
       let l = event_line_is rate c next n text e in
       let h = event_stands text l.0 l.1 in (h.0, inr (refl, h.1))
-  section_stands section.Skipped c next n text more e = (refl, inr (refl, ap has_rate (sym (ok_same {E = LocatedFault} _ _ e))))
+  section_stands section.Skipped c next n text more e =
+      (refl, inr (refl, ap has_rate (sym (ok_same {E = LocatedFault} _ _ e))))
   section_stands section.Unsupported c next n text more e =
       let p = unsupported_line_is c next n text e in (p.0, inr (refl, ap has_rate (sym p.1)))
 
@@ -256,22 +268,24 @@ module _ (rate : ℕ) where
       (st : Stage) (c next : Context) (n : ℕ) (text : List ℕ) → is_behind st ≡ false
       → with_line rate (record c { stage = st }) n text ≡ Ok next → Passes (record c { stage = st }) next text
   unfolding with_line passed passed_before passed_outside passed_inside opens
-  line_goes stage.Before c next n text before e = by_line (before_is (record c { stage = stage.Before }) next n text e) where
-    by_line : {next : Context} → IsBeforeLine (record c { stage = stage.Before }) text next
-        → Passes (record c { stage = stage.Before }) next text
-    by_line (BlankBefore blank) = inr (refl, (rw blank refl, refl))
-    by_line (Begins some begins) = inr (refl, (rw (some, begins) refl, refl))
-  line_goes stage.Outside c next n text before e = by_line (outside_is (record c { stage = stage.Outside }) next n text e) where
-    by_line : {next : Context} → IsOutsideLine (record c { stage = stage.Outside }) n text next
-        → Passes (record c { stage = stage.Outside }) next text
-    by_line (BlankOutside blank) = inr (refl, (rw blank refl, refl))
-    by_line (Ends some ends) = inr (refl, (rw (some, ends) refl, refl))
-    by_line (Opens name some more named free) =
-        let d = record c { stage = stage.Outside } in
-        let s = section_of name in
-        let b = is_begun d n s in
-        let goes = ap (λ o. Some (record { stage = stage.Inside s; name = name; opened = o })) b.marked in
-        inr (refl, (rw (some, more, named, b.opened, free) goes, b.told))
+  line_goes stage.Before c next n text before e =
+      by_line (before_is (record c { stage = stage.Before }) next n text e) where
+        by_line : {next : Context} → IsBeforeLine (record c { stage = stage.Before }) text next
+            → Passes (record c { stage = stage.Before }) next text
+        by_line (BlankBefore blank) = inr (refl, (rw blank refl, refl))
+        by_line (Begins some begins) = inr (refl, (rw (some, begins) refl, refl))
+  line_goes stage.Outside c next n text before e =
+      by_line (outside_is (record c { stage = stage.Outside }) next n text e) where
+        by_line : {next : Context} → IsOutsideLine (record c { stage = stage.Outside }) n text next
+            → Passes (record c { stage = stage.Outside }) next text
+        by_line (BlankOutside blank) = inr (refl, (rw blank refl, refl))
+        by_line (Ends some ends) = inr (refl, (rw (some, ends) refl, refl))
+        by_line (Opens name some more named free) =
+            let d = record c { stage = stage.Outside } in
+            let s = section_of name in
+            let b = is_begun d n s in
+            let goes = ap (λ o. Some (record { stage = stage.Inside s; name = name; opened = o })) b.marked in
+            inr (refl, (rw (some, more, named, b.opened, free) goes, b.told))
   line_goes (stage.Inside s) c next n text before e = by_line (inside_is rate s (inside s c) next n text e) where
     by_line : IsInsideLine rate s (inside s c) n text next → Passes (inside s c) next text
     by_line (Closes ends same) =

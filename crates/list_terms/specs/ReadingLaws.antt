@@ -185,7 +185,8 @@ module _ (rate : ℕ) where
       let numbered = err_map_ok (at_line n) (value_at Number rest) a.value a.is in
       let b = ok_map_ok (λ sources. record c { sources = sources }) (source_with rate c.sources a.value.0 a.value.1)
       next (err_map_ok (at_index n a.value.0) _ next a.others) in
-      let free = unless_ok (list_any (λ other. other.number == a.value.0) c.sources) fault.DuplicateNumber _ b.value b.is in
+      let free = unless_ok (list_any (λ other. other.number == a.value.0) c.sources) fault.DuplicateNumber _ b.value
+      b.is in
       let s = chain (reads (source_fields rate a.value.0) a.value.1) (λ source. Ok (c.sources ++ source ∷ [])) b.value
       free.1 in
       rw (← b.same, ← ok_same (c.sources ++ s.value ∷ []) b.value s.others) (ToldSource s.value (record {
@@ -240,7 +241,8 @@ module _ (rate : ℕ) where
         → IsEventLine c text (record c { entries = with_event c.entries g.0 g.1 })
     FrontRemark :
         (token : TokenText) (rest : List ℕ) → token_at text ≡ Ok (Some (token, rest)) → c.entries.entry ≡ None
-        → reads (remark token) rest ≡ Ok tt → IsEventLine c text (record c { entries = record c.entries { entry = None } })
+        → reads (remark token) rest ≡ Ok tt
+        → IsEventLine c text (record c { entries = record c.entries { entry = None } })
     Further :
         (entry new : OpenEntry) (token : TokenText) (rest : List ℕ) → token_at text ≡ Ok (Some (token, rest))
         → c.entries.entry ≡ Some entry → reads (entry_with rate entry token) rest ≡ Ok new
