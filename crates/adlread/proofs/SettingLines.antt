@@ -1,21 +1,17 @@
 -- The lines of SYSTEM and of SEQUENCE are read as the settings that they spell, and as no others.
-use Rattle.std.proofs.Common.{◌≡◌, ℕ, true, List, [], ◌∷◌, Result, Ok, Err, refl}
+use Rattle.std.proofs.Common.{◌≡◌, ℕ, true, List, [], ◌∷◌, Ok, refl}
 use Rattle.std.specs.Prelude.{is_ok, not}
 use Rattle.std.specs.List.{list_all}
 use Rattle.std.proofs.lemmas.Bool.{not-true}
 use Rattle.facts.specs.Tests.{and_both, and_left, and_right}
 use Rattle.list_terms.specs.declared.Rates.{Rates}
-use Rattle.list_terms.specs.declared.TextFault.{TextFault}
 use Rattle.list_terms.specs.declared.TextFault.TheVariants.{SectionMismatch}
 use Rattle.list_terms.specs.EntryLines.{sequence_fields, sequence_line, system_fields, system_line}
+use Rattle.list_terms.specs.HeaderLaws.{was_ok}
 use Rattle.list_terms.specs.Text.{is_tag, sequence_rates, untagged}
 use Rattle.list_terms.specs.WholeProject.{is_system_line, told_rates}
 use Rattle.adlread.specs.LineGrammar.{AreSettings, NoRate, NoSetting, RateLine, Setting, TellRates}
 use Rattle.adlread.proofs.FieldLaws.{chain, ok_same, read_by_first, spelled_by_first, unless_ok}
-
-was_ok : (r : Result (Unit {0}) TextFault) → is_ok r ≡ true → r ≡ Ok tt
-was_ok (Ok u) h = refl
-was_ok (Err fault) h = absurd (cc)
 
 module _ (rate : ℕ) where
   -- ---- SYSTEM

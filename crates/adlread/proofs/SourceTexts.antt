@@ -1,5 +1,5 @@
 -- The texts of a source that a line says: its URL can be quoted, and its identifier is one token.
-use Rattle.std.proofs.Common.{◌≡◌, ℕ, length, Bool, true, List, [], ◌∷◌, Ok, refl, ap, sym, ◌∙◌, arith}
+use Rattle.std.proofs.Common.{◌≡◌, ℕ, length, true, List, [], ◌∷◌, Ok, refl, ap, sym, ◌∙◌, arith}
 use Rattle.std.specs.Prelude.{codes, is_some, ◌&&◌}
 use Rattle.std.specs.List.{list_all}
 use Rattle.std.proofs.lemmas.Bool.Decides.{nat_tests}
@@ -18,7 +18,7 @@ use Rattle.list_terms.specs.Project.{Source}
 use Rattle.list_terms.specs.ReadingLaws.{IsNamed}
 use Rattle.list_terms.specs.StepLaws.{chain, if_ok, ok_same}
 use Rattle.list_terms.specs.Tokens.{TokenText, all_tokens, is_quoted_byte, is_word_byte, token_at, token_text}
-use Rattle.list_terms.specs.TokenLaws.{is_content, is_word, token_at-cut, token_at-token_text}
+use Rattle.list_terms.specs.TokenLaws.{all_weaker, is_content, is_word, token_at-cut, token_at-token_text}
 use Rattle.list_terms.specs.WholeProject.{has_whole_texts, is_line_byte, is_one_token, is_quotable}
 
 -- ---- fields of a line without a line feed
@@ -42,16 +42,9 @@ inside f line h next e =
 
 -- ---- the URL and the identifier
 
-weaker :
-    (p q : ℕ → Bool) → ((b : ℕ) → p b ≡ true → q b ≡ true) → (text : List ℕ) → list_all p text ≡ true
-    → list_all q text ≡ true
-weaker p q each [] h = refl
-weaker p q each (b ∷ text) h =
-    rw (each b (and_left (p b) (list_all p text) h)) (weaker p q each text (and_right (p b) (list_all p text) h))
-
 word_is_quotable : (text : List ℕ) → is_word text ≡ true → list_all is_quoted_byte text ≡ true
 word_is_quotable [] h = absurd (cc)
-word_is_quotable (b ∷ text) h = weaker is_word_byte is_quoted_byte (λ c e. grind (arith, nat_tests)) (b ∷ text) h
+word_is_quotable (b ∷ text) h = all_weaker is_word_byte is_quoted_byte (λ c e. grind (arith, nat_tests)) (b ∷ text) h
 
 content_is_quotable :
     (kind : TokenKind) (content : List ℕ) → is_content kind content ≡ true → list_all is_quoted_byte content ≡ true

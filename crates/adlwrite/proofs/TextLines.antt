@@ -13,11 +13,11 @@ use Rattle.sound_terms.specs.declared.Event.{Event}
 use Rattle.list_terms.specs.LineLaws.{without_cr-cr}
 use Rattle.list_terms.specs.Lines.{cut_lines, lines_in, lines_of}
 use Rattle.list_terms.specs.Project.{ListProject, Source}
-use Rattle.list_terms.specs.TokenLaws.{is_word}
+use Rattle.list_terms.specs.TokenLaws.{all_weaker, is_word}
 use Rattle.list_terms.specs.Tokens.{is_word_byte}
 use Rattle.list_terms.specs.WholeProject.{IsProject, are_kept, has_whole_texts, is_event, is_kept, is_line_byte, is_number, is_source, is_time_of_day}
 use Rattle.list_terms.specs.WrittenText.{channels_text, event_line, event_lines, fade_lines, line, number_text, section, source_line, text_of_project, time_text}
-use Rattle.adlwrite.proofs.Facts.{EventFacts, all_weaker, event_facts, source_facts}
+use Rattle.adlwrite.proofs.Facts.{EventFacts, event_facts, source_facts}
 use Rattle.adlwrite.proofs.Reading.{ending, opening, written_section}
 use Rattle.adlwrite.proofs.Words.{channels_are_read, number_is_a_word, time_is_a_word}
 

@@ -74,7 +74,7 @@ track_list_kept =
 
 -- ---- the rates that lines tell
 
-was_ok : (r : Result (Unit {0}) TextFault) → is_ok r ≡ true → r ≡ Ok tt
+pub was_ok : (r : Result (Unit {0}) TextFault) → is_ok r ≡ true → r ≡ Ok tt
 was_ok (Ok u) h = refl
 was_ok (Err fault) h = absurd (cc)
 

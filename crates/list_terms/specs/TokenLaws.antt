@@ -236,6 +236,14 @@ token_at-front line rest token e =
       ends = front.ends;
     }
 
+-- bytes that pass a test pass a weaker one
+pub all_weaker :
+    (p q : ℕ → Bool) → ((b : ℕ) → p b ≡ true → q b ≡ true) → (text : List ℕ) → list_all p text ≡ true
+    → list_all q text ≡ true
+all_weaker p q each [] h = refl
+all_weaker p q each (b ∷ text) h =
+    rw (each b (and_left (p b) (list_all p text) h)) (all_weaker p q each text (and_right (p b) (list_all p text) h))
+
 -- a token and what follows it, cut from a text whose bytes pass a test
 pub record IsCut (test : ℕ → Bool) (token : TokenText) (rest : List ℕ) : Type 0 where
   pub content : is_content token.kind token.content ≡ true
