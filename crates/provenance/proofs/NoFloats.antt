@@ -1,0 +1,67 @@
+-- No report has a float.
+use Rattle.std.proofs.Common.{◌≡◌, ◌∷◌, [], Bool, true, false, List, Option, None, Some, ℕ, map, take, if◌then◌else◌, refl, subst, sym}
+use Rattle.std.specs.Str.{is_utf8}
+use Rattle.serde_json.specs.Data.{Data, null, string}
+use Rattle.serde_json.specs.View.{items_of}
+use Rattle.serde_json.specs.Written.{compact_text, has_float, items_have_float}
+use Rattle.sound_terms.specs.declared.BoundIndex.{BoundIndex}
+use Rattle.sound_terms.specs.declared.piece.Home.{Home}
+use Rattle.sound_terms.specs.Media.{sound_at}
+use Rattle.sound_terms.specs.Sounds.{SoundFacts}
+use Rattle.list_terms.specs.Heard.{sounds_of}
+use Rattle.list_terms.specs.Project.{Source}
+use Rattle.provenance.specs.declared.medium.Medium.{Medium}
+use Rattle.provenance.specs.declared.played.Played.{Played}
+use Rattle.provenance.specs.Played.{given_entries, new_entries, numbers_of}
+use Rattle.provenance.specs.Report.{Told, count, entry_data, home_source, medium_told, most_told, origin_data, text_data, told, told_data}
+
+items_without : {X : Type 0} (f : X → Data) → ((x : X) → has_float (f x) ≡ false) → (xs : List X)
+    → items_have_float (items_of (map f xs)) ≡ false
+items_without f none [] = refl
+items_without f none (x ∷ xs) = rw (none x) (items_without f none xs)
+
+text_without : (bytes : List ℕ) → has_float (text_data bytes) ≡ false
+text_without bytes = by_test (is_utf8 bytes) where
+  by_test : (is : Bool) → has_float (if is then string bytes else null) ≡ false
+  by_test true = refl
+  by_test false = refl
+
+told_without : (tell : Source → Data) → ((source : Source) → has_float (tell source) ≡ false)
+    → (source : Option Source) → has_float (told tell source) ≡ false
+told_without tell none None = refl
+told_without tell none (Some source) = none source
+
+origin_without : (facts : SoundFacts) (first : ℕ) (source : Option Source)
+    → has_float (origin_data facts first source) ≡ false
+origin_without facts first source =
+    rw (
+      told_without (λ s. text_data s.uid) (λ s. text_without s.uid) source,
+      told_without (λ s. count s.number) (λ s. refl) source,
+      told_without (λ s. text_data s.url) (λ s. text_without s.url) source,
+    ) refl
+
+medium_without : (sources : List Source) (indexes : List BoundIndex) (sounds : List SoundFacts) (homes : List Home)
+    (medium : Medium) → has_float (medium_told sources indexes sounds homes medium) ≡ false
+medium_without sources indexes sounds homes medium =
+    let file = medium.run.file in
+    rw (origin_without (sound_at sounds file) medium.run.first (home_source sources indexes homes file)) refl
+
+entry_without : (given : List Played) (own : Played) → has_float (entry_data given own) ≡ false
+entry_without given own = rw (items_without count (λ n. refl) (take most_told (numbers_of given own))) refl
+
+report_without : (t : Told) (media : List Medium) → has_float (told_data t media) ≡ false
+report_without t media =
+    rw (
+      items_without (entry_data (given_entries t.binding.indexes t.project.events))
+          (entry_without (given_entries t.binding.indexes t.project.events))
+          (new_entries t.kept.homes t.kept.runs t.events),
+      items_without (medium_told t.project.sources t.binding.indexes (sounds_of t.binding) t.kept.homes)
+          (medium_without t.project.sources t.binding.indexes (sounds_of t.binding) t.kept.homes) media,
+    ) refl
+
+-- the text of a value that is a report's
+pub text_of_report : (t : Told) (media : List Medium) (seen : Data) (text : List ℕ) → seen ≡ told_data t media
+    → (has_float seen ≡ false → text ≡ compact_text seen) → text ≡ compact_text (told_data t media)
+text_of_report t media seen text same says =
+    subst (λ (d : Data). (has_float d ≡ false → text ≡ compact_text d) → text ≡ compact_text (told_data t media))
+    (sym same) (λ says. says (report_without t media)) says

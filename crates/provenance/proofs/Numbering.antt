@@ -1,0 +1,23 @@
+-- What is numbered, one after another.
+use Rattle.std.proofs.Common.{◌≡◌, ◌∙◌, ◌+◌, ◌++◌, ◌<◌, ℕ, zero, suc, List, [], ◌∷◌, length, take, get_or, add-one, ap, arith, sym}
+use Rattle.list_terms.specs.Renewed.{numbered}
+
+numbered_more : {X Y : Type 0} (made : ℕ → X → Y) (number k : ℕ) (xs : List X) (d : X) → k < length xs
+    → numbered made number (take (suc k) xs)
+    ≡ numbered made number (take k xs) ++ made (number + k) (get_or xs k d) ∷ []
+numbered_more made number k [] d below = absurd (omega arith)
+numbered_more made number zero (x ∷ xs) d below = ap (λ (n : ℕ). made n x ∷ []) (omega arith)
+numbered_more made number (suc k) (x ∷ xs) d below =
+    let counted : suc number + k ≡ number + suc k = omega arith in
+    ap (λ rest. made number x ∷ rest) (numbered_more made (suc number) k xs d (omega arith)
+    ∙ ap (λ (n : ℕ). numbered made (suc number) (take k xs) ++ made n (get_or xs k d) ∷ []) counted)
+
+-- one more, counted from 1 on
+pub numbered_step : {X Y : Type 0} (made : ℕ → X → Y) (k : ℕ) (xs : List X) (d : X) (one : Y) (before now : List Y)
+    → k < length xs → before ≡ numbered made 1 (take k xs) → now ≡ before ++ one ∷ []
+    → one ≡ made (k + 1) (get_or xs k d) → now ≡ numbered made 1 (take (k + 1) xs)
+numbered_step made k xs d one before now below so_far pushed is =
+    let counted : k + 1 ≡ 1 + k = omega arith in
+    pushed ∙ ap (λ (y : _). before ++ y ∷ []) (is ∙ ap (λ (n : ℕ). made n (get_or xs k d)) counted)
+    ∙ ap (λ (ys : List _). ys ++ made (1 + k) (get_or xs k d) ∷ []) so_far
+    ∙ sym (numbered_more made 1 k xs d below) ∙ ap (λ (n : ℕ). numbered made 1 (take n xs)) (sym (add-one k))

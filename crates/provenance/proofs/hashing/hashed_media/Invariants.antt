@@ -1,0 +1,13 @@
+use Rattle.std.proofs.Common.{◌≡◌, All, IsTrue, length, take}
+use Rattle.list_terms.specs.Renewed.{numbered}
+use Rattle.shelf.specs.Frame.{IsQuiet}
+use Rattle.provenance.specs.Media.{IsTellable, medium_by}
+use Rattle.provenance.proofs.hashing.hashed_media.Given as goal
+
+-- the media of the runs before the place are hashed, and nothing has failed
+abbrev pub invariant-loop-place : goal.invariant-loop-place
+invariant-loop-place g l =
+    (length l.room ≡ 66226) × IsQuiet g.S.Shelf l.initial.shelf l.shelf
+    × All (IsTellable l.sounds l.homes) l.media.items
+    × (IsTrue (g.S.Shelf.honest l.initial.shelf) → l.media.items
+    ≡ numbered (medium_by (g.S.Shelf.stored l.initial.shelf) l.sounds l.homes) 1 (take l.place l.list))

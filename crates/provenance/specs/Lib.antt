@@ -1,0 +1,5 @@
+pub mod Fault
+pub mod Media
+pub mod Played
+pub mod Report
+pub mod Sums

@@ -1,0 +1,135 @@
+-- The report of a consolidation, as a value of JSON (RFC 8259).
+use Rattle.std.specs.Prelude.{◌≡◌, ℕ, ◌+◌, ◌-◌, ◌==◌, List, [], ◌∷◌, ◌++◌, map, take, length, Option, option_and_then, option_map, find, slice_get, unwrap_or, if◌then◌else◌, codes}
+use Rattle.std.specs.Str.{is_utf8}
+use Rattle.hex.specs.Hex.{encode_lower}
+use Rattle.serde_json.specs.Data.{Data, null, number, unsigned, string, array, object, member, no_members}
+use Rattle.serde_json.specs.View.{items_of}
+use Rattle.serde_json.specs.Written.{compact_text}
+use Rattle.sha2.specs.Sha256.{sha256}
+use Rattle.sound_terms.specs.declared.BoundIndex.{BoundIndex}
+use Rattle.sound_terms.specs.declared.piece.Home.{Home}
+use Rattle.sound_terms.specs.Depth.{bits_of}
+use Rattle.sound_terms.specs.Homes.{base_by, place_by}
+use Rattle.sound_terms.specs.Media.{sound_at}
+use Rattle.sound_terms.specs.Sounds.{SoundFacts}
+use Rattle.sound_terms.specs.declared.Event.{Event}
+use Rattle.work_terms.specs.Disk.{Files}
+use Rattle.list_terms.specs.Binding.{Binding}
+use Rattle.list_terms.specs.Heard.{sounds_of}
+use Rattle.list_terms.specs.Project.{ListProject, Source}
+use Rattle.list_terms.specs.Renewed.{media_name}
+use Rattle.mediaset.specs.Runs.{HomedRuns}
+use Rattle.provenance.specs.declared.played.Played.{Played}
+use Rattle.provenance.specs.declared.report.Report.{Report}
+use Rattle.provenance.specs.declared.medium.Medium.{Medium}
+use Rattle.provenance.specs.Media.{media_of}
+use Rattle.provenance.specs.Played.{given_entries, new_entries, numbers_of}
+use Rattle.provenance.specs.Sums.{sums_of}
+
+abbrev pub count : ℕ → Data
+count n = number (unsigned n)
+
+-- bytes as they stand where they are text (UTF-8); JSON has no others
+abbrev pub text_data : List ℕ → Data
+text_data bytes = if is_utf8 bytes then string bytes else null
+
+-- a digest as 64 hexadecimal digits
+abbrev pub digest_data : List ℕ → Data
+digest_data digest = string (encode_lower digest)
+
+-- the line of the source index that the home index of a file is of
+abbrev pub home_source : List Source → List BoundIndex → List Home → ℕ → Option Source
+home_source sources indexes homes file =
+    option_and_then (λ index. find (λ source. source.number == index.number) sources)
+    (slice_get indexes (place_by homes file))
+
+-- what is told of a line of the source index, where there is one
+abbrev pub told : (Source → Data) → Option Source → Data
+told tell source = unwrap_or (option_map tell source) null
+
+-- where a medium comes from: this file from its frame `first` on, by a line of the source index
+abbrev pub origin_data : SoundFacts → ℕ → Option Source → Data
+origin_data facts first source =
+    object (member (codes "file") (string facts.name)
+    (member (codes "first") (count first)
+    (member (codes "identifier") (told (λ s. text_data s.uid) source)
+    (member (codes "index") (told (λ s. count s.number) source)
+    (member (codes "url") (told (λ s. text_data s.url) source) no_members)))))
+
+-- a medium of an opened file, whose first frame stands at `base` in the day
+abbrev pub medium_data : SoundFacts → (base : ℕ) → Data → Medium → Data
+medium_data facts base origin medium =
+    object (member (codes "base") (count base)
+    (member (codes "channels") (count facts.channels)
+    (member (codes "depth") (count (bits_of facts.depth))
+    (member (codes "file") (string (media_name medium.number))
+    (member (codes "frames") (count medium.run.length)
+    (member (codes "sha256") (digest_data medium.digest)
+    (member (codes "source") origin no_members)))))))
+
+abbrev pub medium_told : List Source → List BoundIndex → List SoundFacts → List Home → Medium → Data
+medium_told sources indexes sounds homes medium =
+    let file = medium.run.file in
+    medium_data (sound_at sounds file) (base_by homes file + medium.run.first)
+    (origin_data (sound_at sounds file) medium.run.first (home_source sources indexes homes file)) medium
+
+-- how many given entries are told of a new one
+abbrev pub most_told : ℕ
+most_told = 1000
+
+-- a new entry with the numbers of given ones, and how many more there are
+abbrev pub entry_of : (entry : ℕ) → List ℕ → Data
+entry_of entry numbers =
+    object (member (codes "entry") (count entry)
+    (member (codes "given") (array (items_of (map count (take most_told numbers))))
+    (member (codes "more") (count (length numbers - most_told)) no_members)))
+
+-- those that play together with it
+abbrev pub entry_data : List Played → Played → Data
+entry_data given own = entry_of own.number (numbers_of given own)
+
+-- a consolidation with this handle by a program of this version, with the digest of its list
+abbrev pub report_data : (handle : ℕ) (version list : List ℕ) (media entries : List Data) → Data
+report_data handle version list media entries =
+    object (member (codes "entries") (array (items_of entries))
+    (member (codes "handle") (count handle)
+    (member (codes "list_sha256") (digest_data list)
+    (member (codes "media") (array (items_of media))
+    (member (codes "version") (string version) no_members)))))
+
+-- what a report is made of: the given project with what it is bound to; the runs that become media; the entries and the
+-- text of the list over them; the handle, and the version of the program
+pub record Told : Type 0 where
+  pub project : ListProject
+  pub binding : Binding
+  pub kept : HomedRuns
+  pub events : List Event
+  pub text : List ℕ
+  pub handle : ℕ
+  pub version : List ℕ
+
+abbrev pub told_data : Told → List Medium → Data
+told_data t media = report_data t.handle t.version (sha256 t.text)
+    (map (medium_told t.project.sources t.binding.indexes (sounds_of t.binding) t.kept.homes) media)
+    (map (entry_data (given_entries t.binding.indexes t.project.events))
+    (new_entries t.kept.homes t.kept.runs t.events))
+
+-- the value in a line
+abbrev pub json_of : Told → List Medium → List ℕ
+json_of t media = compact_text (told_data t media) ++ 10 ∷ []
+
+-- the media over these sources
+abbrev pub media_over : Files → Told → List Medium
+media_over sources t = media_of sources (sounds_of t.binding) t.kept.homes t.kept.runs
+
+-- the report over these sources, and the checksums of all that is written
+abbrev pub report_json : Files → Told → List ℕ
+report_json sources t = json_of t (media_over sources t)
+
+abbrev pub report_sums : Files → Told → List ℕ
+report_sums sources t = sums_of (media_over sources t) t.text (report_json sources t)
+
+-- both are those of these sources
+pub record IsReportOf (sources : Files) (t : Told) (report : Report) : Type 0 where
+  pub json : report.json.items ≡ report_json sources t
+  pub sums : report.sums.items ≡ report_sums sources t

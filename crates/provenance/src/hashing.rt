@@ -1,0 +1,164 @@
+// Hashes media over their sources.
+ghost use Rattle.std.specs.Prelude.{◌≡◌, ◌++◌, ◌+◌, ◌*◌, ◌^◌, ◌<◌, ◌≤◌, ℕ, All, IfOk, IsTrue, List, OnOk, length, ⊤};
+ghost use Rattle.sampletime.specs.TimeCode.{day};
+ghost use Rattle.sha2.specs.Hashers.{Holds256};
+ghost use Rattle.sha2.specs.Sha256.{sha256};
+ghost use Rattle.sound_terms.specs.Media.{IsRunOf, frame_length, frames_in, medium_of};
+ghost use Rattle.mediacopy.specs.Pieces.{content};
+ghost use Rattle.mediaset.specs.Runs.{EndsInDay};
+ghost use Rattle.shelf.specs.Frame.{OnlyReads};
+ghost use Rattle.provenance.specs.Fault.{FailsAt, IsDevice};
+ghost use Rattle.provenance.specs.Media.{IsHashed, IsTellable, media_of, medium_by};
+
+use crate::{Medium, ReportFault};
+use mediacopy::{info_of, reads_back};
+use mediaset::Runs;
+use sha2::{Digest, Sha256};
+use shelf::{DeviceFault, Shelf};
+use sound_terms::{Homes, Run};
+use std::alloc::Global;
+use wavread::Sound;
+
+/// The bytes of the longest header, that with 65,536 bytes of CodingHistory; no more are read at once.
+const ROOM: usize = 66_226;
+
+/// The bytes of a frame: 2 to 256. The frames have a number of 64 bits.
+fn frame_of(sound: &Sound) -> usize
+    ensures value { result ≡ frame_length sound.now }
+    ensures told { sound.now.frames < 2 ^ 64 }
+    ensures some { 1 ≤ result }
+    ensures few { result ≤ 256 }
+{
+    usize::from(sound.channels()) * usize::from(sound.depth().bits() / 8)
+}
+
+/// Hashes so many frames of a sound, from this one on, through `room`.
+fn hash_frames<S: Shelf>(
+    shelf: &mut S,
+    sound: &Sound,
+    from: u64,
+    count: usize,
+    room: &mut [u8],
+    hasher: &mut Sha256,
+) -> Result<(), DeviceFault>
+    requires inside { from + count ≤ sound.now.frames }
+    requires room { count * frame_length sound.now ≤ length room.old }
+    ensures hashed { IsTrue (S.honest shelf.old) → (m : List ℕ) → Holds256 hasher.old m
+        → OnOk result (IsHashed sound.now (S.stored shelf.old) from count m hasher.new) }
+    ensures only_reads { OnlyReads S.Shelf shelf.old shelf.new result (λ _. ⊤) (λ _ failed. failed sound.now.name) }
+{
+    let bytes = &mut room[..count * frame_of(sound)];
+    match sound.read_bytes(shelf, from, bytes) {
+        Ok(()) => {
+            hasher.update(&*bytes);
+            Ok(())
+        }
+        Err(_) => Err(DeviceFault),
+    }
+}
+
+/// Hashes the frames of a run, through `room`.
+fn hash_run<S: Shelf>(
+    shelf: &mut S,
+    sound: &Sound,
+    run: &Run,
+    room: &mut [u8],
+    hasher: &mut Sha256,
+) -> Result<(), DeviceFault>
+    requires inside { run.now.first + run.now.length ≤ sound.now.frames }
+    requires room { length room.old ≡ 66226 }
+    ensures hashed { IsTrue (S.honest shelf.old) → (m : List ℕ) → Holds256 hasher.old m
+        → OnOk result (IsHashed sound.now (S.stored shelf.old) run.now.first run.now.length m hasher.new) }
+    ensures only_reads { OnlyReads S.Shelf shelf.old shelf.new result (λ _. ⊤) (λ _ failed. failed sound.now.name) }
+{
+    let most = (ROOM / frame_of(sound)) as u64;
+    let mut done = 0;
+    while done < run.length {
+        let count = most.min(run.length - done);
+        hash_frames(shelf, sound, run.first + done, count as usize, room, hasher)?;
+        done += count;
+    }
+    Ok(())
+}
+
+/// The SHA-256 of the medium of a run, whose source's first frame stands at `base`: of its header, its frames and a
+/// pad.
+fn digest_of<S: Shelf>(
+    shelf: &mut S,
+    sound: &Sound,
+    base: u64,
+    run: &Run,
+    room: &mut [u8],
+) -> Result<[u8; 32], DeviceFault>
+    requires inside { run.now.first + run.now.length ≤ sound.now.frames }
+    requires in_day { (base + run.now.first) + run.now.length ≤ day }
+    requires room { length room.old ≡ 66226 }
+    ensures digest { IsTrue (S.honest shelf.old) → IfOk result (λ digest. digest
+        ≡ sha256 (medium_of sound.now (content (S.stored shelf.old) sound.now.name) base run.now)) }
+    ensures only_reads { OnlyReads S.Shelf shelf.old shelf.new result (λ _. ⊤) (λ _ failed. failed sound.now.name) }
+{
+    // Its length is known to be told by 64 bits from here on.
+    reads_back(sound, base, run);
+    let info = info_of(sound, base, run);
+    let head = &mut room[..info.header_length()];
+    info.put_header(head);
+    let mut hasher = Sha256::new();
+    hasher.update(&*head);
+    hash_run(shelf, sound, run, room, &mut hasher)?;
+    let pad = &[0][..(info.data_length() % 2) as usize];
+    hasher.update(pad);
+    Ok(hasher.finalize())
+}
+
+/// The medium of this number.
+fn hashed_medium<S: Shelf>(
+    shelf: &mut S,
+    sounds: &[Sound],
+    homes: &Homes,
+    number: u32,
+    run: &Run,
+    room: &mut [u8],
+) -> Result<Medium, ReportFault>
+    requires of_file { IsRunOf sounds.now run.now }
+    requires in_day { EndsInDay homes.now run.now }
+    requires room { length room.old ≡ 66226 }
+    ensures medium { IsTrue (S.honest shelf.old)
+        → IfOk result (λ medium. medium ≡ medium_by (S.stored shelf.old) sounds.now homes.now number run.now) }
+    ensures tellable { IfOk result (IsTellable sounds.now homes.now) }
+    ensures only_reads { OnlyReads S.Shelf shelf.old shelf.new result IsDevice (FailsAt sounds.now) }
+{
+    let sound = &sounds[run.file as usize];
+    match digest_of(shelf, sound, homes.base(run.file), run, room) {
+        Ok(digest) => Ok(Medium {
+            number,
+            run: *run,
+            digest,
+        }),
+        Err(_) => Err(ReportFault::Device { file: run.file }),
+    }
+}
+
+/// The media of runs, which are numbered from 1 on, each with its SHA-256, by one reading of the frames that they have.
+/// `Device` where a source fails, `Memory` where no memory was left.
+pub fn hashed_media<S: Shelf>(
+    alloc: Global,
+    sounds: &[Sound],
+    runs: &Runs,
+    shelf: &mut S,
+) -> Result<Vec<Medium>, ReportFault>
+    requires { All (IsRunOf sounds.now) runs.now.runs }
+    ensures media { IsTrue (S.honest shelf.old) → IfOk result (λ media. media.items
+        ≡ media_of (S.stored shelf.old) sounds.now runs.now.homes runs.now.runs) }
+    ensures tellable { IfOk result (λ media. All (IsTellable sounds.now runs.now.homes) media.items) }
+    ensures only_reads { OnlyReads S.Shelf shelf.old shelf.new result IsDevice (FailsAt sounds.now) }
+{
+    let homes = runs.homes();
+    let list = runs.as_slice();
+    let mut room = [0; ROOM];
+    let mut media = Vec::with_capacity(alloc, list.len())?;
+    for (place, run) in list.iter().enumerate() {
+        let medium = hashed_medium(shelf, sounds, homes, place as u32 + 1, run, &mut room)?;
+        media.push(medium)?;
+    }
+    Ok(media)
+}

@@ -1,0 +1,17 @@
+//! Where the media of a consolidation come from, for an archive: its report as a value of JSON (RFC 8259), and the
+//! checksums of all that it writes.
+#![tactic(auto)]
+
+mod entries;
+mod fault;
+mod hashing;
+mod media;
+mod medium;
+mod played;
+mod report;
+mod sums;
+
+pub use fault::ReportFault;
+pub use medium::Medium;
+pub use played::Played;
+pub use report::{Report, report_of};

@@ -1,0 +1,145 @@
+// What is told of media.
+ghost use Rattle.std.specs.Prelude.{◌≡◌, ◌==◌, IfOk, find, map, option_copied};
+ghost use Rattle.std.specs.List.{All};
+ghost use Rattle.serde_json.specs.View.{view};
+ghost use Rattle.provenance.specs.Media.{IsTellable};
+ghost use Rattle.provenance.specs.Report as spec;
+ghost use Rattle.provenance.specs.Report.{medium_data, medium_told, origin_data, text_data};
+
+use crate::Medium;
+use adlmodel::Source;
+use relink::media_name;
+use serde_json::{Value, json, push};
+use sound_terms::{BoundIndex, Homes};
+use std::alloc::{AllocError, Global};
+use std::str;
+use wavread::Sound;
+
+/// Bytes as they stand where they are text, and else null.
+fn text_value(alloc: Global, bytes: &[u8]) -> Result<Value, AllocError>
+    ensures { IfOk result (λ value. view value ≡ text_data bytes.now) }
+{
+    match str::from_utf8(bytes) {
+        Ok(text) => Value::try_from_str(alloc, text),
+        Err(_) => Ok(Value::Null),
+    }
+}
+
+/// The line of the source index of this number.
+fn source_of(sources: &[Source], number: u32) -> Option<&Source>
+    ensures { option_copied result ≡ find (λ source. source.number == number) sources.now }
+{
+    sources.iter().find(|source| source.number() == number)
+}
+
+/// The line of the source index that the home index of a file is of.
+fn home_source<'a>(
+    sources: &'a [Source],
+    indexes: &[BoundIndex],
+    homes: &Homes,
+    file: u32,
+) -> Option<&'a Source>
+    ensures { option_copied result ≡ spec.home_source sources.entry.now indexes.now homes.now file }
+{
+    let index = indexes.get(homes.place(file) as usize)?;
+    source_of(sources, index.number)
+}
+
+/// Where a medium comes from.
+fn origin_value(
+    alloc: Global,
+    sound: &Sound,
+    first: u64,
+    source: Option<&Source>,
+) -> Result<Value, AllocError>
+    ensures { IfOk result (λ value. view value ≡ origin_data sound.now first (option_copied source.entry)) }
+{
+    let file = sound.name();
+    let Some(source) = source else {
+        return json!(in alloc; {
+            "file": file,
+            "first": first,
+            "identifier": null,
+            "index": null,
+            "url": null
+        });
+    };
+    let identifier = text_value(alloc, source.uid())?;
+    let index = source.number();
+    let url = text_value(alloc, source.url())?;
+    json!(in alloc; {
+        "file": file,
+        "first": first,
+        "identifier": identifier,
+        "index": index,
+        "url": url
+    })
+}
+
+/// A medium of this sound, whose first frame stands at `base` in the day.
+fn medium_value(
+    alloc: Global,
+    sound: &Sound,
+    base: u64,
+    origin: Value,
+    medium: &Medium,
+) -> Result<Value, AllocError>
+    ensures { IfOk result (λ value. view value ≡ medium_data sound.now base (view origin) medium.now) }
+{
+    let channels = sound.channels();
+    let depth = sound.depth().bits();
+    let file = media_name(alloc, medium.number)?;
+    let frames = medium.run.length;
+    let digits = hex::encode(alloc, &medium.digest)?;
+    json!(in alloc; {
+        "base": base,
+        "channels": channels,
+        "depth": depth,
+        "file": file,
+        "frames": frames,
+        "sha256": digits,
+        "source": origin
+    })
+}
+
+/// What is told of a medium over these opened files.
+fn told_value(
+    alloc: Global,
+    sources: &[Source],
+    indexes: &[BoundIndex],
+    sounds: &[Sound],
+    homes: &Homes,
+    medium: &Medium,
+) -> Result<Value, AllocError>
+    requires { IsTellable sounds.now homes.now medium.now }
+    ensures { IfOk result (λ value. view value
+        ≡ medium_told sources.now indexes.now sounds.now homes.now medium.now) }
+{
+    let file = medium.run.file;
+    let sound = &sounds[file as usize];
+    let source = home_source(sources, indexes, homes, file);
+    let origin = origin_value(alloc, sound, medium.run.first, source)?;
+    let base = homes.base(file) + medium.run.first;
+    medium_value(alloc, sound, base, origin, medium)
+}
+
+/// What is told of media over these opened files.
+pub fn media_values(
+    alloc: Global,
+    sources: &[Source],
+    indexes: &[BoundIndex],
+    sounds: &[Sound],
+    homes: &Homes,
+    media: &[Medium],
+) -> Result<Vec<Value>, AllocError>
+    requires { All (IsTellable sounds.now homes.now) media.now }
+    ensures { IfOk result (λ values. map view values.items
+        ≡ map (medium_told sources.now indexes.now sounds.now homes.now) media.now) }
+{
+    let mut values = Vec::with_capacity(alloc, media.len())?;
+    for medium in media {
+        let value = told_value(alloc, sources, indexes, sounds, homes, medium)?;
+        push(&mut values, value)?;
+    }
+    Ok(values)
+}

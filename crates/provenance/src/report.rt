@@ -1,0 +1,131 @@
+// The report of a consolidation.
+ghost use Rattle.std.specs.Prelude.{◌≡◌, All, IfOk, IsTrue, map};
+ghost use Rattle.serde_json.specs.View.{view};
+ghost use Rattle.sha2.specs.Sha256.{sha256};
+ghost use Rattle.sound_terms.specs.Media.{IsRunOf};
+ghost use Rattle.list_terms.specs.Heard.{sounds_of};
+ghost use Rattle.shelf.specs.Frame.{OnlyReads};
+ghost use Rattle.provenance.specs.Fault.{FailsAt, IsDevice};
+ghost use Rattle.provenance.specs.Media.{IsTellable};
+ghost use Rattle.provenance.specs.Report as spec;
+ghost use Rattle.provenance.specs.Report.{IsReportOf, report_data};
+
+use crate::entries::entry_values;
+use crate::hashing::hashed_media;
+use crate::media::media_values;
+use crate::played::{given_entries, new_entries};
+use crate::sums::sums_text;
+use crate::{Medium, ReportFault};
+use adlmodel::Project;
+use mediaset::Runs;
+use serde_json::{Value, json};
+use sha2::{Digest, Sha256};
+use shelf::Shelf;
+use sound_terms::Event;
+use sourceindex::Bound;
+use std::alloc::{AllocError, Global};
+
+/// The report of a consolidation: where its media come from, a value of JSON (RFC 8259) in a line, and the checksums of
+/// all that it writes, as `sha256sum -c` reads them.
+#[derive(Debug, Drop)]
+pub struct Report {
+    pub json: Vec<u8>,
+    pub sums: Vec<u8>,
+}
+
+/// A consolidation with this handle by a program of this version, with the digest of its list.
+fn report_value(
+    alloc: Global,
+    handle: u64,
+    version: &str,
+    text: &[u8],
+    media: Vec<Value>,
+    entries: Vec<Value>,
+) -> Result<Value, AllocError>
+    ensures { IfOk result (λ value. view value
+        ≡ report_data handle version.now (sha256 text.now) (map view media.items) (map view entries.items)) }
+{
+    let digits = hex::encode(alloc, &Sha256::digest(text))?;
+    json!(in alloc; {
+        "entries": entries,
+        "handle": handle,
+        "list_sha256": digits,
+        "media": media,
+        "version": version
+    })
+}
+
+/// The text of the report with these media.
+fn json_text(
+    alloc: Global,
+    project: &Project,
+    bound: &Bound,
+    runs: &Runs,
+    events: &[Event],
+    text: &[u8],
+    handle: u64,
+    version: &str,
+    media: &[Medium],
+) -> Result<Vec<u8>, AllocError>
+    requires { All (IsTellable (sounds_of bound.now) runs.now.homes) media.now }
+    ensures { IfOk result (λ json. json.items ≡ spec.json_of (record {
+      project = project.now;
+      binding = bound.now;
+      kept = runs.now;
+      events = events.now;
+      text = text.now;
+      handle = handle;
+      version = version.now;
+    }) media.now) }
+{
+    let media = media_values(
+        alloc,
+        project.sources(),
+        bound.indexes(),
+        bound.sounds(),
+        runs.homes(),
+        media,
+    )?;
+    let given = given_entries(alloc, bound, project.events())?;
+    let entries = new_entries(alloc, runs, events)?;
+    let entries = entry_values(alloc, &given, &entries)?;
+    let report = report_value(alloc, handle, version, text, media, entries)?;
+    let line = report.to_string(alloc)?;
+    let mut json = line.into_bytes();
+    json.push(b'\n')?;
+    Ok(json)
+}
+
+/// The report of a consolidation of a project to these runs, with this handle, by a program of this version: `events`
+/// and `text` are the entries and the text of the list over their media. The sources are read once, frame by frame, as
+/// they are copied. `Device` where one fails, `Memory` where no memory was left.
+pub fn report_of<S: Shelf>(
+    alloc: Global,
+    project: &Project,
+    bound: &Bound,
+    runs: &Runs,
+    events: &[Event],
+    text: &[u8],
+    handle: u64,
+    version: &str,
+    shelf: &mut S,
+) -> Result<Report, ReportFault>
+    requires { All (IsRunOf (sounds_of bound.now)) runs.now.runs }
+    ensures report { IsTrue (S.honest shelf.old) → IfOk result (IsReportOf (S.stored shelf.old) (record {
+      project = project.now;
+      binding = bound.now;
+      kept = runs.now;
+      events = events.now;
+      text = text.now;
+      handle = handle;
+      version = version.now;
+    })) }
+    ensures only_reads { OnlyReads S.Shelf shelf.old shelf.new result IsDevice (FailsAt (sounds_of bound.now)) }
+{
+    let media = hashed_media(alloc, bound.sounds(), runs, shelf)?;
+    let json = json_text(
+        alloc, project, bound, runs, events, text, handle, version, &media,
+    )?;
+    let sums = sums_text(alloc, &media, text, &json)?;
+    Ok(Report { json, sums })
+}
