@@ -1,5 +1,6 @@
 -- What a consolidation whose media are whole and whose list stands is.
-use Rattle.std.proofs.Common.{◌≡◌, ◌≢◌, ◌∙◌, ◌⊎◌, inl, inr, ℕ, ◌+◌, ◌<◌, ◌≤◌, true, codes, List, length, Some, arith, ap, refl, subst, sym}
+use Rattle.std.proofs.Common.{◌≡◌, ◌≢◌, ◌∙◌, ◌⊎◌, inl, inr, ℕ, ◌+◌, ◌<◌, ◌≤◌, Bool, true, codes, List, length, Option, Some, arith, ap, refl, subst, sym}
+use Rattle.std.specs.Prelude.{is_some}
 use Rattle.std.proofs.lemmas.Bool.{cases_lt}
 use Rattle.sound_terms.specs.declared.piece.Home.{Home}
 use Rattle.sound_terms.specs.Sounds.{SoundFacts}
@@ -16,9 +17,12 @@ use Rattle.consolidation.specs.Jobs.{HoldsMedia, work_of}
 use Rattle.consolidation.specs.Media.{IsLaidOut}
 use Rattle.consolidation.specs.Planned.{IsMediaPlan, IsPlanOf, MediaPlan}
 use Rattle.consolidation.specs.Sizes.{sizes_of, written_of}
+use Rattle.consolidation.specs.Reported.{IsNoReport, IsReportThere, told_of}
 use Rattle.consolidation.specs.There.{AreThere}
 use Rattle.consolidation.specs.Work.{SoundsTheSame}
+use Rattle.consolidation.proofs.Checks.{checks_files}
 use Rattle.consolidation.proofs.MediaThere.{has_media, hold_media}
+use Rattle.consolidation.proofs.Reported.{media_no_report, report_holds}
 use Rattle.consolidation.proofs.SameSound.{sounds_the_same}
 use Rattle.consolidation.proofs.Wholes.{job_named}
 
@@ -57,8 +61,17 @@ module _ (plan : MediaPlan) (is : IsMediaPlan plan) where
       let named = job_named plan is k below in
       others ((work_of plan).name k) (media_name-no_list _ (omega (arith, few, named))) ∙ holds k below
 
-  module _ (leave : Leaving) (project : ListProject) (binding : Binding) (handle : ℕ) (sources written : Files)
-      (of : IsPlanOf leave project binding handle true sources plan) (there : AreThere sources plan.sounds)
+  -- nor is a file of a report
+  pub holds_beside : (sources old new : Files) (reported : Bool)
+      → ((n : List ℕ) → IsNoReport reported n → new n ≡ old n)
+      → HoldsMedia plan sources old → HoldsMedia plan sources new
+  holds_beside sources old new reported others holds = λ k below.
+      let named = job_named plan is k below in
+      others ((work_of plan).name k) (media_no_report _ reported) ∙ holds k below
+
+  module _ (leave : Leaving) (project : ListProject) (binding : Binding) (handle : ℕ) (asked : Option (List ℕ))
+      (sources written : Files) (of : IsPlanOf leave project binding handle asked true sources plan) (there : AreThere
+      sources plan.sounds)
       (holds : HoldsMedia plan sources written) (list : written (codes "consolidated.adl") ≡ Some plan.text) where
     pub same_sound : (text : List ℕ) → IsAccepted text sources project binding → SoundsTheSame text sources written
     same_sound text accepted =
@@ -78,15 +91,23 @@ module _ (plan : MediaPlan) (is : IsMediaPlan plan) where
           same_mix = (of.left refl).same_mix;
         })
 
-    pub consolidated : (old : Files) → ((n : List ℕ) → IsElsewhere (length plan.runs) n → written n ≡ old n)
-        → IsConsolidated leave project binding handle sources old written (written_of plan)
-    consolidated old others =
+    pub consolidated : (old : Files)
+        → ((n : List ℕ) → IsElsewhere (is_some asked) (length plan.runs) n → written n ≡ old n)
+        → IsReportThere plan.report written
+        → IsConsolidated leave project binding handle asked sources old written (written_of plan)
+    consolidated old others report_there =
         let planned = of.planned in
+        let media = hold_media plan is sources written there holds binding planned.sounds planned.homes in
+        let report = report_holds asked sources (told_of project binding handle of.groups plan.runs) plan.report written
+        (of.report refl) report_there in
         record {
           work = record { groups = of.groups; runs = plan.runs };
           is_work = record { groups = (of.left refl).gives; runs = planned.kept };
           list = list ∙ ap Some planned.text;
-          media = hold_media plan is sources written there holds binding planned.sounds planned.homes;
+          media = media;
+          report = report;
+          checks = checks_files asked sources written project binding handle of.groups plan.runs report
+              (list ∙ ap Some planned.text) media;
           others = others;
           media_count = refl;
           entry_count = planned.entries;

@@ -1,4 +1,5 @@
 mod Addressed
+mod Checks
 mod CopiedReading
 mod Due
 mod Ended
@@ -10,6 +11,7 @@ mod MediaBound
 mod MediaThere
 mod Opened
 mod Places
+mod Reported
 mod SameSound
 mod Spread
 mod Wholes

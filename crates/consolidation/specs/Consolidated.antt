@@ -1,6 +1,6 @@
 -- What a consolidation makes of a project without a fault, by what passes leave of it; what it leaves of the files, and
 -- which refusal is due.
-use Rattle.std.specs.Prelude.{◌≡◌, ◌≢◌, ℕ, ◌+◌, ◌<◌, nat_lt, Bool, false, List, length, Option, None, Some, slice_get, codes, if◌then◌else◌}
+use Rattle.std.specs.Prelude.{◌≡◌, ◌≢◌, ℕ, ◌+◌, ◌<◌, nat_lt, Bool, false, List, length, Option, None, Some, is_some, slice_get, codes, if◌then◌else◌}
 use Rattle.sound_terms.specs.declared.piece.Piece.{Piece}
 use Rattle.sound_terms.specs.declared.piece.Run.{Run}
 use Rattle.sound_terms.specs.Entries.{groups_of_entries}
@@ -20,6 +20,7 @@ use Rattle.list_terms.specs.Renewed.{consolidated_project, media_name}
 use Rattle.list_terms.specs.WrittenText.{text_of_project}
 use Rattle.consolidation.specs.Media.{IsNoMedium}
 use Rattle.consolidation.specs.Numbered.{HoldAll}
+use Rattle.consolidation.specs.Reported.{ChecksFiles, HoldsReport, IsNoReport, IsReportDurable, told_of}
 use Rattle.consolidation.specs.Sizes.{sizes_of}
 use Rattle.consolidation.specs.declared.written.Written.{Written}
 
@@ -50,29 +51,39 @@ pub record HoldsMedium (binding : Binding) (sources written : Files) (number : �
   pub there : sources facts.name ≡ Some source
   pub medium : written (media_name number) ≡ Some (medium_of facts source (base_by (homes_of binding) run.file) run)
 
--- none of the files that a consolidation to so many media writes
-pub record IsElsewhere (media : ℕ) (name : List ℕ) : Type 0 where
+-- none of the files that a consolidation to so many media writes, with a report or without one
+pub record IsElsewhere (reported : Bool) (media : ℕ) (name : List ℕ) : Type 0 where
   pub no_list : name ≢ codes "consolidated.adl"
   pub no_medium : IsNoMedium media name
+  pub no_report : IsNoReport reported name
+
+-- none of the files that are written behind the media
+pub record IsBehind (reported : Bool) (name : List ℕ) : Type 0 where
+  pub no_list : name ≢ codes "consolidated.adl"
+  pub no_report : IsNoReport reported name
 
 -- the text of the list over the media of this work
 abbrev pub list_of : ListProject → Binding → Work → List ℕ
 list_of project binding work = text_of_project (consolidated_project project (homes_of binding) work.groups work.runs)
 
--- The media of the runs are written and the list over them, and no other file has changed.
+-- The media of the runs are written and the list over them, with the report that a program of this version asks for,
+-- and no other file has changed.
 pub record IsConsolidated (leave : Leaving) (project : ListProject) (binding : Binding) (handle : ℕ)
-    (sources old new : Files) (told : Written) : Type 0 where
+    (asked : Option (List ℕ)) (sources old new : Files) (told : Written) : Type 0 where
   pub work : Work
   pub is_work : IsWorkOf leave project binding handle sources work
   pub list : new (codes "consolidated.adl") ≡ Some (list_of project binding work)
   pub media : HoldAll (HoldsMedium binding sources new) work.runs
-  pub others : (name : List ℕ) → IsElsewhere (length work.runs) name → new name ≡ old name
+  pub report : HoldsReport asked sources (told_of project binding handle work.groups work.runs) new
+  pub checks : ChecksFiles asked work.runs new
+  pub others : (name : List ℕ) → IsElsewhere (is_some asked) (length work.runs) name → new name ≡ old name
   pub media_count : told.media ≡ length work.runs
   pub entry_count : told.entries ≡ length work.groups
   pub sizes : told.sizes ≡ sizes_of (sounds_of binding) (homes_of binding) work.runs
       (length (list_of project binding work))
 
--- a crash leaves the list and so many media as they are read
-pub record AreDurable (media : ℕ) (stored : Files) (may_leave : Files → Type 0) : Type 0 where
+-- a crash leaves the list, so many media and the report, where there is one, as they are read
+pub record AreDurable (reported : Bool) (media : ℕ) (stored : Files) (may_leave : Files → Type 0) : Type 0 where
   pub list : IsDurable (codes "consolidated.adl") stored may_leave
   pub each_medium : (k : ℕ) → k < media → IsDurable (media_name (1 + k)) stored may_leave
+  pub report : IsReportDurable reported stored may_leave

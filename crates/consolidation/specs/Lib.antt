@@ -7,6 +7,7 @@ pub mod Numbered
 pub mod Own
 pub mod Pieces
 pub mod Planned
+pub mod Reported
 pub mod Sizes
 pub mod There
 pub mod Work

@@ -1,8 +1,9 @@
 -- Which faults come at each step of a plan.
 use Rattle.std.specs.Prelude.{ℕ, ◌<◌, ⊤}
+use Rattle.passes.specs.declared.fault.PassFault.TheVariants as pass
 use Rattle.relink.specs.declared.fault.RelinkFault.TheVariants as relink
 use Rattle.consolidation.specs.declared.fault.ConsolidationFault.{ConsolidationFault}
-use Rattle.consolidation.specs.declared.fault.ConsolidationFault.TheVariants.{Runs, Relink}
+use Rattle.consolidation.specs.declared.fault.ConsolidationFault.TheVariants.{Pass, Relink}
 
 -- a fault of the list over the media, for so many groups
 abbrev pub IsOfLinking : ℕ → ConsolidationFault → Type 0
@@ -10,8 +11,8 @@ IsOfLinking count (Relink relink.TooManyEntries) = 32767 < count
 IsOfLinking count (Relink relink.Memory) = ⊤
 IsOfLinking count _ = ⊥
 
--- a fault of what is planned for groups: no device fails
-abbrev pub IsOfPlan : ConsolidationFault → Type 0
-IsOfPlan (Runs fault) = ⊤
-IsOfPlan (Relink fault) = ⊤
-IsOfPlan _ = ⊥
+-- a fault of a report: a source failed, or no memory was left
+abbrev pub IsOfReport : ConsolidationFault → Type 0
+IsOfReport (Pass (pass.Device file)) = ⊤
+IsOfReport (Relink relink.Memory) = ⊤
+IsOfReport _ = ⊥

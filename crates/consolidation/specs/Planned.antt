@@ -1,5 +1,5 @@
 -- What is known before the first write: which groups are left, the runs round them, and the list over their media.
-use Rattle.std.specs.Prelude.{◌≡◌, ℕ, ◌+◌, ◌≤◌, Bool, IsTrue, List, length, All, Some, slice_get}
+use Rattle.std.specs.Prelude.{◌≡◌, ℕ, ◌+◌, ◌≤◌, Bool, IsTrue, List, length, All, Option, Some, is_some, slice_get}
 use Rattle.sampletime.specs.TimeCode.{day}
 use Rattle.sound_terms.specs.declared.piece.Home.{Home}
 use Rattle.sound_terms.specs.declared.piece.Piece.{Piece}
@@ -23,6 +23,8 @@ use Rattle.list_terms.specs.WrittenText.{text_of_project}
 use Rattle.projectcheck.specs.AtHome.{IsAtHome}
 use Rattle.wavwrite.specs.Info.{Fits}
 use Rattle.mediacopy.specs.Copied.{HasFrames, IsMedium}
+use Rattle.provenance.specs.declared.report.Report.{Report}
+use Rattle.consolidation.specs.Reported.{HasReport, told_of}
 use Rattle.consolidation.specs.Work.{IsLinked, run_info}
 
 -- the pieces of the entries of a project: whole groups that sound as it does
@@ -62,13 +64,14 @@ pub record IsMediumRun (sounds : List SoundFacts) (homes : List Home) (run : Run
       → IsMedium (sound_at sounds run.file) source (base_by homes run.file) run
 
 -- what a consolidation is to write: the runs of opened files that become media, with the home of each file, and the text
--- of the list over these media, which has so many entries
+-- of the list over these media, which has so many entries; and the report, where one is asked for
 pub record MediaPlan : Type 0 where
   pub sounds : List SoundFacts
   pub homes : List Home
   pub runs : List Run
   pub text : List ℕ
   pub entries : ℕ
+  pub report : Option Report
 
 -- it can be written
 pub record IsMediaPlan (plan : MediaPlan) : Type 0 where
@@ -88,9 +91,11 @@ pub record IsPlanned (project : ListProject) (binding : Binding) (handle : ℕ) 
   pub entries : plan.entries ≡ length groups
   pub linked : IsLinked project (sounds_of binding) (homes_of binding) groups plan.runs
 
--- planned round the groups that passes leave of the project
-pub record IsPlanOf (leave : Leaving) (project : ListProject) (binding : Binding) (handle : ℕ) (honest : Bool)
-    (sources : Files) (plan : MediaPlan) : Type 0 where
+-- planned round the groups that passes leave of the project, with the report that a program of this version asks for
+pub record IsPlanOf (leave : Leaving) (project : ListProject) (binding : Binding) (handle : ℕ)
+    (asked : Option (List ℕ)) (honest : Bool) (sources : Files) (plan : MediaPlan) : Type 0 where
   pub groups : List (List Piece)
   pub planned : IsPlanned project binding handle groups plan
   pub left : IsTrue honest → SoundsAsGiven leave project binding sources groups
+  pub is_asked : is_some plan.report ≡ is_some asked
+  pub report : IsTrue honest → HasReport asked sources (told_of project binding handle groups plan.runs) plan.report

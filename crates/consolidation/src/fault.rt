@@ -14,13 +14,13 @@ pub enum ConsolidationFault {
     /// 47: no memory was left for the pieces of the entries.
     #[error("out of memory")]
     Intervals,
-    /// 51 and 52: a pass over the pieces failed.
+    /// 51 and 52: a pass over the pieces failed; 52 too where a source failed as it was read for the report.
     #[error("{0}")]
     Pass(PassFault),
     /// 53 and 54: there are too many runs, or no memory was left for them and for the names of their media.
     #[error("{0}")]
     Runs(RunFault),
-    /// 55 and 56: the list would have too many entries, or no memory was left for it.
+    /// 55 and 56: the list would have too many entries, or no memory was left for it or for the report.
     #[error("{0}")]
     Relink(RelinkFault),
 }
@@ -31,6 +31,12 @@ pub enum WriteFault {
     /// The medium of this number.
     #[error("medium {number} can't be written")]
     Medium { number: u32 },
+    /// The checksums.
+    #[error("the checksums can't be written")]
+    Sums,
+    /// The report.
+    #[error("the report can't be written")]
+    Report,
     /// The list.
     #[error("the list can't be written")]
     List,

@@ -1,11 +1,11 @@
 // Lays out the media of all runs.
-ghost use Rattle.std.specs.Prelude.{◌≡◌, ◌≢◌, ◌<◌, ◌+◌, IfErr, IsTrue, OnOk, length, false, ⊤};
+ghost use Rattle.std.specs.Prelude.{◌≡◌, ◌≢◌, ◌<◌, ◌+◌, Bool, IfErr, IsTrue, OnOk, length, false, ⊤};
 ghost use Rattle.work_terms.specs.Disk.{Files};
 ghost use Rattle.list_terms.specs.Renewed.{media_name};
 ghost use Rattle.job_terms.specs.Workers.{jobs_over};
 ghost use Rattle.schedule.specs.Filled.{AreFilled};
 ghost use Rattle.shelf.specs.Frame.{OnlyWrites};
-ghost use Rattle.consolidation.specs.Fault.{FailsIn};
+ghost use Rattle.consolidation.specs.Fault.{FailsIn, IsOfOutput};
 ghost use Rattle.consolidation.specs.Jobs.{whole_of, work_of};
 ghost use Rattle.consolidation.specs.Media.{IsLaidOut, IsNoMedium};
 ghost use Rattle.consolidation.specs.There.{AreThere};
@@ -38,6 +38,7 @@ impl<'a> Consolidation<'a> {
         requires room { length room.old ≡ 66226 }
         ensures laid { IsTrue (B.honest bench.old) → OnOk result (IsLaidOut self.now (B.stored bench.new) place) }
         ensures medium { IfErr result (λ told. told ≢ fault.List) }
+        ensures own { (reported : Bool) → IfErr result (IsOfOutput reported) }
         ensures only_writes { OnlyWrites B.Bench (λ n. n ≢ media_name (place + 1)) bench.old bench.new result (λ _. ⊤)
             FailsIn }
     {
@@ -60,6 +61,7 @@ impl<'a> Consolidation<'a> {
             → OnOk result (AreFilled (jobs_over (work_of self.now) sources) (whole_of self.now sources) (λ _. false)
             (B.stored bench.new)) }
         ensures media { IfErr result (λ told. told ≢ fault.List) }
+        ensures own { (reported : Bool) → IfErr result (IsOfOutput reported) }
         ensures only_writes { OnlyWrites B.Bench (IsNoMedium (length self.now.runs)) bench.old bench.new result (λ _. ⊤)
             FailsIn }
     {

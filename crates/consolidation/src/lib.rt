@@ -15,7 +15,7 @@ mod sizes;
 mod written;
 
 pub use fault::{ConsolidationFault, WriteFault};
-pub use list::LIST;
+pub use list::{LIST, REPORT, SUMS};
 pub use pieces::Pieces;
 pub use plan::Consolidation;
 pub use written::{Sizes, Written};

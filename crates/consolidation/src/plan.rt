@@ -1,5 +1,5 @@
 // What a consolidation is to write.
-ghost use Rattle.std.specs.Prelude.{◌≡◌, ◌<◌, IfOk, IsTrue, Ok};
+ghost use Rattle.std.specs.Prelude.{◌≡◌, ◌<◌, IfOk, IsTrue, Ok, option_map};
 ghost use Rattle.work_terms.specs.Disk.{Files};
 ghost use Rattle.work_terms.specs.Refusals.{Answers};
 ghost use Rattle.list_terms.specs.Bound.{binding_of};
@@ -17,14 +17,15 @@ use crate::planning::plan_of;
 use mediaset::Runs;
 use passes::Pass;
 use projectcheck::{Checked, from_checked};
+use provenance::Report;
 use shelf::{Shelf, Watch};
 use std::alloc::Global;
 use std::marker::Model;
 use wavread::Sound;
 
 /// A consolidation before its first write: the runs of opened files that become media, with the home of each file; the
-/// names of the media, and how many jobs the runs up to and with each have; and the text of the list over the media, with
-/// so many entries.
+/// names of the media, and how many jobs the runs up to and with each have; the text of the list over the media, with so
+/// many entries; and the report, where one is asked for.
 #[derive(Drop)]
 pub struct Consolidation<'a> {
     pub(crate) sounds: &'a [Sound],
@@ -33,6 +34,7 @@ pub struct Consolidation<'a> {
     pub(crate) ends: Vec<u32>,
     pub(crate) text: Vec<u8>,
     pub(crate) entries: u32,
+    pub(crate) report: Option<Report>,
 }
 
 impl<'a> Model for Consolidation<'a> {
@@ -47,6 +49,7 @@ impl<'a> Model for Consolidation<'a> {
       runs = c.runs.runs;
       text = c.text.items;
       entries = c.entries;
+      report = c.report;
     } };
 
     ghost invariant = { λ c. planned.IsMediaPlan (record {
@@ -55,6 +58,7 @@ impl<'a> Model for Consolidation<'a> {
       runs = c.runs.runs;
       text = c.text.items;
       entries = c.entries;
+      report = c.report;
     })
         × AreNamed c.runs.runs c.names.items × AreEnds c.runs.runs c.ends.items };
 }
@@ -67,19 +71,25 @@ impl<'a> Consolidation<'a> {
     /// and the time of its first frame as TimeReference; `consolidated.adl` is the list over these media. Whatever the
     /// passes, it sounds as the given project does, sample for sample.
     ///
+    /// Where a program of a version asks for it, the report of all this and the checksums of all files are made here
+    /// too, by one more reading of the frames that are kept.
+    ///
     /// All memory that the consolidation needs is taken here. `Intervals`, `Pass`, `Runs` and `Relink`, in this turn; where
-    /// no memory was left for the names of media, `Runs`. The watch is told how far the looking for silence has come.
+    /// no memory was left for the names of media, `Runs`, and for the report, `Relink`. The watch is told how far the
+    /// looking for silence has come.
     #[tactic(auto, using(crate::proofs::Opened::bound_there))]
     pub fn plan<S: Shelf, W: Watch>(
         alloc: Global,
         checked: &'a Checked,
         handle: u64,
         passes: Vec<Box<dyn Pass>>,
+        asked: Option<&str>,
         shelf: &mut S,
         watch: &mut W,
     ) -> Result<Self, ConsolidationFault>
         ensures planned { IfOk result (IsPlanOf (left_by (λ pass. looking pass) (λ pass. gives pass) passes.items)
-            checked.now.project checked.now.bound handle (S.honest shelf.old) (S.stored shelf.old)) }
+            checked.now.project checked.now.bound handle (option_map (λ version. version.now) asked.entry)
+            (S.honest shelf.old) (S.stored shelf.old)) }
         ensures refusals { IsTrue (S.honest shelf.old) → (work : Work)
             → IsWorkOf (left_by (λ pass. looking pass) (λ pass. gives pass) passes.items)
             checked.now.project checked.now.bound handle (S.stored shelf.old) work
@@ -91,6 +101,6 @@ impl<'a> Consolidation<'a> {
     {
         let intervals = from_checked(alloc, checked)?;
         let left = groups_left(alloc, intervals, checked, passes, shelf, watch)?;
-        plan_of(alloc, checked, handle, left)
+        plan_of(alloc, checked, handle, left, asked, shelf)
     }
 }

@@ -1,26 +1,33 @@
 // Plans a consolidation.
-ghost use Rattle.std.specs.Prelude.{◌≡◌, ◌≤◌, ℕ, All, IfErr, IfOk, Ok, OnOk, length};
+ghost use Rattle.std.specs.Prelude.{◌≡◌, ◌≤◌, ℕ, All, IfErr, IfOk, IsTrue, Ok, OnOk, is_some, length, option_map};
 ghost use Rattle.sound_terms.specs.Homes.{kept_of, place_by};
 ghost use Rattle.sound_terms.specs.Kept.{AreRuns};
+ghost use Rattle.sound_terms.specs.Media.{IsRunOf};
+ghost use Rattle.shelf.specs.Frame.{OnlyReads};
 ghost use Rattle.work_terms.specs.Refusals.{Answers};
 ghost use Rattle.list_terms.specs.BoundHomes.{homes_of};
 ghost use Rattle.list_terms.specs.Heard.{sounds_of};
 ghost use Rattle.list_terms.specs.Renewed.{consolidated_project};
 ghost use Rattle.list_terms.specs.WrittenText.{text_of_project};
 ghost use Rattle.consolidation.specs.Consolidated.{Work, work_fault};
-ghost use Rattle.consolidation.specs.Fault.{refusal_of};
-ghost use Rattle.consolidation.specs.Own.{IsOfLinking, IsOfPlan};
+ghost use Rattle.consolidation.specs.Fault.{FailsAt, IsSource, refusal_of};
+ghost use Rattle.consolidation.specs.Own.{IsOfLinking, IsOfReport};
 ghost use Rattle.consolidation.specs.Planned.{AreLeft, IsAddressed, IsMediumRun, IsPlanned};
+ghost use Rattle.consolidation.specs.Reported.{HasReport, told_of};
 ghost use Rattle.consolidation.specs.Work.{IsLinked};
 
 use crate::media::{ends_of, names_of};
 use crate::{Consolidation, ConsolidationFault};
+use adlmodel::Project;
 use adlwrite::text_of;
 use interval::Intervals;
 use mediacopy::reads_back;
 use mediaset::{RunFault, Runs};
+use passes::PassFault;
 use projectcheck::Checked;
+use provenance::{Report, ReportFault, report_of};
 use relink::{RelinkFault, relink};
+use shelf::Shelf;
 use sound_terms::{Homes, Run};
 use std::alloc::Global;
 use wavread::Sound;
@@ -46,19 +53,28 @@ fn all_read_back(sounds: &[Sound], runs: &Runs)
     }
 }
 
-/// The text of the list over the media of these runs. The groups are let go before it is written.
+/// The list over the media of runs, and its text.
+#[derive(Drop)]
+struct Listed {
+    project: Project,
+    text: Vec<u8>,
+}
+
+/// The list over the media of these runs. The groups are let go before its text is written.
 fn text_over(
     alloc: Global,
     checked: &Checked,
     intervals: Intervals,
     runs: &Runs,
-) -> Result<Vec<u8>, ConsolidationFault>
+) -> Result<Listed, ConsolidationFault>
     requires left { AreLeft checked.now.bound intervals }
     requires homes { runs.now.homes ≡ homes_of checked.now.bound }
     requires kept { (handle : ℕ)
         × AreRuns (kept_of intervals runs.now.homes handle) (place_by runs.now.homes) runs.now.runs }
-    ensures text { IfOk result (λ text. text.items
+    ensures text { IfOk result (λ list. list.text.items
         ≡ text_of_project (consolidated_project checked.now.project runs.now.homes intervals runs.now.runs)) }
+    ensures project { IfOk result (λ list. list.project
+        ≡ consolidated_project checked.now.project runs.now.homes intervals runs.now.runs) }
     ensures linked { OnOk result (IsLinked checked.now.project (sounds_of checked.now.bound)
         (homes_of checked.now.bound) intervals runs.now.runs) }
     ensures few_entries { OnOk result (length intervals ≤ 32767) }
@@ -69,23 +85,83 @@ fn text_over(
     let Ok(text) = text_of(alloc, &renewed) else {
         return Err(ConsolidationFault::Relink(RelinkFault::Memory));
     };
-    Ok(text)
+    Ok(Listed {
+        project: renewed,
+        text,
+    })
 }
 
-/// The plan for the groups that are left. `Runs` and `Relink`, in this turn.
-pub fn plan_of(
+/// The report of a consolidation to these runs, where a program of a version asks for it.
+fn report_for<S: Shelf>(
     alloc: Global,
     checked: &Checked,
+    runs: &Runs,
+    list: &Listed,
+    handle: u64,
+    asked: Option<&str>,
+    shelf: &mut S,
+) -> Result<Option<Report>, ConsolidationFault>
+    requires { All (IsRunOf (sounds_of checked.now.bound)) runs.now.runs }
+    ensures report { IsTrue (S.honest shelf.old)
+        → IfOk result (HasReport (option_map (λ version. version.now) asked.entry) (S.stored shelf.old) (λ version.
+        record {
+          project = checked.now.project;
+          binding = checked.now.bound;
+          kept = runs.now;
+          events = list.now.project.events;
+          text = list.now.text.items;
+          handle = handle;
+          version = version;
+        })) }
+    ensures is_asked { IfOk result
+        (λ report. is_some report ≡ is_some (option_map (λ version. version.now) asked.entry)) }
+    ensures own { IfErr result IsOfReport }
+    ensures only_reads { OnlyReads S.Shelf shelf.old shelf.new result IsSource (FailsAt (sounds_of checked.now.bound)) }
+{
+    let Some(version) = asked else {
+        return Ok(None);
+    };
+    match report_of(
+        alloc,
+        checked.project(),
+        checked.bound(),
+        runs,
+        list.project.events(),
+        &list.text,
+        handle,
+        version,
+        shelf,
+    ) {
+        Ok(report) => Ok(Some(report)),
+        Err(ReportFault::Device { file }) => {
+            Err(ConsolidationFault::Pass(PassFault::Device { file }))
+        }
+        Err(ReportFault::Memory) => Err(ConsolidationFault::Relink(RelinkFault::Memory)),
+    }
+}
+
+/// The plan for the groups that are left, with the report that is asked for. `Runs` and `Relink`, in this turn; `Pass`
+/// where a source fails as it is read for the report.
+pub fn plan_of<'a, S: Shelf>(
+    alloc: Global,
+    checked: &'a Checked,
     handle: u64,
     intervals: Intervals,
-) -> Result<Consolidation<'_>, ConsolidationFault>
+    asked: Option<&str>,
+    shelf: &mut S,
+) -> Result<Consolidation<'a>, ConsolidationFault>
     requires left { AreLeft checked.now.bound intervals }
     ensures planned { IfOk result (IsPlanned checked.now.project checked.now.bound handle intervals) }
     ensures refusals { (work : Work) → work.groups ≡ intervals
         → AreRuns (kept_of work.groups (homes_of checked.now.bound) handle) (place_by (homes_of checked.now.bound))
         work.runs
         → Answers refusal_of result (work_fault work) }
-    ensures own { IfErr result IsOfPlan }
+    ensures report { IsTrue (S.honest shelf.old)
+        → IfOk result (λ plan. HasReport (option_map (λ version. version.now) asked.entry) (S.stored shelf.old)
+        (told_of checked.now.project checked.now.bound handle intervals plan.runs) plan.report) }
+    ensures is_asked { IfOk result
+        (λ plan. is_some plan.report ≡ is_some (option_map (λ version. version.now) asked.entry)) }
+    ensures only_reads { OnlyReads S.Shelf shelf.old shelf.new result IsSource (FailsAt (sounds_of checked.now.bound)) }
 {
     let bound = checked.bound();
     let Ok(homes) = bound.homes(alloc) else {
@@ -93,7 +169,7 @@ pub fn plan_of(
     };
     let runs = Runs::kept(alloc, &intervals, homes, handle)?;
     let entries = intervals.groups().len() as u64;
-    let text = text_over(alloc, checked, intervals, &runs)?;
+    let list = text_over(alloc, checked, intervals, &runs)?;
     all_read_back(bound.sounds(), &runs);
     let Ok(names) = names_of(alloc, &runs) else {
         return Err(ConsolidationFault::Runs(RunFault::Memory));
@@ -101,12 +177,14 @@ pub fn plan_of(
     let Ok(ends) = ends_of(alloc, bound.sounds(), &runs) else {
         return Err(ConsolidationFault::Runs(RunFault::Memory));
     };
+    let report = report_for(alloc, checked, &runs, &list, handle, asked, shelf)?;
     Ok(Consolidation {
         sounds: bound.sounds(),
         runs,
         names,
         ends,
-        text,
+        text: list.text,
         entries: entries as u32,
+        report,
     })
 }

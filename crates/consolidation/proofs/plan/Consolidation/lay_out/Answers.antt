@@ -1,4 +1,5 @@
 use Rattle.std.proofs.Common.{◌≡◌, ◌∙◌, ◌<◌, ◌+◌, IsTrue, arith, length, rules, subst, suc}
+use Rattle.std.proofs.lemmas.Result.{err_from_is_err_and}
 use Rattle.std.proofs.lemmas.Option.{slice_get_within}
 use Rattle.consolidation.specs.Planned.{IsMediaPlan}
 use Rattle.consolidation.proofs.Ended.{one_more_laid}
@@ -29,3 +30,8 @@ returns-clause-filled g c = λ honest sources there.
     let counted : i + 1 ≡ suc i = omega arith in
     let all : c.loop-place.place ≡ length c.args.self.now.runs = search rules in
     rw counted at (c.loop-place.invariant.2 honest i (omega (arith, within, all)) run here))
+
+pub returns-in_err-lay_out_medium-clause-own : goal.returns-in_err-lay_out_medium-clause-own
+returns-in_err-lay_out_medium-clause-own g c = λ reported.
+    let p = err_from_is_err_and c.from_residual.result c.from_residual.ensures.1 in
+    rw (p.1, p.2) (c.in_err-lay_out_medium.ensures.own reported)

@@ -1,0 +1,101 @@
+-- The files of a report beside the media and the list, and what they hold.
+use Rattle.std.proofs.Common.{◌≡◌, ◌≢◌, ◌∙◌, ℕ, zero, suc, Bool, List, [], ◌∷◌, Option, None, Some, ap, arith, codes, subst}
+use Rattle.work_terms.specs.Disk.{Files, IsDurable}
+use Rattle.sound_terms.specs.declared.piece.Home.{Home}
+use Rattle.sound_terms.specs.declared.piece.Piece.{Piece}
+use Rattle.list_terms.specs.Binding.{Binding}
+use Rattle.list_terms.specs.BoundHomes.{homes_of}
+use Rattle.list_terms.specs.Project.{ListProject}
+use Rattle.list_terms.specs.Renewed.{consolidated_project, media_name}
+use Rattle.list_terms.specs.WrittenText.{text_of_project}
+use Rattle.mediaset.specs.Runs.{HomedRuns}
+use Rattle.provenance.specs.Report.{IsReportOf, Told}
+use Rattle.provenance.specs.declared.report.Report.{Report}
+use Rattle.consolidation.specs.Reported.{HasReport, HoldsReport, IsNoReport, IsReportDurable, IsReportThere, told_of}
+
+-- the byte at a place of a name
+abbrev nth : ℕ → List ℕ → ℕ
+nth k [] = 0
+nth zero (b ∷ bs) = b
+nth (suc k) (b ∷ bs) = nth k bs
+
+-- no medium has the name of a file of a report
+medium_no_sums : (number : ℕ) → media_name number ≢ codes "SHA256SUMS"
+unfolding media_name
+medium_no_sums number same = let e : 77 ≡ 83 = ap (nth 0) same in omega (arith, e)
+
+medium_no_json : (number : ℕ) → media_name number ≢ codes "consolidated.json"
+unfolding media_name
+medium_no_json number same = let e : 77 ≡ 99 = ap (nth 0) same in omega (arith, e)
+
+pub media_no_report : (number : ℕ) (reported : Bool) → IsNoReport reported (media_name number)
+media_no_report number reported told = (medium_no_sums number, medium_no_json number)
+
+-- nor has the list
+sums_no_list : codes "SHA256SUMS" ≢ codes "consolidated.adl"
+sums_no_list same = let e : 83 ≡ 99 = ap (nth 0) same in omega (arith, e)
+
+json_no_list : codes "consolidated.json" ≢ codes "consolidated.adl"
+json_no_list same = let e : 106 ≡ 97 = ap (nth 13) same in omega (arith, e)
+
+-- the list that is written behind a report leaves it
+pub report_kept : (report : Option Report) (old new : Files)
+    → ((n : List ℕ) → n ≢ codes "consolidated.adl" → new n ≡ old n) → IsReportThere report old → IsReportThere report
+    new
+report_kept None old new others there = tt
+report_kept (Some report) old new others there = (
+  others (codes "SHA256SUMS") sums_no_list ∙ there.0,
+  others (codes "consolidated.json") json_no_list ∙ there.1,
+)
+
+-- what stands in its files is what it was made of
+pub report_holds : (asked : Option (List ℕ)) (sources : Files) (told : List ℕ → Told) (report : Option Report)
+    (written : Files) → HasReport asked sources told report → IsReportThere report written
+    → HoldsReport asked sources told written
+report_holds None sources told report written is there = tt
+report_holds (Some version) sources told None written is there = absurd is
+report_holds (Some version) sources told (Some report) written is there =
+    (there.0 ∙ ap Some is.sums, there.1 ∙ ap Some is.json)
+
+pub report_durable : (reported : Bool) (old new : Files) (could may : Files → Type 0)
+    → ((n : List ℕ) → n ≢ codes "consolidated.adl" → IsDurable n old could → IsDurable n new may)
+    → IsReportDurable reported old could → IsReportDurable reported new may
+report_durable reported old new could may keeps durable told = (
+  keeps (codes "SHA256SUMS") sums_no_list (durable told).0,
+  keeps (codes "consolidated.json") json_no_list (durable told).1,
+)
+
+-- what a report is made of, as a plan has it
+pub told_by_plan : (asked : Option (List ℕ)) (sources : Files) (project : ListProject) (binding : Binding) (handle : ℕ)
+    (groups : List (List Piece)) (kept : HomedRuns) (list : ListProject) (text : List ℕ) (report : Option Report)
+    → kept.homes ≡ homes_of binding → list ≡ consolidated_project project kept.homes groups kept.runs
+    → text ≡ text_of_project (consolidated_project project kept.homes groups kept.runs)
+    → HasReport asked sources (λ version. record {
+      project = project;
+      binding = binding;
+      kept = kept;
+      events = list.events;
+      text = text;
+      handle = handle;
+      version = version;
+    }) report
+    → HasReport asked sources (told_of project binding handle groups kept.runs) report
+told_by_plan None sources project binding handle groups kept list text report homes is spelled has = has
+told_by_plan (Some version) sources project binding handle groups kept list text None homes is spelled has = absurd has
+told_by_plan (Some version) sources project binding handle groups kept list text (Some report) homes is spelled has =
+    subst (λ (h : List Home). IsReportOf sources (made h (consolidated_project project h groups kept.runs)
+    (text_of_project (consolidated_project project h groups kept.runs))) report) homes
+    (subst (λ (p : ListProject). IsReportOf sources (made kept.homes p
+    (text_of_project (consolidated_project project kept.homes groups kept.runs))) report) is
+    (subst (λ (t : List ℕ). IsReportOf sources (made kept.homes list t) report) spelled has))
+  where
+    made : List Home → ListProject → List ℕ → Told
+    made h p t = record {
+      project = project;
+      binding = binding;
+      kept = record { homes = h; runs = kept.runs };
+      events = p.events;
+      text = t;
+      handle = handle;
+      version = version;
+    }
