@@ -1,13 +1,12 @@
 -- The events of a command, from what its parts leave.
-use Rattle.std.proofs.Common.{◌≡◌, ℕ, Bool, true, Option, None, Some, Err, List, refl, subst}
-use Rattle.sound_terms.specs.Render.{rendering_of}
+use Rattle.std.proofs.Common.{◌≡◌, ℕ, Bool, true, Option, None, Some, Err, List, subst}
 use Rattle.work_terms.specs.Disk.{Files}
 use Rattle.job_terms.specs.declared.BoardEvent.{BoardEvent}
 use Rattle.job_terms.specs.declared.Progress.{Progress}
 use Rattle.job_terms.specs.Workers.{End, GivenUp, Jobs, jobs_over}
-use Rattle.list_terms.specs.Accepted.{OptionValues, range_of}
+use Rattle.list_terms.specs.Accepted.{OptionValues}
 use Rattle.list_terms.specs.Binding.{Binding}
-use Rattle.list_terms.specs.Heard.{IsAccepted, project_mix}
+use Rattle.list_terms.specs.Heard.{IsAccepted}
 use Rattle.list_terms.specs.Project.{ListProject}
 use Rattle.schedule.specs.Events.{RunsEvents}
 use Rattle.rendering.specs.Planned.{IsRenderingOf}

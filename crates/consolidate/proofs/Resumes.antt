@@ -1,7 +1,6 @@
 -- Going on with the marks that are found.
 use Rattle.std.proofs.Common.{◌≡◌, ◌∙◌, ◌≤◌, ℕ, Bool, true, false, cond, Option, None, Some, Result, Ok, Err, List, ap, arith, refl, subst, sym, take}
-use Rattle.std.specs.Prelude.{IfErr, IfSome, option_map, length}
-use Rattle.std.specs.List.{count_by}
+use Rattle.std.specs.Prelude.{IfSome, option_map, length}
 use Rattle.sound_terms.specs.Render.{Range, rendering_of}
 use Rattle.sound_terms.specs.Sounds.{SoundFacts}
 use Rattle.renderplan.specs.Planned.{Planned}

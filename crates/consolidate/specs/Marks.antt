@@ -1,7 +1,6 @@
 -- The marks of a rendering of a list, and what a stop of it may leave.
 use Rattle.std.specs.Prelude.{◌≡◌, ℕ, ℤ, Bool, Option, None, Some, List, Result, Ok, Err}
 use Rattle.std.specs.List.{count_by}
-use Rattle.sound_terms.specs.Blocks.{block_count}
 use Rattle.sound_terms.specs.Render.{Range, ReadsBack, rendering_of}
 use Rattle.work_terms.specs.Disk.{Files, IsDurable}
 use Rattle.work_terms.specs.Refusals.{Refusal}

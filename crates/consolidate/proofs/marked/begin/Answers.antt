@@ -1,6 +1,5 @@
-use Rattle.std.proofs.Common.{◌∙◌, IsTrue, None, Some, Err, ap, refl, subst, sym}
+use Rattle.std.proofs.Common.{IsTrue, None, refl, subst, sym}
 use Rattle.std.specs.Prelude.{true}
-use Rattle.work_terms.specs.Disk.{Files}
 use Rattle.job_terms.specs.Workers.{jobs_over}
 use Rattle.rendering.specs.Marked.{IsResumable, marking_of}
 use Rattle.rendering.specs.Work.{whole_of, work_of}

@@ -1,7 +1,7 @@
-use Rattle.std.proofs.Common.{◌∙◌, IsTrue, None, Some, Err, ap, refl, subst, sym}
+use Rattle.std.proofs.Common.{◌∙◌, IsTrue, None, Err, ap, refl, subst, sym}
 use Rattle.std.specs.Prelude.{true}
 use Rattle.work_terms.specs.Disk.{Files}
-use Rattle.job_terms.specs.Workers.{GivenUp, jobs_over}
+use Rattle.job_terms.specs.Workers.{jobs_over}
 use Rattle.markfile.specs.Format.{marks_name, sound_name}
 use Rattle.rendering.specs.Marked.{HoldsMarked, IsResumable, marking_of}
 use Rattle.rendering.specs.Work.{done_before, whole_of, work_of}

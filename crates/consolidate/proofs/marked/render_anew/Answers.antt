@@ -1,6 +1,6 @@
-use Rattle.std.proofs.Common.{◌≡◌, None, Some, List, ℕ, Option, ap, refl}
+use Rattle.std.proofs.Common.{None, List, ℕ}
 use Rattle.std.specs.Prelude.{true}
-use Rattle.job_terms.specs.Workers.{End, jobs_over}
+use Rattle.job_terms.specs.Workers.{jobs_over}
 use Rattle.rendering.specs.Marked.{IsResumable, marking_of}
 use Rattle.rendering.specs.Work.{whole_of, work_of}
 use Rattle.schedule.specs.Rounds.{RoundsFrom, RunsInRounds}

@@ -1,6 +1,5 @@
 use Rattle.std.proofs.Common.{◌∙◌, IsTrue, None, Some, Ok, Err, rules, subst, sym}
 use Rattle.std.proofs.lemmas.Result.{err_from_is_err_and}
-use Rattle.job_terms.specs.declared.Progress.{Progress}
 use Rattle.list_terms.specs.Binding.{Binding}
 use Rattle.list_terms.specs.Project.{ListProject}
 use Rattle.consolidation.specs.Consolidated.{IsWorkOf}

@@ -1,4 +1,4 @@
-use Rattle.std.proofs.Common.{None, Some, ℕ, List}
+use Rattle.std.proofs.Common.{None, ℕ, List}
 use Rattle.std.specs.Prelude.{codes, true}
 use Rattle.job_terms.specs.Workers.{jobs_over}
 use Rattle.markfile.specs.Format.{marks_name}

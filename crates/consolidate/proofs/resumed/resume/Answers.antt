@@ -1,6 +1,5 @@
-use Rattle.std.proofs.Common.{◌≡◌, ◌∙◌, ◌-◌, ℕ, IsTrue, Ok, Err, None, Some, ap, rules, subst, sym}
+use Rattle.std.proofs.Common.{◌∙◌, ◌-◌, IsTrue, Ok, Err, None, Some, ap, rules, subst, sym}
 use Rattle.std.proofs.lemmas.Result.{err_from_is_err_and}
-use Rattle.work_terms.specs.Disk.{Files}
 use Rattle.list_terms.specs.Accepted.{range_of}
 use Rattle.list_terms.specs.Project.{ListProject}
 use Rattle.markfile.specs.Opened.{opened_of}

@@ -1,13 +1,12 @@
-use Rattle.std.proofs.Common.{◌≡◌, ◌∙◌, ℕ, Bool, Option, None, Some, Ok, Err, IsTrue, List, Result, ap, subst, sym}
-use Rattle.std.specs.Prelude.{IfOk, IfSome, codes, false, true}
+use Rattle.std.proofs.Common.{◌≡◌, ◌∙◌, ℕ, Bool, Option, None, Some, Ok, Err, IsTrue, List, ap, subst, sym}
+use Rattle.std.specs.Prelude.{IfSome, codes, false, true}
 use Rattle.work_terms.specs.Disk.{Files}
 use Rattle.work_terms.specs.Refusals.{IsDue, Refusal}
 use Rattle.list_terms.specs.Accepted.{first_fault, range_of}
 use Rattle.markfile.specs.Format.{marks_name}
 use Rattle.markfile.specs.Opened.{opened_of}
-use Rattle.markfile.specs.declared.fault.MarksFault.{MarksFault}
 use Rattle.markfile.specs.declared.run.RunId.{RunId}
-use Rattle.schedule.specs.Marking.{IsRunning, Marking}
+use Rattle.schedule.specs.Marking.{IsRunning}
 use Rattle.rendering.specs.Marked.{HoldsMarked, IsFoundAs, IsResumable, MarkedWork, marking_of, run_of}
 use Rattle.rendering.specs.Rendering.{render_fault, values_of}
 use Rattle.job_terms.specs.Workers.{jobs_over}
@@ -17,7 +16,7 @@ use Rattle.rendering.specs.Work.{AreCutBy, done_before, whole_of, work_of}
 use Rattle.consolidate.specs.Rounds.{DoesLeft, ResumesInRounds}
 use Rattle.consolidate.proofs.Rounds.{ends_map, resumes_anew, resumes_marked}
 use Rattle.consolidate.specs.Fault.{refusal_of, refusal_of_marks}
-use Rattle.consolidate.specs.Marks.{IsMarkedFor, count_in, fault_in, list_marking}
+use Rattle.consolidate.specs.Marks.{fault_in, list_marking}
 use Rattle.consolidate.specs.declared.resumed.Found.{Found}
 use Rattle.consolidate.proofs.Crashes.{idle, joined, weaker}
 use Rattle.consolidate.proofs.Listed.{all_of_list, as_list, fewer_left, left_as_list, marked_for, now_resumable, rendered_for}

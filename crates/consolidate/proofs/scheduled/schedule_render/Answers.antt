@@ -1,6 +1,5 @@
-use Rattle.std.proofs.Common.{◌≡◌, ◌∙◌, IsTrue, None, Some, Ok, Err, ap, rules, subst, sym}
+use Rattle.std.proofs.Common.{◌∙◌, IsTrue, None, Some, Ok, Err, ap, rules, subst, sym}
 use Rattle.std.proofs.lemmas.Result.{err_from_is_err_and}
-use Rattle.job_terms.specs.declared.Progress.{Progress}
 use Rattle.rendering.specs.Rendering.{values_of}
 use Rattle.consolidate.specs.Fault.{refusal_of}
 use Rattle.consolidate.specs.Schedules.{SchedulesList, SchedulesProject}

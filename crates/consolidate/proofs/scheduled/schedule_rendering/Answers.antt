@@ -1,4 +1,4 @@
-use Rattle.std.proofs.Common.{◌∙◌, IsTrue, None, Some, ap, refl, subst, sym}
+use Rattle.std.proofs.Common.{IsTrue, None, Some, refl, subst, sym}
 use Rattle.std.specs.Prelude.{true}
 use Rattle.job_terms.specs.declared.Progress.{Progress}
 use Rattle.job_terms.specs.Workers.{jobs_over}
