@@ -36,10 +36,10 @@ pub resumed_first : (text : bytes.List bytes.ℕ) (files : Files) (told : consol
 resumed_first text files (fault.Project of) own = opened_first text files of own
 resumed_first text files _ own = tt
 
-pub consolidated_first : (text : bytes.List bytes.ℕ) (files : Files) (told : consolidate.Fault)
-    → ((any : bytes.List bytes.ℕ) → IsOfConsolidation any told) → IsFirst text files told
-consolidated_first text files (fault.Project of) own = opened_first text files of own
-consolidated_first text files _ own = tt
+pub consolidated_first : (reported : bytes.Bool) (text : bytes.List bytes.ℕ) (files : Files) (told : consolidate.Fault)
+    → ((any : bytes.List bytes.ℕ) → IsOfConsolidation reported any told) → IsFirst text files told
+consolidated_first reported text files (fault.Project of) own = opened_first text files of own
+consolidated_first reported text files _ own = tt
 
 pub scheduled_first : (text : bytes.List bytes.ℕ) (files : Files) (told : consolidate.Fault)
     → ((any : bytes.List bytes.ℕ) → IsOfRenderSchedule any told) → IsFirst text files told

@@ -8,3 +8,4 @@ pub mod Planned
 pub mod Resumes
 pub mod Rounds
 pub mod Stores
+mod Told

@@ -1,11 +1,11 @@
 -- The events of a consolidation, from what its parts leave.
-use Rattle.std.proofs.Common.{◌≡◌, ◌≢◌, ℕ, true, false, Option, None, Some, List, codes, refl, subst}
+use Rattle.std.proofs.Common.{◌≡◌, ◌≢◌, ℕ, true, false, Option, None, List, codes, refl, subst}
 use Rattle.std.specs.Prelude.{Result}
 use Rattle.std.specs.List.{range_with_len}
 use Rattle.work_terms.specs.Disk.{Files}
 use Rattle.job_terms.specs.declared.BoardEvent.{BoardEvent}
 use Rattle.job_terms.specs.declared.Progress.{Progress}
-use Rattle.job_terms.specs.Workers.{End, Jobs, jobs_over}
+use Rattle.job_terms.specs.Workers.{End, jobs_over}
 use Rattle.list_terms.specs.Binding.{Binding}
 use Rattle.list_terms.specs.Heard.{IsAccepted}
 use Rattle.list_terms.specs.Project.{ListProject}
@@ -47,7 +47,7 @@ lent_events plan pieces order events sources laid written shelf_old bench_old sh
 pub schedules_media : (leave : Leaving) (project : ListProject) (binding : Binding) (handle : ℕ) (plan : MediaPlan)
     (events : List BoardEvent) (sources : Files) (shelf_old bench_old laid_out shelf_new done bench_new : ℕ)
     (behind written : Files) (told : Option Progress) (ended : Option End)
-    → IsPlanOf leave project binding handle true sources plan → laid_out ≡ bench_old → bench_new ≡ done
+    → IsPlanOf leave project binding handle None true sources plan → laid_out ≡ bench_old → bench_new ≡ done
     → ((n : List ℕ) → n ≢ codes "consolidated.adl" → written n ≡ behind n)
     → RunsEvents false (jobs_over (media.work_of plan) sources) (media.whole_of plan sources)
     (range_with_len 0 (media.work_of plan).count) events shelf_old laid_out shelf_new done behind told ended

@@ -1,5 +1,6 @@
 -- The jobs of a command, from what its parts leave.
-use Rattle.std.proofs.Common.{Bool, true, IsTrue, ◌≡◌, ◌∙◌, ℕ, ◌<◌, ◌≤◌, arith, length, false, Option, Some, None, Result, Ok, Err, List, replicate, sym, subst, refl}
+use Rattle.std.proofs.Common.{Bool, true, IsTrue, ◌≡◌, ◌∙◌, ℕ, ◌<◌, ◌≤◌, arith, length, false, Option, Some, None, Result, Ok, Err, List, [], ◌∷◌, ap, replicate, sym, subst}
+use Rattle.std.proofs.lemmas.Bool.{false≢true}
 use Rattle.sound_terms.specs.Render.{ReadsBack}
 use Rattle.work_terms.specs.Disk.{Files}
 use Rattle.job_terms.specs.Workers.{End, GivenUp, Jobs, jobs_over}
@@ -22,6 +23,7 @@ use Rattle.consolidation.specs.Jobs as media
 use Rattle.consolidation.specs.Jobs.{HoldsMedia}
 use Rattle.consolidation.specs.Media.{IsNoMedium}
 use Rattle.consolidation.specs.Planned.{IsPlanOf, MediaPlan}
+use Rattle.consolidation.specs.Reported.{IsNoReport}
 use Rattle.consolidation.specs.There.{AreThere}
 use Rattle.sound_terms.specs.Sounds.{SoundFacts}
 use Rattle.rendering.specs.Planned.{IsRenderingOf}
@@ -181,20 +183,25 @@ resumes_list text values project binding sources opened outputs shelf_old shelf_
           ended) quiet run);
     }
 
-pub consolidates_list : (leave : Leaving) (text : List ℕ) (handle : ℕ) (project : ListProject) (binding : Binding)
+pub consolidates_list : (leave : Leaving) (text : List ℕ) (handle : ℕ) (asked : Option (List ℕ)) (project :
+    ListProject) (binding : Binding)
     (sources opened : Files) (shelf_old shelf_mid bench_old shelf_new bench_new : ℕ) (written : Files) (ended : Option
     End)
     → opened ≡ sources → shelf_mid ≡ shelf_old → IsAccepted text sources project binding
-    → ConsolidatesInRounds leave project binding handle opened shelf_mid bench_old shelf_new bench_new written ended
-    → ConsolidatesList leave text handle sources shelf_old bench_old shelf_new bench_new written ended
-consolidates_list leave text handle project binding sources opened shelf_old shelf_mid bench_old shelf_new bench_new
+    → ConsolidatesInRounds leave project binding handle asked opened shelf_mid bench_old shelf_new bench_new written
+    ended
+    → ConsolidatesList leave text handle asked sources shelf_old bench_old shelf_new bench_new written ended
+consolidates_list leave text handle asked project binding sources opened shelf_old shelf_mid bench_old shelf_new
+    bench_new
     written ended same quiet accepted run = record {
       project = project;
       binding = binding;
       accepted = accepted;
-      run = subst (λ (f : Files). ConsolidatesInRounds leave project binding handle f shelf_old bench_old shelf_new
+      run = subst (λ (f : Files). ConsolidatesInRounds leave project binding handle asked f shelf_old bench_old
+          shelf_new
           bench_new written ended) same
-          (subst (λ (n : ℕ). ConsolidatesInRounds leave project binding handle opened n bench_old shelf_new bench_new
+          (subst (λ (n : ℕ). ConsolidatesInRounds leave project binding handle asked opened n bench_old shelf_new
+          bench_new
           written ended) quiet run);
     }
 
@@ -277,29 +284,47 @@ few_media few many n le away number low high = away number low (omega (arith, le
 pub list_no_medium : (many : ℕ) → many ≤ 32767 → IsNoMedium many (codes "consolidated.adl")
 list_no_medium many few number low high same = media_name-no_list number (omega (arith, few, high)) (sym same)
 
+-- nor is the report
+abbrev first_byte : List ℕ → ℕ
+first_byte [] = 0
+first_byte (b ∷ bs) = b
+
+pub report_no_medium : (many : ℕ) → IsNoMedium many (codes "consolidated.json")
+unfolding media_name
+report_no_medium many number low high same = let e : 99 ≡ 77 = ap first_byte same in omega (arith, e)
+
 -- over the files that the passes left as they were
-pub ready : (leave : Leaving) (text : List ℕ) (project : ListProject) (binding : Binding) (handle : ℕ) (honest : Bool)
+pub ready : (leave : Leaving) (text : List ℕ) (project : ListProject) (binding : Binding) (handle : ℕ) (asked : Option
+    (List ℕ)) (honest : Bool)
     (old new : Files)
     (plan : MediaPlan) → new ≡ old → IsTrue honest → IsAccepted text old project binding
-    → IsPlanOf leave project binding handle honest old plan → AreThere old (sounds_of binding)
-    → IsAccepted text new project binding × IsPlanOf leave project binding handle true new plan × AreThere new
+    → IsPlanOf leave project binding handle asked honest old plan → AreThere old (sounds_of binding)
+    → IsAccepted text new project binding × IsPlanOf leave project binding handle asked true new plan × AreThere new
     plan.sounds
-ready leave text project binding handle honest old new plan same is accepted planned there = (
+ready leave text project binding handle asked honest old new plan same is accepted planned there = (
   subst (λ (f : Files). IsAccepted text f project binding) (sym same) accepted,
-  subst (λ (f : Files). IsPlanOf leave project binding handle true f plan) (sym same)
-      (subst (λ (h : Bool). IsPlanOf leave project binding handle h old plan) is planned),
+  subst (λ (f : Files). IsPlanOf leave project binding handle asked true f plan) (sym same)
+      (subst (λ (h : Bool). IsPlanOf leave project binding handle asked h old plan) is planned),
   subst (λ (f : Files). AreThere f plan.sounds) (sym same)
       (subst (λ (sounds : List SoundFacts). AreThere old sounds) (sym planned.planned.sounds) there),
 )
 
-pub consolidates_from : (leave : Leaving) (project : ListProject) (binding : Binding) (handle : ℕ) (old new : Files)
+pub consolidates_from : (leave : Leaving) (project : ListProject) (binding : Binding) (handle : ℕ) (asked : Option
+    (List ℕ)) (old new : Files)
     (shelf_old shelf_mid bench_old shelf_new bench_new : ℕ) (written : Files) (ended : Option End)
     → new ≡ old → shelf_mid ≡ shelf_old
-    → ConsolidatesInRounds leave project binding handle new shelf_mid bench_old shelf_new bench_new written ended
-    → ConsolidatesInRounds leave project binding handle old shelf_old bench_old shelf_new bench_new written ended
-consolidates_from leave project binding handle old new shelf_old shelf_mid bench_old shelf_new bench_new written ended
+    → ConsolidatesInRounds leave project binding handle asked new shelf_mid bench_old shelf_new bench_new written ended
+    → ConsolidatesInRounds leave project binding handle asked old shelf_old bench_old shelf_new bench_new written ended
+consolidates_from leave project binding handle asked old new shelf_old shelf_mid bench_old shelf_new bench_new written
+    ended
     same quiet run =
-    subst (λ (f : Files). ConsolidatesInRounds leave project binding handle f shelf_old bench_old shelf_new bench_new
+    subst (λ (f : Files). ConsolidatesInRounds leave project binding handle asked f shelf_old bench_old shelf_new
+    bench_new
     written ended) same
-    (subst (λ (n : ℕ). ConsolidatesInRounds leave project binding handle new n bench_old shelf_new bench_new written
+    (subst (λ (n : ℕ). ConsolidatesInRounds leave project binding handle asked new n bench_old shelf_new bench_new
+    written
     ended) quiet run)
+
+-- without a report no file is one of it
+pub none_reported : (reported : Bool) (n : List ℕ) → reported ≡ false → IsNoReport reported n
+none_reported reported n none told = absurd (false≢true (subst IsTrue none told))

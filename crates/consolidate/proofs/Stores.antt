@@ -34,6 +34,8 @@ raised_behind old mid new before r = record {
 -- the name of an output that can't be written
 pub same_output : (fault : WriteFault) → output_of fault ≡ name_of_output (file_of fault)
 same_output (writing.Medium number) = refl
+same_output writing.Sums = refl
+same_output writing.Report = refl
 same_output writing.List = refl
 
 -- no fault of marks tells of a source

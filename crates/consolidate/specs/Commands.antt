@@ -1,9 +1,9 @@
 -- What each call answers, and what it leaves of the sources and of the outputs.
-use Rattle.std.specs.Prelude.{◌≡◌, ◌≢◌, ◌≤◌, ◌==◌, ◌||◌, ℕ, false, IsTrue, Option, None, List, Result, Ok, Err, Some, IfOk, IfErr, IsOk, IsErrAnd, OnOk, ◌++◌, codes, string_bytes}
+use Rattle.std.specs.Prelude.{◌≡◌, ◌≢◌, ◌≤◌, ◌==◌, ◌||◌, ℕ, false, IsTrue, Option, None, List, Result, Ok, Err, Some, IfOk, IfErr, IsOk, IsErrAnd, is_some, OnOk, ◌++◌, codes, string_bytes}
 use Rattle.shelf.specs.declared.source.Shelf as source
 use Rattle.shelf.specs.declared.bench.Bench as output
 use Rattle.shelf.specs.Frame.{OnlyReads, OnlyWrites}
-use Rattle.work_terms.specs.Disk.{Files, HasCause, IsDurable, IsUntouched, LeavesOnly, Rises}
+use Rattle.work_terms.specs.Disk.{Files, HasCause, IsUntouched, LeavesOnly, Rises}
 use Rattle.work_terms.specs.Refusals.{Answers, IsDue, Refusal}
 use Rattle.list_terms.specs.declared.Notice.{Notice}
 use Rattle.list_terms.specs.Project.{ListProject}
@@ -94,15 +94,15 @@ range_refusal values (Ok project) = rendering.render_fault project values
 abbrev pub render_refusal : List ℕ → OptionValues → Files → Option Refusal
 render_refusal text values files = first_fault (project_fault text files) (range_refusal values (text_value text))
 
--- The list is accepted, the media of what passes leave of it are written and the list over them, and no other file has
--- changed.
-pub record IsConsolidated (leave : Leaving) (text : List ℕ) (handle : ℕ) (sources old new : Files) (told : Written)
-    : Type 0 where
+-- The list is accepted, the media of what passes leave of it are written and the list over them, with the report that a
+-- program of this version asks for, and no other file has changed.
+pub record IsConsolidated (leave : Leaving) (text : List ℕ) (handle : ℕ) (asked : Option (List ℕ))
+    (sources old new : Files) (told : Written) : Type 0 where
   pub project : ListProject
   pub binding : Binding
   pub spelled : Spells text project
   pub accepted : IsAccepted text sources project binding
-  pub written : consolidation.IsConsolidated leave project binding handle sources old new
+  pub written : consolidation.IsConsolidated leave project binding handle asked sources old new
       (record { media = told.media; entries = told.entries; sizes = told.sizes })
   pub notices : told.notices.items ≡ all_notices project binding
 
@@ -168,27 +168,33 @@ module _ {S B : Type 0} (shelf : source.Ghosts S) (bench : output.Ghosts B) wher
         (bench.failures bench_old) (shelf.failures shelf_new) (bench.failures bench_new) (bench.stored bench_new))
     pub stores : KeepsStores shelf_old shelf_new bench_old bench_new result
 
-  -- the list was consolidated over these stores by what passes leave of it, with this outcome
-  pub record IsConsolidation (leave : Leaving) (list : List ℕ) (handle : ℕ) (shelf_old shelf_new : S)
-      (bench_old bench_new : B) (result : Result Written Fault) : Type 0 where
+  -- the list was consolidated over these stores by what passes leave of it, with the report that a program of this
+  -- version asks for, with this outcome
+  pub record IsConsolidation (leave : Leaving) (list : List ℕ) (handle : ℕ) (asked : Option (List ℕ))
+      (shelf_old shelf_new : S) (bench_old bench_new : B) (result : Result Written Fault) : Type 0 where
     pub same_sound : IsTrue (shelf.honest shelf_old) → IsTrue (bench.honest bench_old)
         → OnOk result (SoundsTheSame list (shelf.stored shelf_old) (bench.stored bench_new))
     pub written : IsTrue (shelf.honest shelf_old) → IsTrue (bench.honest bench_old)
-        → IfOk result (IsConsolidated leave list handle (shelf.stored shelf_old) (bench.stored bench_old)
+        → IfOk result (IsConsolidated leave list handle asked (shelf.stored shelf_old) (bench.stored bench_old)
         (bench.stored bench_new))
     pub durable : IsTrue (bench.honest bench_old)
-        → IfOk result (λ told. AreDurable told.media (bench.stored bench_new) (bench.may_leave bench_new))
+        → IfOk result (λ told. AreDurable (is_some asked) told.media (bench.stored bench_new) (bench.may_leave
+        bench_new))
     pub refusals : IsTrue (shelf.honest shelf_old) → RefusesByWork leave list handle (shelf.stored shelf_old) result
     pub bad_list : IsTrue (shelf.honest shelf_old) → RefusesBadList list (shelf.stored shelf_old) result
     pub bad_text : RefusesBadText list result
-    pub own : IfErr result (IsOfConsolidation list)
+    pub own : IfErr result (IsOfConsolidation (is_some asked) list)
     pub in_turn : IsTrue (shelf.honest shelf_old) → IfErr result (IsFirst list (shelf.stored shelf_old))
-    pub named : IsTrue (bench.honest bench_old) → (n : List ℕ) → IsElsewhere 32767 n
+    pub named : IsTrue (bench.honest bench_old) → (n : List ℕ) → IsElsewhere (is_some asked) 32767 n
         → bench.stored bench_new n ≡ bench.stored bench_old n
     pub list_last : IsTrue (bench.honest bench_old) → IfErr result (λ told. told ≢ fault.Output file.List
         → bench.stored bench_new (codes "consolidated.adl") ≡ bench.stored bench_old (codes "consolidated.adl"))
+    -- the last file before the list
+    pub report_last : IsTrue (bench.honest bench_old) → IfErr result (λ told. told ≢ fault.Output file.List
+        → told ≢ fault.Output file.Report
+        → bench.stored bench_new (codes "consolidated.json") ≡ bench.stored bench_old (codes "consolidated.json"))
     pub rounds : IsTrue (shelf.honest shelf_old) → IsTrue (bench.honest bench_old)
-        → EndsOf result (ConsolidatesList leave list handle (shelf.stored shelf_old) (shelf.failures shelf_old)
+        → EndsOf result (ConsolidatesList leave list handle asked (shelf.stored shelf_old) (shelf.failures shelf_old)
         (bench.failures bench_old) (shelf.failures shelf_new) (bench.failures bench_new) (bench.stored bench_new))
     pub stores : KeepsStores shelf_old shelf_new bench_old bench_new result
 

@@ -33,6 +33,8 @@ abbrev pub name_of_output : OutputFile → bytes.List ℕ
 name_of_output output.Rendering = codes "render.wav"
 name_of_output output.Marks = codes "render.marks"
 name_of_output (output.Medium number) = media_name number
+name_of_output output.Sums = codes "SHA256SUMS"
+name_of_output output.Report = codes "consolidated.json"
 name_of_output output.List = codes "consolidated.adl"
 
 -- the file at which the device failed
@@ -80,4 +82,6 @@ NamesOpened sounds _ told = ⊤
 -- the output that a fault of writing a consolidation tells
 abbrev pub file_of : WriteFault → OutputFile
 file_of (writing.Medium number) = output.Medium number
+file_of writing.Sums = output.Sums
+file_of writing.Report = output.Report
 file_of writing.List = output.List

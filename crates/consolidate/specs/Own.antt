@@ -1,5 +1,5 @@
 -- Which faults each call may tell.
-use Rattle.std.specs.Prelude.{◌≡◌, ℕ, ◌≤◌, ⊤}
+use Rattle.std.specs.Prelude.{◌≡◌, ℕ, ◌≤◌, Bool, IsTrue, false, ⊤}
 use Rattle.std.specs.Prelude as bytes
 use Rattle.work_terms.specs.Disk.{Files}
 use Rattle.opening.specs.Own as opening
@@ -7,7 +7,7 @@ use Rattle.opening.specs.Own.{IsOfOpening}
 use Rattle.markfile.specs.declared.fault.MarksFault.{MarksFault}
 use Rattle.markfile.specs.declared.fault.MarksFault.TheVariants as marks
 use Rattle.consolidate.specs.declared.fault.OutputFile.{OutputFile}
-use Rattle.consolidate.specs.declared.fault.OutputFile.TheVariants.{Rendering, Marks, Medium, List}
+use Rattle.consolidate.specs.declared.fault.OutputFile.TheVariants.{Rendering, Marks, Medium, Sums, Report, List}
 use Rattle.consolidate.specs.declared.fault.Fault.{Fault}
 use Rattle.consolidate.specs.declared.fault.Fault.TheVariants as fault
 
@@ -53,25 +53,27 @@ abbrev pub IsOfRenderSchedule : bytes.List ℕ → Fault → Type 0
 IsOfRenderSchedule text fault.WorkerMemory = ⊤
 IsOfRenderSchedule text of = IsOfRendering text of
 
-abbrev pub IsConsolidatedFile : OutputFile → Type 0
-IsConsolidatedFile (Medium number) = ⊤
-IsConsolidatedFile List = ⊤
-IsConsolidatedFile _ = ⊥
+abbrev pub IsConsolidatedFile : Bool → OutputFile → Type 0
+IsConsolidatedFile reported (Medium number) = ⊤
+IsConsolidatedFile reported Sums = IsTrue reported
+IsConsolidatedFile reported Report = IsTrue reported
+IsConsolidatedFile reported List = ⊤
+IsConsolidatedFile reported _ = ⊥
 
--- or one of consolidating it
-abbrev pub IsOfConsolidation : bytes.List ℕ → Fault → Type 0
-IsOfConsolidation text (fault.Project of) = IsOfOpening text of
-IsOfConsolidation text fault.Intervals = ⊤
-IsOfConsolidation text fault.PassMemory = ⊤
-IsOfConsolidation text (fault.Silence name) = ⊤
-IsOfConsolidation text (fault.Runs of) = ⊤
-IsOfConsolidation text (fault.Relink of) = ⊤
-IsOfConsolidation text fault.BoardMemory = ⊤
-IsOfConsolidation text (fault.GivenUp job) = ⊤
-IsOfConsolidation text (fault.Output file) = IsConsolidatedFile file
-IsOfConsolidation text _ = ⊥
+-- or one of consolidating it, with a report or without one
+abbrev pub IsOfConsolidation : Bool → bytes.List ℕ → Fault → Type 0
+IsOfConsolidation reported text (fault.Project of) = IsOfOpening text of
+IsOfConsolidation reported text fault.Intervals = ⊤
+IsOfConsolidation reported text fault.PassMemory = ⊤
+IsOfConsolidation reported text (fault.Silence name) = ⊤
+IsOfConsolidation reported text (fault.Runs of) = ⊤
+IsOfConsolidation reported text (fault.Relink of) = ⊤
+IsOfConsolidation reported text fault.BoardMemory = ⊤
+IsOfConsolidation reported text (fault.GivenUp job) = ⊤
+IsOfConsolidation reported text (fault.Output file) = IsConsolidatedFile reported file
+IsOfConsolidation reported text _ = ⊥
 
 -- or one of the schedule of a consolidation
 abbrev pub IsOfConsolidationSchedule : bytes.List ℕ → Fault → Type 0
 IsOfConsolidationSchedule text fault.WorkerMemory = ⊤
-IsOfConsolidationSchedule text of = IsOfConsolidation text of
+IsOfConsolidationSchedule text of = IsOfConsolidation false text of

@@ -1,5 +1,5 @@
 -- The jobs of a command: those of one worker alone, in rounds, from the files that it laid out on.
-use Rattle.std.specs.Prelude.{◌≡◌, ◌≢◌, ◌<◌, ℕ, ⊤, Bool, true, false, Option, None, Some, List, Result, Ok, Err, codes, length}
+use Rattle.std.specs.Prelude.{is_some, ◌≡◌, ◌<◌, ℕ, ⊤, Bool, true, false, Option, None, Some, List, Result, Ok, Err, length}
 use Rattle.std.specs.List.{range_with_len}
 use Rattle.sound_terms.specs.Render.{rendering_of}
 use Rattle.work_terms.specs.Disk.{Files}
@@ -20,6 +20,7 @@ use Rattle.rendering.specs.Work as blocks
 use Rattle.rendering.specs.Marked.{run_of}
 use Rattle.rendering.specs.Work.{AreCutBy, RenderWork, done_before}
 use Rattle.consolidation.specs.Jobs.{whole_of, work_of}
+use Rattle.consolidation.specs.Consolidated.{IsBehind}
 use Rattle.consolidation.specs.Planned.{IsPlanOf, MediaPlan}
 use Rattle.workboard.specs.Indexed.{IsOrder}
 use Rattle.consolidate.specs.declared.fault.Fault.{Fault}
@@ -89,22 +90,25 @@ pub record RendersList (text : List ℕ) (values : OptionValues) (sources : File
   pub accepted : IsAccepted text sources project binding
   pub run : RendersInRounds project binding values sources shelf_old bench_old shelf_new bench_new written ended
 
--- the jobs, each in its turn, make the media of a consolidation of a project; the list may be written behind them
+-- the jobs, each in its turn, make the media of a consolidation of a project; the report and the list may be written
+-- behind them
 pub record ConsolidatesInRounds (leave : Leaving) (project : ListProject) (binding : Binding) (handle : ℕ)
-    (sources : Files) (shelf_old bench_old shelf_new bench_new : ℕ) (written : Files) (ended : Option End) : Type 0
+    (asked : Option (List ℕ)) (sources : Files) (shelf_old bench_old shelf_new bench_new : ℕ) (written : Files) (ended
+    : Option End) : Type 0
   where
     pub plan : MediaPlan
-    pub planned : IsPlanOf leave project binding handle true sources plan
+    pub planned : IsPlanOf leave project binding handle asked true sources plan
     pub media : Files
-    pub behind : (n : List ℕ) → n ≢ codes "consolidated.adl" → written n ≡ media n
+    pub behind : (n : List ℕ) → IsBehind (is_some asked) n → written n ≡ media n
     pub run : RunsInRounds false (jobs_over (work_of plan) sources) (whole_of plan sources)
         (range_with_len 0 (work_of plan).count) shelf_old bench_old shelf_new bench_new media ended
 
 -- of the project of an accepted list
-pub record ConsolidatesList (leave : Leaving) (text : List ℕ) (handle : ℕ) (sources : Files)
+pub record ConsolidatesList (leave : Leaving) (text : List ℕ) (handle : ℕ) (asked : Option (List ℕ)) (sources : Files)
     (shelf_old bench_old shelf_new bench_new : ℕ) (written : Files) (ended : Option End) : Type 0 where
   pub project : ListProject
   pub binding : Binding
   pub accepted : IsAccepted text sources project binding
-  pub run : ConsolidatesInRounds leave project binding handle sources shelf_old bench_old shelf_new bench_new written
+  pub run : ConsolidatesInRounds leave project binding handle asked sources shelf_old bench_old shelf_new bench_new
+      written
       ended

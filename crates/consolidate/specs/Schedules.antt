@@ -76,7 +76,7 @@ pub record SchedulesMedia (leave : Leaving) (project : ListProject) (binding : B
     (events : List BoardEvent) (sources : Files) (shelf_old bench_old shelf_new bench_new : ℕ) (written : Files)
     (told : Option Progress) (ended : Option End) : Type 0 where
   pub plan : MediaPlan
-  pub planned : IsPlanOf leave project binding handle true sources plan
+  pub planned : IsPlanOf leave project binding handle None true sources plan
   pub media : Files
   pub behind : (n : List ℕ) → n ≢ codes "consolidated.adl" → written n ≡ media n
   pub run : RunsEvents false (jobs_over (pieces.work_of plan) sources) (pieces.whole_of plan sources)
@@ -96,8 +96,8 @@ pub record SchedulesMediaOf (leave : Leaving) (text : List ℕ) (handle : ℕ) (
 pub record IsWrittenOut (leave : Leaving) (project : ListProject) (binding : Binding) (handle : ℕ)
     (sources old new : Files) (may_leave : Files → Type 0) : Type 0 where
   pub counts : Written
-  pub written : consolidation.IsConsolidated leave project binding handle sources old new counts
-  pub durable : AreDurable counts.media new may_leave
+  pub written : consolidation.IsConsolidated leave project binding handle None sources old new counts
+  pub durable : AreDurable false counts.media new may_leave
 
 -- The list is accepted, the media of what passes leave of it are written and the list over them, which sounds as it does.
 pub record HasConsolidation (leave : Leaving) (text : List ℕ) (handle : ℕ) (sources old new : Files)
@@ -159,7 +159,7 @@ module _ {S B : Type 0} (shelf : source.Ghosts S) (bench : output.Ghosts B) wher
     pub bad_text : RefusesBadText list result
     pub own : IfErr result (IsOfConsolidationSchedule list)
     pub in_turn : IsTrue (shelf.honest shelf_old) → IfErr result (IsFirst list (shelf.stored shelf_old))
-    pub named : IsTrue (bench.honest bench_old) → (n : List ℕ) → IsElsewhere 32767 n
+    pub named : IsTrue (bench.honest bench_old) → (n : List ℕ) → IsElsewhere false 32767 n
         → bench.stored bench_new n ≡ bench.stored bench_old n
     pub list_last : IsTrue (bench.honest bench_old) → BeforeList result
         (bench.stored bench_new (codes "consolidated.adl") ≡ bench.stored bench_old (codes "consolidated.adl"))

@@ -1,5 +1,5 @@
 // Consolidates a list.
-ghost use Rattle.std.specs.Prelude.{◌≡◌, ◌≢◌, ◌≤◌, IfErr, IfOk, IsTrue, List, None, OnOk, codes, false, length, replicate, true, ℕ};
+ghost use Rattle.std.specs.Prelude.{◌≡◌, ◌≢◌, ◌≤◌, IfErr, IfOk, IsTrue, List, None, OnOk, Option, codes, false, is_some, length, option_map, replicate, true, ℕ};
 ghost use Rattle.std.specs.List.{range_with_len};
 ghost use Rattle.work_terms.specs.Refusals.{Answers, IsDue};
 ghost use Rattle.job_terms.specs.Board.{fresh_job};
@@ -58,31 +58,37 @@ fn write_consolidation<S: Shelf, B: Bench, W: Watch>(
     requires room { HasRoom (work_of consolidation.now) start.old.worker.room }
     requires few { length consolidation.now.runs ≤ 32767 }
     ensures same_sound { IsTrue (S.honest shelf.old) → IsTrue (B.honest bench.old) → (text : List ℕ)
-        → (leave : Leaving) (project : ListProject) (binding : Binding) (handle : ℕ)
+        → (leave : Leaving) (project : ListProject) (binding : Binding) (handle : ℕ) (asked : Option (List ℕ))
         → IsAccepted text (S.stored shelf.old) project binding
-        → IsPlanOf leave project binding handle true (S.stored shelf.old) consolidation.now
+        → IsPlanOf leave project binding handle asked true (S.stored shelf.old) consolidation.now
         → AreThere (S.stored shelf.old) consolidation.now.sounds
         → OnOk result (SoundsTheSame text (S.stored shelf.old) (B.stored bench.new)) }
     ensures written { IsTrue (S.honest shelf.old) → IsTrue (B.honest bench.old)
-        → (leave : Leaving) (project : ListProject) (binding : Binding) (handle : ℕ)
-        → IsPlanOf leave project binding handle true (S.stored shelf.old) consolidation.now
+        → (leave : Leaving) (project : ListProject) (binding : Binding) (handle : ℕ) (asked : Option (List ℕ))
+        → IsPlanOf leave project binding handle asked true (S.stored shelf.old) consolidation.now
         → AreThere (S.stored shelf.old) consolidation.now.sounds
-        → IfOk result (λ written. spec.IsConsolidated leave project binding handle (S.stored shelf.old)
+        → IfOk result (λ written. spec.IsConsolidated leave project binding handle asked (S.stored shelf.old)
         (B.stored bench.old) (B.stored bench.new) written) }
     ensures rounds { IsTrue (S.honest shelf.old) → IsTrue (B.honest bench.old)
-        → (leave : Leaving) (project : ListProject) (binding : Binding) (handle : ℕ)
-        → IsPlanOf leave project binding handle true (S.stored shelf.old) consolidation.now
+        → (leave : Leaving) (project : ListProject) (binding : Binding) (handle : ℕ) (asked : Option (List ℕ))
+        → IsPlanOf leave project binding handle asked true (S.stored shelf.old) consolidation.now
         → AreThere (S.stored shelf.old) consolidation.now.sounds
-        → EndsOf result (ConsolidatesInRounds leave project binding handle (S.stored shelf.old) (S.failures shelf.old)
+        → EndsOf result (ConsolidatesInRounds leave project binding handle asked (S.stored shelf.old) (S.failures
+        shelf.old)
         (B.failures bench.old) (S.failures shelf.new) (B.failures bench.new) (B.stored bench.new)) }
     ensures durable { IsTrue (B.honest bench.old)
-        → IfOk result (λ written. AreDurable written.media (B.stored bench.new) (B.may_leave bench.new)) }
-    ensures own { (text : List ℕ) → IfErr result (IsOfConsolidation text) }
+        → IfOk result (λ written. AreDurable (is_some consolidation.now.report) written.media (B.stored bench.new)
+        (B.may_leave bench.new)) }
+    ensures own { (text : List ℕ) → IfErr result (IsOfConsolidation (is_some consolidation.now.report) text) }
     ensures late { IfErr result (λ fault. (refusal_of fault).late ≡ true) }
     ensures due { IfErr result (λ fault. IsDue (refusal_of fault) None) }
     ensures list_last { IsTrue (B.honest bench.old) → IfErr result (λ told. told ≢ fault.Output file.List
         → B.stored bench.new (codes "consolidated.adl") ≡ B.stored bench.old (codes "consolidated.adl")) }
-    ensures named { IsTrue (B.honest bench.old) → (n : List ℕ) → IsElsewhere 32767 n
+    ensures report_last { IsTrue (B.honest bench.old) → IfErr result (λ told. told ≢ fault.Output file.List
+        → told ≢ fault.Output file.Report
+        → B.stored bench.new (codes "consolidated.json") ≡ B.stored bench.old (codes "consolidated.json")) }
+    ensures named { IsTrue (B.honest bench.old) → (n : List ℕ)
+        → IsElsewhere (is_some consolidation.now.report) 32767 n
         → B.stored bench.new n ≡ B.stored bench.old n }
     ensures stores { KeepsStores S.Shelf B.Bench shelf.old shelf.new bench.old bench.new result }
 {
@@ -108,6 +114,7 @@ fn consolidate_checked<S: Shelf, B: Bench, W: Watch>(
     checked: Checked,
     handle: u64,
     passes: Vec<Box<dyn Pass>>,
+    report: Option<&str>,
     shelf: &mut S,
     bench: &mut B,
     watch: &mut W,
@@ -118,27 +125,37 @@ fn consolidate_checked<S: Shelf, B: Bench, W: Watch>(
     ensures written { IsTrue (S.honest shelf.old) → IsTrue (B.honest bench.old) → (text : List ℕ)
         → IsAccepted text (S.stored shelf.old) checked.project checked.bound → IfOk result (λ written.
         spec.IsConsolidated (left_by (λ pass. looking pass) (λ pass. gives pass) passes.items)
-        checked.project checked.bound handle (S.stored shelf.old) (B.stored bench.old) (B.stored bench.new) written) }
+        checked.project checked.bound handle (option_map (λ version. version.now) report.entry) (S.stored shelf.old)
+        (B.stored bench.old) (B.stored bench.new) written) }
     ensures rounds { IsTrue (S.honest shelf.old) → IsTrue (B.honest bench.old) → (text : List ℕ)
         → IsAccepted text (S.stored shelf.old) checked.project checked.bound
         → EndsOf result (ConsolidatesInRounds (left_by (λ pass. looking pass) (λ pass. gives pass) passes.items)
-        checked.project checked.bound handle (S.stored shelf.old) (S.failures shelf.old) (B.failures bench.old)
+        checked.project checked.bound handle (option_map (λ version. version.now) report.entry) (S.stored shelf.old)
+        (S.failures shelf.old) (B.failures bench.old)
         (S.failures shelf.new) (B.failures bench.new)
         (B.stored bench.new)) }
     ensures durable { IsTrue (B.honest bench.old)
-        → IfOk result (λ written. AreDurable written.media (B.stored bench.new) (B.may_leave bench.new)) }
+        → IfOk result (λ written. AreDurable (is_some (option_map (λ version. version.now) report.entry))
+        written.media (B.stored bench.new) (B.may_leave bench.new)) }
     ensures refusals { IsTrue (S.honest shelf.old) → (work : Work)
         → IsWorkOf (left_by (λ pass. looking pass) (λ pass. gives pass) passes.items)
         checked.project checked.bound handle (S.stored shelf.old) work
         → Answers refusal_of result (work_fault work) }
-    ensures own { (text : List ℕ) → IfErr result (IsOfConsolidation text) }
+    ensures own { (text : List ℕ) → IfErr result
+        (IsOfConsolidation (is_some (option_map (λ version. version.now) report.entry)) text) }
     ensures list_last { IsTrue (B.honest bench.old) → IfErr result (λ told. told ≢ fault.Output file.List
         → B.stored bench.new (codes "consolidated.adl") ≡ B.stored bench.old (codes "consolidated.adl")) }
-    ensures named { IsTrue (B.honest bench.old) → (n : List ℕ) → IsElsewhere 32767 n
+    ensures report_last { IsTrue (B.honest bench.old) → IfErr result (λ told. told ≢ fault.Output file.List
+        → told ≢ fault.Output file.Report
+        → B.stored bench.new (codes "consolidated.json") ≡ B.stored bench.old (codes "consolidated.json")) }
+    ensures named { IsTrue (B.honest bench.old) → (n : List ℕ)
+        → IsElsewhere (is_some (option_map (λ version. version.now) report.entry)) 32767 n
         → B.stored bench.new n ≡ B.stored bench.old n }
     ensures stores { KeepsStores S.Shelf B.Bench shelf.old shelf.new bench.old bench.new result }
 {
-    let consolidation = match Consolidation::plan(alloc, &checked, handle, passes, shelf, watch) {
+    let consolidation = match Consolidation::plan(
+        alloc, &checked, handle, passes, report, shelf, watch,
+    ) {
         Ok(consolidation) => consolidation,
         Err(fault) => return Err(Fault::of_consolidation(checked, fault)),
     };
@@ -162,32 +179,38 @@ fn consolidate_checked<S: Shelf, B: Bench, W: Watch>(
 /// the frames that the pieces play that are left, and those at most `handle` frames away. Each run of kept frames becomes
 /// a medium (`M00001.wav` and so on, Broadcast Wave, EBU Tech 3285), with the channels, the depth and the texts of its
 /// source and the time of its first frame as TimeReference; `consolidated.adl` is the list over these media. Whatever the
-/// passes, it sounds as the given list does, sample for sample.
+/// passes, it sounds as the given list does, sample for sample. Where a program asks for a report, by its version,
+/// `consolidated.json` tells where each medium and each entry comes from, and `SHA256SUMS` has the checksums of all
+/// files, as `sha256sum -c` takes them.
 ///
 /// The list is refused first, then a file in the order of the source index, then an entry in the order of the list,
 /// then more than 32,767 runs (53) or entries (55), and want of memory. All of these come before the first write, and no
 /// memory is taken behind it. The media are laid out at their full length; then the pieces of their runs are jobs, done
 /// in turn by one worker. A job whose device fails is done again; the third time it is given up (66). Outside the jobs a
-/// device that fails ends the call at once (62). The list is written last, so an unfinished output has none. The watch is
-/// told how many frames are looked at for silence, and then behind each job how many frames of all media are there.
+/// device that fails ends the call at once (62). A report is made before the first write, by one more reading of the
+/// kept frames (52 where a source fails, 56 where no memory was left), and written behind the media; the list is written
+/// last, so an unfinished output has none. The watch is told how many frames are looked at for silence, and then behind
+/// each job how many frames of all media are there.
 pub fn consolidate<S: Shelf, B: Bench, W: Watch>(
     alloc: Global,
     list: &[u8],
     handle: u64,
     passes: Vec<Box<dyn Pass>>,
+    report: Option<&str>,
     shelf: &mut S,
     bench: &mut B,
     watch: &mut W,
 ) -> Result<Written, Fault>
     ensures consolidated { IsConsolidation S.Shelf B.Bench
         (left_by (λ pass. looking pass) (λ pass. gives pass) passes.items)
-        list.now handle shelf.old shelf.new bench.old bench.new result }
-    ensures standard { AreStandard (λ pass. looking pass) (λ pass. gives pass) passes.items
-        → IsConsolidation S.Shelf B.Bench standard_groups list.now handle shelf.old shelf.new bench.old bench.new
+        list.now handle (option_map (λ version. version.now) report.entry) shelf.old shelf.new bench.old bench.new
         result }
+    ensures standard { AreStandard (λ pass. looking pass) (λ pass. gives pass) passes.items
+        → IsConsolidation S.Shelf B.Bench standard_groups list.now handle
+        (option_map (λ version. version.now) report.entry) shelf.old shelf.new bench.old bench.new result }
 {
     let Opened { checked, notices } = open(alloc, list, shelf)?;
-    let written = consolidate_checked(alloc, checked, handle, passes, shelf, bench, watch)?;
+    let written = consolidate_checked(alloc, checked, handle, passes, report, shelf, bench, watch)?;
     Ok(Written {
         media: written.media,
         entries: written.entries,

@@ -1,7 +1,8 @@
 // Why a call is refused.
-ghost use Rattle.std.specs.Prelude.{◌≡◌, List, None, Some, true, ℕ};
+ghost use Rattle.std.specs.Prelude.{◌≡◌, Bool, List, None, Some, true, ℕ};
 ghost use Rattle.work_terms.specs.Refusals.{IsDue};
 ghost use Rattle.consolidation.specs.Fault as consolidation;
+ghost use Rattle.consolidation.specs.Fault.{IsOfOutput};
 ghost use Rattle.list_terms.specs.Heard.{sounds_of};
 ghost use Rattle.rendering.specs.Fault as rendering;
 ghost use Rattle.consolidate.specs.Commands.{IsOutput, IsSource};
@@ -9,7 +10,7 @@ ghost use Rattle.consolidate.specs.Own.{IsOfConsolidation, IsOfRendering};
 ghost use Rattle.consolidate.specs.declared.fault.Fault.TheVariants as told;
 ghost use Rattle.consolidate.specs.Fault.{IsOpenedIn, NamesOpened, file_of, name_of_output, refusal_of};
 
-use consolidation::{ConsolidationFault, LIST, WriteFault};
+use consolidation::{ConsolidationFault, LIST, REPORT, SUMS, WriteFault};
 use markfile::{MARKS, MarksFault, SOUND};
 use mediaset::RunFault;
 use passes::PassFault;
@@ -28,6 +29,10 @@ pub enum OutputFile {
     Marks,
     /// The medium of this number, from 1: `M00001.wav` and so on.
     Medium(u32),
+    /// `SHA256SUMS`
+    Sums,
+    /// `consolidated.json`
+    Report,
     /// `consolidated.adl`
     List,
 }
@@ -40,6 +45,8 @@ impl fmt::Display for OutputFile {
             OutputFile::Rendering => f.write_str(SOUND),
             OutputFile::Marks => f.write_str(MARKS),
             OutputFile::Medium(number) => write!(f, "M{number:05}.wav"),
+            OutputFile::Sums => f.write_str(SUMS),
+            OutputFile::Report => f.write_str(REPORT),
             OutputFile::List => f.write_str(LIST),
         }
     }
@@ -58,7 +65,7 @@ pub enum Fault {
     /// 51: no memory was left for a pass over the pieces.
     #[error("out of memory")]
     PassMemory,
-    /// 52: the device of a source failed while it was asked for silence.
+    /// 52: the device of a source failed while it was asked for silence, or read for a report.
     #[error("file {name} can't be read")]
     Silence { name: String },
     /// 53: there are more runs of kept frames than a list has indexes. 54: no memory was left for them.
@@ -130,7 +137,7 @@ impl Fault {
     pub(crate) fn of_consolidation(checked: Checked, fault: ConsolidationFault) -> Fault
         requires { IsOpenedIn (sounds_of checked.bound) fault }
         ensures refusal { refusal_of result ≡ consolidation.refusal_of fault }
-        ensures own { (text : List ℕ) → IsOfConsolidation text result }
+        ensures own { (reported : Bool) (text : List ℕ) → IsOfConsolidation reported text result }
         ensures names { NamesOpened (sounds_of checked.bound) fault result }
     {
         match fault {
@@ -147,12 +154,15 @@ impl Fault {
     /// A fault of writing a consolidation, but for its jobs.
     pub(crate) fn of_writing(fault: WriteFault) -> Fault
         ensures told { result ≡ told.Output (file_of fault) }
-        ensures own { (text : List ℕ) → IsOfConsolidation text result }
+        ensures own { (reported : Bool) (text : List ℕ) → IsOfOutput reported fault
+            → IsOfConsolidation reported text result }
         ensures late { (refusal_of result).late ≡ true }
         ensures due { IsDue (refusal_of result) None }
     {
         match fault {
             WriteFault::Medium { number } => Fault::Output(OutputFile::Medium(number)),
+            WriteFault::Sums => Fault::Output(OutputFile::Sums),
+            WriteFault::Report => Fault::Output(OutputFile::Report),
             WriteFault::List => Fault::Output(OutputFile::List),
         }
     }

@@ -14,7 +14,7 @@ mod schedules;
 
 pub use checking::check_project;
 pub use consolidated::{Written, consolidate};
-pub use consolidation::{LIST, Sizes};
+pub use consolidation::{LIST, REPORT, SUMS, Sizes};
 pub use fault::{Fault, OutputFile};
 pub use job_terms::{BoardEvent, Progress};
 pub use list_terms::Notice;

@@ -1,5 +1,5 @@
 // Consolidates a list by the events of any number of workers.
-ghost use Rattle.std.specs.Prelude.{◌≡◌, ◌≢◌, ◌≤◌, IfErr, IfOk, IsTrue, List, None, codes, length, replicate, true, ℕ};
+ghost use Rattle.std.specs.Prelude.{◌≡◌, ◌≢◌, ◌≤◌, IfErr, IfOk, IsTrue, List, None, codes, false, is_some, length, replicate, true, ℕ};
 ghost use Rattle.std.specs.List.{range_with_len};
 ghost use Rattle.work_terms.specs.Disk.{IsDurable};
 ghost use Rattle.work_terms.specs.Refusals.{Answers, IsDue};
@@ -43,9 +43,10 @@ fn schedule_pieces<S: Shelf, B: Bench>(
     requires board { board.old.jobs ≡ replicate (work_of consolidation.now).count fresh_job }
     requires order { board.old.order ≡ range_with_len 0 (work_of consolidation.now).count }
     requires few { length consolidation.now.runs ≤ 32767 }
+    requires unreported { is_some consolidation.now.report ≡ false }
     ensures ran { IsTrue (S.honest shelf.old) → IsTrue (B.honest bench.old)
         → (leave : Leaving) (project : ListProject) (binding : Binding) (handle : ℕ)
-        → IsPlanOf leave project binding handle true (S.stored shelf.old) consolidation.now
+        → IsPlanOf leave project binding handle None true (S.stored shelf.old) consolidation.now
         → AreThere (S.stored shelf.old) consolidation.now.sounds
         → EndsEvents result (SchedulesMedia leave project binding handle events.now (S.stored shelf.old)
         (S.failures shelf.old) (B.failures bench.old) (S.failures shelf.new) (B.failures bench.new)
@@ -53,12 +54,12 @@ fn schedule_pieces<S: Shelf, B: Bench>(
     ensures same_sound { IsTrue (S.honest shelf.old) → IsTrue (B.honest bench.old) → (text : List ℕ)
         → (leave : Leaving) (project : ListProject) (binding : Binding) (handle : ℕ)
         → IsAccepted text (S.stored shelf.old) project binding
-        → IsPlanOf leave project binding handle true (S.stored shelf.old) consolidation.now
+        → IsPlanOf leave project binding handle None true (S.stored shelf.old) consolidation.now
         → AreThere (S.stored shelf.old) consolidation.now.sounds → IfOk result (λ told. IsTrue told.finished
         → SoundsTheSame text (S.stored shelf.old) (B.stored bench.new)) }
     ensures written { IsTrue (S.honest shelf.old) → IsTrue (B.honest bench.old)
         → (leave : Leaving) (project : ListProject) (binding : Binding) (handle : ℕ)
-        → IsPlanOf leave project binding handle true (S.stored shelf.old) consolidation.now
+        → IsPlanOf leave project binding handle None true (S.stored shelf.old) consolidation.now
         → AreThere (S.stored shelf.old) consolidation.now.sounds → IfOk result (λ told. IsTrue told.finished
         → IsWrittenOut leave project binding handle (S.stored shelf.old) (B.stored bench.old) (B.stored bench.new)
         (B.may_leave bench.new)) }
@@ -69,7 +70,7 @@ fn schedule_pieces<S: Shelf, B: Bench>(
     ensures due { IfErr result (λ fault. IsDue (refusal_of fault) None) }
     ensures list_last { IsTrue (B.honest bench.old) → BeforeList result
         (B.stored bench.new (codes "consolidated.adl") ≡ B.stored bench.old (codes "consolidated.adl")) }
-    ensures named { IsTrue (B.honest bench.old) → (n : List ℕ) → IsElsewhere 32767 n
+    ensures named { IsTrue (B.honest bench.old) → (n : List ℕ) → IsElsewhere false 32767 n
         → B.stored bench.new n ≡ B.stored bench.old n }
     ensures stores { KeepsStores S.Shelf B.Bench shelf.old shelf.new bench.old bench.new result }
 {
@@ -125,7 +126,7 @@ fn schedule_consolidation<S: Shelf, B: Bench>(
     ensures own { (text : List ℕ) → IfErr result (IsOfConsolidationSchedule text) }
     ensures list_last { IsTrue (B.honest bench.old) → BeforeList result
         (B.stored bench.new (codes "consolidated.adl") ≡ B.stored bench.old (codes "consolidated.adl")) }
-    ensures named { IsTrue (B.honest bench.old) → (n : List ℕ) → IsElsewhere 32767 n
+    ensures named { IsTrue (B.honest bench.old) → (n : List ℕ) → IsElsewhere false 32767 n
         → B.stored bench.new n ≡ B.stored bench.old n }
     ensures stores { KeepsStores S.Shelf B.Bench shelf.old shelf.new bench.old bench.new result }
 {
@@ -134,6 +135,7 @@ fn schedule_consolidation<S: Shelf, B: Bench>(
         &checked,
         handle,
         passes,
+        None,
         shelf,
         &mut Unwatched,
     ) {

@@ -1,4 +1,5 @@
 use Rattle.std.proofs.Common.{◌∙◌, IsTrue, None, Ok, Err, rules, subst, sym}
+use Rattle.std.specs.Prelude.{option_map}
 use Rattle.std.proofs.lemmas.Result.{err_from_is_err_and}
 use Rattle.list_terms.specs.Binding.{Binding}
 use Rattle.list_terms.specs.Project.{ListProject}
@@ -34,8 +35,10 @@ returns-in_err-checked-clause-consolidated g c =
       in_turn = told.in_turn;
       named = search rules;
       list_last = search rules;
+      report_last = search rules;
       rounds = λ honest right. none_ended Written c.args.list.now fault
-          (ConsolidatesList _ c.args.list.now c.args.handle sources (g.S.Shelf.failures c.args.shelf.now)
+          (ConsolidatesList _ c.args.list.now c.args.handle
+          (option_map (λ (v : _). v.now) c.args.report) sources (g.S.Shelf.failures c.args.shelf.now)
           (g.B.Bench.failures c.args.bench.now) (g.S.Shelf.failures c.open.new.shelf)
           (g.B.Bench.failures c.args.bench.now) (g.B.Bench.stored c.args.bench.now)) told.own;
       stores = stopped_early g.S.Shelf g.B.Bench c.args.shelf.now c.open.new.shelf c.args.bench.now fault
@@ -69,19 +72,22 @@ returns-in_err-written-clause-consolidated g c =
           let none = sym (none_due list sources _ _ (opened.accepted honest)) ∙ due in absurd (cc);
       bad_text = λ refusal bad. let same = sym opened.spelt ∙ bad in absurd (cc);
       own = told.own list;
-      in_turn = λ honest. consolidated_first list sources fault told.own;
+      in_turn = λ honest. consolidated_first _ list sources fault told.own;
       named = search rules;
       list_last = search rules;
+      report_last = search rules;
       rounds = λ honest right. ends_map consolidation.Written Written fault
-          (ConsolidatesInRounds leave checked.project checked.bound c.args.handle (g.S.Shelf.stored c.open.new.shelf)
+          (ConsolidatesInRounds leave checked.project checked.bound c.args.handle
+          (option_map (λ (v : _). v.now) c.args.report) (g.S.Shelf.stored c.open.new.shelf)
           (g.S.Shelf.failures c.open.new.shelf) (g.B.Bench.failures c.args.bench.now)
           (g.S.Shelf.failures c.consolidate_checked.new.shelf) (g.B.Bench.failures c.consolidate_checked.new.bench)
           (g.B.Bench.stored c.consolidate_checked.new.bench))
-          (ConsolidatesList leave list c.args.handle sources
+          (ConsolidatesList leave list c.args.handle (option_map (λ (v : _). v.now) c.args.report) sources
           (g.S.Shelf.failures c.args.shelf.now) (g.B.Bench.failures c.args.bench.now)
           (g.S.Shelf.failures c.consolidate_checked.new.shelf) (g.B.Bench.failures c.consolidate_checked.new.bench)
           (g.B.Bench.stored c.consolidate_checked.new.bench))
-          (λ ended run. consolidates_list leave list c.args.handle checked.project checked.bound sources
+          (λ ended run. consolidates_list leave list c.args.handle
+          (option_map (λ (v : _). v.now) c.args.report) checked.project checked.bound sources
           (g.S.Shelf.stored c.open.new.shelf) (g.S.Shelf.failures c.args.shelf.now)
           (g.S.Shelf.failures c.open.new.shelf) (g.B.Bench.failures c.args.bench.now)
           (g.S.Shelf.failures c.consolidate_checked.new.shelf) (g.B.Bench.failures c.consolidate_checked.new.bench)
@@ -134,7 +140,9 @@ returns-clause-consolidated g c =
       in_turn = λ honest. tt;
       named = search rules;
       list_last = search rules;
-      rounds = λ honest right. consolidates_list leave list handle project binding sources
+      report_last = search rules;
+      rounds = λ honest right. consolidates_list leave list handle
+          (option_map (λ (v : _). v.now) c.args.report) project binding sources
           (g.S.Shelf.stored c.open.new.shelf) (g.S.Shelf.failures c.args.shelf.now)
           (g.S.Shelf.failures c.open.new.shelf) (g.B.Bench.failures c.args.bench.now)
           (g.S.Shelf.failures c.consolidate_checked.new.shelf) (g.B.Bench.failures c.consolidate_checked.new.bench)
@@ -150,12 +158,14 @@ returns-clause-consolidated g c =
 pub returns-in_err-checked-clause-standard : goal.returns-in_err-checked-clause-standard
 returns-in_err-checked-clause-standard g c are =
     subst (λ (leave : Leaving). IsConsolidation g.S.Shelf g.B.Bench leave c.args.list.now c.args.handle
+    (option_map (λ (v : _). v.now) c.args.report)
     c.args.shelf.now c.open.new.shelf c.args.bench.now c.args.bench.now c.from_residual.result)
     (standard_left _ _ c.args.passes.items are) (returns-in_err-checked-clause-consolidated g c)
 
 pub returns-in_err-written-clause-standard : goal.returns-in_err-written-clause-standard
 returns-in_err-written-clause-standard g c are =
     subst (λ (leave : Leaving). IsConsolidation g.S.Shelf g.B.Bench leave c.args.list.now c.args.handle
+    (option_map (λ (v : _). v.now) c.args.report)
     c.args.shelf.now c.consolidate_checked.new.shelf c.args.bench.now c.consolidate_checked.new.bench
     c.from_residual-in_err-written.result)
     (standard_left _ _ c.args.passes.items are) (returns-in_err-written-clause-consolidated g c)
@@ -163,6 +173,7 @@ returns-in_err-written-clause-standard g c are =
 pub returns-clause-standard : goal.returns-clause-standard
 returns-clause-standard g c are =
     subst (λ (leave : Leaving). IsConsolidation g.S.Shelf g.B.Bench leave c.args.list.now c.args.handle
+    (option_map (λ (v : _). v.now) c.args.report)
     c.args.shelf.now c.consolidate_checked.new.shelf c.args.bench.now c.consolidate_checked.new.bench (Ok (record {
       media = c.in_ok-written.written.media;
       entries = c.in_ok-written.written.entries;

@@ -1,4 +1,4 @@
-use Rattle.std.proofs.Common.{IsTrue, None, Some, subst, sym}
+use Rattle.std.proofs.Common.{IsTrue, None, Some, false, subst, sym}
 use Rattle.work_terms.specs.Disk.{Files}
 use Rattle.job_terms.specs.declared.Progress.{Progress}
 use Rattle.list_terms.specs.Heard.{sounds_of}
@@ -10,13 +10,14 @@ use Rattle.consolidate.proofs.Events.{events_map}
 use Rattle.consolidate.proofs.Media.{schedules_from}
 use Rattle.consolidate.proofs.Planned.{no_board, not_planned}
 use Rattle.consolidate.proofs.Rounds.{ready}
+use Rattle.consolidate.proofs.Told.{of_schedule}
 use Rattle.consolidate.proofs.remade.schedule_consolidation.Goals as goal
 
 pub returns-in-Ok-schedule_pieces-clause-ran : goal.returns-in-Ok-schedule_pieces-clause-ran
 returns-in-Ok-schedule_pieces-clause-ran g c honest right text accepted =
     let leave : Leaving = left_by (λ pass. (goal.Pass-dyn g (pass.vtable, pass.value)).looking pass.value)
     (λ pass. (goal.Pass-dyn g (pass.vtable, pass.value)).gives pass.value) c.args.passes.items in
-    let now = ready leave text c.args.checked.project c.args.checked.bound c.args.handle (g.S.Shelf.honest
+    let now = ready leave text c.args.checked.project c.args.checked.bound c.args.handle None (g.S.Shelf.honest
     c.args.shelf.now) (g.S.Shelf.stored c.args.shelf.now) (g.S.Shelf.stored c.plan.new.shelf)
     c.in-Ok.consolidation c.in-Ok.ensures.only_reads.same honest accepted c.in-Ok.ensures.planned
     (c.in-Ok.ensures.there (g.S.Shelf.stored c.args.shelf.now) accepted.bound) in
@@ -33,7 +34,7 @@ pub returns-in-Err-schedule_pieces-clause-ran : goal.returns-in-Err-schedule_pie
 returns-in-Err-schedule_pieces-clause-ran g c honest right text accepted =
     let leave : Leaving = left_by (λ pass. (goal.Pass-dyn g (pass.vtable, pass.value)).looking pass.value)
     (λ pass. (goal.Pass-dyn g (pass.vtable, pass.value)).gives pass.value) c.args.passes.items in
-    let now = ready leave text c.args.checked.project c.args.checked.bound c.args.handle (g.S.Shelf.honest
+    let now = ready leave text c.args.checked.project c.args.checked.bound c.args.handle None (g.S.Shelf.honest
     c.args.shelf.now) (g.S.Shelf.stored c.args.shelf.now) (g.S.Shelf.stored c.plan.new.shelf)
     c.in-Ok.consolidation c.in-Ok.ensures.only_reads.same honest accepted c.in-Ok.ensures.planned
     (c.in-Ok.ensures.there (g.S.Shelf.stored c.args.shelf.now) accepted.bound) in
@@ -59,7 +60,7 @@ pub returns-in-Ok-schedule_pieces-clause-same_sound : goal.returns-in-Ok-schedul
 returns-in-Ok-schedule_pieces-clause-same_sound g c honest right text accepted finished =
     let leave : Leaving = left_by (λ pass. (goal.Pass-dyn g (pass.vtable, pass.value)).looking pass.value)
     (λ pass. (goal.Pass-dyn g (pass.vtable, pass.value)).gives pass.value) c.args.passes.items in
-    let now = ready leave text c.args.checked.project c.args.checked.bound c.args.handle (g.S.Shelf.honest
+    let now = ready leave text c.args.checked.project c.args.checked.bound c.args.handle None (g.S.Shelf.honest
     c.args.shelf.now) (g.S.Shelf.stored c.args.shelf.now) (g.S.Shelf.stored c.plan.new.shelf)
     c.in-Ok.consolidation c.in-Ok.ensures.only_reads.same honest accepted c.in-Ok.ensures.planned
     (c.in-Ok.ensures.there (g.S.Shelf.stored c.args.shelf.now) accepted.bound) in
@@ -72,7 +73,7 @@ pub returns-in-Ok-schedule_pieces-clause-written : goal.returns-in-Ok-schedule_p
 returns-in-Ok-schedule_pieces-clause-written g c honest right text accepted finished =
     let leave : Leaving = left_by (λ pass. (goal.Pass-dyn g (pass.vtable, pass.value)).looking pass.value)
     (λ pass. (goal.Pass-dyn g (pass.vtable, pass.value)).gives pass.value) c.args.passes.items in
-    let now = ready leave text c.args.checked.project c.args.checked.bound c.args.handle (g.S.Shelf.honest
+    let now = ready leave text c.args.checked.project c.args.checked.bound c.args.handle None (g.S.Shelf.honest
     c.args.shelf.now) (g.S.Shelf.stored c.args.shelf.now) (g.S.Shelf.stored c.plan.new.shelf)
     c.in-Ok.consolidation c.in-Ok.ensures.only_reads.same honest accepted c.in-Ok.ensures.planned
     (c.in-Ok.ensures.there (g.S.Shelf.stored c.args.shelf.now) accepted.bound) in
@@ -95,3 +96,10 @@ returns-in-Err-fresh_board-clause-stores g c = no_board g.S.Shelf g.B.Bench Prog
 pub returns-in-Err-in_turn-clause-stores : goal.returns-in-Err-in_turn-clause-stores
 returns-in-Err-in_turn-clause-stores g c = no_board g.S.Shelf g.B.Bench Progress c.args.shelf.now
     c.plan.new.shelf c.args.bench.now (g.met.B.Bench.only_now c.args.bench.now) c.in-Ok.ensures.only_reads
+
+pub returns-in-Err-clause-own : goal.returns-in-Err-clause-own
+returns-in-Err-clause-own g c text =
+    of_schedule text c.of_consolidation.result (c.of_consolidation.ensures.own false text)
+
+pub schedule_pieces-requires-clause-unreported : goal.schedule_pieces-requires-clause-unreported
+schedule_pieces-requires-clause-unreported g c = c.in-Ok.ensures.planned.is_asked

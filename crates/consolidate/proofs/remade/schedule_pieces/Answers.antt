@@ -1,18 +1,19 @@
-use Rattle.std.proofs.Common.{◌≡◌, ◌∙◌, IsTrue, None, Some, Ok, Err, arith, ap, length, refl, subst, sym}
+use Rattle.std.proofs.Common.{◌∙◌, IsTrue, None, Some, Ok, Err, arith, ap, length, refl, subst, sym}
 use Rattle.std.specs.List.{range_with_len}
 use Rattle.std.specs.Prelude.{codes, false}
 use Rattle.job_terms.specs.declared.Progress.{Progress}
 use Rattle.job_terms.specs.Workers.{GivenUp, jobs_over}
 use Rattle.schedule.specs.Events.{EndsIn, RunsEvents}
 use Rattle.schedule.specs.declared.fault.RunFault.{RunFault}
-use Rattle.consolidation.specs.Jobs.{HoldsMedia, whole_of, work_of}
+use Rattle.consolidation.specs.Jobs.{whole_of, work_of}
 use Rattle.consolidate.specs.Commands.{KeepsStores}
 use Rattle.consolidate.specs.Fault.{file_of}
 use Rattle.consolidate.specs.declared.fault.Fault.{Fault}
 use Rattle.consolidate.specs.declared.fault.Fault.TheVariants as told
 use Rattle.consolidate.proofs.Media.{lent_events, schedules_media}
-use Rattle.consolidate.proofs.Rounds.{few_media, lent_finished, list_no_medium, no_output}
+use Rattle.consolidate.proofs.Rounds.{few_media, lent_finished, list_no_medium, no_output, none_reported}
 use Rattle.consolidate.proofs.Stores.{raised_behind, same_output, stopped_at}
+use Rattle.consolidate.proofs.Told.{of_schedule}
 use Rattle.consolidate.proofs.remade.schedule_pieces.Goals as goal
 
 no_marks : IsTrue false → ⊥
@@ -89,7 +90,9 @@ returns-in-Ok-finish-clause-ran g c honest right leave project binding handle pl
     (g.B.Bench.failures c.run_laid.new.bench) (g.B.Bench.failures c.finish.new.bench)
     (g.B.Bench.stored c.run_laid.new.bench) (g.B.Bench.stored c.finish.new.bench) (Some c.in-Ok-run_laid.progress) None planned
     (c.in-Ok.ensures.only_writes.cause.left tt) (c.in-Ok-finish.ensures.only_writes.cause.left tt)
-    (λ n other. c.in-Ok-finish.ensures.only_writes.others (subst IsTrue (sym (c.run_laid.ensures.same_bench ∙ c.in-Ok.ensures.only_writes.honest_same)) right) n other)
+    (λ n other. c.in-Ok-finish.ensures.only_writes.others (subst IsTrue (sym (c.run_laid.ensures.same_bench ∙
+    c.in-Ok.ensures.only_writes.honest_same)) right) n
+    (record { no_list = other; no_report = none_reported _ n c.requires.unreported }))
     (lent_events plan c.pieces-pieces.result c.args.board.now.order c.args.events.now sources
     (g.B.Bench.stored c.lay_out.new.bench) (g.B.Bench.stored c.run_laid.new.bench) (g.S.Shelf.failures c.args.shelf.now)
     (g.B.Bench.failures c.lay_out.new.bench) (g.S.Shelf.failures c.run_laid.new.shelf) (g.B.Bench.failures c.run_laid.new.bench)
@@ -103,7 +106,9 @@ returns-in-Ok-finish-clause-same_sound g c honest right text leave project bindi
     finished =
     let sources = g.S.Shelf.stored c.args.shelf.now in
     let plan = c.args.consolidation.now in
-    c.in-Ok-finish.ensures.same_sound (subst IsTrue (sym (c.run_laid.ensures.same_bench ∙ c.in-Ok.ensures.only_writes.honest_same)) right) text leave project binding handle sources accepted planned there
+    c.in-Ok-finish.ensures.same_sound (subst IsTrue (sym (c.run_laid.ensures.same_bench ∙
+    c.in-Ok.ensures.only_writes.honest_same)) right) text leave project binding handle None sources accepted planned
+    there
     (lent_finished plan c.pieces-pieces.result sources (g.B.Bench.stored c.lay_out.new.bench)
     (g.B.Bench.stored c.run_laid.new.bench) c.pieces-pieces.ensures.lent
     (λ whole parts filled. c.in-Ok-run_laid.ensures.finished honest (subst IsTrue (sym c.in-Ok.ensures.only_writes.honest_same) right) whole parts filled finished)
@@ -115,7 +120,8 @@ returns-in-Ok-finish-clause-written g c honest right leave project binding handl
     let plan = c.args.consolidation.now in
     record {
       counts = c.in-Ok-finish.field-0;
-      written = c.in-Ok-finish.ensures.written (subst IsTrue (sym (c.run_laid.ensures.same_bench ∙ c.in-Ok.ensures.only_writes.honest_same)) right) leave project binding handle sources
+      written = c.in-Ok-finish.ensures.written (subst IsTrue (sym (c.run_laid.ensures.same_bench ∙
+          c.in-Ok.ensures.only_writes.honest_same)) right) leave project binding handle None sources
           (g.B.Bench.stored c.args.bench.now) planned there
           (lent_finished plan c.pieces-pieces.result sources (g.B.Bench.stored c.lay_out.new.bench)
           (g.B.Bench.stored c.run_laid.new.bench) c.pieces-pieces.ensures.lent
@@ -125,7 +131,8 @@ returns-in-Ok-finish-clause-written g c honest right leave project binding handl
           (no_output c.args.consolidation.now c.pieces-pieces.result n c.pieces-pieces.ensures.lent
           c.pieces-pieces.ensures.names away.no_medium)
           ∙ c.in-Ok.ensures.only_writes.others right n away.no_medium);
-      durable = c.in-Ok-finish.ensures.durable (subst IsTrue (sym (c.run_laid.ensures.same_bench ∙ c.in-Ok.ensures.only_writes.honest_same)) right);
+      durable = rw c.requires.unreported at (c.in-Ok-finish.ensures.durable (subst IsTrue
+          (sym (c.run_laid.ensures.same_bench ∙ c.in-Ok.ensures.only_writes.honest_same)) right));
     }
 
 pub returns-in-Ok-finish-clause-durable : goal.returns-in-Ok-finish-clause-durable
@@ -171,7 +178,9 @@ returns-then-not-progress-clause-named g c right n away =
 pub returns-in-Ok-finish-clause-named : goal.returns-in-Ok-finish-clause-named
 returns-in-Ok-finish-clause-named g c right n away =
     let few = few_media (length c.args.consolidation.now.runs) 32767 n c.requires.few away.no_medium in
-    c.in-Ok-finish.ensures.only_writes.others (subst IsTrue (sym (c.run_laid.ensures.same_bench ∙ c.in-Ok.ensures.only_writes.honest_same)) right) n away.no_list
+    c.in-Ok-finish.ensures.only_writes.others (subst IsTrue (sym (c.run_laid.ensures.same_bench ∙
+    c.in-Ok.ensures.only_writes.honest_same)) right) n
+    (record { no_list = away.no_list; no_report = none_reported _ n c.requires.unreported })
     ∙ (c.in-Ok-run_laid.ensures.others (subst IsTrue (sym c.in-Ok.ensures.only_writes.honest_same) right) n
     (no_output c.args.consolidation.now c.pieces-pieces.result n c.pieces-pieces.ensures.lent
     c.pieces-pieces.ensures.names few)
@@ -180,7 +189,9 @@ returns-in-Ok-finish-clause-named g c right n away =
 pub returns-in-Err-finish-clause-named : goal.returns-in-Err-finish-clause-named
 returns-in-Err-finish-clause-named g c right n away =
     let few = few_media (length c.args.consolidation.now.runs) 32767 n c.requires.few away.no_medium in
-    c.in-Err-finish.ensures.only_writes.others (subst IsTrue (sym (c.run_laid.ensures.same_bench ∙ c.in-Ok.ensures.only_writes.honest_same)) right) n away.no_list
+    c.in-Err-finish.ensures.only_writes.others (subst IsTrue (sym (c.run_laid.ensures.same_bench ∙
+    c.in-Ok.ensures.only_writes.honest_same)) right) n
+    (record { no_list = away.no_list; no_report = none_reported _ n c.requires.unreported })
     ∙ (c.in-Ok-run_laid.ensures.others (subst IsTrue (sym c.in-Ok.ensures.only_writes.honest_same) right) n
     (no_output c.args.consolidation.now c.pieces-pieces.result n c.pieces-pieces.ensures.lent
     c.pieces-pieces.ensures.names few)
@@ -271,3 +282,12 @@ returns-in-Err-finish-clause-stores g c =
 pub returns-in-Err-Mark-clause-stores : goal.returns-in-Err-Mark-clause-stores
 returns-in-Err-Mark-clause-stores g c =
     absurd (no_marks (c.in-Err-Mark.ensures.only_marks (ap Err c.in-Err-Mark.field-0-is)))
+
+pub returns-in-Err-clause-own : goal.returns-in-Err-clause-own
+returns-in-Err-clause-own g c text =
+    of_schedule text c.of_writing.result (c.of_writing.ensures.own false text (c.in-Err.ensures.own false))
+
+pub returns-in-Err-finish-clause-own : goal.returns-in-Err-finish-clause-own
+returns-in-Err-finish-clause-own g c text =
+    of_schedule text c.of_writing-in-Err-finish.result
+    (c.of_writing-in-Err-finish.ensures.own false text (rw c.requires.unreported at c.in-Err-finish.ensures.own))
