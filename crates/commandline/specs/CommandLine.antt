@@ -47,7 +47,9 @@ abbrev pub over_folders : Text → App
 over_folders name = with_rule (over_media name) (place_rule (codes "OUT"))
 
 abbrev pub consolidate_shape : Shape
-consolidate_shape = (with_rule (over_folders (codes "consolidate")) (default_rule (codes "handle") (codes "48000"))).top
+consolidate_shape =
+    let handled = with_rule (over_folders (codes "consolidate")) (default_rule (codes "handle") (codes "48000")) in
+    (with_rule handled (flag_rule (codes "report"))).top
 
 -- with what may be chosen of a rendering
 abbrev pub with_choice : App → App
@@ -94,14 +96,14 @@ pub record Chosen : Type 0 where
   pub order : Order
 
 -- What the program is asked for: a command with its list, the folder of its media, and the folder that is written to
--- (a resumed one goes on with what is in there); a report of a check, or a picture; or what the number of a refusal or
--- of a notice means, or all of them.
+-- (a resumed one goes on with what is in there), and whether a report is written; a report of a check, or a picture;
+-- or what the number of a refusal or of a notice means, or all of them.
 pub data Asked : Type 0 where
   Check : (list media : Text) → Asked
   Report : (list media : Text) → Asked
   Render : (list media out : Text) → (chosen : Chosen) → Asked
   Resume : (list media out : Text) → (chosen : Chosen) → Asked
-  Consolidate : (list media out : Text) → (handle : ℕ) → Asked
+  Consolidate : (list media out : Text) → (handle : ℕ) → (report : Bool) → Asked
   Show : (list media : Text) → (handle : ℕ) → Asked
   Explain : (number : Option Text) → Asked
   ExplainNotice : (number : Option Text) → Asked
@@ -168,7 +170,7 @@ asked_to name list media out rows =
     if bytes_eq name (codes "render") then option_map (λ chosen. Render list media out chosen) (chosen_of rows)
     else if bytes_eq name (codes "resume") then option_map (λ chosen. Resume list media out chosen) (chosen_of rows)
     else if bytes_eq name (codes "consolidate")
-    then option_map (λ handle. Consolidate list media out handle) (handle_of rows)
+    then option_map (λ handle. Consolidate list media out handle (is_set (codes "report") rows)) (handle_of rows)
     else None
 
 -- the command of this name over a list and its media

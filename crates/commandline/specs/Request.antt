@@ -21,7 +21,8 @@ asked_of (Check list media) = words.Check list.now media.now
 asked_of (Report list media) = words.Report list.now media.now
 asked_of (Render places chosen) = words.Render places.list.now places.media.now places.out.now (chosen_of chosen)
 asked_of (Resume places chosen) = words.Resume places.list.now places.media.now places.out.now (chosen_of chosen)
-asked_of (Consolidate places handle) = words.Consolidate places.list.now places.media.now places.out.now handle
+asked_of (Consolidate places handle report) =
+    words.Consolidate places.list.now places.media.now places.out.now handle report
 asked_of (Show list media handle) = words.Show list.now media.now handle
 asked_of (Explain number) = words.Explain (option_map (λ text. text.now) number)
 asked_of (ExplainNotice number) = words.ExplainNotice (option_map (λ text. text.now) number)

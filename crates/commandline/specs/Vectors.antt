@@ -35,7 +35,7 @@ unfolding words_fault named_by clap_on_literals
 orders_by_time = refl
 
 handles : request_of (codes "consolidate" ∷ codes "--handle" ∷ codes "0" ∷ codes "L" ∷ codes "M" ∷ codes "O" ∷ [])
-    ≡ Some (Consolidate (codes "L") (codes "M") (codes "O") 0)
+    ≡ Some (Consolidate (codes "L") (codes "M") (codes "O") 0 false)
 unfolding words_fault named_by clap_on_literals
 handles = refl
 
@@ -97,13 +97,13 @@ unfolding words_fault named_by clap_on_literals
 resumes = refl
 
 consolidates : request_of (codes "consolidate" ∷ codes "L.adl" ∷ codes "M" ∷ codes "O" ∷ [])
-    ≡ Some (Consolidate (codes "L.adl") (codes "M") (codes "O") 48000)
+    ≡ Some (Consolidate (codes "L.adl") (codes "M") (codes "O") 48000 false)
 unfolding words_fault named_by clap_on_literals
 consolidates = refl
 
 -- `-` is a word like others, for standard input
 consolidates_input : request_of (codes "consolidate" ∷ codes "-" ∷ codes "M" ∷ codes "O" ∷ [])
-    ≡ Some (Consolidate (codes "-") (codes "M") (codes "O") 48000)
+    ≡ Some (Consolidate (codes "-") (codes "M") (codes "O") 48000 false)
 unfolding words_fault named_by clap_on_literals
 consolidates_input = refl
 
@@ -138,6 +138,11 @@ reports : request_of (codes "check" ∷ codes "L.adl" ∷ codes "M" ∷ codes "-
     ≡ Some (Report (codes "L.adl") (codes "M"))
 unfolding words_fault named_by clap_on_literals
 reports = refl
+
+consolidates_with_report : request_of (codes "consolidate" ∷ codes "--report" ∷ codes "L" ∷ codes "M" ∷ codes "O" ∷ [])
+    ≡ Some (Consolidate (codes "L") (codes "M") (codes "O") 48000 true)
+unfolding words_fault named_by clap_on_literals
+consolidates_with_report = refl
 
 shows : request_of (codes "show" ∷ codes "L.adl" ∷ codes "M" ∷ []) ≡ Some (Show (codes "L.adl") (codes "M") 48000)
 unfolding words_fault named_by clap_on_literals

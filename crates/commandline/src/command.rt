@@ -21,6 +21,9 @@ pub fn command<'a>(alloc: Global) -> Result<Command<'a>, AllocError>
         .subcommand(explain_command(alloc)?)
 }
 
+/// The version of the program.
+pub const VERSION: &str = "0.2.0";
+
 /// What the statuses mean, for the help.
 const STATUSES: &str = "\
 Status: 0 done, 1 refused, 2 the words can't be read.
@@ -38,7 +41,7 @@ fn top_command<'a>(alloc: Global) -> Result<Command<'a>, AllocError>
     Command::new(alloc, "adlcons")
         .about("Checks, consolidates and renders audio decision lists (AES31-3) over WAVE files")
         .after_help(STATUSES)
-        .version("0.2.0")
+        .version(VERSION)
         .no_binary_name(true)
         .arg_required_else_help(true)
         .subcommand_required(true)
@@ -88,7 +91,9 @@ fn consolidate_command<'a>(alloc: Global) -> Result<Command<'a>, AllocError>
         "Example: adlcons consolidate session.adl sources consolidated --handle 96000",
     )?;
     let help = "Frames kept on each side of what plays";
-    with_default(alloc, command, "handle", "N", "48000", help)
+    let command = with_default(alloc, command, "handle", "N", "48000", help)?;
+    let report = "Write where the media come from, and checksums";
+    with_flag(alloc, command, "report", report)
 }
 
 /// The command that renders a list.

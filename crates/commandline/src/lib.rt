@@ -6,4 +6,5 @@ mod command;
 mod request;
 
 pub use choice::Chosen;
+pub use command::VERSION;
 pub use request::{Parsed, Places, Request, parse};

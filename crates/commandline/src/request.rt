@@ -38,8 +38,8 @@ pub enum Request<'a> {
     Render(Places<'a>, Chosen<'a>),
     /// Goes on with such a rendering that was stopped.
     Resume(Places<'a>, Chosen<'a>),
-    /// Writes a list over new media, with handles of so many frames.
-    Consolidate(Places<'a>, u64),
+    /// Writes a list over new media, with handles of so many frames, and a report where it is asked for.
+    Consolidate(Places<'a>, u64, bool),
     /// Draws the list over the folder of its media, with handles of so many frames.
     Show(&'a str, &'a str, u64),
     /// Tells what the number of a refusal means, or what all of them mean.
@@ -192,6 +192,15 @@ fn shown<'a>(list: &'a str, media: &'a str, words: &ArgMatches<'_>) -> Option<Re
     Some(Request::Show(list, media, handle))
 }
 
+/// A consolidation with this handle, and a report where the words ask for it.
+fn consolidated<'a>(places: Places<'a>, handle: u64, words: &ArgMatches<'_>) -> Request<'a>
+    ensures { asked_of result
+        ≡ line.Consolidate places.entry.list.now places.entry.media.now places.entry.out.now handle
+        (line.is_set (codes "report") (rows_of (found_of words.now))) }
+{
+    Request::Consolidate(places, handle, is_set("report", words))
+}
+
 /// What the command of this name asks for over places that it writes to.
 fn request_to<'a>(name: &str, places: Places<'a>, words: &ArgMatches<'a>) -> Option<Request<'a>>
     ensures { option_map asked_of result
@@ -201,7 +210,7 @@ fn request_to<'a>(name: &str, places: Places<'a>, words: &ArgMatches<'a>) -> Opt
     match name {
         "render" => Some(Request::Render(places, chosen_in(words)?)),
         "resume" => Some(Request::Resume(places, chosen_in(words)?)),
-        "consolidate" => Some(Request::Consolidate(places, handle_in(words)?)),
+        "consolidate" => Some(consolidated(places, handle_in(words)?, words)),
         _ => None,
     }
 }
