@@ -356,7 +356,7 @@ pub static MEANINGS: [Meaning; 55] = [
     Meaning {
         number: 52,
         spot: Spot::Nowhere,
-        meaning: "a source can't be read in the search for silence",
+        meaning: "a source can't be read in the search for silence, or for the report",
         cause: "the device failed, or the file was changed meanwhile",
         remedy: "check the file, and run again into an empty folder",
         is_answered: true,
@@ -388,7 +388,7 @@ pub static MEANINGS: [Meaning; 55] = [
     Meaning {
         number: 56,
         spot: Spot::Nowhere,
-        meaning: "out of memory for the new list",
+        meaning: "out of memory for the new list, or for the report",
         cause: "it is larger than the memory that is free",
         remedy: "free memory, or split the list",
         is_answered: true,
