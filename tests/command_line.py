@@ -126,6 +126,24 @@ Options:
 Example: adlcons check session.adl sources
 """
 
+CONSOLIDATE_HELP = """Write new media of just the frames that a list plays, and a list
+
+Usage: adlcons consolidate [OPTIONS] <LIST> <MEDIA> <OUT>
+
+Arguments:
+  <LIST>   The list, a file; - is standard input
+  <MEDIA>  The folder of the list's WAVE files
+  <OUT>    The folder to write to, which is there and empty
+
+Options:
+      --all         List every fault of a refused list
+      --handle <N>  Frames kept on each side of what plays [default: 48000]
+      --report      Write where the media come from, and checksums
+  -h, --help        Print help
+
+Example: adlcons consolidate session.adl sources consolidated --handle 96000
+"""
+
 NO_OUT = """error: the following required arguments were not provided:
   <OUT>
 
@@ -146,7 +164,10 @@ For more information, try '--help'.
 
 def texts(scene: Scene) -> None:
     """What help, the version and mistakes say."""
-    for words, text in ((("--help",), HELP), (("check", "-h"), CHECK_HELP), (("help",), HELP), (("--version",), "adlcons 0.2.0\n")):
+    for words, text in (
+        (("--help",), HELP), (("check", "-h"), CHECK_HELP), (("consolidate", "-h"), CONSOLIDATE_HELP),
+        (("help",), HELP), (("--version",), "adlcons 0.2.0\n"),
+    ):
         same(f"the text of {words}", scene.run(*words).output.decode(), text)
     for words, text in ((("render", LIST, MEDIA), NO_OUT), (("rendr", LIST, MEDIA, OUT), NO_COMMAND)):
         same(f"the mistake of {words}", scene.run(*words).error.decode(), text)

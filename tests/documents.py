@@ -7,7 +7,8 @@ import subprocess
 import sys
 from pathlib import Path
 
-from harness import Mismatch, Scene, Skipped, Suite, same, same_bytes
+from harness import LIST, MEDIA, OUT, Mismatch, Scene, Skipped, Suite, same, same_bytes
+from tables import FIRST_LIST, wave
 
 TOP = Path(__file__).resolve().parent.parent
 DOCS = TOP / "docs"
@@ -61,6 +62,15 @@ def library_example(_: Scene) -> None:
     """The example for the programmer is the program's own file, which is compiled and run."""
     code = re.search(r"^```rust\n(.*?)^```$", (DOCS / "LIBRARY.md").read_text(), re.M | re.S)[1]
     same("the example", code, (TOP / "crates/adlcons/src/stored.rt").read_text().partition("\n")[2])
+
+
+def reports(scene: Scene) -> None:
+    """The reports of REPORT.md are those of the first list."""
+    scene.put(FIRST_LIST, {"A.wav": wave()})
+    checked, consolidated = ("".join(block) + "\n" for block in blocks_of(DOCS / "REPORT.md"))
+    same("of a check", scene.run("check", LIST, MEDIA, "--report").output.decode(), checked)
+    scene.run("consolidate", LIST, MEDIA, OUT, "--report", "--handle", "0")
+    same("of a consolidation", scene.files()["consolidated.json"].decode(), consolidated)
 
 
 def helped(scene: Scene) -> dict:
@@ -160,6 +170,7 @@ def run(suite: Suite) -> None:
     suite.case("the transcript of README.md", transcript)
     suite.case("the commands of MANY_MACHINES.md", many_machines)
     suite.case("the example of LIBRARY.md", library_example)
+    suite.case("the reports of REPORT.md", reports)
     suite.case("the man page", man_page)
     suite.case("man shows the page", man_shows_page)
     suite.case("the completion", completion)

@@ -83,7 +83,8 @@ def refusals_of(call: Call) -> set:
         return {(52, ""), *((number, name) for name in ([file] if file else SOURCES) for number in (21, 22))}
     if file:
         return {(62, file)}
-    return {(20, OUT), *((62, name) for name in ("render.wav", "render.marks", "M00001.wav", "consolidated.adl"))}
+    return {(20, OUT), *((62, name) for name in (
+        "render.wav", "render.marks", "M00001.wav", "SHA256SUMS", "consolidated.json", "consolidated.adl"))}
 
 
 def check_failed(got: Outcome, failed: list, times: int, written: dict, begun: dict, whole: tuple) -> None:
@@ -122,17 +123,17 @@ def stopped(scene: Scene) -> dict:
     raise Mismatch("no block is ever marked")
 
 
-def injected(scene: Scene, command: str, call: Call, what: str, times: int = 1) -> Outcome:
+def injected(scene: Scene, command: str, call: Call, what: str, times: int = 1, words: tuple = ()) -> Outcome:
     """The command, with this in the place of the call and of those of its name behind it, so many in all."""
     last = call.number + times - 1
-    return traced(scene, command, "-e", f"inject={call.name}:{what}:when={call.number}..{last}")
+    return traced(scene, command, "-e", f"inject={call.name}:{what}:when={call.number}..{last}", words=words)
 
 
-def calls_of(scene: Scene, command: str) -> tuple:
+def calls_of(scene: Scene, command: str, words: tuple = ()) -> tuple:
     """What an unbroken command prints and leaves, and its calls."""
     if not shutil.which("strace"):
         raise Skipped("strace isn't installed (Debian package strace)")
-    done = traced(scene, command)
+    done = traced(scene, command, words=words)
     same("the status of the unbroken command", done.status, 0)
     calls = calls_in((scene.folder / "trace").read_text(), scene.folder)
     if len(calls) < 20:
@@ -146,16 +147,16 @@ def expect_whole(scene: Scene, files: dict) -> None:
     same_files(scene.files(), files)
 
 
-def each_call(command: str, times: int, before=nothing):
+def each_call(command: str, times: int, before=nothing, words: tuple = ()):
     """It fails so often in a row; a rendering is gone on with then."""
     def body(scene: Scene) -> None:
         put_project(scene)
         begun = before(scene)
         scene.put_out(begun)
-        whole, calls = calls_of(scene, command)
+        whole, calls = calls_of(scene, command, words)
         for call in calls:
             scene.put_out(begun)
-            got = injected(scene, command, call, "error=EIO", times)
+            got = injected(scene, command, call, "error=EIO", times, words)
             behind = range(call.number, call.number + times)
             failed = [other for other in calls if other.name == call.name and other.number in behind]
             try:
@@ -183,6 +184,20 @@ def killed_at_each_call(command: str, before=nothing):
             except Mismatch as fault:
                 raise Mismatch(f"killed at {call.name} {call.number} on {call.file}: {fault}") from fault
     return body
+
+
+def killed_with_a_report(scene: Scene) -> None:
+    """Where a consolidation is killed, a list that is there stands beside a whole report and whole media."""
+    put_project(scene)
+    words = ("--report",)
+    (_, whole), calls = calls_of(scene, "consolidate", words)
+    for call in calls:
+        scene.empty_out()
+        injected(scene, "consolidate", call, "signal=KILL", words=words)
+        files = scene.files()
+        if "consolidated.adl" in files:
+            rest = {name: data for name, data in files.items() if name != "consolidated.adl"}
+            same_files(rest, {name: data for name, data in whole.items() if name != "consolidated.adl"})
 
 
 def synced_before_the_list(scene: Scene) -> None:
@@ -214,6 +229,10 @@ def run(suite: Suite) -> None:
     for command in model.WRITING:
         suite.case(f"each call of {command} fails once", each_call(command, 1))
         suite.case(f"each call of {command} fails three times in a row", each_call(command, 3))
+    for times, often in ((1, "once"), (3, "three times in a row")):
+        case = each_call("consolidate", times, words=("--report",))
+        suite.case(f"each call of consolidate with a report fails {often}", case)
+    suite.case("a consolidation with a report is killed at each call", killed_with_a_report)
     suite.case("each call of resume fails once", each_call("resume", 1, stopped))
     suite.case("each call of resume fails three times in a row", each_call("resume", 3, stopped))
     suite.case("render is killed at each call", killed_at_each_call("render"))

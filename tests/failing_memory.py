@@ -89,13 +89,13 @@ def number_of(got: Outcome, written: dict, begun: dict, whole: tuple) -> int:
     return number
 
 
-def each_allocation(command: str, put, before=nothing):
+def each_allocation(command: str, put, before=nothing, more: tuple = ()):
     def body(scene: Scene) -> None:
         put(scene)
         begun = before(scene)
         scene.put_out(begun)
         log = scene.folder / "log"
-        words = [command, *words_of("render" if command == "resume" else command, OPTIONS)[1:]]
+        words = [command, *words_of("render" if command == "resume" else command, OPTIONS)[1:], *more]
         done = scene.run(*words)
         same("the status of the unbroken command", done.status, 0)
         whole = (done.output, scene.files())
@@ -140,6 +140,8 @@ def each_allocation_of_test(name: str, met: set):
 def run(suite: Suite) -> None:
     suite.case("each allocation of check fails", each_allocation("check", fading))
     suite.case("each allocation of consolidate fails", each_allocation("consolidate", fading))
+    suite.case("each allocation of consolidate with a report fails",
+               each_allocation("consolidate", fading, more=("--report",)))
     suite.case("each allocation of render fails", each_allocation("render", three_blocks))
     suite.case("each allocation of resume fails", each_allocation("resume", three_blocks, half_done))
     for name, met in BY_EVENTS.items():

@@ -61,26 +61,28 @@ def at_once(command: str):
     return body
 
 
-def run_logged(scene: Scene, command: str, environment: dict, fails: int = 0) -> tuple:
+def run_logged(scene: Scene, words: list, environment: dict, fails: int = 0) -> tuple:
     log = scene.folder / "log"
     log.unlink(missing_ok=True)
-    got = scene.run(*words_of(command, EXACT), env={**environment, "SYNC_FAILS": str(fails)})
+    got = scene.run(*words, env={**environment, "SYNC_FAILS": str(fails)})
     return got, log.read_text().splitlines() if log.exists() else []
 
 
-def syncs_of(command: str, media: int) -> list:
+def syncs_of(command: str, media: int, reports: tuple) -> list:
     """What is synced, and the file that is refused where that fails, none where it is a job's, which is done again. All
-    media are there before the first is synced, so their folder is synced once; the list comes behind them."""
+    media are there before the first is synced, so their folder is synced once; the files of a report come behind them,
+    and the list last."""
     if command == "render":
         sound, marks = ("render.wav", "render.wav"), ("render.marks", "render.marks")
         made = [sound, (OUT, "render.wav"), marks, (OUT, "render.marks"), marks, marks, marks]
         return [*made, ("render.wav", None), marks, sound, marks]
     names = [f"M{number:05d}.wav" for number in range(1, media + 1)]
-    files = [(name, name) for name in (*names, "consolidated.adl")]
-    return [files[0], (OUT, names[0]), *files[1:], (OUT, "consolidated.adl")]
+    files = [(name, name) for name in names]
+    last = [(synced, name) for name in (*reports, "consolidated.adl") for synced in (name, OUT)]
+    return [files[0], (OUT, names[0]), *files[1:], *last]
 
 
-def on_the_disk(command: str):
+def on_the_disk(command: str, *options: str, reports: tuple = ()):
     """Each output and its folder are synced, the list last, before the line is written; a sync that fails outside a job
     is 62."""
     def body(scene: Scene) -> None:
@@ -89,14 +91,15 @@ def on_the_disk(command: str):
         scene.put(text, media)
         environment = preloaded(scene, SYNC_LOG=str(scene.folder / "log"))
         wanted = model.answer(command, text, media, EXACT)
-        syncs = syncs_of(command, 3)
-        got, log = run_logged(scene, command, environment)
+        words = [*words_of(command, EXACT), *options]
+        syncs = syncs_of(command, 3, reports)
+        got, log = run_logged(scene, words, environment)
         same_answer(got, wanted)
         told = ["print out"] if wanted.saved is None else ["print out", "print err"]
         same("what is synced and printed", log, [f"sync {name}" for name, _ in syncs] + told)
         scene.empty_out()
         for fails, (_, output) in enumerate(syncs, 1):
-            got, log = run_logged(scene, command, environment, fails)
+            got, log = run_logged(scene, words, environment, fails)
             if output is None:
                 same_answer(got, wanted)
                 same_files(scene.files(), wanted.files)
@@ -161,6 +164,8 @@ def run(suite: Suite) -> None:
     for command in model.WRITING:
         suite.case(f"two runs into one folder at once, {command}", at_once(command))
         suite.case(f"done means on the disk, {command}", on_the_disk(command))
+    suite.case("done means on the disk, consolidate --report", on_the_disk(
+        "consolidate", "--report", reports=("SHA256SUMS", "consolidated.json")))
     suite.case("few handles", few_handles)
     suite.case("one write a line", one_write_a_line)
     suite.case("what a refusal's explanation tells", told_reasons)

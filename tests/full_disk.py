@@ -70,22 +70,22 @@ def marked_in(files: dict) -> int:
     return marks[44:].count(1) if len(marks) >= 44 and marks[0] == 1 else 0
 
 
-def goes_on(scene: Scene, command: str, whole: Outcome) -> None:
+def goes_on(scene: Scene, words: list, whole: Outcome) -> None:
     """A rendering is gone on with from its marks, now that there is room; a consolidation is begun again."""
-    if command == "render":
+    if words[0] == "render":
         line = f"resumed {FRAMES - 1} frames {marked_in(scene.files())} blocks were marked\n"
         got = scene.run("resume", LIST, MEDIA, OUT, *EXACT.words("render"))
         same("what is printed once there is room", (got.status, got.output), (0, line.encode()))
     else:
         scene.empty_out()
-        same("what is printed once there is room", scene.run(*words_of(command, EXACT)), whole)
+        same("what is printed once there is room", scene.run(*words), whole)
 
 
-def each_size(command: str, measure: str):
+def each_size(command: str, measure: str, *options: str):
     """The command on each disk that is too small by this measure, and gone on with once there is room."""
     def body(scene: Scene) -> None:
         put_cuts(scene)
-        words = words_of(command, EXACT)
+        words = [*words_of(command, EXACT), *options]
         whole = scene.run(*words)
         same("the status of the unbroken command", whole.status, 0)
         files = scene.files()
@@ -96,7 +96,7 @@ def each_size(command: str, measure: str):
                 if got.status != 0:
                     check_full(got, scene.files())
                     make_room(scene)
-                    goes_on(scene, command, whole)
+                    goes_on(scene, words, whole)
                 same_files(scene.files(), files)
             if got.status == 0:
                 break
@@ -109,3 +109,5 @@ def run(suite: Suite) -> None:
     for command in model.WRITING:
         suite.case(f"a disk of each size, {command}", each_size(command, "pages"))
         suite.case(f"a disk of each number of files, {command}", each_size(command, "files"))
+    for measure, name in (("pages", "size"), ("files", "number of files")):
+        suite.case(f"a disk of each {name}, consolidate --report", each_size("consolidate", measure, "--report"))

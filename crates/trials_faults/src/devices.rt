@@ -14,7 +14,7 @@ enum Ended {
     Done,
     /// Refused for the source, which can't be opened: 22.
     Unread,
-    /// Refused for the source, which can't be asked for silence: 52.
+    /// Refused for the source, which can't be asked for silence, or read for a report: 52.
     Unheard,
     /// Refused for an output that can't be written: 62.
     Unwritten(OutputFile),
@@ -92,6 +92,10 @@ const MARKS: Part = Part::Write(OutputFile::Marks);
 const FIRST: Part = Part::Write(OutputFile::Medium(1));
 
 const SECOND: Part = Part::Write(OutputFile::Medium(2));
+
+const SUMS: Part = Part::Write(OutputFile::Sums);
+
+const REPORT: Part = Part::Write(OutputFile::Report);
 
 const LIST: Part = Part::Write(OutputFile::List);
 
@@ -201,6 +205,45 @@ const CONSOLIDATED: [Part; 13] = [
     LIST,
 ];
 
+/// The calls of the sources where a report is asked for: the frames of both media are read for it.
+const REPORTED_FROM: [Part; 12] = [
+    Part::Open,
+    Part::Open,
+    Part::Open,
+    Part::Open,
+    Part::Open,
+    Part::Hear,
+    Part::Hear,
+    Part::Hear,
+    Part::Hear,
+    Part::Hear,
+    Part::Job(0),
+    Part::Job(1),
+];
+
+/// The calls of its output: its checksums and the report are made, written and synced behind the media, the list last.
+const REPORTED: [Part; 19] = [
+    FIRST,
+    FIRST,
+    FIRST,
+    SECOND,
+    SECOND,
+    SECOND,
+    Part::Job(0),
+    Part::Job(1),
+    FIRST,
+    SECOND,
+    SUMS,
+    SUMS,
+    SUMS,
+    REPORT,
+    REPORT,
+    REPORT,
+    LIST,
+    LIST,
+    LIST,
+];
+
 /// Does a job over sources of whose calls so many fail behind so many; tells how it ended, and how many failed.
 fn fail_sources(rt: &impl Abort, job: &Job, from: u64, times: u64) -> Result<(Ended, u64), Fail> {
     let mut shelf = job.shelf(from, times)?;
@@ -286,6 +329,15 @@ fn each_call_of_a_consolidation_fails(rt: HostRuntime) -> Result<(), Fail> {
         for times in 1..4 {
             fail_each(&rt, &job, times, &CONSOLIDATED_FROM, &CONSOLIDATED)?;
         }
+    }
+    Ok(())
+}
+
+#[test]
+fn each_call_of_a_consolidation_with_a_report_fails(rt: HostRuntime) -> Result<(), Fail> {
+    let job = Job::new(rt.alloc(), Call::Report)?;
+    for times in 1..4 {
+        fail_each(&rt, &job, times, &REPORTED_FROM, &REPORTED)?;
     }
     Ok(())
 }

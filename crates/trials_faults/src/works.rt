@@ -93,13 +93,39 @@ pub(crate) const CONSOLIDATED: &[u8] = b"<ADL>\r
 </ADL>\r
 ";
 
+/// The version of a program that asks for a report of this.
+const VERSION: &str = "1.2";
+
+/// The report, in which the SHA-256 of both media and of the list are those of another program.
+const REPORT: &[u8] =
+    b"{\"entries\":[{\"entry\":1,\"given\":[1],\"more\":0},{\"entry\":2,\"given\":[1],\"more\":0}],\
+\"handle\":0,\"list_sha256\":\"4691bb81a5d74d115e04cb7c0977f93e64725e1ee50e4cec69e7d525ddca8832\",\
+\"media\":[{\"base\":0,\"channels\":2,\"depth\":16,\"file\":\"M00001.wav\",\"frames\":4,\
+\"sha256\":\"c375e3651a9458f0dc99102df3b6a7d54a9b733b3ace72081d2010a3b508a958\",\
+\"source\":{\"file\":\"A.wav\",\"first\":0,\"identifier\":\"_\",\"index\":1,\"url\":\"URL:file://localhost/A.wav\"}},\
+{\"base\":8,\"channels\":2,\"depth\":16,\"file\":\"M00002.wav\",\"frames\":4,\
+\"sha256\":\"8e81d770610a480fd7fd16e43074903a8adff6822f43a41b24f881b00da2d3ec\",\
+\"source\":{\"file\":\"A.wav\",\"first\":8,\"identifier\":\"_\",\"index\":1,\"url\":\"URL:file://localhost/A.wav\"}}],\
+\"version\":\"1.2\"}
+";
+
+/// The checksums of all that, as `sha256sum` prints them.
+const SUMS: &[u8] = b"\
+c375e3651a9458f0dc99102df3b6a7d54a9b733b3ace72081d2010a3b508a958  M00001.wav
+8e81d770610a480fd7fd16e43074903a8adff6822f43a41b24f881b00da2d3ec  M00002.wav
+4691bb81a5d74d115e04cb7c0977f93e64725e1ee50e4cec69e7d525ddca8832  consolidated.adl
+d6857fda0bee72c3b705b39c0eaa2a20ad0cfb54fbba2befa6905c6189e7c59f  consolidated.json
+";
+
 /// All files that these works write.
-const OUTPUTS: [&str; 6] = [
+const OUTPUTS: [&str; 8] = [
     SOUND,
     MARKS,
     "M00001.wav",
     "M00002.wav",
     "M00003.wav",
+    "SHA256SUMS",
+    "consolidated.json",
     "consolidated.adl",
 ];
 
@@ -202,6 +228,8 @@ fn rounds(alloc: Global, count: usize) -> Result<Vec<BoardEvent>, AllocError> {
 #[derive(Clone, Copy, Debug, PartialEq, Eq)]
 pub(crate) enum Call {
     Consolidate,
+    /// A consolidation with a report.
+    Report,
     Render,
     /// Of a rendering that was stopped once its first block was marked.
     Resume,
@@ -212,7 +240,7 @@ pub(crate) enum Call {
 impl Call {
     fn is_rendering(self) -> bool {
         match self {
-            Call::Consolidate => false,
+            Call::Consolidate | Call::Report => false,
             Call::Render | Call::Resume => true,
             Call::Schedule { is_rendering, .. } => is_rendering,
         }
@@ -264,6 +292,10 @@ impl Job {
         wanted.push(("M00001.wav", medium(alloc, 0)?))?;
         wanted.push(("M00002.wav", medium(alloc, 8)?))?;
         wanted.push(("consolidated.adl", CONSOLIDATED.to_vec(alloc)?))?;
+        if call == Call::Report {
+            wanted.push(("consolidated.json", REPORT.to_vec(alloc)?))?;
+            wanted.push(("SHA256SUMS", SUMS.to_vec(alloc)?))?;
+        }
         Ok(Job {
             alloc,
             call,
@@ -396,11 +428,20 @@ impl Job {
     fn consolidate<S: Shelf>(
         &self,
         passes: Vec<Box<dyn Pass>>,
+        report: Option<&str>,
         shelf: &mut S,
         bench: &mut MemoryBench,
     ) -> Result<(), Fault> {
-        let mut watch = Unwatched;
-        match consolidate(self.alloc, self.list, 0, passes, shelf, bench, &mut watch) {
+        match consolidate(
+            self.alloc,
+            self.list,
+            0,
+            passes,
+            report,
+            shelf,
+            bench,
+            &mut Unwatched,
+        ) {
             Ok(_) => Ok(()),
             Err(fault) => Err(fault),
         }
@@ -450,7 +491,11 @@ impl Job {
             Call::Resume => Ok(self.resume(shelf, bench).map(|_| ())),
             Call::Consolidate => {
                 let passes = standard(self.alloc)?;
-                Ok(self.consolidate(passes, shelf, bench))
+                Ok(self.consolidate(passes, None, shelf, bench))
+            }
+            Call::Report => {
+                let passes = standard(self.alloc)?;
+                Ok(self.consolidate(passes, Some(VERSION), shelf, bench))
             }
             Call::Schedule {
                 is_rendering: true,

@@ -78,6 +78,7 @@ fn written(
         text,
         0,
         passes,
+        None,
         &mut shelf,
         &mut bench,
         &mut Unwatched,

@@ -12,6 +12,8 @@ mod media_schedules;
 #[cfg(test)]
 mod orders;
 #[cfg(test)]
+mod played;
+#[cfg(test)]
 mod renderings;
 #[cfg(test)]
 mod schedules;

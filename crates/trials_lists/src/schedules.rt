@@ -80,7 +80,9 @@ impl Project {
             }
             Kind::Consolidation => {
                 let passes = Vec::new(alloc);
-                consolidate(alloc, list, 0, passes, &mut shelf, &mut bench, &mut watch)?;
+                consolidate(
+                    alloc, list, 0, passes, None, &mut shelf, &mut bench, &mut watch,
+                )?;
             }
         }
         Ok(bench)
