@@ -3,7 +3,7 @@ _adlcons() {
     local word=${COMP_WORDS[COMP_CWORD]} last=${COMP_WORDS[COMP_CWORD - 1]} options=--help
     case ${COMP_WORDS[1]} in
         check) options='--all --report --help' ;;
-        consolidate) options='--all --handle --help' ;;
+        consolidate) options='--all --handle --report --help' ;;
         show) options='--all --handle --help' ;;
         render | resume) options='--all --from --to --channels --depth --order --help' ;;
     esac
