@@ -1,5 +1,5 @@
 -- What is said of a request is said of an equal one.
-use Rattle.std.proofs.Common.{◌≡◌, ℕ, Some, refl, subst}
+use Rattle.std.proofs.Common.{◌≡◌, ℕ, Bool, Some, refl, subst}
 use Rattle.clap.specs.Walk.{Text}
 use Rattle.commandline.specs.CommandLine.{Asked, Check, Report, Chosen, Render, Resume, Consolidate, Show, Explain, ExplainNotice}
 
@@ -9,7 +9,7 @@ OfRender P (Check list media) = Unit {0}
 OfRender P (Report list media) = Unit {0}
 OfRender P (Render list media out chosen) = P list media out chosen
 OfRender P (Resume list media out chosen) = Unit {0}
-OfRender P (Consolidate list media out handle) = Unit {0}
+OfRender P (Consolidate list media out handle report) = Unit {0}
 OfRender P (Show list media handle) = Unit {0}
 OfRender P (Explain number) = Unit {0}
 OfRender P (ExplainNotice number) = Unit {0}
@@ -37,7 +37,7 @@ OfResume P (Check list media) = Unit {0}
 OfResume P (Report list media) = Unit {0}
 OfResume P (Render list media out chosen) = Unit {0}
 OfResume P (Resume list media out chosen) = P list media out chosen
-OfResume P (Consolidate list media out handle) = Unit {0}
+OfResume P (Consolidate list media out handle report) = Unit {0}
 OfResume P (Show list media handle) = Unit {0}
 OfResume P (Explain number) = Unit {0}
 OfResume P (ExplainNotice number) = Unit {0}
@@ -57,27 +57,28 @@ resume_fields list media out chosen list' media' out' chosen' same =
     list' media' out' chosen' same (refl, refl, refl, refl)
 
 -- of a consolidation
-abbrev OfConsolidate : (Text → Text → Text → ℕ → Type 0) → Asked → Type 0
+abbrev OfConsolidate : (Text → Text → Text → ℕ → Bool → Type 0) → Asked → Type 0
 OfConsolidate P (Check list media) = Unit {0}
 OfConsolidate P (Report list media) = Unit {0}
 OfConsolidate P (Render list media out chosen) = Unit {0}
 OfConsolidate P (Resume list media out chosen) = Unit {0}
-OfConsolidate P (Consolidate list media out handle) = P list media out handle
+OfConsolidate P (Consolidate list media out handle report) = P list media out handle report
 OfConsolidate P (Show list media handle) = Unit {0}
 OfConsolidate P (Explain number) = Unit {0}
 OfConsolidate P (ExplainNotice number) = Unit {0}
 
-consolidate_alike : (P : Text → Text → Text → ℕ → Type 0) (list media out : Text) (handle : ℕ)
-    (list' media' out' : Text) (handle' : ℕ)
-    → Some (Consolidate list media out handle) ≡ Some (Consolidate list' media' out' handle')
-    → P list media out handle → P list' media' out' handle'
-consolidate_alike P list media out handle list' media' out' handle' same holds =
+consolidate_alike : (P : Text → Text → Text → ℕ → Bool → Type 0) (list media out : Text) (handle : ℕ) (report : Bool)
+    (list' media' out' : Text) (handle' : ℕ) (report' : Bool)
+    → Some (Consolidate list media out handle report) ≡ Some (Consolidate list' media' out' handle' report')
+    → P list media out handle report → P list' media' out' handle' report'
+consolidate_alike P list media out handle report list' media' out' handle' report' same holds =
     subst (OfConsolidate P)
-    (some_same (Consolidate list media out handle) (Consolidate list' media' out' handle') same) holds
+    (some_same (Consolidate list media out handle report) (Consolidate list' media' out' handle' report') same) holds
 
-pub consolidate_fields : (list media out : Text) (handle : ℕ) (list' media' out' : Text) (handle' : ℕ)
-    → Some (Consolidate list media out handle) ≡ Some (Consolidate list' media' out' handle')
-    → (list ≡ list') × (media ≡ media') × (out ≡ out') × (handle ≡ handle')
-consolidate_fields list media out handle list' media' out' handle' same =
-    consolidate_alike (λ l m o h. (list ≡ l) × (media ≡ m) × (out ≡ o) × (handle ≡ h)) list media out handle
-    list' media' out' handle' same (refl, refl, refl, refl)
+pub consolidate_fields : (list media out : Text) (handle : ℕ) (report : Bool) (list' media' out' : Text) (handle' : ℕ)
+    (report' : Bool)
+    → Some (Consolidate list media out handle report) ≡ Some (Consolidate list' media' out' handle' report')
+    → (list ≡ list') × (media ≡ media') × (out ≡ out') × (handle ≡ handle') × (report ≡ report')
+consolidate_fields list media out handle report list' media' out' handle' report' same =
+    consolidate_alike (λ l m o h r. (list ≡ l) × (media ≡ m) × (out ≡ o) × (handle ≡ h) × (report ≡ r)) list media
+    out handle report list' media' out' handle' report' same (refl, refl, refl, refl, refl)

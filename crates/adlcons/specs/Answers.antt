@@ -1,5 +1,5 @@
 -- What the program prints and answers of a command.
-use Rattle.std.specs.Prelude.{◌≡◌, ℕ, Bool, true, false, IsOk, IsErr, ⊤, List, [], ◌∷◌, ◌++◌, Result, Ok, Err}
+use Rattle.std.specs.Prelude.{◌≡◌, ℕ, Bool, true, false, IsOk, IsErr, ⊤, List, [], ◌∷◌, ◌++◌, Option, None, Some, Result, Ok, Err, codes, if◌then◌else◌}
 use Rattle.work_terms.specs.Refusals.{Refusal, Where, Index, IndexFile}
 use Rattle.opening.specs.declared.checking.Accepted.{Accepted}
 use Rattle.shelf.specs.declared.source.Shelf as source
@@ -19,6 +19,10 @@ use Rattle.console.specs.declared.console.Console as console
 use Rattle.console.specs.Lines.{accepted_text, notices_text, refusal_text, rendered_text, resumed_text, written_text}
 use Rattle.console.specs.Printing.{Prints}
 use Rattle.adlcons.specs.Times.{values_of}
+
+-- the version of this program, where a report is asked for
+abbrev pub asking : Bool → Option (List ℕ)
+asking report = if report then Some (codes "0.2.0") else None
 
 -- the notices and the line of a list that was checked
 abbrev pub accepted_lines : Accepted → List ℕ
@@ -97,7 +101,7 @@ MayBeMistaken rate (Check list media) = ⊥
 MayBeMistaken rate (Report list media) = ⊥
 MayBeMistaken rate (Render list media out chosen) = IsErr (values_of rate chosen)
 MayBeMistaken rate (Resume list media out chosen) = IsErr (values_of rate chosen)
-MayBeMistaken rate (Consolidate list media out handle) = ⊥
+MayBeMistaken rate (Consolidate list media out handle report) = ⊥
 MayBeMistaken rate (Show list media handle) = ⊥
 MayBeMistaken rate (Explain number) = ⊤
 MayBeMistaken rate (ExplainNotice number) = ⊤

@@ -1,5 +1,5 @@
 // The program's answer to a request.
-ghost use Rattle.std.specs.Prelude.{◌≡◌, ◌≢◌, ◌≤◌, ℕ, Err, IsTrue, Ok, Option, false};
+ghost use Rattle.std.specs.Prelude.{◌≡◌, ◌≢◌, ◌≤◌, ℕ, Bool, Err, IsTrue, Ok, Option, false, option_map};
 ghost use Rattle.clap.specs.Walk.{Text};
 ghost use Rattle.clap.specs.Words.{kind_of};
 ghost use Rattle.consolidate.specs.Commands.{IsConsolidation, IsRendering};
@@ -15,7 +15,7 @@ ghost use Rattle.commandline.specs.CommandLine.{is_shown};
 ghost use Rattle.commandline.specs.Request.{asked_of};
 ghost use Rattle.console.specs.Printing.{Prints};
 ghost use Rattle.list_terms.specs.Text.{rate_of as rate_at};
-ghost use Rattle.adlcons.specs.Answers.{IsAnswered, IsChecked, MayBeMistaken, RendersBy, ResumesBy, accepted_lines, refusal_line, rendered_lines, resumed_lines, written_lines};
+ghost use Rattle.adlcons.specs.Answers.{IsAnswered, IsChecked, MayBeMistaken, RendersBy, ResumesBy, accepted_lines, asking, refusal_line, rendered_lines, resumed_lines, written_lines};
 ghost use Rattle.adlcons.specs.BadTime.{name_of};
 ghost use Rattle.checkreport.specs.Reported.{IsReported};
 ghost use Rattle.adlcons.specs.Times.{bad_time_line, values_of};
@@ -31,7 +31,7 @@ use crate::report::{tell_changed, tell_done, tell_meanings};
 use adlmodel::place_of;
 use adlread::rate_of;
 use clap::Error;
-use commandline::Request;
+use commandline::{Request, VERSION};
 use console::{Console, Counts};
 use consolidate::{Fault, Options, check_project, consolidate, render, resume};
 use explanations::{Explanation, PrintedLines, Saved, meanings_of, notice_meanings_of};
@@ -80,16 +80,17 @@ pub fn answer<S: Shelf + Reasons, B: Bench + Reasons, O: Console, E: Console, M:
         → asked_of request.entry ≡ asked.Resume place media target chosen → result ≢ 2
         → IsAnswered (ResumesBy S.Shelf B.Bench chosen list.now shelf.old shelf.new bench.old bench.new)
         resumed_lines O.Console out.old out.new result }
-    ensures consolidated { (place media target : Text) (handle : ℕ)
-        → asked_of request.entry ≡ asked.Consolidate place media target handle
+    ensures consolidated { (place media target : Text) (handle : ℕ) (report : Bool)
+        → asked_of request.entry ≡ asked.Consolidate place media target handle report
         → IsAnswered (IsConsolidation S.Shelf B.Bench
         (left_by (λ pass. looking pass) (λ pass. gives pass) passes.items)
-        list.now handle shelf.old shelf.new bench.old bench.new)
+        list.now handle (asking report) shelf.old shelf.new bench.old bench.new)
         written_lines O.Console out.old out.new result }
     ensures standard { AreStandard (λ pass. looking pass) (λ pass. gives pass) passes.items
-        → (place media target : Text) (handle : ℕ)
-        → asked_of request.entry ≡ asked.Consolidate place media target handle → IsAnswered
-        (IsConsolidation S.Shelf B.Bench standard_groups list.now handle shelf.old shelf.new bench.old bench.new)
+        → (place media target : Text) (handle : ℕ) (report : Bool)
+        → asked_of request.entry ≡ asked.Consolidate place media target handle report → IsAnswered
+        (IsConsolidation S.Shelf B.Bench standard_groups list.now handle (asking report) shelf.old shelf.new bench.old
+        bench.new)
         written_lines O.Console out.old out.new result }
     // It names a time that can't be read.
     ensures bad_time { (place media target : Text) (chosen : asked.Chosen) (option : Text)
@@ -129,9 +130,10 @@ pub fn answer<S: Shelf + Reasons, B: Bench + Reasons, O: Console, E: Console, M:
             ),
             Err(bad) => refuse_time(bad, err),
         },
-        Request::Consolidate(_, handle) => {
+        Request::Consolidate(_, handle, report) => {
+            let asked = asked_for(report);
             answer_consolidate(
-                alloc, list, handle, passes, shelf, bench, out, err, meter, asides,
+                alloc, list, handle, passes, asked, shelf, bench, out, err, meter, asides,
             )
         }
         Request::Show(name, _, handle) => {
@@ -285,7 +287,15 @@ fn answer_resume<
     }
 }
 
-/// Consolidates the list, and prints what came of it; on `err`, how much was saved.
+/// The version of this program, where a report is asked for.
+fn asked_for(report: bool) -> Option<&'static str>
+    ensures { option_map (λ version. version.now) result ≡ asking report }
+{
+    if report { Some(VERSION) } else { None }
+}
+
+/// Consolidates the list, with the report that a program of this version asks for, and prints what came of it; on `err`,
+/// how much was saved.
 fn answer_consolidate<
     S: Shelf + Reasons,
     B: Bench + Reasons,
@@ -298,6 +308,7 @@ fn answer_consolidate<
     list: &[u8],
     handle: u64,
     passes: Vec<Box<dyn Pass>>,
+    asked: Option<&str>,
     shelf: &mut S,
     bench: &mut B,
     out: &mut O,
@@ -307,11 +318,11 @@ fn answer_consolidate<
 ) -> u8
     ensures answered { IsAnswered (IsConsolidation S.Shelf B.Bench
         (left_by (λ pass. looking pass) (λ pass. gives pass) passes.items)
-        list.now handle shelf.old shelf.new bench.old bench.new)
+        list.now handle (option_map (λ version. version.now) asked.entry) shelf.old shelf.new bench.old bench.new)
         written_lines O.Console out.old out.new result }
     ensures statuses { result ≤ 1 }
 {
-    let outcome = consolidate(alloc, list, handle, passes, shelf, bench, meter);
+    let outcome = consolidate(alloc, list, handle, passes, asked, shelf, bench, meter);
     meter.clear();
     tell_changed(alloc, shelf, err);
     match outcome {

@@ -1,5 +1,5 @@
 // The program over the file system.
-ghost use Rattle.std.specs.Prelude.{◌≡◌, ◌≢◌, ◌≤◌, ◌⊎◌, ℕ, codes, None, Some, Err, Ok, true, false, IfOk, OnErr};
+ghost use Rattle.std.specs.Prelude.{◌≡◌, ◌≢◌, ◌≤◌, ◌⊎◌, ℕ, Bool, codes, None, Some, Err, Ok, true, false, IfOk, OnErr};
 ghost use Rattle.clap.specs.Walk.{Text, texts};
 ghost use Rattle.consolidate.specs.Commands.{IsConsolidation};
 ghost use Rattle.commandline.specs.CommandLine as asked;
@@ -7,7 +7,7 @@ ghost use Rattle.commandline.specs.CommandLine.{asks_for_help, request_of};
 ghost use Rattle.commandline.specs.Request.{asked_of};
 ghost use Rattle.console.specs.Places.{where_of};
 ghost use Rattle.sound_terms.specs.Passes.{standard_groups};
-ghost use Rattle.adlcons.specs.Answers.{RendersBy, ResumesBy, rendered_lines, resumed_lines, written_lines};
+ghost use Rattle.adlcons.specs.Answers.{RendersBy, ResumesBy, asking, rendered_lines, resumed_lines, written_lines};
 ghost use Rattle.adlcons.specs.Openings.{ChecksFolder, IsKeptOut, ReportsFolder, WorksInFolders, overwrite_for, refusal_of_opening};
 ghost use Rattle.stores.specs.declared.Overwrite.TheVariants as overwrite;
 
@@ -117,12 +117,12 @@ where
         ⊎ WorksInFolders overwrite.Files
         (ResumesBy ⟦<FolderShelf<R> as shelf::Shelf>⟧ ⟦<FolderBench<R> as shelf::Bench>⟧ chosen)
         resumed_lines O.Console media target out.old out.new result }
-    ensures consolidated { (list media target : Text) (handle : ℕ)
-        → request_of (texts words.now) ≡ Some (asked.Consolidate list media target handle) → result ≢ 2
+    ensures consolidated { (list media target : Text) (handle : ℕ) (report : Bool)
+        → request_of (texts words.now) ≡ Some (asked.Consolidate list media target handle report) → result ≢ 2
         → IsKeptOut O.Console list target out.old out.new result
         ⊎ WorksInFolders overwrite.Never
         (λ list. IsConsolidation ⟦<FolderShelf<R> as shelf::Shelf>⟧ ⟦<FolderBench<R> as shelf::Bench>⟧ standard_groups
-        list handle)
+        list handle (asking report))
         written_lines O.Console media target out.old out.new result }
     ensures statuses { result ≤ 2 }
     ensures help { asks_for_help (texts words.now) ≡ true → result ≢ 1 }
@@ -147,8 +147,8 @@ where
             let request = Request::Resume(places, chosen);
             work_in_folders(rt, request, places, all, out, err, meter)
         }
-        Request::Consolidate(places, handle) => {
-            let request = Request::Consolidate(places, handle);
+        Request::Consolidate(places, handle, report) => {
+            let request = Request::Consolidate(places, handle, report);
             work_in_folders(rt, request, places, all, out, err, meter)
         }
     }
@@ -270,12 +270,12 @@ where
         ⊎ WorksInFolders overwrite.Files
         (ResumesBy ⟦<FolderShelf<R> as shelf::Shelf>⟧ ⟦<FolderBench<R> as shelf::Bench>⟧ chosen)
         resumed_lines O.Console places.entry.media.now places.entry.out.now out.old out.new result }
-    ensures consolidated { (list media target : Text) (handle : ℕ)
-        → asked_of request.entry ≡ asked.Consolidate list media target handle
+    ensures consolidated { (list media target : Text) (handle : ℕ) (report : Bool)
+        → asked_of request.entry ≡ asked.Consolidate list media target handle report
         → IsKeptOut O.Console places.entry.list.now places.entry.out.now out.old out.new result
         ⊎ WorksInFolders overwrite.Never
         (λ list. IsConsolidation ⟦<FolderShelf<R> as shelf::Shelf>⟧ ⟦<FolderBench<R> as shelf::Bench>⟧ standard_groups
-        list handle)
+        list handle (asking report))
         written_lines O.Console places.entry.media.now places.entry.out.now out.old out.new result }
     ensures statuses { result ≤ 2 }
 {
@@ -313,11 +313,11 @@ where
         → IfOk result (λ status. status ≢ 2 → WorksInFolders overwrite.Files
         (ResumesBy ⟦<FolderShelf<R> as shelf::Shelf>⟧ ⟦<FolderBench<R> as shelf::Bench>⟧ chosen)
         resumed_lines O.Console places.entry.media.now places.entry.out.now out.old out.new status) }
-    ensures consolidated { (list media target : Text) (handle : ℕ)
-        → asked_of request.entry ≡ asked.Consolidate list media target handle
+    ensures consolidated { (list media target : Text) (handle : ℕ) (report : Bool)
+        → asked_of request.entry ≡ asked.Consolidate list media target handle report
         → IfOk result (λ status. WorksInFolders overwrite.Never
         (λ list. IsConsolidation ⟦<FolderShelf<R> as shelf::Shelf>⟧ ⟦<FolderBench<R> as shelf::Bench>⟧ standard_groups
-        list handle)
+        list handle (asking report))
         written_lines O.Console places.entry.media.now places.entry.out.now out.old out.new status) }
     ensures statuses { IfOk result (λ status. status ≤ 2) }
     ensures nothing { OnErr result (out.new ≡ out.old) }

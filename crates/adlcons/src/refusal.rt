@@ -13,7 +13,7 @@ ghost use Rattle.adlcons.specs.Answers.{place_told};
 use adlmodel::{Source, place_of};
 use adlread::AdlFault;
 use console::{Console, Place, Refusal, put_place, put_refusal, put_refused};
-use consolidate::{Fault, LIST, MARKS, MarksFault, OutputFile, SOUND};
+use consolidate::{Fault, LIST, MARKS, MarksFault, OutputFile, REPORT, SOUND, SUMS};
 use list_terms::Location;
 use std::alloc::Global;
 
@@ -71,6 +71,8 @@ fn output_place(file: OutputFile) -> Place<'static>
         OutputFile::Rendering => Place::File(SOUND),
         OutputFile::Marks => Place::File(MARKS),
         OutputFile::Medium(number) => Place::Medium(number),
+        OutputFile::Sums => Place::File(SUMS),
+        OutputFile::Report => Place::File(REPORT),
         OutputFile::List => Place::File(LIST),
     }
 }

@@ -1,11 +1,11 @@
 // Answers with the standard passes.
-ghost use Rattle.std.specs.Prelude.{◌≡◌, ◌≢◌, ◌≤◌, ℕ, IfOk, OnErr};
+ghost use Rattle.std.specs.Prelude.{◌≡◌, ◌≢◌, ◌≤◌, ℕ, Bool, IfOk, OnErr};
 ghost use Rattle.clap.specs.Walk.{Text};
 ghost use Rattle.commandline.specs.CommandLine as asked;
 ghost use Rattle.commandline.specs.Request.{asked_of};
 ghost use Rattle.consolidate.specs.Commands.{IsConsolidation};
 ghost use Rattle.sound_terms.specs.Passes.{standard_groups};
-ghost use Rattle.adlcons.specs.Answers.{IsAnswered, RendersBy, ResumesBy, rendered_lines, resumed_lines, written_lines};
+ghost use Rattle.adlcons.specs.Answers.{IsAnswered, RendersBy, ResumesBy, asking, rendered_lines, resumed_lines, written_lines};
 
 use crate::answer::answer;
 use crate::asides::Asides;
@@ -45,15 +45,16 @@ pub fn answer_standard<
         → asked_of request.entry ≡ asked.Resume place media target chosen → IfOk result (λ status. status ≢ 2
         → IsAnswered (ResumesBy S.Shelf B.Bench chosen list.now shelf.old shelf.new bench.old bench.new)
         resumed_lines O.Console out.old out.new status) }
-    ensures consolidated { (place media target : Text) (handle : ℕ)
-        → asked_of request.entry ≡ asked.Consolidate place media target handle → IfOk result (λ status. IsAnswered
-        (IsConsolidation S.Shelf B.Bench standard_groups list.now handle shelf.old shelf.new bench.old bench.new)
+    ensures consolidated { (place media target : Text) (handle : ℕ) (report : Bool)
+        → asked_of request.entry ≡ asked.Consolidate place media target handle report
+        → IfOk result (λ status. IsAnswered (IsConsolidation S.Shelf B.Bench standard_groups list.now handle
+        (asking report) shelf.old shelf.new bench.old bench.new)
         written_lines O.Console out.old out.new status) }
     ensures statuses { IfOk result (λ status. status ≤ 2) }
     ensures nothing { OnErr result (out.new ≡ out.old) }
 {
     match request {
-        Request::Consolidate(_, _) => {
+        Request::Consolidate(_, _, _) => {
             let splitting: Box<dyn Pass> = Box::new(alloc, SplitFades)?;
             let leaving_out: Box<dyn Pass> = Box::new(alloc, DropSilent)?;
             let joining: Box<dyn Pass> = Box::new(alloc, JoinCuts)?;

@@ -35,16 +35,17 @@ returns-in-Resume-clause-resumed g c = λ list media target chosen request.
     (chosen_of c.in-Resume.chosen) refl some)
 
 pub returns-in-Consolidate-clause-consolidated : goal.returns-in-Consolidate-clause-consolidated
-returns-in-Consolidate-clause-consolidated g c = λ list media target handle request.
+returns-in-Consolidate-clause-consolidated g c = λ list media target handle report request.
     let places = c.in-Consolidate.places in
-    let same : Some (Consolidate places.list.now places.media.now places.out.now c.in-Consolidate.handle)
-    ≡ Some (Consolidate list media target handle) = search rules in
+    let same : Some (Consolidate places.list.now places.media.now places.out.now c.in-Consolidate.handle
+    c.in-Consolidate.report) ≡ Some (Consolidate list media target handle report) = search rules in
     let parts = consolidate_fields places.list.now places.media.now places.out.now c.in-Consolidate.handle
-    list media target handle same in
+    c.in-Consolidate.report list media target handle report same in
     let the_list : places.list.now ≡ list = parts.0 in
     let the_media : places.media.now ≡ media = parts.1 in
     let the_target : places.out.now ≡ target = parts.2 in
     let the_handle : c.in-Consolidate.handle ≡ handle = parts.3 in
-    rw (← the_list, ← the_media, ← the_target, ← the_handle)
+    let the_report : c.in-Consolidate.report ≡ report = parts.4 in
+    rw (← the_list, ← the_media, ← the_target, ← the_handle, ← the_report)
     (λ some. c.work_in_folders-in-Consolidate.ensures.consolidated places.list.now places.media.now
-    places.out.now c.in-Consolidate.handle refl)
+    places.out.now c.in-Consolidate.handle c.in-Consolidate.report refl)

@@ -29,7 +29,7 @@ returns-clause-resumed g c = λ list media target chosen request told. record {
 }
 
 pub returns-clause-consolidated : goal.returns-clause-consolidated
-returns-clause-consolidated g c = λ list media target handle request. record {
+returns-clause-consolidated g c = λ list media target handle report request. record {
   list = c.deref.result.now;
   before = c.in_ok-shelf.shelf;
   after = c.answer_standard-answered.new.shelf;
@@ -38,5 +38,5 @@ returns-clause-consolidated g c = λ list media target handle request. record {
   folder = c.in_ok-shelf.ensures.folder;
   output = c.in_ok-bench.ensures.folder;
   careful = c.in_ok-bench.ensures.overwrite ∙ (c.overwrite_for-overwrite.ensures ∙ ap overwrite_for request);
-  answered = c.in-Ok.ensures.consolidated list media target handle request;
+  answered = c.in-Ok.ensures.consolidated list media target handle report request;
 }

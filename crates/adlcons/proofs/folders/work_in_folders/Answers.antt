@@ -10,5 +10,5 @@ returns-in-Ok-clause-resumed g c = λ list media target chosen request told.
     inr (c.in-Ok.ensures.resumed list media target chosen request told)
 
 pub returns-in-Ok-clause-consolidated : goal.returns-in-Ok-clause-consolidated
-returns-in-Ok-clause-consolidated g c = λ list media target handle request.
-    inr (c.in-Ok.ensures.consolidated list media target handle request)
+returns-in-Ok-clause-consolidated g c = λ list media target handle report request.
+    inr (c.in-Ok.ensures.consolidated list media target handle report request)

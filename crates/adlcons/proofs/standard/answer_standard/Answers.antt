@@ -7,7 +7,7 @@ use Rattle.adlcons.proofs.standard.answer_standard.OwnLists as own
 use Rattle.adlcons.proofs.standard.answer_standard.Goals as goal
 
 pub returns-in_ok-passes-in-Consolidate-clause-consolidated : goal.returns-in_ok-passes-in-Consolidate-clause-consolidated
-returns-in_ok-passes-in-Consolidate-clause-consolidated g c place media target handle request =
+returns-in_ok-passes-in-Consolidate-clause-consolidated g c place media target handle report request =
     c.answer.ensures.standard (record {
       splitting = c.into_dyn_box.result;
       leaving_out = c.into_dyn_box-in_ok-new-in-Consolidate-2.result;
@@ -33,13 +33,13 @@ returns-in_ok-passes-in-Consolidate-clause-consolidated g c place media target h
           (λ table v. ((turn.dyn-1-ghosts (own.own-1, own.lawful-own-1)).0.entry table).1.gives v groups silent
           ≡ regroup groups)
           _ _ c.into_dyn_box-in_ok-new-in-Consolidate-4.result.value c.into_dyn_box-in_ok-new-in-Consolidate-4.ensures.0 (λ v. refl);
-    }) place media target handle request
+    }) place media target handle report request
 
 pub returns-in-Check : goal.returns-in-Check
 returns-in-Check g c = record {
   rendered = c.answer-in-Check.ensures.rendered;
   resumed = c.answer-in-Check.ensures.resumed;
-  consolidated = λ place media target handle request. absurd (elim c.in-Check.is [
+  consolidated = λ place media target handle report request. absurd (elim c.in-Check.is [
     | inl check ↦ let other = ap asked_of (sym check.2) ∙ request in cc
     | inr rest ↦ elim rest [
       | inl report ↦ let other = ap asked_of (sym report.2) ∙ request in cc
