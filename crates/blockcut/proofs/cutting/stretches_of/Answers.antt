@@ -36,8 +36,11 @@ loop-i-preserved c =
                 (longest-push most before s is.longest is.ends);
             begun = λ some. omega (arith, w.first-is);
             ends = subst (λ (ss : List Stretch). CannotGoOn most ss c.if-ends_here.done) (sym items)
-                (ends-push most before s c.if-ends_here.done (λ alike. omega (arith, is.room,
-                w.if-ends_here.ensures.full refl (sym w.done-is ∙ sym alike))));
+                (ends-push most before s c.if-ends_here.done (λ alike. omega (
+                  arith,
+                  is.room,
+                  w.if-ends_here.ensures.full refl (sym w.done-is ∙ sym alike),
+                )));
           }
       | else-ends_here w ↦
           let goes = w.if-ends_here.ensures.goes_on refl in
