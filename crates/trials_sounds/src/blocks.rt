@@ -1,6 +1,5 @@
 // Blocks of a rendering: what they are planned as, and what the machine hands out.
-ghost use Rattle.std.specs.Prelude.{◌≡◌, ◌*◌, ◌/◌, IfOk, length};
-ghost use Rattle.sound_terms.specs.Depth.{bits_of};
+ghost use Rattle.std.specs.Prelude.{◌≡◌, IfOk};
 ghost use Rattle.sound_terms.specs.Groups.{IsRamp};
 
 use blockmachine::Machine;
@@ -87,52 +86,6 @@ fn alone(alloc: Global, samples: [i16; 4], depth: Depth) -> Result<[i32; 4], Fai
     let mut out = [0; 4];
     machine.run(&program, &sounds, &mut shelf, &mut out)?;
     Ok(out)
-}
-
-/// The same, as the bytes that a file of this depth has.
-fn alone_packed(
-    alloc: Global,
-    samples: [i16; 4],
-    depth: Depth,
-    bytes: &mut [u8],
-) -> Result<(), Fail>
-    requires { length bytes.old ≡ 4 * (bits_of depth / 8) }
-{
-    let mut shelf = four(alloc, samples)?;
-    let sounds = [open(alloc, &mut shelf, "A.wav")?];
-    if sounds[0].channels() != 1 || sounds[0].frames() != 4 {
-        return Err("another file".into());
-    }
-    let program = [
-        Instruction::Start { frames: 4 },
-        Instruction::Add {
-            stretch: WHOLE,
-            shape: Shape::Flat,
-        },
-        Instruction::Emit { depth },
-    ];
-    let mut machine = Machine::new(alloc, 1)?;
-    let mut room = [0; 4];
-    machine.run_packed(&program, depth, &sounds, &mut shelf, &mut room, bytes)?;
-    Ok(())
-}
-
-#[test]
-fn a_file_alone_is_packed_as_it_is(rt: HostRuntime) -> Result<(), Fail> {
-    let alloc = rt.alloc();
-    let samples = [1000, -1, 32_767, -32_768];
-    let mut same = [0; 8];
-    alone_packed(alloc, samples, Depth::Sixteen, &mut same)?;
-    assert_eq!(rt; same, [0xe8, 0x03, 0xff, 0xff, 0xff, 0x7f, 0x00, 0x80]);
-    let mut deeper = [0; 12];
-    alone_packed(alloc, samples, Depth::TwentyFour, &mut deeper)?;
-    assert_eq!(rt;
-        deeper,
-        [
-            0x00, 0xe8, 0x03, 0x00, 0xff, 0xff, 0x00, 0xff, 0x7f, 0x00, 0x00, 0x80
-        ]
-    );
-    Ok(())
 }
 
 #[test]
