@@ -1,24 +1,14 @@
-use Rattle.std.proofs.Common.{◌≡◌, ℕ, ◌+◌, ◌-◌, ◌*◌, ◌/◌, All, List, [], ◌∷◌, ◌++◌, Ok, Err, Result, OnOk, length, refl, sym, ap, ◌∙◌, subst}
+use Rattle.std.proofs.Common.{◌≡◌, ℕ, ◌+◌, ◌-◌, ◌*◌, [], ◌∷◌, length, refl, sym, ap, ◌∙◌}
 use Rattle.std.specs.Prelude.{ℤ, pos, slice_index_or}
-use Rattle.std.proofs.Math.Nat.{mul-div_left}
-use Rattle.std.proofs.lemmas.Option.{same_Some}
-use Rattle.std.proofs.lemmas.List.Elements.{All-head}
-use Rattle.sound_terms.specs.declared.block.Stretch.{Stretch}
-use Rattle.sound_terms.specs.declared.block.Instruction.{Instruction}
-use Rattle.sound_terms.specs.declared.block.Instruction.TheVariants.{Start, Add, Emit}
-use Rattle.sound_terms.specs.declared.piece.Shape.TheVariants.{Flat}
+use Rattle.sound_terms.specs.declared.block.Instruction.TheVariants.{Emit}
 use Rattle.sound_terms.specs.declared.Depth.{Depth}
 use Rattle.sound_terms.specs.Depth.{bits_of}
 use Rattle.sound_terms.specs.Mix.{Reading}
-use Rattle.sound_terms.specs.Blocks.{BlockState, LiesInFiles, block_samples, executed_all}
+use Rattle.sound_terms.specs.Blocks.{BlockState, block_samples, executed_all}
 use Rattle.sound_terms.specs.BlockLaws.{executed_all-append, frames_kept}
 use Rattle.sound_terms.specs.Sounds.{reading_by}
-use Rattle.pcm.specs.Samples.{FitsDepth}
-use Rattle.blockmachine.specs.Alone.{filling}
-use Rattle.blockmachine.specs.Playing.{Plays}
 use Rattle.blockmachine.specs.Sums.{Extent}
 use Rattle.blockmachine.proofs.Fits.{fits_block}
-use Rattle.blockmachine.proofs.Filled.{hands_itself_out}
 use Rattle.blockmachine.proofs.machine.Machine.run_lines.Goals as goal
 
 -- what was handed out, by the channels of the sums

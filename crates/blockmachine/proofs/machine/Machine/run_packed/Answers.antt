@@ -1,4 +1,4 @@
-use Rattle.std.proofs.Common.{◌≡◌, ℕ, ◌-◌, ◌*◌, ◌/◌, ◌≤◌, All, List, [], ◌∷◌, ◌++◌, Ok, Err, Result, OnOk, length, take, drop, rules, sym, ap, ◌∙◌, subst}
+use Rattle.std.proofs.Common.{◌≡◌, ℕ, ◌*◌, ◌/◌, ◌≤◌, List, [], ◌∷◌, ◌++◌, Ok, Err, Result, OnOk, length, rules, sym, ap, ◌∙◌, subst}
 use Rattle.std.specs.Prelude.{ℤ}
 use Rattle.std.specs.List.{flat_map}
 use Rattle.std.proofs.Math.Nat.{mul-div_left}
