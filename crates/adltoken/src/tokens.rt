@@ -232,11 +232,12 @@ fn word_length(line: &[u8]) -> usize
     line.iter().take_while(|byte| is_word_byte(**byte)).count()
 }
 
-/// Whether a byte may stand in a word or a keyword.
+/// Whether a byte may stand in a word or a keyword. Nearly all that may stand behind the parentheses, so that is asked
+/// first.
 fn is_word_byte(byte: u8) -> bool
     ensures { result ≡ spec.is_word_byte byte }
 {
-    byte > b' ' && byte < 127 && !matches!(byte, b'"' | b'(' | b')')
+    (byte > b')' && byte < 127) || matches!(byte, b'!' | b'#'..=b'\'')
 }
 
 /// Whether a byte may stand in quoted text.

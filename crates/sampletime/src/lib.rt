@@ -91,6 +91,7 @@ impl Separators {
     pub const DEFAULT: Separators = Separators { bytes: *b".../" };
 
     /// These four bytes as separators; `None` where one of them is none of `:`, `;`, `.`, `,`, `|`, `=` and `/`.
+    #[inline(always)]
     pub fn new(bytes: [u8; 4]) -> Option<Self>
         ensures { SomeIff result (IsTrue (are_separators bytes)) bytes }
     {
@@ -139,6 +140,7 @@ fn two_digits(digits: [u8; 2]) -> Option<u8>
 }
 
 /// The number that four ASCII digits spell, 0 to 9999.
+#[inline(always)]
 fn four_digits(digits: [u8; 4]) -> Option<u16>
     ensures { result ≡ time_code.four_digits digits }
 {
@@ -201,6 +203,7 @@ impl Parts {
     }
 
     /// The time that these fields mean; `None` where one is past its limit or the day's end is passed.
+    #[inline(always)]
     fn time(self, rate: Rate) -> Option<SampleTime>
         ensures time { SomeIff result
             (IsTrue (is_in_day (frames_per_second rate) self.hours self.minutes self.seconds self.frames self.remainder))
@@ -223,6 +226,7 @@ impl Parts {
     }
 
     /// The time, beside these bytes as separators; `None` where either is refused.
+    #[inline(always)]
     fn parted_by(self, separators: [u8; 4], rate: Rate) -> Option<(SampleTime, Separators)>
         ensures value { result ≡ time_of_parts (frames_per_second rate) (Some self.hours) (Some self.minutes) (Some self.seconds)
             (Some self.frames) (Some self.remainder) separators }
@@ -259,6 +263,7 @@ impl Parts {
 /// Hours are 00 to 23, minutes and seconds 00 to 59, frames and the remainder below those of a second and of a frame
 /// (24 and 2000, 25 and 1920, or 30 and 1600), or the text is the day's end, 24 hours and all else zero. Every other
 /// text is `None`: nothing is carried into the next field.
+#[inline(always)]
 pub fn parse_time(text: &[u8], rate: Rate) -> Option<(SampleTime, Separators)>
     ensures value { result ≡ samples_of (frames_per_second rate) text.now }
     ensures in_day { IfSome result (λ p. p.0 ≤ day) }
@@ -279,6 +284,7 @@ pub fn parse_time(text: &[u8], rate: Rate) -> Option<(SampleTime, Separators)>
 }
 
 /// The time and the separators of a time text's fields, in digits.
+#[inline(always)]
 fn parse_fields(
     hours: [u8; 2],
     minutes: [u8; 2],
