@@ -1,5 +1,6 @@
 // The lines of a text, one after another.
 ghost use Rattle.std.specs.Prelude.{◌≡◌, ◌≤◌, ◌<◌, ◌+◌, ◌==◌, [], ◌∷◌, MatchOption, length};
+ghost use Rattle.std.specs.List.{list_any, position_or_len};
 ghost use Rattle.list_terms.specs.Lines.{lines_in, lines_of, byte_order_mark};
 ghost use Rattle.list_terms.specs.Lines as spec;
 
@@ -72,11 +73,40 @@ fn first_line(text: &[u8]) -> (&[u8], &[u8])
     ensures line { lines_in text.now ≡ result.0.now ∷ lines_in result.1.now }
     ensures shorter { length result.1.now < length text.now }
 {
-    let (line, rest) = text.split_at(length_before(b'\n', text));
+    let (line, rest) = text.split_at(line_length(text));
     match rest {
         [_, rest @ ..] => (without_cr(line), rest),
         [] => (without_cr(line), rest),
     }
+}
+
+/// How many bytes the first line of a text has before its line feed. Eight are looked at together, as long as none of
+/// them is one.
+fn line_length(text: &[u8]) -> usize
+    ensures place { result ≡ position_or_len (λ byte. byte == 10) text.now }
+    ensures inside { result ≤ length text.now }
+{
+    let mut rest = text;
+    let mut before = 0;
+    while let [a, b, c, d, e, f, g, h, behind @ ..] = rest {
+        if has_line_feed([*a, *b, *c, *d, *e, *f, *g, *h]) {
+            break;
+        }
+        rest = behind;
+        before += 8;
+    }
+    before + length_before(b'\n', rest)
+}
+
+/// Whether one of these bytes is a line feed.
+#[inline(always)]
+fn has_line_feed(bytes: [u8; 8]) -> bool
+    ensures { result ≡ list_any (λ byte. byte == 10) bytes }
+{
+    let [a, b, c, d, e, f, g, h] = bytes;
+    let first = (a == b'\n') | (b == b'\n') | (c == b'\n') | (d == b'\n');
+    let second = (e == b'\n') | (f == b'\n') | (g == b'\n') | (h == b'\n');
+    first | second
 }
 
 /// The text without a carriage return at its end.

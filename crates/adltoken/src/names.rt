@@ -4,8 +4,6 @@ ghost use Rattle.std.specs.List.{position_or_len};
 ghost use Rattle.list_terms.specs.Names as names;
 ghost use Rattle.list_terms.specs.Fields as spec;
 
-use memchr::memchr;
-
 /// Whether two texts are one, but for the case of ASCII letters.
 pub fn is_same_name(name: &[u8], other: &[u8]) -> bool
     ensures { result ≡ spec.is_same_name name.now other.now }
@@ -32,7 +30,7 @@ pub fn length_before(sought: u8, text: &[u8]) -> usize
     ensures place { result ≡ position_or_len (λ byte. byte == sought) text.now }
     ensures inside { result ≤ length text.now }
 {
-    memchr(sought, text).unwrap_or(text.len())
+    text.iter().take_while(|byte| **byte != sought).count()
 }
 
 /// Whether the bytes begin with this text, in any case.
