@@ -1,6 +1,6 @@
 -- A text in which the keyword of the rate of frames doesn't stand has the rate 25.
 use Rattle.std.proofs.Common.{◌≡◌, ℕ, zero, suc, ◌<◌, ◌≤◌, Bool, true, false, List, [], ◌∷◌, ◌++◌, Option, None, Some, Result, Ok, Err, length, take, drop, refl, ap, sym, subst, ◌∙◌, arith}
-use Rattle.std.specs.Prelude.{◌==◌, ◌||◌, not, codes, map, if◌then◌else◌}
+use Rattle.std.specs.Prelude.{◌==◌, ◌||◌, not, codes, is_some, map, option_map, if◌then◌else◌}
 use Rattle.std.specs.List.{list_all, take_while}
 use Rattle.std.specs.Str.{bytes_eq, str_to_ascii_lowercase}
 use Rattle.std.specs.Char.{to_ascii_lowercase}
@@ -175,6 +175,26 @@ rate_of-untold text h =
     let lines = has_lines text in
     untold_from (lines_of text) nothing_passed
     (rw lines.lines_are (lines_lack told_by lines.cut (mark_lacks told_by text h)))
+
+-- ---- a text whose first line can't stand
+
+pub rate_of-stopped :
+    (text line : List ℕ) (lines : List (List ℕ)) → lines_of text ≡ line ∷ lines → passed nothing_passed line ≡ None
+    → rate_of text ≡ 25
+unfolding rate_of
+rate_of-stopped text line lines e f = rw e (untold_stop nothing_passed line lines refl f)
+
+pub rate_of-unpassed :
+    {X : Type 0} (outline : X → Outline) (text line : List ℕ) (lines : List (List ℕ)) (o : Outline) (next : Option X)
+    → lines_of text ≡ line ∷ lines → o ≡ nothing_passed → option_map outline next ≡ passed o line
+    → is_some next ≡ false → rate_of text ≡ 25
+rate_of-unpassed outline text line lines o None e new is fails =
+    rate_of-stopped text line lines e (subst (λ o. passed o line ≡ None) new (sym is))
+rate_of-unpassed outline text line lines o (Some next) e new is fails = absurd (cc)
+
+pub rate_of-nothing : (text : List ℕ) → lines_of text ≡ [] → rate_of text ≡ 25
+unfolding rate_of rate_from
+rate_of-nothing text e = rw e refl
 
 -- ---- the search by its first letter
 

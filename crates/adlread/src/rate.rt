@@ -1,11 +1,12 @@
 // The rate of frames of a text.
 ghost use Rattle.std.specs.Prelude.{◌≡◌, ◌≤◌, codes, length};
+ghost use Rattle.std.specs.Bool.{OnFalse};
 ghost use Rattle.sampletime.specs.FrameRate.{frames_per_second};
 ghost use Rattle.list_terms.specs.Text.{has_word};
 ghost use Rattle.list_terms.specs.Text as spec;
 
-use crate::outline::{UNTOLD, rate_in_lines};
-use adltoken::starts_in_any_case;
+use crate::outline::{Outline, UNTOLD, rate_in_lines};
+use adltoken::{Lines, starts_in_any_case};
 use memchr::memchr2;
 use sampletime::Rate;
 
@@ -16,10 +17,20 @@ use sampletime::Rate;
 pub fn rate_of(text: &[u8]) -> Rate
     ensures { frames_per_second result ≡ spec.rate_of text.now }
 {
-    if has_rate_keyword(text) {
+    if begins_list(text) && has_rate_keyword(text) {
         rate_in_lines(text)
     } else {
         UNTOLD
+    }
+}
+
+/// Whether the first line of a text may stand before a list or begin one. Where it can't, no line tells a rate.
+fn begins_list(text: &[u8]) -> bool
+    ensures { OnFalse result (spec.rate_of text.now ≡ 25) }
+{
+    match Lines::new(text).next_line() {
+        Some(line) => Outline::new().passed(line).is_some(),
+        None => false,
     }
 }
 
