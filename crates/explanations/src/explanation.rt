@@ -19,6 +19,9 @@ const SHOWN_BYTES: usize = 160;
 
 const STOOD_BYTES: usize = 60;
 
+/// How many bytes of a list are looked at together for the ends of their lines.
+const BLOCK_BYTES: usize = 4096;
+
 /// What a command found where it refused: the line at fault, a file that the place doesn't name, what lies in a folder,
 /// whether that is the folder of the media, a file there whose name is nearly that of the missing one, what the system
 /// said, and what is unfinished.
@@ -285,8 +288,34 @@ fn is_left(reason: Reason) -> bool {
 fn line_of(list: &[u8], number: u64) -> Option<&[u8]> {
     let list = list.strip_prefix(b"\xEF\xBB\xBF").unwrap_or(list);
     let place = usize::try_from(number.checked_sub(1)?).ok()?;
-    let line = list.split(|byte| *byte == b'\n').nth(place)?;
+    let (near, ends) = behind_blocks(list, place);
+    let line = near.split(|byte| *byte == b'\n').nth(ends)?;
     Some(line.strip_suffix(b"\r").unwrap_or(line))
+}
+
+/// What stands behind the blocks in which fewer than so many lines end, and how many of them don't end there: a line far
+/// down a long list is found sooner where the ends in a block are counted at once.
+fn behind_blocks(text: &[u8], ends: usize) -> (&[u8], usize) {
+    let mut at: usize = 0;
+    let mut left = ends;
+    for block in text.chunks(BLOCK_BYTES) {
+        let ended = line_feeds_in(block);
+        if ended >= left {
+            break;
+        }
+        left -= ended;
+        at = at.saturating_add(block.len());
+    }
+    (text.get(at..).unwrap_or(b""), left)
+}
+
+/// How many line feeds a block has.
+fn line_feeds_in(block: &[u8]) -> usize {
+    let mut count: usize = 0;
+    for byte in block {
+        count = count.wrapping_add(usize::from(*byte == b'\n'));
+    }
+    count
 }
 
 /// The explanation of a refusal with this number, which names this, in one line.

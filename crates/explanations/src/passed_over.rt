@@ -20,10 +20,13 @@ pub struct PassedWords<'a>(pub &'a [u8]);
 
 impl fmt::Display for PassedWords<'_> {
     fn fmt<W: fmt::Write>(&self, f: &mut fmt::Formatter<W>) -> fmt::Result {
-        let mut section: &[u8] = b"";
+        let mut section = Section::Other;
         let mut count: usize = 0;
         let mut lines = Lines::new(self.0);
         'lines: while let Some(line) = lines.next_line() {
+            if section == Section::EventList && ends_with_time(line) {
+                continue;
+            }
             let text = trimmed(line);
             if is_same_name(text, b"</ADL>") {
                 break;
@@ -36,7 +39,7 @@ impl fmt::Display for PassedWords<'_> {
                     writeln!(f, "not honoured at line {number}: {word}")?;
                 }
             }
-            section = section_behind(section, text);
+            section = section.behind(text);
         }
         match count.checked_sub(MOST) {
             None | Some(0) => Ok(()),
@@ -45,25 +48,49 @@ impl fmt::Display for PassedWords<'_> {
     }
 }
 
-/// The section in which the next line stands.
-fn section_behind<'a>(section: &'a [u8], text: &'a [u8]) -> &'a [u8] {
-    match named_by(text) {
-        Some(name) => name,
-        None if text.starts_with(b"</") => b"",
-        None => section,
+/// The section in which a line stands, as far as it tells what is looked for there.
+#[derive(Clone, Copy, PartialEq, Eq)]
+enum Section {
+    System,
+    TrackList,
+    EventList,
+    Other,
+}
+
+impl Section {
+    /// The section of this name.
+    fn of(name: &[u8]) -> Section {
+        if is_same_name(name, b"EVENT_LIST") {
+            Section::EventList
+        } else if is_same_name(name, b"TRACKLIST") {
+            Section::TrackList
+        } else if is_same_name(name, b"SYSTEM") {
+            Section::System
+        } else {
+            Section::Other
+        }
+    }
+
+    /// The section in which the line behind this one stands.
+    fn behind(self, line: &[u8]) -> Section {
+        match named_by(line) {
+            Some(name) => Section::of(name),
+            None if line.starts_with(b"</") => Section::Other,
+            None => self,
+        }
     }
 }
 
 /// The name of the section that a line opens.
-fn named_by(text: &[u8]) -> Option<&[u8]> {
-    if text.starts_with(b"</") {
+fn named_by(line: &[u8]) -> Option<&[u8]> {
+    if line.starts_with(b"</") {
         return None;
     }
-    text.strip_prefix(b"<")?.strip_suffix(b">")
+    line.strip_prefix(b"<")?.strip_suffix(b">")
 }
 
 /// The word of a line in this section that is passed over.
-fn word_in<'a>(section: &[u8], line: &'a [u8]) -> Option<&'a [u8]> {
+fn word_in(section: Section, line: &[u8]) -> Option<&[u8]> {
     if named_by(line).is_some_and(says_levels) {
         return Some(line);
     }
@@ -98,18 +125,14 @@ enum Sought {
 
 impl Sought {
     /// What a line of this section may have.
-    fn of(section: &[u8], line: &[u8]) -> Option<Sought> {
-        if is_same_name(section, b"TRACKLIST") {
-            Some(Sought::TrackSetting)
-        } else if is_same_name(section, b"SYSTEM") && begins_with(line, b"SYS_XFADE_LENGTH") {
-            Some(Sought::CrossfadeLength)
-        } else if is_same_name(section, b"EVENT_LIST")
-            && !ends_with_time(line)
-            && begins_with(line, b"Entry")
-        {
-            Some(Sought::BehindEntry)
-        } else {
-            None
+    fn of(section: Section, line: &[u8]) -> Option<Sought> {
+        match section {
+            Section::TrackList => Some(Sought::TrackSetting),
+            Section::System if begins_with(line, b"SYS_XFADE_LENGTH") => {
+                Some(Sought::CrossfadeLength)
+            }
+            Section::EventList if begins_with(line, b"Entry") => Some(Sought::BehindEntry),
+            _ => None,
         }
     }
 
