@@ -40,9 +40,12 @@ impl<'a, C: Clock, O: Console + Drop> ProgressLine<'a, C, O> {
 
     /// Whether the line may be written now.
     fn is_due(&self) -> bool {
-        match (self.next, Instant::now(self.clock)) {
-            (Some(next), Ok(now)) => next <= now,
-            _ => false,
+        let Some(next) = self.next else {
+            return false;
+        };
+        match Instant::now(self.clock) {
+            Ok(now) => next <= now,
+            Err(_) => false,
         }
     }
 
