@@ -15,22 +15,38 @@ FRAME_SIZE = 6
 LAYERS = 16
 PARTS = 11
 PART = FRAMES // PARTS
+JOINED = 10
+PIECES = tuple(f"P{place:02d}.wav" for place in range(JOINED))
+CUTS = 1000
 MANY = 32_767
 SHORT = 125
 
 
 class Mix(NamedTuple):
-    """Cuts of the source, and the words by which sox and ffmpeg mix the same; sox may have none. In them `I` is the
-    source and `O` the file to write."""
+    """Cuts of files, and the words by which sox and ffmpeg mix the same; they may have none. In them `I` is the source
+    and `O` the file to write, and other files stand under their names."""
     cuts: list
     sox: Optional[list]
-    ffmpeg: list
+    ffmpeg: Optional[list]
     is_plain: bool = False
+    names: tuple = ("A.wav",)
 
 
 def layers(count: int) -> list:
     """The whole source so many times at once, each a second later in it."""
     return [Cut(SECOND * place, 0, FRAMES - SECOND * LAYERS) for place in range(count)]
+
+
+def joined() -> list:
+    """Files of three minutes, one behind the other."""
+    length = FRAMES // JOINED
+    return [Cut(0, length * place, length, index=place + 1) for place in range(JOINED)]
+
+
+def cut_anew() -> list:
+    """As many parts of the source, none behind the one that it follows there."""
+    length = FRAMES // CUTS
+    return [Cut(length * (place * 7919 % CUTS), length * place, length) for place in range(CUTS)]
 
 
 def crossfaded() -> list:
@@ -63,6 +79,8 @@ def ffmpeg_layers(count: int) -> list:
 
 MIXES = {
     "one file straight through": Mix([Cut(0, 0, FRAMES)], ["I", "O"], ["-i", "I"], True),
+    "ten files joined": Mix(joined(), [*PIECES, "O"], None, True, PIECES),
+    "a thousand cuts": Mix(cut_anew(), None, None),
     "ten crossfades": Mix(crossfaded(), None, ffmpeg_crossfades()),
     "two layers": Mix(layers(2), ["-m", "I", "I", "O"], ffmpeg_layers(2)),
     "one fade over all": Mix(
@@ -73,7 +91,8 @@ MIXES = {
 
 
 def put_in(words: list, source: Path, target: Path) -> list:
-    return [{"I": source, "O": target}.get(word, word) for word in words]
+    pieces = {name: source.parent / name for name in PIECES}
+    return [{"I": source, "O": target, **pieces}.get(word, word) for word in words]
 
 
 def jobs_of(bench: Bench, mix: Mix, source: Path, block: bytes) -> dict:
@@ -88,14 +107,12 @@ def jobs_of(bench: Bench, mix: Mix, source: Path, block: bytes) -> dict:
     def look_at_peer(out: Path) -> None:
         expect_about(out / "peer.wav", size)
 
-    text = bench.put(list_text(mix.cuts, channels="1~2"))
+    text = bench.put(list_text(mix.cuts, mix.names, channels="1~2"))
     target = bench.out() / "peer.wav"
-    jobs = {
-        "cp": copy_of(source, target),
-        "render": Job(bench.words("render", text), look),
-        "ffmpeg": Job(
-            ["ffmpeg", "-v", "error", *put_in(mix.ffmpeg, source, target), "-c:a", "pcm_s24le", target], look_at_peer),
-    }
+    jobs = {"cp": copy_of(source, target), "render": Job(bench.words("render", text), look)}
+    if mix.ffmpeg:
+        jobs["ffmpeg"] = Job(
+            ["ffmpeg", "-v", "error", *put_in(mix.ffmpeg, source, target), "-c:a", "pcm_s24le", target], look_at_peer)
     if mix.sox:
         jobs["sox"] = Job(["sox", "-D", "-V1", *put_in(mix.sox, source, target)], look_at_peer)
     return jobs
@@ -121,10 +138,12 @@ def many_entries(bench: Bench) -> str:
 
 
 def make_half_hour(bench: Bench) -> tuple:
-    """30 minutes, and the second that they repeat."""
+    """30 minutes, and the second that they repeat; and the same in ten files."""
     block = block_of(SECOND, 2, 24)
     source = bench.media() / "A.wav"
     make_sound(source, block, SECONDS, 2, 24)
+    for name in PIECES:
+        make_sound(bench.media() / name, block, SECONDS // JOINED, 2, 24)
     return source, block
 
 
@@ -135,5 +154,5 @@ def lines(bench: Bench) -> list:
         "Time to `ffmpeg`")
     for name, mix in MIXES.items():
         costs = bench.costs_of(jobs_of(bench, mix, source, block))
-        rows.append(line(name, costs["render"], (costs["cp"], costs.get("sox"), costs["ffmpeg"])))
+        rows.append(line(name, costs["render"], (costs["cp"], costs.get("sox"), costs.get("ffmpeg"))))
     return [*rows, many_entries(bench)]
