@@ -166,7 +166,7 @@ def texts(scene: Scene) -> None:
     """What help, the version and mistakes say."""
     for words, text in (
         (("--help",), HELP), (("check", "-h"), CHECK_HELP), (("consolidate", "-h"), CONSOLIDATE_HELP),
-        (("help",), HELP), (("--version",), "adlcons 0.2.0\n"),
+        (("help",), HELP), (("--version",), "adlcons 1.0.0\n"),
     ):
         same(f"the text of {words}", scene.run(*words).output.decode(), text)
     for words, text in ((("render", LIST, MEDIA), NO_OUT), (("rendr", LIST, MEDIA, OUT), NO_COMMAND)):

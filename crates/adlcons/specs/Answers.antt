@@ -22,7 +22,7 @@ use Rattle.adlcons.specs.Times.{values_of}
 
 -- the version of this program, where a report is asked for
 abbrev pub asking : Bool → Option (List ℕ)
-asking report = if report then Some (codes "0.2.0") else None
+asking report = if report then Some (codes "1.0.0") else None
 
 -- the notices and the line of a list that was checked
 abbrev pub accepted_lines : Accepted → List ℕ

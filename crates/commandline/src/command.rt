@@ -22,7 +22,7 @@ pub fn command<'a>(alloc: Global) -> Result<Command<'a>, AllocError>
 }
 
 /// The version of the program.
-pub const VERSION: &str = "0.2.0";
+pub const VERSION: &str = "1.0.0";
 
 /// What the statuses mean, for the help.
 const STATUSES: &str = "\
