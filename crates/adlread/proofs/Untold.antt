@@ -50,6 +50,13 @@ module _ (word : List ℕ) where
       let long : length word ≤ length text = omega (arith, front, least) in
       rw (take-append-le (length word) text more long) h
 
+  pub too_short : (text : List ℕ) → length text < length word → has_word word text ≡ false
+  too_short [] few = refl
+  too_short (b ∷ text) few =
+      let begins : begins_with word (b ∷ text) ≡ false = false_from_ne_true _ (λ has.
+      absurd (omega (arith, few, same_length (take (length word) (b ∷ text)) has, length-take (length word) (b ∷ text)))) in
+      rw (begins, too_short text (omega (arith, few))) refl
+
   has_word-front : (text more : List ℕ) → has_word word text ≡ true → has_word word (text ++ more) ≡ true
   has_word-front [] more h = absurd (cc)
   has_word-front (b ∷ text) more h = by_test (begins_with word (b ∷ text)) refl (has_word-front text more) where

@@ -116,6 +116,9 @@ fn has_word(word: &[u8], name: &[u8]) -> bool
 {
     let mut rest = name;
     while let [_, behind @ ..] = rest {
+        if rest.len() < word.len() {
+            return false;
+        }
         if starts_in_any_case(word, rest) {
             return true;
         }
