@@ -156,7 +156,7 @@ fn files_of_another_length_are_refused_or_not_started(rt: HostRuntime) -> Result
 }
 
 #[test]
-fn each_failing_call_is_told(rt: HostRuntime) -> Result<(), Fail> {
+fn a_start_that_fails_is_told(rt: HostRuntime) -> Result<(), Fail> {
     let run = run_of(2)?;
     let fresh = FreshMarks::of(rt.alloc(), &run)?;
     for call in 0..8 {
@@ -166,6 +166,12 @@ fn each_failing_call_is_told(rt: HostRuntime) -> Result<(), Fail> {
         start(&mut bench, &fresh)?;
         assert_eq!(rt; marks_on(&mut bench)?, FRESH);
     }
+    Ok(())
+}
+
+#[test]
+fn an_opening_that_fails_is_told(rt: HostRuntime) -> Result<(), Fail> {
+    let run = run_of(2)?;
     for call in 0..6 {
         let mut bench = bench_of(rt.alloc(), &SAMPLES, &FRESH)?.failing(call, 1);
         let fault = if call < 2 {
@@ -180,6 +186,11 @@ fn each_failing_call_is_told(rt: HostRuntime) -> Result<(), Fail> {
         );
         assert_eq!(rt; found(rt.alloc(), &mut bench, &run), Ok(true));
     }
+    Ok(())
+}
+
+#[test]
+fn a_mark_that_fails_is_told(rt: HostRuntime) -> Result<(), Fail> {
     for call in 0..2 {
         let mut bench = bench_of(rt.alloc(), &SAMPLES, &FRESH)?.failing(call, 1);
         assert_eq!(rt;
@@ -190,6 +201,11 @@ fn each_failing_call_is_told(rt: HostRuntime) -> Result<(), Fail> {
         mark(&mut bench, 0, 1)?;
         assert_eq!(rt; marks_on(&mut bench)?, changed(44, &[1]));
     }
+    Ok(())
+}
+
+#[test]
+fn faults_of_marks_have_their_numbers(rt: HostRuntime) -> Result<(), Fail> {
     for (fault, number) in [
         (MarksFault::Sound, 62),
         (MarksFault::Marks, 62),
