@@ -14,6 +14,7 @@ from typing import Callable, Iterable, NamedTuple, Optional
 TOP = Path(__file__).resolve().parent.parent
 MOST_RUNS = 3
 LONG_ENOUGH = 3
+MANY_FILES = 100
 SPOTS = 1000
 FULL_DEPTH = 48
 RATE = 48_000
@@ -51,6 +52,15 @@ class Bench(NamedTuple):
         path.write_text(text)
         return path
 
+    def empty_out(self) -> None:
+        """Makes the folder of the output empty. One of many files is put aside and not deleted: ext4 seeks long for the
+        inode of a new file where many were deleted in the last minute, so that the next command would pay for it."""
+        out = self.out()
+        if out.exists() and len(os.listdir(out)) > MANY_FILES:
+            out.rename(self.folder / f"out-{time.monotonic_ns()}")
+        shutil.rmtree(out, ignore_errors=True)
+        out.mkdir()
+
     def words(self, command: str, text: Path, *options: str) -> list:
         places = [text, self.media()] if command == "check" else [text, self.media(), self.out()]
         return [self.program, command, *places, *options]
@@ -70,8 +80,7 @@ class Bench(NamedTuple):
 
     def cost_of(self, job: Job) -> Cost:
         """Runs a job once into an empty folder, with nothing of before still on its way to the disk."""
-        shutil.rmtree(self.out(), ignore_errors=True)
-        self.out().mkdir()
+        self.empty_out()
         os.sync()
         peak = self.folder / "peak"
         begin = time.perf_counter()
