@@ -1,7 +1,7 @@
 -- A rendering by values is one by what the words choose that say these values.
 use Rattle.std.proofs.Common.{◌≡◌, ℕ, List, Ok}
-use Rattle.shelf.specs.declared.source.Shelf as source
-use Rattle.shelf.specs.declared.bench.Bench as output
+use Rattle.devices.specs.declared.source.Shelf as source
+use Rattle.devices.specs.declared.bench.Bench as output
 use Rattle.list_terms.specs.Accepted.{OptionValues}
 use Rattle.list_terms.specs.Text.{rate_of}
 use Rattle.consolidate.specs.Commands.{IsRendering}

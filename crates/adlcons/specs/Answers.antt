@@ -2,9 +2,9 @@
 use Rattle.std.specs.Prelude.{◌≡◌, ℕ, Bool, true, false, IsOk, IsErr, ⊤, List, [], ◌∷◌, ◌++◌, Option, None, Some, Result, Ok, Err, codes, if◌then◌else◌}
 use Rattle.work_terms.specs.Refusals.{Refusal, Where, Index, IndexFile}
 use Rattle.opening.specs.declared.checking.Accepted.{Accepted}
-use Rattle.shelf.specs.declared.source.Shelf as source
+use Rattle.devices.specs.declared.source.Shelf as source
 use Rattle.opening.specs.Further.{WasRead}
-use Rattle.shelf.specs.declared.bench.Bench as output
+use Rattle.devices.specs.declared.bench.Bench as output
 use Rattle.list_terms.specs.Accepted.{OptionValues}
 use Rattle.list_terms.specs.Text.{rate_of}
 use Rattle.consolidate.specs.Commands.{IsChecking, IsRendering}

@@ -1,10 +1,10 @@
 -- Why a command doesn't come to its stores, and what it is to come to them.
 use Rattle.std.specs.Prelude.{◌≡◌, ℕ, IsTrue, true, false, List, Result}
 use Rattle.work_terms.specs.Refusals.{Refusal, Where, Nowhere, File}
-use Rattle.shelf.specs.declared.source.Shelf as source
-use Rattle.stores.specs.Folder.{OutputFolder, SourceFolder, folder_named}
-use Rattle.stores.specs.declared.Overwrite.{Overwrite}
-use Rattle.stores.specs.declared.Overwrite.TheVariants.{Files, Never}
+use Rattle.devices.specs.declared.source.Shelf as source
+use Rattle.shelf.specs.Folder.{OutputFolder, SourceFolder, folder_named}
+use Rattle.shelf.specs.declared.Overwrite.{Overwrite}
+use Rattle.shelf.specs.declared.Overwrite.TheVariants.{Files, Never}
 use Rattle.commandline.specs.CommandLine.{Asked, Resume}
 use Rattle.consolidate.specs.declared.Fault.{Fault}
 use Rattle.console.specs.declared.console.Console as console

@@ -5,9 +5,9 @@ use crate::refusal::put_project_place;
 use adlread::{AdlFault, Faults};
 use console::{Console, put_counted};
 use consolidate::Fault;
+use devices::Shelf;
 use explanations::further_meaning;
 use opening::further_faults;
-use shelf::Shelf;
 use std::alloc::Global;
 
 /// Prints the further faults of a list that is refused by this first one, so many at most, and how many more there are;

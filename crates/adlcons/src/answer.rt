@@ -36,9 +36,8 @@ use console::{Console, Counts};
 use consolidate::{Fault, Options, check_project, consolidate, render, resume};
 use explanations::{Explanation, PrintedLines, Saved, meanings_of, notice_meanings_of};
 use passes::Pass;
-use shelf::{Bench, Shelf};
+use shelf::{Bench, Reasons, Shelf};
 use std::alloc::Global;
-use stores::Reasons;
 
 /// The status of a command that is done, or of a text that was asked for.
 const DONE: u8 = 0;

@@ -8,9 +8,8 @@ use console::Console;
 use consolidate::Fault;
 use explanations::Explanation;
 use opening::open_project;
-use shelf::Shelf;
+use shelf::{Reasons, Shelf};
 use std::alloc::Global;
-use stores::Reasons;
 
 /// Checks the list, and prints all that came of it as JSON on `out`, by the form of `docs/REPORT.md`; where no memory was
 /// left for that, the refusal 18. A refusal of the list is explained on `err`. The status is 0 where the list is

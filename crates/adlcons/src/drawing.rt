@@ -8,9 +8,8 @@ use consolidate::Fault;
 use explanations::Explanation;
 use opening::open_project;
 use picture::Picture;
-use shelf::Shelf;
+use shelf::{Reasons, Shelf};
 use std::alloc::Global;
-use stores::Reasons;
 
 /// Draws the list of this path with handles of so many frames, as SVG on `out`, and answers 0; or prints why it is
 /// refused, as a check does, and answers 1.

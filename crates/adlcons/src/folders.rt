@@ -9,7 +9,7 @@ ghost use Rattle.console.specs.Places.{where_of};
 ghost use Rattle.sound_terms.specs.Passes.{standard_groups};
 ghost use Rattle.adlcons.specs.Answers.{RendersBy, ResumesBy, asking, rendered_lines, resumed_lines, written_lines};
 ghost use Rattle.adlcons.specs.Openings.{ChecksFolder, IsKeptOut, ReportsFolder, WorksInFolders, overwrite_for, refusal_of_opening};
-ghost use Rattle.stores.specs.declared.Overwrite.TheVariants as overwrite;
+ghost use Rattle.shelf.specs.declared.Overwrite.TheVariants as overwrite;
 
 use crate::also::tell_further;
 use crate::answer::{MISTAKE, REFUSED, answer, answer_error, explain, explain_notice};
@@ -22,11 +22,11 @@ use commandline::{Places, Request, parse};
 use console::{Console, Place, Refusal, put_refusal};
 use consolidate::{MARKS, check_project};
 use explanations::Explanation;
+use shelf::{FolderBench, FolderShelf, MemoryBench, Overwrite};
 use std::alloc::AllocError;
 use std::fs::Files;
 use std::os::unix::fs::{FileExt, MetadataExt};
 use std::{fs, io};
-use stores::{FolderBench, FolderShelf, MemoryBench, Overwrite};
 
 /// Why a command didn't come to its stores.
 #[derive(Clone, Copy, Debug)]
@@ -101,27 +101,27 @@ where
     // A command was called over a list and folders, and its answer is printed; or what kept it from them is.
     ensures checked { (list media : Text) → request_of (texts words.now) ≡ Some (asked.Check list media) → result ≢ 2
         → IsKeptOut O.Console list (codes "") out.old out.new result
-        ⊎ ChecksFolder ⟦<FolderShelf<R> as shelf::Shelf>⟧ O.Console media out.old out.new result }
+        ⊎ ChecksFolder ⟦<FolderShelf<R> as devices::Shelf>⟧ O.Console media out.old out.new result }
     ensures reported { (list media : Text) → request_of (texts words.now) ≡ Some (asked.Report list media) → result ≢ 2
         → IsKeptOut O.Console list (codes "") out.old out.new result
-        ⊎ ReportsFolder ⟦<FolderShelf<R> as shelf::Shelf>⟧ O.Console media out.old out.new result }
+        ⊎ ReportsFolder ⟦<FolderShelf<R> as devices::Shelf>⟧ O.Console media out.old out.new result }
     ensures rendered { (list media target : Text) (chosen : asked.Chosen)
         → request_of (texts words.now) ≡ Some (asked.Render list media target chosen) → result ≢ 2
         → IsKeptOut O.Console list target out.old out.new result
         ⊎ WorksInFolders overwrite.Never
-        (RendersBy ⟦<FolderShelf<R> as shelf::Shelf>⟧ ⟦<FolderBench<R> as shelf::Bench>⟧ chosen)
+        (RendersBy ⟦<FolderShelf<R> as devices::Shelf>⟧ ⟦<FolderBench<R> as devices::Bench>⟧ chosen)
         rendered_lines O.Console media target out.old out.new result }
     ensures resumed { (list media target : Text) (chosen : asked.Chosen)
         → request_of (texts words.now) ≡ Some (asked.Resume list media target chosen) → result ≢ 2
         → IsKeptOut O.Console list target out.old out.new result
         ⊎ WorksInFolders overwrite.Files
-        (ResumesBy ⟦<FolderShelf<R> as shelf::Shelf>⟧ ⟦<FolderBench<R> as shelf::Bench>⟧ chosen)
+        (ResumesBy ⟦<FolderShelf<R> as devices::Shelf>⟧ ⟦<FolderBench<R> as devices::Bench>⟧ chosen)
         resumed_lines O.Console media target out.old out.new result }
     ensures consolidated { (list media target : Text) (handle : ℕ) (report : Bool)
         → request_of (texts words.now) ≡ Some (asked.Consolidate list media target handle report) → result ≢ 2
         → IsKeptOut O.Console list target out.old out.new result
         ⊎ WorksInFolders overwrite.Never
-        (λ list. IsConsolidation ⟦<FolderShelf<R> as shelf::Shelf>⟧ ⟦<FolderBench<R> as shelf::Bench>⟧ standard_groups
+        (λ list. IsConsolidation ⟦<FolderShelf<R> as devices::Shelf>⟧ ⟦<FolderBench<R> as devices::Bench>⟧ standard_groups
         list handle (asking report))
         written_lines O.Console media target out.old out.new result }
     ensures statuses { result ≤ 2 }
@@ -196,7 +196,7 @@ where
     R: Files + Input + AllocGlobal + Clone + Drop,
     R::File: FileExt,
     ensures answered { IsKeptOut O.Console list.now (codes "") out.old out.new result
-        ⊎ ChecksFolder ⟦<FolderShelf<R> as shelf::Shelf>⟧ O.Console media.now out.old out.new result }
+        ⊎ ChecksFolder ⟦<FolderShelf<R> as devices::Shelf>⟧ O.Console media.now out.old out.new result }
     ensures statuses { result ≤ 1 }
 {
     match try_check(rt, list, media, tells_all, out, err, meter) {
@@ -219,7 +219,7 @@ where
     R: Files + Input + AllocGlobal + Clone + Drop,
     R::File: FileExt,
     ensures answered { IfOk result
-        (λ status. ChecksFolder ⟦<FolderShelf<R> as shelf::Shelf>⟧ O.Console media.now out.old out.new status) }
+        (λ status. ChecksFolder ⟦<FolderShelf<R> as devices::Shelf>⟧ O.Console media.now out.old out.new status) }
     ensures statuses { IfOk result (λ status. status ≤ 1) }
     ensures nothing { OnErr result (out.new ≡ out.old) }
 {
@@ -262,19 +262,19 @@ where
         → asked_of request.entry ≡ asked.Render list media target chosen → result ≢ 2
         → IsKeptOut O.Console places.entry.list.now places.entry.out.now out.old out.new result
         ⊎ WorksInFolders overwrite.Never
-        (RendersBy ⟦<FolderShelf<R> as shelf::Shelf>⟧ ⟦<FolderBench<R> as shelf::Bench>⟧ chosen)
+        (RendersBy ⟦<FolderShelf<R> as devices::Shelf>⟧ ⟦<FolderBench<R> as devices::Bench>⟧ chosen)
         rendered_lines O.Console places.entry.media.now places.entry.out.now out.old out.new result }
     ensures resumed { (list media target : Text) (chosen : asked.Chosen)
         → asked_of request.entry ≡ asked.Resume list media target chosen → result ≢ 2
         → IsKeptOut O.Console places.entry.list.now places.entry.out.now out.old out.new result
         ⊎ WorksInFolders overwrite.Files
-        (ResumesBy ⟦<FolderShelf<R> as shelf::Shelf>⟧ ⟦<FolderBench<R> as shelf::Bench>⟧ chosen)
+        (ResumesBy ⟦<FolderShelf<R> as devices::Shelf>⟧ ⟦<FolderBench<R> as devices::Bench>⟧ chosen)
         resumed_lines O.Console places.entry.media.now places.entry.out.now out.old out.new result }
     ensures consolidated { (list media target : Text) (handle : ℕ) (report : Bool)
         → asked_of request.entry ≡ asked.Consolidate list media target handle report
         → IsKeptOut O.Console places.entry.list.now places.entry.out.now out.old out.new result
         ⊎ WorksInFolders overwrite.Never
-        (λ list. IsConsolidation ⟦<FolderShelf<R> as shelf::Shelf>⟧ ⟦<FolderBench<R> as shelf::Bench>⟧ standard_groups
+        (λ list. IsConsolidation ⟦<FolderShelf<R> as devices::Shelf>⟧ ⟦<FolderBench<R> as devices::Bench>⟧ standard_groups
         list handle (asking report))
         written_lines O.Console places.entry.media.now places.entry.out.now out.old out.new result }
     ensures statuses { result ≤ 2 }
@@ -306,17 +306,17 @@ where
     ensures rendered { (list media target : Text) (chosen : asked.Chosen)
         → asked_of request.entry ≡ asked.Render list media target chosen
         → IfOk result (λ status. status ≢ 2 → WorksInFolders overwrite.Never
-        (RendersBy ⟦<FolderShelf<R> as shelf::Shelf>⟧ ⟦<FolderBench<R> as shelf::Bench>⟧ chosen)
+        (RendersBy ⟦<FolderShelf<R> as devices::Shelf>⟧ ⟦<FolderBench<R> as devices::Bench>⟧ chosen)
         rendered_lines O.Console places.entry.media.now places.entry.out.now out.old out.new status) }
     ensures resumed { (list media target : Text) (chosen : asked.Chosen)
         → asked_of request.entry ≡ asked.Resume list media target chosen
         → IfOk result (λ status. status ≢ 2 → WorksInFolders overwrite.Files
-        (ResumesBy ⟦<FolderShelf<R> as shelf::Shelf>⟧ ⟦<FolderBench<R> as shelf::Bench>⟧ chosen)
+        (ResumesBy ⟦<FolderShelf<R> as devices::Shelf>⟧ ⟦<FolderBench<R> as devices::Bench>⟧ chosen)
         resumed_lines O.Console places.entry.media.now places.entry.out.now out.old out.new status) }
     ensures consolidated { (list media target : Text) (handle : ℕ) (report : Bool)
         → asked_of request.entry ≡ asked.Consolidate list media target handle report
         → IfOk result (λ status. WorksInFolders overwrite.Never
-        (λ list. IsConsolidation ⟦<FolderShelf<R> as shelf::Shelf>⟧ ⟦<FolderBench<R> as shelf::Bench>⟧ standard_groups
+        (λ list. IsConsolidation ⟦<FolderShelf<R> as devices::Shelf>⟧ ⟦<FolderBench<R> as devices::Bench>⟧ standard_groups
         list handle (asking report))
         written_lines O.Console places.entry.media.now places.entry.out.now out.old out.new status) }
     ensures statuses { IfOk result (λ status. status ≤ 2) }

@@ -8,9 +8,9 @@ use crate::drawing::answer_picture;
 use crate::folders::{OpenFault, keep_out, tell_all_further, tell_unlisted, unlisted_reason};
 use crate::reading::read_list;
 use console::Console;
+use shelf::FolderShelf;
 use std::fs::Files;
 use std::os::unix::fs::FileExt;
-use stores::FolderShelf;
 
 /// Prints the report of this list over this folder, and answers the status. All that is at fault may stand on `err`.
 pub fn report_folder<R, O: Console, E: Console>(
@@ -25,7 +25,7 @@ where
     R: Files + Input + AllocGlobal + Clone + Drop,
     R::File: FileExt,
     ensures reported { IsKeptOut O.Console list.now (codes "") out.old out.new result
-        ⊎ ReportsFolder ⟦<FolderShelf<R> as shelf::Shelf>⟧ O.Console media.now out.old out.new result }
+        ⊎ ReportsFolder ⟦<FolderShelf<R> as devices::Shelf>⟧ O.Console media.now out.old out.new result }
     ensures statuses { result ≤ 1 }
 {
     match try_report(rt, list, media, tells_all, out, err) {
@@ -47,7 +47,7 @@ where
     R: Files + Input + AllocGlobal + Clone + Drop,
     R::File: FileExt,
     ensures reported { IfOk result
-        (λ status. ReportsFolder ⟦<FolderShelf<R> as shelf::Shelf>⟧ O.Console media.now out.old out.new status) }
+        (λ status. ReportsFolder ⟦<FolderShelf<R> as devices::Shelf>⟧ O.Console media.now out.old out.new status) }
     ensures statuses { IfOk result (λ status. status ≤ 1) }
     ensures nothing { OnErr result (out.new ≡ out.old) }
 {

@@ -2,7 +2,7 @@
 ghost use Rattle.std.specs.Prelude.{◌≤◌};
 
 use console::Console;
-use shelf::Watch;
+use devices::Watch;
 use std::fmt::Display;
 use std::time::{Clock, Duration, Instant};
 

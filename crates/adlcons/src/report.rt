@@ -6,8 +6,8 @@ ghost use Rattle.console.specs.Printing.{Prints};
 use console::{Console, Counts, put_counts, put_notices};
 use explanations::{ChangedSources, NOTICES, PassedWords};
 use list_terms::Notice;
+use shelf::Reasons;
 use std::alloc::Global;
-use stores::Reasons;
 
 /// Prints the notices and the line of a command that is done.
 pub fn tell_done<C: Console>(

@@ -13,9 +13,8 @@ use crate::meter::Meter;
 use commandline::Request;
 use console::Console;
 use passes::{DropSilent, JoinCuts, Pass, Regroup, SplitFades};
-use shelf::{Bench, Shelf};
+use shelf::{Bench, Reasons, Shelf};
 use std::alloc::{AllocError, Global};
-use stores::Reasons;
 
 /// Answers a request as `answer` does, a consolidation with the standard passes: each fade becomes a piece of its own,
 /// what is silent is left out, cuts are joined, and pieces that continue one another are groups again.

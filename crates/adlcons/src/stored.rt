@@ -2,8 +2,7 @@
 use crate::example;
 use anyhow::{Context, Result};
 use consolidate::{Depth, Options, Order, SOUND, render};
-use shelf::Unwatched;
-use stores::{MemoryBench, MemoryShelf};
+use shelf::{MemoryBench, MemoryShelf, Unwatched};
 
 /// Renders the stored example, and prints the length of the file and the samples in it.
 pub fn run_stored(rt: &(impl AllocGlobal + Print)) -> Result<()> {

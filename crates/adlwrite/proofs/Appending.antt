@@ -3,9 +3,9 @@ use Rattle.std.proofs.Common.{◌≡◌, ◌≢◌, ◌⊎◌, inl, inr, ℕ, �
 use Rattle.std.specs.Prelude.{⊤, IsErrAnd}
 use Rattle.std.proofs.lemmas.List.{take-take, drop-drop, length-append}
 use Rattle.work_terms.specs.Disk.{Changes, Elapses, Files, Follows, HasTornEnd, HasWritten, IsAppended, IsGrown, IsTornBehind, LeavesOnly, OfFile, end_of}
-use Rattle.shelf.specs.Frame.{OnlyWrites}
-use Rattle.shelf.specs.declared.bench.Bench.{Ghosts}
-use Rattle.shelf.specs.declared.fault.DeviceFault.{DeviceFault}
+use Rattle.devices.specs.Frame.{OnlyWrites}
+use Rattle.devices.specs.declared.bench.Bench.{Ghosts}
+use Rattle.devices.specs.declared.fault.DeviceFault.{DeviceFault}
 use Rattle.adlwrite.specs.Appended.{Appends, MayBeTorn}
 
 shorter : (i j : ℕ) (x y : List ℕ) → i ≤ j → take j x ≡ take j y → take i x ≡ take i y

@@ -1,9 +1,9 @@
 -- What is left of an output where a text is added at the end of a file, be it in pieces.
 use Rattle.std.specs.Prelude.{◌≡◌, ◌≢◌, ℕ, ⊤, IsTrue, List, ◌++◌, length, Result, OnOk, OnErr}
 use Rattle.work_terms.specs.Disk.{Changes, Files, IsGrown, IsTornBehind, LeavesOnly, OfFile, end_of}
-use Rattle.shelf.specs.Frame.{OnlyWrites}
-use Rattle.shelf.specs.declared.bench.Bench.{Ghosts}
-use Rattle.shelf.specs.declared.fault.DeviceFault.{DeviceFault}
+use Rattle.devices.specs.Frame.{OnlyWrites}
+use Rattle.devices.specs.declared.bench.Bench.{Ghosts}
+use Rattle.devices.specs.declared.fault.DeviceFault.{DeviceFault}
 
 -- what a crash might have left before the text came, but for this file: behind its bytes stands at most so much as the
 -- text is long, where the store is honest

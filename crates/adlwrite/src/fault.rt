@@ -2,7 +2,7 @@
 ghost use Rattle.std.specs.Prelude.{◌≡◌};
 ghost use Rattle.adlwrite.specs.declared.fault.WriteFault.TheVariants.{Device};
 
-use shelf::DeviceFault;
+use devices::DeviceFault;
 use thiserror::Error;
 
 /// Why a list isn't written.

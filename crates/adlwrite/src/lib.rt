@@ -9,7 +9,7 @@ ghost use Rattle.list_terms.specs.Text.{text_value};
 ghost use Rattle.list_terms.specs.WholeProject.{without_notices};
 ghost use Rattle.list_terms.specs.WrittenText.{text_of_project};
 ghost use Rattle.work_terms.specs.Disk.{Changes, Follows, IsAppended, IsGrown, IsTornBehind, LeavesOnly, end_of};
-ghost use Rattle.shelf.specs.Frame.{OnlyWrites};
+ghost use Rattle.devices.specs.Frame.{OnlyWrites};
 ghost use Rattle.adlwrite.specs.Appended.{MayBeTorn};
 
 mod fault;
@@ -17,9 +17,9 @@ mod parts;
 mod text_file;
 
 use adlmodel::Project;
+use devices::Bench;
 pub use fault::WriteFault;
 use parts::put_list;
-use shelf::Bench;
 use std::alloc::{AllocError, Global};
 use text_file::TextFile;
 

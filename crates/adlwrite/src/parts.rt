@@ -7,9 +7,9 @@ ghost use Rattle.adlwrite.specs.Appended.{Appends};
 ghost use Rattle.adlwrite.specs.Parts.{all_of, channels_behind, curve_text, ending_text, entry_numbers, entry_text, entry_times, event_section, event_text, events_text, fade_line, fade_text, file_text, head_text, header_text, index_section, index_text, lines_text, list_text, opening_text, section_text, source_text, source_times, sources_text};
 
 use adlmodel::{Bytes, Channels, Event, Header, KeptLines, Project, Source};
+use devices::{Bench, DeviceFault};
 use itoa::Buffer;
 use sampletime::{SampleTime, text_of};
-use shelf::{Bench, DeviceFault};
 
 /// This text.
 fn put_text<B: Bench>(bench: &mut B, name: &str, text: &[u8]) -> Result<(), DeviceFault>

@@ -2,7 +2,7 @@
 ghost use Rattle.std.specs.Prelude.{◌≡◌, ◌==◌, ◌^◌, ⊤, None, Some, if◌then◌else◌, length, true};
 ghost use Rattle.adlwrite.specs.LeftText.{IsLeftText, left_nothing, left_whole};
 
-use shelf::{Bench, DeviceFault, ShelfFault};
+use devices::{Bench, DeviceFault, ShelfFault};
 
 /// One file in memory, whose name is empty. It is only added to: every other call fails, and so does growth where no
 /// memory is left. Its failures aren't counted.

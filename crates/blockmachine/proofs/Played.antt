@@ -14,8 +14,8 @@ use Rattle.sound_terms.specs.Passes.{shape_behind}
 use Rattle.sound_terms.specs.GroupLaws.{fraction_behind}
 use Rattle.sound_terms.specs.Blocks.{held, share_at, sums_with}
 use Rattle.work_terms.specs.Disk.{Files}
-use Rattle.shelf.specs.declared.fault.ShelfFault.{ShelfFault}
-use Rattle.shelf.specs.declared.fault.ShelfFault.TheVariants as shelf
+use Rattle.devices.specs.declared.fault.ShelfFault.{ShelfFault}
+use Rattle.devices.specs.declared.fault.ShelfFault.TheVariants as shelf
 use Rattle.wavread.specs.Facts.{AreFrames}
 use Rattle.blockmachine.specs.Playing.{Plays}
 

@@ -5,7 +5,7 @@ ghost use Rattle.sound_terms.specs.Sounds.{SoundFacts, reading_by};
 ghost use Rattle.sound_terms.specs.Media.{LiesInFile, frame_length};
 ghost use Rattle.sound_terms.specs.Groups.{IsRamp};
 ghost use Rattle.sound_terms.specs.Blocks.{FitsBlock, IsFull, sums_with};
-ghost use Rattle.shelf.specs.Frame.{OnlyReads};
+ghost use Rattle.devices.specs.Frame.{OnlyReads};
 ghost use Rattle.blockmachine.specs.Fault.{FailsAt, IsSource};
 ghost use Rattle.pcm.specs.Samples.{samples_in};
 ghost use Rattle.blockmachine.specs.Holding.{Holds};
@@ -16,7 +16,7 @@ use crate::MachineFault;
 use crate::buffer::{Buffer, Held, SAMPLES};
 use crate::frames::Stored;
 use crate::sums::Sums;
-use shelf::Shelf;
+use devices::Shelf;
 use sound_terms::{Shape, Stretch};
 use wavread::Sound;
 

@@ -11,9 +11,9 @@ ghost use Rattle.checkreport.specs.Reported.{IsReportOf, IsReported};
 use crate::text::{accepted_text, refused_text};
 use adlread::{AdlFault, Faults};
 use console::{Console, Refusal, put_refusal};
+use devices::Shelf;
 use opening::{Fault, further_faults};
 use projectcheck::Checked;
-use shelf::Shelf;
 use std::alloc::{AllocError, Global};
 
 /// Prints the report of a list without a fault as a line of JSON, and answers the status 0; where no memory was left for

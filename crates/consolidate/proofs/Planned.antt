@@ -2,9 +2,9 @@
 use Rattle.std.proofs.Common.{◌≡◌, ◌∙◌, ℕ, List, true, false, arith, refl, subst, sym, ap}
 use Rattle.std.specs.Prelude.{⊤, Err, ◌==◌, ◌||◌}
 use Rattle.sound_terms.specs.Sounds.{SoundFacts}
-use Rattle.shelf.specs.declared.source.Shelf as source
-use Rattle.shelf.specs.declared.bench.Bench as output
-use Rattle.shelf.specs.Frame.{OnlyReads}
+use Rattle.devices.specs.declared.source.Shelf as source
+use Rattle.devices.specs.declared.bench.Bench as output
+use Rattle.devices.specs.Frame.{OnlyReads}
 use Rattle.work_terms.specs.Disk.{Files, HasRead}
 use Rattle.work_terms.specs.Refusals.{Refusal}
 use Rattle.passes.specs.declared.fault.PassFault.TheVariants as pass

@@ -5,8 +5,8 @@ use Rattle.consolidation.specs.Fault.{output_of}
 use Rattle.consolidation.specs.declared.fault.WriteFault.{WriteFault}
 use Rattle.consolidation.specs.declared.fault.WriteFault.TheVariants as writing
 use Rattle.std.specs.Prelude.{⊤, Result, Ok, Err, IfErr}
-use Rattle.shelf.specs.declared.source.Shelf as source
-use Rattle.shelf.specs.declared.bench.Bench as output
+use Rattle.devices.specs.declared.source.Shelf as source
+use Rattle.devices.specs.declared.bench.Bench as output
 use Rattle.work_terms.specs.Disk.{Files, HasRead, IsUntouched, Rises}
 use Rattle.markfile.specs.Fault.{ReadsMarks, name_of, number_of}
 use Rattle.markfile.specs.declared.fault.MarksFault.{MarksFault}

@@ -1,8 +1,8 @@
 -- What each call answers, and what it leaves of the sources and of the outputs.
 use Rattle.std.specs.Prelude.{◌≡◌, ◌≢◌, ◌≤◌, ◌==◌, ◌||◌, ℕ, false, IsTrue, Option, None, List, Result, Ok, Err, Some, IfOk, IfErr, IsOk, IsErrAnd, is_some, OnOk, ◌++◌, codes, string_bytes}
-use Rattle.shelf.specs.declared.source.Shelf as source
-use Rattle.shelf.specs.declared.bench.Bench as output
-use Rattle.shelf.specs.Frame.{OnlyReads, OnlyWrites}
+use Rattle.devices.specs.declared.source.Shelf as source
+use Rattle.devices.specs.declared.bench.Bench as output
+use Rattle.devices.specs.Frame.{OnlyReads, OnlyWrites}
 use Rattle.work_terms.specs.Disk.{Files, HasCause, IsUntouched, LeavesOnly, Rises}
 use Rattle.work_terms.specs.Refusals.{Answers, IsDue, Refusal}
 use Rattle.list_terms.specs.declared.Notice.{Notice}

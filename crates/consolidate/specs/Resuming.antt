@@ -1,7 +1,7 @@
 -- What going on with a rendering answers, and what it leaves.
 use Rattle.std.specs.Prelude.{◌≡◌, ◌-◌, ℕ, true, IsTrue, Option, Some, List, Result, Ok, IfErr, IfOk, OnOk, codes}
-use Rattle.shelf.specs.declared.source.Shelf as source
-use Rattle.shelf.specs.declared.bench.Bench as output
+use Rattle.devices.specs.declared.source.Shelf as source
+use Rattle.devices.specs.declared.bench.Bench as output
 use Rattle.work_terms.specs.Disk.{Files, LeavesOnly}
 use Rattle.work_terms.specs.Refusals.{Answers, Refusal}
 use Rattle.list_terms.specs.Accepted.{OptionValues, first_fault, range_of}

@@ -1,8 +1,8 @@
 -- What the events of any number of workers leave of a command.
 use Rattle.std.specs.Prelude.{◌≡◌, ◌≢◌, ℕ, ⊤, false, true, IsTrue, IfErr, IfOk, Option, None, Some, List, Result, Ok, Err, codes}
 use Rattle.std.specs.List.{range_with_len}
-use Rattle.shelf.specs.declared.source.Shelf as source
-use Rattle.shelf.specs.declared.bench.Bench as output
+use Rattle.devices.specs.declared.source.Shelf as source
+use Rattle.devices.specs.declared.bench.Bench as output
 use Rattle.sound_terms.specs.Render.{rendering_of}
 use Rattle.work_terms.specs.Disk.{Files, IsDurable, LeavesOnly}
 use Rattle.work_terms.specs.Refusals.{Answers}

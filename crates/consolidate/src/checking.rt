@@ -2,8 +2,8 @@
 ghost use Rattle.consolidate.specs.Commands.{IsChecking};
 
 use crate::Fault;
+use devices::Shelf;
 use opening::Accepted;
-use shelf::Shelf;
 use std::alloc::Global;
 
 /// Checks a list over the sources of a shelf: its text, then the files that it uses in the order of the source index,

@@ -27,11 +27,11 @@ ghost use Rattle.consolidate.specs.declared.fault.OutputFile.TheVariants as file
 use crate::opened::{Opened, open};
 use crate::{Fault, OutputFile};
 use consolidation::{Consolidation, Sizes};
+use devices::{Bench, Shelf, Watch};
 use list_terms::Notice;
 use passes::Pass;
 use projectcheck::Checked;
 use schedule::{JobFault, JobMaker, Start, fresh_start, from_start, in_turn};
-use shelf::{Bench, Shelf, Watch};
 use std::alloc::Global;
 
 /// What was written: so many media, and a list of so many entries; how many bytes that took; and what the given list's

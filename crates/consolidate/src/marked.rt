@@ -20,11 +20,11 @@ ghost use Rattle.consolidate.specs.Own.{IsOfRendering};
 ghost use Rattle.consolidate.specs.Rounds.{EndsOf};
 
 use crate::{Fault, OutputFile};
+use devices::{Bench, Shelf, Watch};
 use markfile::{FreshMarks, MarksFault};
 use projectcheck::Checked;
 use rendering::{LayFault, MarkedRendering, Order};
 use schedule::{JobFault, Start};
-use shelf::{Bench, Shelf, Watch};
 use std::alloc::Global;
 
 /// Does the jobs that are left of a rendering whose marks are there, and makes both files durable.

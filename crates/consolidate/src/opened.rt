@@ -10,10 +10,10 @@ ghost use Rattle.consolidate.specs.Own.{IsFirst, IsOfProject};
 
 use crate::Fault;
 use adlread::AdlFault;
+use devices::Shelf;
 use list_terms::Notice;
 use opening::{notices_of, open_project};
 use projectcheck::Checked;
-use shelf::Shelf;
 use std::alloc::Global;
 
 /// A project without a fault, and what its user should know of it.

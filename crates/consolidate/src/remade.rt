@@ -23,11 +23,11 @@ ghost use Rattle.consolidate.specs.Schedules.{BeforeList, EndsEvents, IsConsolid
 use crate::opened::{Opened, open};
 use crate::{Fault, OutputFile};
 use consolidation::Consolidation;
+use devices::{Bench, Shelf, Unwatched};
 use job_terms::{BoardEvent, Progress};
 use passes::Pass;
 use projectcheck::Checked;
 use schedule::{JobMaker, RunFault, fresh_board, in_turn, run_laid};
-use shelf::{Bench, Shelf, Unwatched};
 use std::alloc::Global;
 use workboard::Board;
 

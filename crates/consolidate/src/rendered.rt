@@ -17,10 +17,10 @@ ghost use Rattle.consolidate.specs.Rounds.{EndsOf, RendersInRounds};
 use crate::Fault;
 use crate::marked::render_anew;
 use crate::opened::{Opened, open};
+use devices::{Bench, Shelf, Watch};
 use list_terms::Notice;
 use projectcheck::Checked;
 use rendering::{MarkedRendering, Options};
-use shelf::{Bench, Shelf, Watch};
 use std::alloc::Global;
 
 /// What was rendered: so many frames of so many channels, and what the list's user should know of.

@@ -21,10 +21,10 @@ ghost use Rattle.consolidate.specs.Rounds.{DoesLeft, EndsOf, ResumesInRounds};
 use crate::Fault;
 use crate::marked::{go_on, render_anew};
 use crate::opened::{Opened, open};
+use devices::{Bench, Shelf, Watch};
 use list_terms::Notice;
 use projectcheck::Checked;
 use rendering::{MarkedRendering, Options, Order};
-use shelf::{Bench, Shelf, Watch};
 use std::alloc::Global;
 
 /// What was gone on with: so many frames in all, so many blocks of 4,096 frames (the last may be shorter) that were

@@ -21,12 +21,12 @@ ghost use Rattle.consolidate.specs.Schedules.{EndsEvents, IsRenderSchedule, Sche
 
 use crate::opened::{Opened, open};
 use crate::{Fault, OutputFile};
+use devices::{Bench, Shelf};
 use job_terms::{BoardEvent, Progress};
 use markfile::{FreshMarks, MarksFault};
 use projectcheck::Checked;
 use rendering::{LayFault, MarkedRendering, Options};
 use schedule::RunFault;
-use shelf::{Bench, Shelf};
 use std::alloc::Global;
 use workboard::Board;
 

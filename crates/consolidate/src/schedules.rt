@@ -9,10 +9,10 @@ ghost use Rattle.consolidate.specs.Schedules.{IsConsolidationSchedule, IsRenderS
 use crate::Fault;
 use crate::remade::schedule_media;
 use crate::scheduled::schedule_render;
+use devices::{Bench, Shelf};
 use job_terms::{BoardEvent, Progress};
 use passes::Pass;
 use rendering::Options;
-use shelf::{Bench, Shelf};
 use std::alloc::Global;
 
 /// What is made of a list.

@@ -12,7 +12,7 @@ use Rattle.sound_terms.specs.Kept.{AreRuns, IsMaximal, is_near}
 use Rattle.list_terms.specs.Binding.{Binding}
 use Rattle.list_terms.specs.BoundHomes.{IsBinding, homes_of}
 use Rattle.list_terms.specs.Heard.{sounds_of}
-use Rattle.projectcheck.specs.AtHome.{IsAtHome}
+use Rattle.interval.specs.AtHome.{IsAtHome}
 use Rattle.consolidation.specs.Planned.{IsAddressed}
 use Rattle.consolidation.proofs.HomeFrames.{home_frames}
 use Rattle.consolidation.proofs.LeftAtHome.{one_of}

@@ -12,7 +12,7 @@ use Rattle.sound_terms.specs.GroupLaws.{all_pieces, reads_pieces}
 use Rattle.sound_terms.specs.Homes.{addressable_by}
 use Rattle.sound_terms.specs.Media.{LiesInFile}
 use Rattle.sound_terms.specs.Sounds.{SoundFacts}
-use Rattle.projectcheck.specs.AtHome.{IsAtHome}
+use Rattle.interval.specs.AtHome.{IsAtHome}
 
 -- an element that passes has what holds of all
 pub one_of : {X : Type 0} (test : X → Bool) (P : X → Type 0) (xs : List X) → list_any test xs ≡ true → All P xs

@@ -9,7 +9,7 @@ use Rattle.sound_terms.specs.Media.{sound_at}
 use Rattle.sound_terms.specs.Sounds.{SoundFacts}
 use Rattle.list_terms.specs.Binding.{OpenedFile}
 use Rattle.list_terms.specs.Renewed.{numbered}
-use Rattle.projectcheck.specs.AtHome.{IsAtHome}
+use Rattle.interval.specs.AtHome.{IsAtHome}
 use Rattle.relink.specs.Linked.{HaveChannels}
 use Rattle.consolidation.specs.Work.{opened_medium}
 use Rattle.consolidation.proofs.Places.{numbered_at}

@@ -20,7 +20,7 @@ use Rattle.list_terms.specs.Heard.{project_mix, reading_of, sounds_of}
 use Rattle.list_terms.specs.Project.{ListProject}
 use Rattle.list_terms.specs.Renewed.{consolidated_project, run_base}
 use Rattle.list_terms.specs.WrittenText.{text_of_project}
-use Rattle.projectcheck.specs.AtHome.{IsAtHome}
+use Rattle.interval.specs.AtHome.{IsAtHome}
 use Rattle.wavwrite.specs.Info.{Fits}
 use Rattle.mediacopy.specs.Copied.{HasFrames, IsMedium}
 use Rattle.provenance.specs.declared.report.Report.{Report}

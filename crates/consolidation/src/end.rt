@@ -6,7 +6,7 @@ ghost use Rattle.list_terms.specs.Binding.{Binding};
 ghost use Rattle.list_terms.specs.Heard.{IsAccepted};
 ghost use Rattle.list_terms.specs.Project.{ListProject};
 ghost use Rattle.list_terms.specs.Renewed.{media_name};
-ghost use Rattle.shelf.specs.Frame.{OnlyWrites};
+ghost use Rattle.devices.specs.Frame.{OnlyWrites};
 ghost use Rattle.consolidation.specs.Consolidated.{AreDurable, IsBehind, IsConsolidated, IsElsewhere};
 ghost use Rattle.consolidation.specs.Fault.{FailsIn, IsOfOutput};
 ghost use Rattle.consolidation.specs.Jobs.{HoldsMedia};
@@ -20,7 +20,7 @@ ghost use Rattle.consolidation.specs.declared.fault.WriteFault.TheVariants as fa
 use crate::list::{write_list, write_report};
 use crate::sizes::sizes_of;
 use crate::{Consolidation, WriteFault, Written};
-use shelf::Bench;
+use devices::Bench;
 
 impl<'a> Consolidation<'a> {
     /// Syncs the medium of the run at this place.

@@ -2,7 +2,7 @@
 ghost use Rattle.std.specs.Prelude.{◌≡◌};
 ghost use Rattle.consolidation.specs.Fault.{number_of};
 
-use interval::IntervalFault;
+use groups::IntervalFault;
 use mediaset::RunFault;
 use passes::PassFault;
 use relink::RelinkFault;

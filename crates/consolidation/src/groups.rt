@@ -3,14 +3,14 @@ ghost use Rattle.std.specs.Prelude.{IfOk, IsTrue};
 ghost use Rattle.list_terms.specs.Heard.{sounds_of};
 ghost use Rattle.passes.specs.Left.{left_by};
 ghost use Rattle.passes.specs.Silent.{IsDevice};
-ghost use Rattle.shelf.specs.Frame.{OnlyReads};
+ghost use Rattle.devices.specs.Frame.{OnlyReads};
 ghost use Rattle.silence.specs.Fault.{FailsAt};
 ghost use Rattle.consolidation.specs.Planned.{AreEntries, AreLeft, SoundsAsGiven};
 
-use interval::Intervals;
+use devices::{Shelf, Watch};
+use groups::Intervals;
 use passes::{Pass, PassFault};
 use projectcheck::Checked;
-use shelf::{Shelf, Watch};
 use silence::run;
 use std::alloc::Global;
 

@@ -3,7 +3,7 @@ ghost use Rattle.std.specs.Prelude.{◌≡◌, ◌≢◌, ◌≤◌, ◌<◌, �
 ghost use Rattle.work_terms.specs.Disk.{Changes, IsTorn, IsWritten};
 ghost use Rattle.sound_terms.specs.declared.piece.Run as run;
 ghost use Rattle.list_terms.specs.Renewed.{media_name};
-ghost use Rattle.shelf.specs.Frame.{OnlyReads, OnlyWrites};
+ghost use Rattle.devices.specs.Frame.{OnlyReads, OnlyWrites};
 ghost use Rattle.mediacopy.specs.Pieces.{IsPieceOf, piece_bytes, piece_length, piece_place};
 ghost use Rattle.consolidation.specs.Named.{AreEnds};
 ghost use Rattle.consolidation.specs.Pieces.{job_count, jobs_before};
@@ -12,9 +12,9 @@ ghost use Rattle.consolidation.specs.Planned.{IsMediaPlan};
 
 use crate::Consolidation;
 use crate::media::PIECE;
+use devices::{Bench, DeviceFault, Shelf};
 use mediacopy::{CopyJob, fetch_piece, length_of, place_piece};
 use mediaset::Runs;
-use shelf::{Bench, DeviceFault, Shelf};
 use sound_terms::Run;
 
 /// The place of the run that has this job, where the runs' jobs end so: those before it have ended.

@@ -4,7 +4,7 @@ ghost use Rattle.work_terms.specs.Disk.{Files};
 ghost use Rattle.list_terms.specs.Renewed.{media_name};
 ghost use Rattle.job_terms.specs.Workers.{jobs_over};
 ghost use Rattle.schedule.specs.Filled.{AreFilled};
-ghost use Rattle.shelf.specs.Frame.{OnlyWrites};
+ghost use Rattle.devices.specs.Frame.{OnlyWrites};
 ghost use Rattle.consolidation.specs.Fault.{FailsIn, IsOfOutput};
 ghost use Rattle.consolidation.specs.Jobs.{whole_of, work_of};
 ghost use Rattle.consolidation.specs.Media.{IsLaidOut, IsNoMedium};
@@ -12,8 +12,8 @@ ghost use Rattle.consolidation.specs.There.{AreThere};
 ghost use Rattle.consolidation.specs.declared.fault.WriteFault.TheVariants as fault;
 
 use crate::{Consolidation, WriteFault};
+use devices::Bench;
 use mediacopy::{info_of, lay_out};
-use shelf::Bench;
 
 /// The bytes of the longest header: that with 65,536 bytes of CodingHistory.
 const LONGEST_HEADER: usize = 66_226;

@@ -1,14 +1,14 @@
 // Writes the list over the media, and the report.
 ghost use Rattle.std.specs.Prelude.{◌≡◌, ◌≢◌, IfErr, IsTrue, OnOk, Some, codes, true, ⊤};
 ghost use Rattle.work_terms.specs.Disk.{IsDurable};
-ghost use Rattle.shelf.specs.Frame.{OnlyWrites};
+ghost use Rattle.devices.specs.Frame.{OnlyWrites};
 ghost use Rattle.consolidation.specs.Fault.{FailsIn};
 ghost use Rattle.consolidation.specs.Reported.{IsNoReport, IsReportDurable, IsReportThere};
 ghost use Rattle.consolidation.specs.declared.fault.WriteFault.TheVariants as fault;
 
 use crate::WriteFault;
+use devices::{Bench, DeviceFault};
 use provenance::Report;
-use shelf::{Bench, DeviceFault};
 
 /// The name of the list that is written.
 pub const LIST: &str = "consolidated.adl";

@@ -8,8 +8,8 @@ ghost use Rattle.consolidation.specs.Jobs.{whole_of, work_of};
 ghost use Rattle.consolidation.specs.There.{AreThere};
 
 use crate::Consolidation;
+use devices::{Bench, DeviceFault, Shelf};
 use schedule::{JobMaker, PlaceFault};
-use shelf::{Bench, DeviceFault, Shelf};
 use std::marker::Model;
 
 /// The pieces of a consolidation: its jobs, run by run.

@@ -9,10 +9,10 @@ use consolidate::{Fault, MARKS, MarksFault, OutputFile};
 use list_terms::{Location, TextFault};
 use percent_encoding::percent_encode_byte;
 use sampletime::Rate;
+use shelf::Reason;
 use std::fmt;
 use std::fmt::Display;
 use std::io::{Error, ErrorKind};
-use stores::Reason;
 
 /// How many bytes of a line at fault are shown, and of what stands at the fault.
 const SHOWN_BYTES: usize = 160;

@@ -1,2 +1,2 @@
-pub mod Apart
-pub mod Fault
+pub mod AtHome
+pub mod EntrySound

@@ -1,15 +1,7 @@
-//! The sound of a list as groups of pieces over files.
+//! The sound of a checked project as groups of pieces over its files.
 #![tactic(auto)]
 
-mod cutting;
-mod fault;
-mod group;
-mod intervals;
-mod parts;
-mod placed;
+mod sounding;
 
-pub use fault::IntervalFault;
-pub use group::Group;
-pub use intervals::Intervals;
-pub use parts::group_of;
-pub use sound_terms::{Piece, Placed, Shape};
+pub use groups::{Group, IntervalFault, Intervals, Piece, Placed, Shape, group_of};
+pub use sounding::from_checked;

@@ -1,8 +1,8 @@
 -- The numbers of the faults of marks, and the files at which a device failed.
 use Rattle.std.specs.Prelude.{◌≡◌, ◌≢◌, ℕ, List, Result}
 use Rattle.work_terms.specs.Disk as disk
-use Rattle.shelf.specs.declared.bench.Bench.{Ghosts}
-use Rattle.shelf.specs.Frame as frame
+use Rattle.devices.specs.declared.bench.Bench.{Ghosts}
+use Rattle.devices.specs.Frame as frame
 use Rattle.markfile.specs.Format.{marks_name, sound_name}
 use Rattle.markfile.specs.declared.fault.MarksFault.{MarksFault}
 use Rattle.markfile.specs.declared.fault.MarksFault.TheVariants.{Sound, Marks, OtherRun, BadMarks, Memory}

@@ -1,7 +1,7 @@
 -- What a crash may leave of the marks, while a run starts them and while it sets them.
 use Rattle.std.specs.Prelude.{◌≡◌, ℕ, ◌<◌, ◌≤◌, Bool, true, false, ◌&&◌, ◌==◌, nat_le, Option, None, Some, List, length, slice_index_or}
 use Rattle.work_terms.specs.Disk.{Files, Changes, IsBeside}
-use Rattle.shelf.specs.declared.bench.Bench.{Ghosts}
+use Rattle.devices.specs.declared.bench.Bench.{Ghosts}
 use Rattle.markfile.specs.declared.run.RunId.{RunId}
 use Rattle.markfile.specs.Format.{AreMarksOf, fresh_marks, is_marked, marks_name}
 

@@ -8,7 +8,7 @@ ghost use Rattle.markfile.specs.Opened.{fits_run, front_fault};
 
 use crate::settled::Sizes;
 use crate::{MARKS, MarksFault, RunId};
-use shelf::Bench;
+use devices::Bench;
 
 /// The bytes of the front.
 pub const FRONT: usize = 44;

@@ -8,7 +8,7 @@ ghost use Rattle.markfile.specs.Opened.{Answers, AreFound, AreSettled, marks_in,
 use crate::front::{FRONT, OPEN, front_fault, read_front};
 use crate::settled::{Sizes, settle_both};
 use crate::{MARKS, MarksFault, RunId};
-use shelf::Bench;
+use devices::Bench;
 use std::alloc::{AllocError, Global};
 
 /// Which blocks of a rendering stand on the disk, one for each.

@@ -1,7 +1,7 @@
 // Marks that are set.
 ghost use Rattle.std.specs.Prelude.{◌≡◌, ◌≢◌, ◌+◌, ◌-◌, ◌≤◌, ℕ, IsTrue, List, OnOk, replicate, ⊤};
 ghost use Rattle.work_terms.specs.Disk.{Changes, Files, IsDurable, IsTorn, IsWritten, LeavesOnly};
-ghost use Rattle.shelf.specs.Frame.{OnlyWrites};
+ghost use Rattle.devices.specs.Frame.{OnlyWrites};
 ghost use Rattle.markfile.specs.Fault.{WritesMarks};
 ghost use Rattle.markfile.specs.Format.{AreMarksOf, marks_name};
 ghost use Rattle.markfile.specs.Started.{AreSet, IsAfter, Lasts, LeavesMarks};
@@ -10,7 +10,7 @@ ghost use Rattle.markfile.specs.declared.run.RunId.{RunId};
 use crate::MarksFault;
 use crate::front::FRONT;
 use crate::synced::write_synced;
-use shelf::{Bench, DeviceFault};
+use devices::{Bench, DeviceFault};
 
 /// The most marks that one call sets: the blocks of 4,194,304 bytes, of which each has 8,192 at least.
 pub const MOST_AT_ONCE: usize = 512;

@@ -6,7 +6,7 @@ ghost use Rattle.markfile.specs.Format.{marks_name, sound_name};
 ghost use Rattle.markfile.specs.Opened.{AreSettled, IsSettledAs};
 
 use crate::{MARKS, MarksFault, SOUND};
-use shelf::{Bench, DeviceFault, ShelfFault};
+use devices::{Bench, DeviceFault, ShelfFault};
 
 /// Syncs a file where it is there, and gives its length then.
 fn settle<B: Bench>(bench: &mut B, name: &str) -> Result<Option<u64>, DeviceFault>

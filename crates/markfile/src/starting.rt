@@ -1,14 +1,14 @@
 // The marks of a new run.
 ghost use Rattle.std.specs.Prelude.{◌≡◌, ◌≢◌, ◌∷◌, [], IsTrue, OnOk, ⊤};
 ghost use Rattle.work_terms.specs.Disk.{Files, LeavesOnly};
-ghost use Rattle.shelf.specs.Frame.{OnlyWrites};
+ghost use Rattle.devices.specs.Frame.{OnlyWrites};
 ghost use Rattle.markfile.specs.Format.{AreFresh, fresh_marks, marks_name};
 ghost use Rattle.markfile.specs.Started.{Holds, LeavesStart, LeavesUnstarted, NoneStarted};
 
 use crate::FreshMarks;
 use crate::front::{OPEN, SHUT};
 use crate::synced::{append_synced, create_synced, write_synced};
-use shelf::{Bench, DeviceFault};
+use devices::{Bench, DeviceFault};
 
 /// Makes the file with a gate that is shut.
 fn shut<B: Bench>(bench: &mut B) -> Result<(), DeviceFault>

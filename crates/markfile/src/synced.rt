@@ -1,12 +1,12 @@
 // Changes of the marks, each synced before it is told as done.
 ghost use Rattle.std.specs.Prelude.{◌≡◌, ◌≢◌, IsTrue, List, OnOk, Some, ⊤, [], ◌++◌, ℕ, length};
 ghost use Rattle.work_terms.specs.Disk.{Changes, Files, IsAppended, IsDurable, IsPending, IsTorn, IsTornBehind, IsWritten, LeavesOnly, end_of};
-ghost use Rattle.shelf.specs.Frame.{OnlyWrites};
+ghost use Rattle.devices.specs.Frame.{OnlyWrites};
 ghost use Rattle.markfile.specs.Format.{marks_name};
 ghost use Rattle.markfile.specs.Started.{IsAfter};
 
 use crate::MARKS;
-use shelf::{Bench, DeviceFault};
+use devices::{Bench, DeviceFault};
 
 /// Makes the file empty, and syncs it.
 pub fn create_synced<B: Bench>(bench: &mut B) -> Result<(), DeviceFault>

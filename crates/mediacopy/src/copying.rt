@@ -2,11 +2,11 @@
 ghost use Rattle.std.specs.Prelude.{◌≡◌, ◌≢◌, ◌+◌, ◌*◌, ◌%◌, ◌≤◌, ◌^◌, ◌<◌, length, IsTrue, OnErr, OnOk, ⊤};
 ghost use Rattle.work_terms.specs.Disk.{Changes, IsTorn, IsWritten};
 ghost use Rattle.sound_terms.specs.Media.{frame_length};
-ghost use Rattle.shelf.specs.Frame.{OnlyReads, OnlyWrites};
+ghost use Rattle.devices.specs.Frame.{OnlyReads, OnlyWrites};
 ghost use Rattle.mediacopy.specs.Pieces.{IsPieceOf, piece_bytes, piece_length, piece_place, source_of};
 
 use crate::{CopyFault, CopyJob};
-use shelf::{Bench, DeviceFault, Shelf};
+use devices::{Bench, DeviceFault, Shelf};
 use sound_terms::Run;
 use wavread::Sound;
 

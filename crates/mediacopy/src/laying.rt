@@ -1,11 +1,11 @@
 // Lays media out at their full length.
 ghost use Rattle.std.specs.Prelude.{◌≡◌, ◌≢◌, ◌++◌, ◌≤◌, ◌-◌, List, Some, ⊤, ℕ, IsTrue, OnOk, length};
 ghost use Rattle.sound_terms.specs.Waves.{data_place, zeros};
-ghost use Rattle.shelf.specs.Frame.{OnlyWrites};
+ghost use Rattle.devices.specs.Frame.{OnlyWrites};
 ghost use Rattle.wavwrite.specs.Info.{Fits};
 ghost use Rattle.mediacopy.specs.Copied.{laid_out};
 
-use shelf::{Bench, DeviceFault};
+use devices::{Bench, DeviceFault};
 use wavwrite::SoundInfoRef;
 
 /// Adds so many zeros at the end of a file.

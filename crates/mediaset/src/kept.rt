@@ -10,7 +10,7 @@ ghost use Rattle.mediaset.specs.Runs.{AreIndexable};
 use crate::RunFault;
 use crate::merging::merge;
 use crate::spans::spans_of;
-use interval::Intervals;
+use groups::Intervals;
 use sound_terms::{Homes, Run};
 use std::alloc::{AllocError, Global};
 use std::marker::Model;

@@ -5,7 +5,7 @@ ghost use Rattle.sound_terms.specs.Groups.{IsPiece, pieces_of};
 ghost use Rattle.mediaset.specs.Spans as spec;
 ghost use Rattle.mediaset.specs.Spans.{gathered, put_span};
 
-use interval::{Intervals, Piece};
+use groups::{Intervals, Piece};
 use sound_terms::Homes;
 use std::alloc::{AllocError, Global};
 

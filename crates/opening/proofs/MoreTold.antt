@@ -1,5 +1,5 @@
 -- One more fault behind those told.
-use Rattle.shelf.specs.declared.source.Shelf as source
+use Rattle.devices.specs.declared.source.Shelf as source
 use Rattle.std.proofs.Common.{arith, ◌≡◌, ◌∙◌, ◌+◌, ◌<◌, ◌∷◌, ◌++◌, [], ℕ, true, List, Option, None, Some, add-one, ap, length, sym, slice_index_or, subst, map, option_map, refl, take, take-suc}
 use Rattle.std.specs.List.{cons_option}
 use Rattle.std.proofs.lemmas.List.{append_assoc, append-nil, map-append}

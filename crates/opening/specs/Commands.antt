@@ -1,7 +1,7 @@
 -- What a call that opens a list answers, and what it leaves of the sources.
 use Rattle.std.specs.Prelude.{◌≡◌, ℕ, List, Result, Err, Some, IfErr, IsOk, length, ◌++◌}
-use Rattle.shelf.specs.declared.source.Shelf as source
-use Rattle.shelf.specs.Frame.{OnlyReads}
+use Rattle.devices.specs.declared.source.Shelf as source
+use Rattle.devices.specs.Frame.{OnlyReads}
 use Rattle.work_terms.specs.Disk.{Files}
 use Rattle.work_terms.specs.Refusals.{IsDue, Refusal, Where, IndexFile, File}
 use Rattle.list_terms.specs.Project.{ListProject}

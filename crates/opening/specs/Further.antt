@@ -2,7 +2,7 @@
 use Rattle.std.specs.Prelude.{◌≡◌, ◌≤◌, ◌+◌, ◌-◌, ◌==◌, ◌⊎◌, ℕ, IsTrue, List, [], ◌∷◌, ◌++◌, Option, None, Some, Result, Ok, Err, if◌then◌else◌, drop, length, map, option_map, position, take, unwrap_or}
 use Rattle.std.specs.List.{cons_option, filter, filter_map}
 use Rattle.sound_terms.specs.declared.Event.{Event}
-use Rattle.shelf.specs.declared.source.Shelf as source
+use Rattle.devices.specs.declared.source.Shelf as source
 use Rattle.work_terms.specs.Disk.{Files}
 use Rattle.work_terms.specs.Refusals.{Refusal, is_device}
 use Rattle.list_terms.specs.Names.{Place, place_of_url}

@@ -9,9 +9,9 @@ ghost use Rattle.opening.specs.Own.{IsFirst, IsOfOpening};
 use crate::Fault;
 use crate::open::open_project;
 use adlread::AdlFault;
+use devices::Shelf;
 use list_terms::Notice;
 use projectcheck::Checked;
-use shelf::Shelf;
 use std::alloc::{AllocError, Global};
 
 /// What is told of a list that is accepted: its notices, and how many entries and bound indexes it has.

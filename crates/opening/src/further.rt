@@ -10,9 +10,9 @@ mod paths;
 
 use crate::Fault;
 use adlread::{Project, read};
+use devices::Shelf;
 use entries::entry_faults;
 use files::file_faults;
-use shelf::Shelf;
 use sourceindex::bind;
 use std::alloc::{AllocError, Global};
 use thiserror::Error;

@@ -16,8 +16,8 @@ ghost use Rattle.opening.specs.Own.{ComesFirst, IsFirst, IsOfBinding, IsOfOpenin
 use crate::Fault;
 use adlmodel::Project;
 use adlread::read;
+use devices::Shelf;
 use projectcheck::{Checked, check};
-use shelf::Shelf;
 use sourceindex::{BindFault, Bound, bind};
 use std::alloc::Global;
 

@@ -4,7 +4,7 @@ ghost use Rattle.sound_terms.specs.Groups as spec;
 ghost use Rattle.sound_terms.specs.Groups.{IsPiece};
 ghost use Rattle.passes.specs.Ends.{end_before, end_of};
 
-use interval::{Piece, Shape};
+use groups::{Piece, Shape};
 
 /// The rank of a rise: it stands first in a group.
 pub(crate) const RISE: u8 = 0;

@@ -5,7 +5,7 @@ ghost use Rattle.sound_terms.specs.Passes as spec;
 ghost use Rattle.passes.specs.Alone.{each_alone};
 
 use crate::{Pass, PassFault};
-use interval::{Group, Intervals};
+use groups::{Group, Intervals};
 use std::alloc::{AllocError, Global};
 
 /// Adds each piece of a group as a group of its own.

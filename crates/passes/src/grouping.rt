@@ -9,7 +9,7 @@ use crate::marks::Marks;
 use crate::output::Output;
 use crate::waiting::Waiting;
 use crate::{Pass, PassFault};
-use interval::{Group, Intervals, Piece, Shape};
+use groups::{Group, Intervals, Piece, Shape};
 use std::alloc::{AllocError, Global};
 
 /// The first of two places, where there are any.

@@ -7,7 +7,7 @@ ghost use Rattle.passes.specs.Standard.{AreStandard, reads_sounding};
 ghost use Rattle.passes.specs.declared.fault.PassFault.TheVariants.{Memory};
 
 use crate::{Pass, PassFault, Samples, silent_of};
-use interval::Intervals;
+use groups::Intervals;
 use std::alloc::Global;
 
 /// Applies a pass, which is dropped then.

@@ -11,7 +11,7 @@ use crate::ends::{End, FLAT};
 use crate::output::Output;
 use crate::waiting::Waiting;
 use crate::{Pass, PassFault};
-use interval::{Group, Intervals, Piece, Shape};
+use groups::{Group, Intervals, Piece, Shape};
 use std::alloc::{AllocError, Global};
 
 /// The piece of a group that is one flat piece.

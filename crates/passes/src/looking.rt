@@ -6,7 +6,7 @@ ghost use Rattle.sound_terms.specs.Groups.{Agrees, pieces_of};
 ghost use Rattle.sound_terms.specs.Passes.{silences};
 
 use crate::{PassFault, Samples};
-use interval::{Intervals, Piece};
+use groups::{Intervals, Piece};
 use std::alloc::Global;
 
 /// Whether all samples that the piece reads are zero.

@@ -3,7 +3,7 @@ ghost use Rattle.std.specs.Prelude.{◌≡◌, ◌++◌, ◌∷◌, [], IfOk, On
 
 use crate::ends::End;
 use crate::marks::Marks;
-use interval::Group;
+use groups::Group;
 use std::alloc::{AllocError, Global};
 
 /// The groups that a pass has put out, each with the mark by which it is found.

@@ -5,7 +5,7 @@ ghost use Rattle.sound_terms.specs.Groups.{SameMix, are_whole, reads};
 ghost use Rattle.passes.specs.declared.fault.PassFault.TheVariants.{Memory};
 
 use crate::PassFault;
-use interval::Intervals;
+use groups::Intervals;
 use std::alloc::Global;
 
 /// A pass over the groups of a sound: it gives other groups, with the same sum on every channel at every time.

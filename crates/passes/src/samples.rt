@@ -4,7 +4,7 @@ ghost use Rattle.sound_terms.specs.Mix.{Reading};
 ghost use Rattle.sound_terms.specs.Passes.{are_zero};
 ghost use Rattle.passes.specs.Looks.{LooksTo};
 
-use shelf::ShelfFault;
+use devices::ShelfFault;
 
 /// The samples of files, each by its number. A call may fail by the device of its file.
 pub trait Samples {

@@ -5,7 +5,7 @@ ghost use Rattle.sound_terms.specs.Passes as spec;
 ghost use Rattle.sound_terms.specs.Passes.{without_silent};
 
 use crate::{Pass, PassFault};
-use interval::{Group, Intervals};
+use groups::{Group, Intervals};
 use std::alloc::{AllocError, Global};
 
 /// Whether each of these is true.

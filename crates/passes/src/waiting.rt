@@ -1,7 +1,7 @@
 // Groups that wait for a pass.
 ghost use Rattle.std.specs.Prelude.{◌≡◌, ◌∷◌, [], MatchOption};
 
-use interval::Group;
+use groups::Group;
 use std::marker::Model;
 
 /// After so many groups their memory is given back.

@@ -4,8 +4,9 @@ use crate::ruler::TimeCode;
 use crate::scale::WIDTH;
 use crate::sources::SourceBars;
 use crate::timeline::Timeline;
+use interval::from_checked;
 use mediaset::{RunFault, Runs};
-use projectcheck::{Checked, from_checked};
+use projectcheck::Checked;
 use std::alloc::Global;
 use std::fmt;
 

@@ -1,3 +1,1 @@
-pub mod AtHome
-pub mod EntrySound
 pub mod Fault

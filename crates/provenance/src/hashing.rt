@@ -6,15 +6,15 @@ ghost use Rattle.sha2.specs.Sha256.{sha256};
 ghost use Rattle.sound_terms.specs.Media.{IsRunOf, frame_length, frames_in, medium_of};
 ghost use Rattle.mediacopy.specs.Pieces.{content};
 ghost use Rattle.mediaset.specs.Runs.{EndsInDay};
-ghost use Rattle.shelf.specs.Frame.{OnlyReads};
+ghost use Rattle.devices.specs.Frame.{OnlyReads};
 ghost use Rattle.provenance.specs.Fault.{FailsAt, IsDevice};
 ghost use Rattle.provenance.specs.Media.{IsHashed, IsTellable, media_of, medium_by};
 
 use crate::{Medium, ReportFault};
+use devices::{DeviceFault, Shelf};
 use mediacopy::{info_of, reads_back};
 use mediaset::Runs;
 use sha2::{Digest, Sha256};
-use shelf::{DeviceFault, Shelf};
 use sound_terms::{Homes, Run};
 use std::alloc::Global;
 use wavread::Sound;

@@ -2,7 +2,7 @@
 ghost use Rattle.std.specs.Prelude.{◌≡◌};
 ghost use Rattle.relink.specs.Fault.{number_of};
 
-use interval::IntervalFault;
+use groups::IntervalFault;
 use std::alloc::AllocError;
 use thiserror::Error;
 

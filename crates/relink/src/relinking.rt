@@ -17,7 +17,7 @@ use crate::RelinkFault;
 use crate::entries::entries_of;
 use crate::indexes::indexes_of;
 use adlmodel::Project;
-use interval::Intervals;
+use groups::Intervals;
 use mediaset::Runs;
 use std::alloc::Global;
 

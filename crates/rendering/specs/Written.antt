@@ -5,8 +5,8 @@ use Rattle.sound_terms.specs.Blocks.{block_length, block_start, mixed_block}
 use Rattle.sound_terms.specs.Depth.{bits_of}
 use Rattle.sound_terms.specs.Render.{Range, frames_of}
 use Rattle.sound_terms.specs.Waves.{sample_bytes}
-use Rattle.shelf.specs.declared.bench.Bench as output
-use Rattle.shelf.specs.Frame.{OnlyWrites}
+use Rattle.devices.specs.declared.bench.Bench as output
+use Rattle.devices.specs.Frame.{OnlyWrites}
 
 -- the bytes of block k
 abbrev pub block_bytes : Range → (ℕ → ℕ → ℤ) → ℕ → List ℕ

@@ -4,7 +4,7 @@ ghost use Rattle.std.specs.List.{All};
 ghost use Rattle.sampletime.specs.TimeCode.{day};
 ghost use Rattle.sound_terms.specs.Blocks.{block_count, block_frames};
 ghost use Rattle.sound_terms.specs.Media.{IsPieceOf};
-ghost use Rattle.shelf.specs.Frame.{OnlyReads};
+ghost use Rattle.devices.specs.Frame.{OnlyReads};
 ghost use Rattle.rendering.specs.Work.{bytes_for, heard, stretch_frames};
 ghost use Rattle.rendering.specs.Written.{block_bytes, bytes_of_blocks};
 ghost use Rattle.rendering.specs.declared.fault.RenderFault.TheVariants.{Memory};
@@ -12,8 +12,8 @@ ghost use Rattle.rendering.specs.declared.fault.RenderFault.TheVariants.{Memory}
 use crate::RenderFault;
 use blockcut::Stretch;
 use blockmachine::Machine;
+use devices::{DeviceFault, Shelf};
 use renderplan::{Instruction, Plan, SourceFrame};
-use shelf::{DeviceFault, Shelf};
 use std::alloc::Global;
 use std::marker::Model;
 use wavread::Sound;

@@ -3,7 +3,7 @@ ghost use Rattle.std.specs.Prelude.{◌≡◌};
 ghost use Rattle.rendering.specs.Fault.{fault_of_plan, number_of};
 ghost use Rattle.rendering.specs.declared.fault.RenderFault.TheVariants.{Intervals, Memory};
 
-use interval::IntervalFault;
+use groups::IntervalFault;
 use renderplan::PlanFault;
 use std::alloc::AllocError;
 use thiserror::Error;

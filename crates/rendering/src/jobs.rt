@@ -4,9 +4,9 @@ ghost use Rattle.rendering.specs.Work.{work_of};
 
 use crate::Rendering;
 use crate::blocks::BLOCK_LENGTH;
+use devices::{Bench, DeviceFault, Shelf};
 use markfile::SOUND;
 use schedule::{JobMaker, PlaceFault};
-use shelf::{Bench, DeviceFault, Shelf};
 
 impl<'a> JobMaker for Rendering<'a> {
     ghost work = { work_of };

@@ -2,15 +2,15 @@
 ghost use Rattle.std.specs.Prelude.{◌≡◌, ◌≢◌, ◌++◌, ⊤, codes, false, IsTrue, List, OnOk, Some, ℕ};
 ghost use Rattle.sound_terms.specs.Waves.{zeros};
 ghost use Rattle.work_terms.specs.Disk.{Files, IsDurable, LeavesOthers};
-ghost use Rattle.shelf.specs.Frame.{OnlyWrites};
+ghost use Rattle.devices.specs.Frame.{OnlyWrites};
 ghost use Rattle.job_terms.specs.Workers.{jobs_over};
 ghost use Rattle.schedule.specs.Filled.{AreFilled};
 ghost use Rattle.rendering.specs.Work.{whole_of, work_of};
 ghost use Rattle.rendering.specs.Written.{WritesRendering};
 
 use crate::Rendering;
+use devices::{Bench, DeviceFault};
 use markfile::SOUND;
-use shelf::{Bench, DeviceFault};
 
 /// Adds so many zeros at the end of the rendered file.
 fn append_zeros<B: Bench>(bench: &mut B, count: u64) -> Result<(), DeviceFault>

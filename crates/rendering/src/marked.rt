@@ -4,7 +4,7 @@ ghost use Rattle.std.specs.List.{count_by};
 ghost use Rattle.sha2.specs.Sha256.{sha256};
 ghost use Rattle.sound_terms.specs.Blocks.{block_count};
 ghost use Rattle.work_terms.specs.Disk.{Files, IsDurable, IsUntouched, LeavesOnly, LeavesOthers, ReadsTo, Rises};
-ghost use Rattle.shelf.specs.Frame.{OnlyReads, OnlyWrites};
+ghost use Rattle.devices.specs.Frame.{OnlyReads, OnlyWrites};
 ghost use Rattle.job_terms.specs.Board.{fresh_job};
 ghost use Rattle.job_terms.specs.Workers.{Nothing, jobs_over};
 ghost use Rattle.markfile.specs.Fault.{ReadsMarks};
@@ -32,6 +32,7 @@ ghost use Rattle.work_terms.specs.Refusals.{Answers};
 use crate::blocks::BLOCK_LENGTH;
 use crate::{LayFault, Options, Order, RenderFault, Rendered, Rendering};
 use blockcut::{Stretch, blocks_at_once, stretches_of};
+use devices::{Bench, DeviceFault, Shelf, Watch};
 use job_terms::{BoardEvent, Progress};
 use markfile::{FreshMarks, MARKS, MarksFault, RunId, SOUND, open_marks, start};
 use projectcheck::Checked;
@@ -39,7 +40,6 @@ use schedule::{
     JobFault, JobMaker, PlaceFault, RunFault, Start, alone, fresh_board, place_marked,
     resting_start, run_laid,
 };
-use shelf::{Bench, DeviceFault, Shelf, Watch};
 use std::alloc::{AllocError, Global};
 use std::marker::Model;
 use workboard::Board;

@@ -15,7 +15,7 @@ use crate::PlanFault;
 use crate::lines::{Window, put, put_lines};
 use crate::reach::{Reach, reaches_of};
 use crate::source::{SourceFrame, first_source};
-use interval::Intervals;
+use groups::Intervals;
 use sampletime::SampleTime;
 use sound_terms::{Depth, Format, Instruction, Piece};
 use std::alloc::{AllocError, Global};

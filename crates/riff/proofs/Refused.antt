@@ -6,8 +6,8 @@ use Rattle.sound_terms.specs.declared.SoundFault.{SoundFault}
 use Rattle.sound_terms.specs.declared.SoundFault.TheVariants as sound
 use Rattle.sound_terms.specs.Walks.{walked}
 use Rattle.work_terms.specs.Refusals.{is_excused}
-use Rattle.shelf.specs.declared.fault.ShelfFault.{ShelfFault}
-use Rattle.shelf.specs.declared.fault.ShelfFault.TheVariants.{NotFound, Device}
+use Rattle.devices.specs.declared.fault.ShelfFault.{ShelfFault}
+use Rattle.devices.specs.declared.fault.ShelfFault.TheVariants.{NotFound, Device}
 use Rattle.riff.specs.declared.fault.MediaFault.{MediaFault}
 use Rattle.riff.specs.declared.head.Head.{Head}
 use Rattle.riff.specs.Fault.{number_of, fault_of, media_fault, as_media}

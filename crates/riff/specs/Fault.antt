@@ -1,7 +1,7 @@
 -- The numbers of what is wrong with a sound file.
 use Rattle.std.specs.Prelude.{ℕ, Result, Ok, Err}
-use Rattle.shelf.specs.declared.fault.ShelfFault.{ShelfFault}
-use Rattle.shelf.specs.declared.fault.ShelfFault.TheVariants as shelf
+use Rattle.devices.specs.declared.fault.ShelfFault.{ShelfFault}
+use Rattle.devices.specs.declared.fault.ShelfFault.TheVariants as shelf
 use Rattle.sound_terms.specs.declared.SoundFault.{SoundFault}
 use Rattle.sound_terms.specs.declared.SoundFault.TheVariants as sound
 use Rattle.riff.specs.declared.fault.MediaFault.{MediaFault}

@@ -2,7 +2,7 @@
 ghost use Rattle.std.specs.Prelude.{◌≡◌};
 ghost use Rattle.riff.specs.Fault.{number_of, fault_of, media_fault};
 
-use shelf::ShelfFault;
+use devices::ShelfFault;
 use sound_terms::SoundFault;
 use thiserror::Error;
 

@@ -1,14 +1,14 @@
 // The head of a sound file: RIFF, or RF64 with the chunk `ds64` (EBU Tech 3306).
 ghost use Rattle.std.specs.Prelude.{◌≡◌, ◌≤◌, ◌+◌, ◌*◌, ◌↔◌, ℕ, List, Some, true, false, codes, length, IsTrue, IfOk, IsErrOf};
 ghost use Rattle.sound_terms.specs.Walks.{is_riff, is_rf64};
-ghost use Rattle.shelf.specs.Frame.{OnlyReads};
+ghost use Rattle.devices.specs.Frame.{OnlyReads};
 ghost use Rattle.riff.specs.Found.{HasHead, heads_of};
 ghost use Rattle.riff.specs.Form.{OpensAs};
 
 use crate::MediaFault;
 use crate::head::{HEAD_LENGTH, Head};
+use devices::{Shelf, ShelfFault};
 use rf64::read_ds64;
-use shelf::{Shelf, ShelfFault};
 use sound_terms::Ds64;
 
 /// The bytes of a form's head: `RIFF` or `RF64`, a size that isn't used, and `WAVE`.

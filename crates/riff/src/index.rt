@@ -1,14 +1,14 @@
 // An index of the table of `ds64` (EBU Tech 3306).
 ghost use Rattle.std.specs.Prelude.{◌≡◌, ◌+◌, ◌*◌, ℕ, List, Some, IsTrue, IfOk, IfErr, OnOk, length, true};
 ghost use Rattle.work_terms.specs.Refusals.{is_excused};
-ghost use Rattle.shelf.specs.Frame.{OnlyReads};
+ghost use Rattle.devices.specs.Frame.{OnlyReads};
 ghost use Rattle.riff.specs.Fault.{number_of};
 ghost use Rattle.riff.specs.Found.{IsAhead};
 ghost use Rattle.riff.specs.Sizes.{HasEntry, IsIndexed, entries_of};
 
 use crate::MediaFault;
 use crate::entry::{BLOCK, ENTRY_LENGTH, Entry, TABLE, key_of};
-use shelf::Shelf;
+use devices::Shelf;
 use sound_terms::Ds64;
 use std::alloc::{AllocError, Global};
 use std::collections::BTreeMap;

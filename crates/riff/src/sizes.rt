@@ -1,7 +1,7 @@
 // The sizes of chunks: as they stand, or as `ds64` tells them (EBU Tech 3306).
 ghost use Rattle.std.specs.Prelude.{◌≡◌, ◌+◌, ◌*◌, ℕ, List, Some, IsTrue, IfOk, IfSome, IsErrOf, length};
 ghost use Rattle.std.specs.Option.{option_or};
-ghost use Rattle.shelf.specs.Frame.{OnlyReads};
+ghost use Rattle.devices.specs.Frame.{OnlyReads};
 ghost use Rattle.riff.specs.Found.{IsAhead};
 ghost use Rattle.riff.specs.Sizes.{HasSize, HasEntrySize, IsIndexed, IsIndexOf, TellsSize, entry_from, entry_size};
 
@@ -9,7 +9,7 @@ use crate::MediaFault;
 use crate::entry::{BLOCK, ENTRY_LENGTH, Entry, TABLE, key_of};
 use crate::head::Head;
 use crate::index::Index;
-use shelf::{Shelf, ShelfFault};
+use devices::{Shelf, ShelfFault};
 use sound_terms::Ds64;
 
 /// The size that stands for one that `ds64` tells.

@@ -1,6 +1,6 @@
 // The walk over the chunks of a sound file.
 ghost use Rattle.std.specs.Prelude.{◌≡◌, ◌≤◌, ◌<◌, ◌+◌, ◌*◌, ◌-◌, ◌^◌, ℕ, List, Some, Option, length, IsTrue, IfOk, IsErrOf};
-ghost use Rattle.shelf.specs.Frame.{OnlyReads};
+ghost use Rattle.devices.specs.Frame.{OnlyReads};
 ghost use Rattle.work_terms.specs.Refusals.{Gives};
 ghost use Rattle.sound_terms.specs.Walks.{walked};
 ghost use Rattle.riff.specs.Fault.{number_of, as_media};
@@ -15,7 +15,7 @@ use crate::found::Found;
 use crate::head::{HEAD_LENGTH, Head};
 use crate::index::{Index, index_of};
 use crate::sizes::{Size, size_of, told_size};
-use shelf::Shelf;
+use devices::Shelf;
 use sound_terms::{Ds64, SoundFault, Span};
 use std::alloc::Global;
 

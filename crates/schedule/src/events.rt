@@ -13,7 +13,7 @@ use crate::hands::Hands;
 use crate::steps::{deliver, fault, give, work};
 use crate::worker::Worker;
 use crate::{JobMaker, RunFault};
-use shelf::{Bench, Shelf};
+use devices::{Bench, Shelf};
 use std::alloc::Global;
 use workboard::Board;
 

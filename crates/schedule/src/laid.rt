@@ -12,8 +12,8 @@ ghost use Rattle.schedule.specs.declared.fault.RunFault.TheVariants as run_fault
 
 use crate::running::run;
 use crate::{JobMaker, RunFault};
+use devices::{Bench, Shelf};
 use job_terms::{BoardEvent, Progress};
-use shelf::{Bench, Shelf};
 use std::alloc::Global;
 use workboard::Board;
 

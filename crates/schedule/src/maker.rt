@@ -2,12 +2,12 @@
 ghost use Rattle.std.specs.Prelude.{◌≡◌, ◌<◌, ℕ, ⊤, Bool, false, Option, Some, List, length, IsTrue, IsOk, IsErr, IsErrOf, OnOk};
 ghost use Rattle.work_terms.specs.Disk.{Files, HasCause, LeavesOnly};
 ghost use Rattle.job_terms.specs.Workers.{JobsBy};
-ghost use Rattle.shelf.specs.Frame.{OnlyReads};
+ghost use Rattle.devices.specs.Frame.{OnlyReads};
 ghost use Rattle.schedule.specs.Marking.{GoesOn, IsNoOutput, IsRunningBy, LeavesBy, Marking};
 ghost use Rattle.schedule.specs.Run.{IsPlaced};
 
 use crate::PlaceFault;
-use shelf::{Bench, DeviceFault, Shelf};
+use devices::{Bench, DeviceFault, Shelf};
 
 /// A work: its jobs, each of which makes the bytes of one place of an output.
 pub trait JobMaker {

@@ -5,7 +5,7 @@ ghost use Rattle.schedule.specs.Marking.{GoesOn, IsRunning, Leaves, Marking};
 ghost use Rattle.schedule.specs.Placed.{HasPlaced, IsStretchOf, IsTornFrom};
 
 use crate::PlaceFault;
-use shelf::{Bench, DeviceFault};
+use devices::{Bench, DeviceFault};
 
 /// Writes the bytes and syncs the file.
 fn write_synced<B: Bench>(

@@ -13,8 +13,8 @@ ghost use Rattle.schedule.specs.Run.{FitsHand, Leads, state_of};
 use crate::events::{deliver_by, fault_by, give_to, lose_by, reclaim, work_by};
 use crate::hands::Hands;
 use crate::{JobMaker, RunFault};
+use devices::{Bench, Shelf};
 use job_terms::BoardEvent;
-use shelf::{Bench, Shelf};
 use std::alloc::Global;
 use workboard::Board;
 

@@ -15,7 +15,7 @@ ghost use Rattle.schedule.specs.declared.fault.JobFault.TheVariants as job_fault
 use crate::steps::{deliver, give, work};
 use crate::worker::Worker;
 use crate::{JobFault, JobMaker};
-use shelf::{Bench, Shelf, Watch};
+use devices::{Bench, Shelf, Watch};
 use workboard::Board;
 
 /// One round of the worker 1: it is given a job, makes its bytes and delivers them. Gives the job.

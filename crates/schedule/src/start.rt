@@ -17,7 +17,7 @@ ghost use Rattle.workboard.specs.Indexed.{IsOrder};
 use crate::resting::resting_board;
 use crate::single::{alone, most_bytes};
 use crate::{JobFault, JobMaker, Worker};
-use shelf::{Bench, Shelf, Watch};
+use devices::{Bench, Shelf, Watch};
 use std::alloc::Global;
 use workboard::{Board, BoardFault};
 

@@ -1,7 +1,7 @@
 // The steps of one worker.
 ghost use Rattle.std.specs.Prelude.{◌≡◌, ◌≢◌, ◌<◌, ◌+◌, ◌^◌, ◌≤◌, ℕ, IsTrue, true, None, length, OnErr, OnOk, IfErr, IsErrOf, List, take, ⊤, Some};
 ghost use Rattle.work_terms.specs.Disk.{Files, LeavesOnly, Rises};
-ghost use Rattle.shelf.specs.Frame.{OnlyReads};
+ghost use Rattle.devices.specs.Frame.{OnlyReads};
 ghost use Rattle.schedule.specs.Marking.{IsNoOutput, IsRight, IsRunningBy, LeavesBy, RunsOn, done_of, Marking};
 ghost use Rattle.job_terms.specs.Workers.{JobsBy, DeliverStep, FaultStep, GiveStep, Hand, Holds, Jobs, Made, Nothing, State, WorkStep, after_fault, jobs_over};
 ghost use Rattle.job_terms.specs.Board.{accepted, is_current};
@@ -12,8 +12,8 @@ ghost use Rattle.schedule.specs.declared.fault.JobFault.TheVariants as fault;
 
 use crate::worker::Worker;
 use crate::{JobFault, JobMaker, PlaceFault};
+use devices::{Bench, DeviceFault, Shelf};
 use job_terms::Ticket;
-use shelf::{Bench, DeviceFault, Shelf};
 use workboard::{Board, BoardFault};
 
 /// Hands a job to a worker that holds none.

@@ -1,2 +1,9 @@
-pub mod Fault
-pub mod Frame
+pub mod Crashes
+pub mod FileName
+pub mod Files
+pub mod Folder
+pub mod History
+pub mod Memory
+pub mod Zeros
+pub use Rattle.devices.specs.Fault
+pub use Rattle.devices.specs.Frame

@@ -1,12 +1,15 @@
-//! Files by name: sources that are read at any place, and outputs whose writes a crash may tear.
+//! Stores of files by name: in memory, whose calls fail where a test wants it, of zeros, and in a folder. What each
+//! store does is said by the traits of `devices`, which are handed on.
 #![tactic(auto)]
 
-mod bench;
-mod fault;
-mod source;
-mod watch;
+mod failures;
+mod folder;
+mod memory;
+mod reason;
+mod zeros;
 
-pub use bench::Bench;
-pub use fault::{DeviceFault, ShelfFault};
-pub use source::Shelf;
-pub use watch::{Unwatched, Watch};
+pub use devices::{Bench, DeviceFault, Shelf, ShelfFault, Unwatched, Watch};
+pub use folder::{FolderBench, FolderShelf, Overwrite};
+pub use memory::{MemoryBench, MemoryShelf};
+pub use reason::{Reason, Reasons};
+pub use zeros::ZeroShelf;

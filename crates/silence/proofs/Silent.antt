@@ -6,8 +6,8 @@ use Rattle.sound_terms.specs.Sounds.{SoundFacts, reading_by}
 use Rattle.work_terms.specs.Disk.{Files}
 use Rattle.passes.specs.Silent.{is_silent_in}
 use Rattle.passes.specs.Laws.{silent_is}
-use Rattle.shelf.specs.declared.fault.ShelfFault.{ShelfFault}
-use Rattle.shelf.specs.declared.fault.ShelfFault.TheVariants as shelf
+use Rattle.devices.specs.declared.fault.ShelfFault.{ShelfFault}
+use Rattle.devices.specs.declared.fault.ShelfFault.TheVariants as shelf
 use Rattle.silence.specs.declared.part.Part.{Part}
 use Rattle.silence.specs.Zero.{IsZero, part_of, sound_by}
 

@@ -2,14 +2,14 @@
 ghost use Rattle.std.specs.Prelude.{◌≡◌, ◌*◌, ◌≤◌, is_some, length, slice_get, unwrap_or, List, IsErrOf, IfOk, IsTrue, Some};
 ghost use Rattle.sound_terms.specs.Mix.{Reading};
 ghost use Rattle.sound_terms.specs.Sounds.{SoundFacts, reading_by};
-ghost use Rattle.shelf.specs.Frame.{OnlyReads};
+ghost use Rattle.devices.specs.Frame.{OnlyReads};
 ghost use Rattle.silence.specs.Known.{IsSo, Reaches, Tells};
 ghost use Rattle.silence.specs.Zero.{LiesIn};
 
 use crate::looking::Looking;
 use crate::part::Part;
 use crate::zeros::first_sounding;
-use shelf::{Shelf, ShelfFault, Watch};
+use devices::{Shelf, ShelfFault, Watch};
 use wavread::Sound;
 
 /// A part of a file that is known to be zero, and whether the frame behind it is known to sound.

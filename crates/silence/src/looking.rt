@@ -1,6 +1,6 @@
 // How far a search for silence has come.
 
-use shelf::Watch;
+use devices::Watch;
 
 /// Tells a watch how many frames of all pieces that are asked about are looked at.
 #[derive(Drop)]

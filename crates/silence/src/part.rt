@@ -4,7 +4,7 @@ ghost use Rattle.sound_terms.specs.Groups.{IsPiece};
 ghost use Rattle.work_terms.specs.Disk.{Files};
 ghost use Rattle.silence.specs.Zero.{IsZero, LiesIn, part_of, sound_by};
 
-use interval::Piece;
+use groups::Piece;
 use wavread::Sound;
 
 /// Channels of a sound file, `width` from `first` on (from 1), in the frames from `from` on and before `to`.

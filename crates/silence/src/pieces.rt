@@ -3,7 +3,7 @@ ghost use Rattle.std.specs.Prelude.{◌≡◌, ℕ, ◌<◌, length, IfOk};
 ghost use Rattle.std.specs.List.{All, Contains};
 ghost use Rattle.sound_terms.specs.Groups as spec;
 
-use interval::{Intervals, Piece};
+use groups::{Intervals, Piece};
 use std::alloc::{AllocError, Global};
 
 /// The pieces of all groups, in order.

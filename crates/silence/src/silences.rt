@@ -6,15 +6,15 @@ ghost use Rattle.sound_terms.specs.Groups.{Agrees, IsPiece};
 ghost use Rattle.sound_terms.specs.Passes.{silences};
 ghost use Rattle.sound_terms.specs.Sounds.{reading_by};
 ghost use Rattle.passes.specs.Silent.{IsDevice, silences_of};
-ghost use Rattle.shelf.specs.Frame.{OnlyReads};
+ghost use Rattle.devices.specs.Frame.{OnlyReads};
 ghost use Rattle.silence.specs.Fault.{FailsAt};
 
 use crate::looking::Looking;
 use crate::pieces::{pieces_of, reading_order};
 use crate::search::Search;
-use interval::{Intervals, Piece};
+use devices::{Shelf, Watch};
+use groups::{Intervals, Piece};
 use passes::PassFault;
-use shelf::{Shelf, Watch};
 use std::alloc::Global;
 use wavread::Sound;
 

@@ -5,13 +5,13 @@ ghost use Rattle.sound_terms.specs.Passes.{in_turn, silences, standard_groups};
 ghost use Rattle.sound_terms.specs.Sounds.{reading_by};
 ghost use Rattle.passes.specs.Silent.{IsDevice};
 ghost use Rattle.passes.specs.Standard.{AreStandard, reads_sounding};
-ghost use Rattle.shelf.specs.Frame.{OnlyReads};
+ghost use Rattle.devices.specs.Frame.{OnlyReads};
 ghost use Rattle.silence.specs.Fault.{FailsAt};
 
 use crate::silences::silent_of;
-use interval::Intervals;
+use devices::{Shelf, Watch};
+use groups::Intervals;
 use passes::{Pass, PassFault, turn};
-use shelf::{Shelf, Watch};
 use std::alloc::Global;
 use wavread::Sound;
 

@@ -1,12 +1,12 @@
 // The first frame of a part of a sound file that isn't zero, block by block.
 ghost use Rattle.std.specs.Prelude.{◌≡◌, ◌+◌, ◌-◌, ◌*◌, ◌/◌, ◌≤◌, length, IsErrOf, IfOk, IsTrue};
-ghost use Rattle.shelf.specs.Frame.{OnlyReads};
+ghost use Rattle.devices.specs.Frame.{OnlyReads};
 ghost use Rattle.silence.specs.Zero.{IsFirstSounding, IsFrameZero, IsZeroAt, LiesIn, sound_by};
 
 use crate::looking::Looking;
 use crate::part::Part;
+use devices::{Shelf, ShelfFault, Watch};
 use pcm::all_zero;
-use shelf::{Shelf, ShelfFault, Watch};
 use wavread::Sound;
 
 /// The first frame in which not all of these channels are zero, `width` from `first` on (from 1), in frames of so many

@@ -1,7 +1,7 @@
 // A binding in the making.
 ghost use Rattle.std.specs.Prelude.{◌≡◌, ◌<◌, ◌⊎◌, IfErr, IsTrue, None, OnOk, Some, length, slice_get, string_bytes, true};
 ghost use Rattle.sound_terms.specs.Mix.{index_of};
-ghost use Rattle.shelf.specs.Frame.{OnlyReads};
+ghost use Rattle.devices.specs.Frame.{OnlyReads};
 ghost use Rattle.list_terms.specs.Binding.{OpenedFile, file_named, is_used, nothing_bound, with_index, with_known_file};
 ghost use Rattle.list_terms.specs.Bound.{bound_source, bound_to_new, with_source};
 ghost use Rattle.list_terms.specs.BoundHomes.{IsBinding};
@@ -16,8 +16,8 @@ use crate::files::Files;
 use crate::told::{index_over, tell, tell_if};
 use crate::used_numbers::UsedNumbers;
 use adlmodel::{Bytes, Place, Source, place_of};
+use devices::Shelf;
 use list_terms::Notice;
-use shelf::Shelf;
 use sound_terms::BoundIndex;
 use std::alloc::{AllocError, Global};
 use std::marker::Model;

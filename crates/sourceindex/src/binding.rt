@@ -1,7 +1,7 @@
 // Binding a project to its files.
 ghost use Rattle.std.specs.Prelude.{◌≡◌, IsTrue, IfErr};
 ghost use Rattle.work_terms.specs.Refusals.{Gives};
-ghost use Rattle.shelf.specs.Frame.{OnlyReads};
+ghost use Rattle.devices.specs.Frame.{OnlyReads};
 ghost use Rattle.list_terms.specs.Bound.{binding_of};
 ghost use Rattle.sourceindex.specs.Fault.{refusal_of};
 ghost use Rattle.sourceindex.specs.Own.{ComesFirst, HoldsOfFile, IsOfProject};
@@ -10,7 +10,7 @@ use crate::binder::Binder;
 use crate::used_numbers::UsedNumbers;
 use crate::{BindFault, Bound};
 use adlmodel::Project;
-use shelf::Shelf;
+use devices::Shelf;
 use std::alloc::Global;
 
 /// Binds each index that an entry names, in the order of the source index: the file that its URL names is opened, once

@@ -2,7 +2,7 @@
 #![tactic(auto)]
 
 #[cfg(test)]
-mod devices;
+mod failing_devices;
 #[cfg(test)]
 mod memory;
 #[cfg(test)]

@@ -1,7 +1,7 @@
 // A sound file that ends early.
+use shelf::MemoryShelf;
 use std::alloc::Global;
 use std::test::Fail;
-use stores::MemoryShelf;
 use wavread::open;
 
 /// A file whose sizes are told in `ds64` (EBU Tech 3306), of four channels of 24 bits as EXTENSIBLE, with four frames,

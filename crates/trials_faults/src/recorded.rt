@@ -1,6 +1,5 @@
 // Sources that keep what was read of them.
-use shelf::{Shelf, ShelfFault};
-use stores::MemoryShelf;
+use shelf::{MemoryShelf, Shelf, ShelfFault};
 
 /// Sources that keep between which places samples were read.
 #[derive(Drop)]

@@ -1,10 +1,10 @@
 // Renderings that are stopped at each of their calls, and again once they are gone on with, until they are whole.
 use crate::recorded::Recorded;
 use crate::works::{Call, Job, MARKS, SOUND, bench_of};
+use shelf::MemoryBench;
 use std::alloc::{AllocError, Global};
 use std::process::Abort;
 use std::test::Fail;
-use stores::MemoryBench;
 
 /// More than the calls of the output of any of them.
 const MANY: u64 = 1_000;

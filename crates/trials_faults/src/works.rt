@@ -7,11 +7,10 @@ use consolidate::{
     run_schedule,
 };
 use passes::{DropSilent, JoinCuts, Pass, Regroup, SplitFades};
-use shelf::{Bench, Shelf, Unwatched};
+use shelf::{Bench, MemoryBench, MemoryShelf, Shelf, Unwatched};
 use sound_terms::Bext;
 use std::alloc::{AllocError, Global};
 use std::test::Fail;
-use stores::{MemoryBench, MemoryShelf};
 use wavwrite::{SoundInfo, header};
 
 /// The frames of a rendering of three blocks.

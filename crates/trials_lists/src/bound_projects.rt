@@ -2,15 +2,15 @@
 use crate::whole_lists::{ENTRY, SOURCE, list};
 use adlmodel::Notice;
 use adlread::read;
+use interval::from_checked;
 use mediaset::{Run, Runs};
 use opening::{Accepted, Fault, check_project};
-use projectcheck::{check, from_checked};
-use shelf::Shelf;
+use projectcheck::check;
+use shelf::{MemoryShelf, Shelf};
 use sound_terms::{Bext, BoundIndex, Depth, Home};
 use sourceindex::bind;
 use std::alloc::Global;
 use std::test::Fail;
-use stores::MemoryShelf;
 use wavwrite::{SoundInfo, header};
 
 /// A shelf with the mono file `A.wav` of 16 bits with these samples, the first at this time.

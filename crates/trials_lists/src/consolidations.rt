@@ -5,11 +5,10 @@ use crate::whole_lists::list;
 use adlread::read;
 use consolidate::{Written, consolidate};
 use passes::{DropSilent, JoinCuts, Pass, Regroup, SplitFades};
-use shelf::Unwatched;
+use shelf::{MemoryBench, MemoryShelf, Unwatched};
 use sound_terms::Depth;
 use std::alloc::{AllocError, Global};
 use std::test::Fail;
-use stores::{MemoryBench, MemoryShelf};
 
 /// A stereo file of 12 frames that begins at midnight: the left is silent, the right sounds in the frames of `sounds`.
 fn one_side(alloc: Global, sounds: &[bool]) -> Result<Vec<u8>, Fail> {

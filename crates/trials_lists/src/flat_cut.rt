@@ -4,7 +4,7 @@ ghost use Rattle.std.specs.List.{flat_map};
 ghost use Rattle.sound_terms.specs.Groups.{IsPiece};
 ghost use Rattle.trials_lists.specs.FlatCut as spec;
 
-use interval::{Group, Intervals, Piece, Shape};
+use groups::{Group, Intervals, Piece, Shape};
 use passes::{Pass, PassFault};
 use std::alloc::{AllocError, Global};
 

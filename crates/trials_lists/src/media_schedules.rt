@@ -2,9 +2,9 @@
 use crate::schedules::{Kind, Project, assert_right_files, assert_same_files};
 use crate::whole_lists::list;
 use consolidate::Progress;
+use shelf::MemoryBench;
 use std::alloc::Global;
 use std::test::Fail;
-use stores::MemoryBench;
 
 const SOURCE: &str = "(Index) 1 (F) \"URL:file://localhost/A.wav\" _ 00.00.00.00/0000 _\n";
 

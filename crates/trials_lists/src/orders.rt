@@ -6,10 +6,9 @@ use crate::schedules::round;
 use crate::whole_lists::list;
 use consolidate::{Depth, Options, Order, Progress, Work, render, run_schedule};
 use sampletime::SampleTime;
-use shelf::Unwatched;
+use shelf::{MemoryBench, MemoryShelf, Unwatched};
 use std::alloc::Global;
 use std::test::Fail;
-use stores::{MemoryBench, MemoryShelf};
 
 /// The samples of a block.
 const BLOCK: usize = 4_096;

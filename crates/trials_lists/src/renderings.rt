@@ -6,11 +6,10 @@ use opening::open_project;
 use projectcheck::Checked;
 use rendering::{Options, Order, Rendered, Rendering};
 use schedule::JobMaker;
-use shelf::DeviceFault;
+use shelf::{DeviceFault, MemoryBench, MemoryShelf};
 use sound_terms::{Bext, Depth};
 use std::alloc::{AllocError, Global};
 use std::test::Fail;
-use stores::{MemoryBench, MemoryShelf};
 use wavwrite::{SoundInfo, header};
 
 /// The header of a file that begins at midnight.

@@ -3,11 +3,10 @@ use crate::renderings::{sound, whole};
 use consolidate::{
     BoardEvent, Depth, Fault, Options, Order, Progress, Work, consolidate, render, run_schedule,
 };
-use shelf::Unwatched;
+use shelf::{MemoryBench, MemoryShelf, Unwatched};
 use std::alloc::Global;
 use std::process::Abort;
 use std::test::Fail;
-use stores::{MemoryBench, MemoryShelf};
 
 /// A rendering of three blocks, each a job: 8,193 frames of one channel.
 const FRAMES: u64 = 8_193;

@@ -3,10 +3,9 @@ use adlmodel::Sources;
 use adlread::read;
 use adlwrite::{WriteFault, text_of, write};
 use sampletime::SampleTime;
-use shelf::Bench;
+use shelf::{Bench, MemoryBench};
 use std::alloc::{AllocError, Global};
 use std::test::Fail;
-use stores::MemoryBench;
 
 const WRITTEN: &str = "<ADL>\r
 <VERSION>\r

@@ -6,11 +6,11 @@ ghost use Rattle.sound_terms.specs.Media.{LiesInFile};
 use crate::kernels::{LONGEST, OFFSETS, sample_at};
 use blockmachine::Machine;
 use renderplan::{Depth, Instruction, Shape, Stretch};
+use shelf::MemoryShelf;
 use soundlaw::{finish, widen};
 use std::alloc::Global;
 use std::process::Abort;
 use std::test::Fail;
-use stores::MemoryShelf;
 use wavread::{Sound, open};
 
 /// The frames of a block that has room for the longest stretch at each offset.

@@ -3,12 +3,12 @@ ghost use Rattle.std.specs.Prelude.{◌≡◌, IfOk};
 ghost use Rattle.sound_terms.specs.Groups.{IsRamp};
 
 use blockmachine::Machine;
-use interval::{Group, Intervals, Piece};
+use groups::{Group, Intervals, Piece};
 use renderplan::{Depth, Instruction, Plan, Shape, SourceFrame, Stretch};
 use sampletime::SampleTime;
+use shelf::MemoryShelf;
 use std::alloc::Global;
 use std::test::Fail;
-use stores::MemoryShelf;
 use wavread::open;
 
 /// A mono file of 16 bits without `bext`, with four samples.

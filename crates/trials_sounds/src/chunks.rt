@@ -1,8 +1,8 @@
 // Walks over files in memory. The sizes and places stand in EBU Tech 3285 and in RIFF WAVE.
 use riff::{Chunks, Depth, Format, MediaFault, Span, read_fmt, walk};
+use shelf::MemoryShelf;
 use std::alloc::{AllocError, Global};
 use std::test::Fail;
-use stores::MemoryShelf;
 
 /// The contents of `fmt `: PCM, one channel, 48000 samples and 96000 bytes a second, two bytes a frame, 16 bits.
 const FORMAT: [u8; 16] = [1, 0, 1, 0, 0x80, 0xbb, 0, 0, 0, 0x77, 1, 0, 2, 0, 16, 0];

@@ -2,7 +2,7 @@
 ghost use Rattle.std.specs.Prelude.{◌≤◌};
 ghost use Rattle.sound_terms.specs.Groups.{IsPiece, IsRamp};
 
-use interval::{Group, Intervals, Piece, Shape};
+use groups::{Group, Intervals, Piece, Shape};
 use passes::{JoinCuts, Pass, Regroup};
 use std::test::Fail;
 

@@ -1,8 +1,8 @@
 // Files that were opened: what they say, and their samples.
 use crate::chunks::{chunk, form};
+use shelf::MemoryShelf;
 use std::alloc::{AllocError, Global};
 use std::test::Fail;
-use stores::MemoryShelf;
 use wavread::{Depth, Sound, open};
 
 /// The contents of `fmt `: PCM, two channels, 48000 samples and 288000 bytes a second, six bytes a frame, 24 bits.

@@ -3,7 +3,7 @@ ghost use Rattle.std.specs.Prelude.{◌≡◌, ◌≤◌, ◌+◌, IfOk};
 ghost use Rattle.sampletime.specs.TimeCode.{day};
 ghost use Rattle.sound_terms.specs.Entries.{IsPlayable};
 
-use interval::{Intervals, Piece, Placed, Shape, group_of};
+use groups::{Intervals, Piece, Placed, Shape, group_of};
 use sampletime::SampleTime;
 use sound_terms::{BoundIndex, Channels, Event, Fade};
 use std::test::Fail;

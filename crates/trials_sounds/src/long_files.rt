@@ -1,8 +1,7 @@
 // Where RIFF ends and RF64 begins, over files of zeros that take no memory.
-use shelf::Shelf;
+use shelf::{Shelf, ZeroShelf};
 use std::alloc::Global;
 use std::test::Fail;
-use stores::ZeroShelf;
 use wavread::{Depth, Sound, open};
 use wavwrite::{Bext, SoundInfo, header};
 

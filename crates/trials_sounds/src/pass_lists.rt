@@ -3,7 +3,7 @@ ghost use Rattle.std.specs.Prelude.{false, pos, ⊤, ◌≤◌};
 ghost use Rattle.sound_terms.specs.Groups.{IsPiece};
 
 use crate::intervals::{entry, intervals};
-use interval::{Group, Intervals, Piece, Shape};
+use groups::{Group, Intervals, Piece, Shape};
 use passes::{DropSilent, JoinCuts, Pass, Regroup, Samples, SplitFades, run, silent_of};
 use shelf::ShelfFault;
 use std::test::Fail;

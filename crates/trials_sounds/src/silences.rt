@@ -2,12 +2,11 @@
 ghost use Rattle.std.specs.Prelude.{◌≤◌};
 ghost use Rattle.sound_terms.specs.Groups.{IsPiece};
 
-use interval::{Group, Intervals, Piece, Shape};
-use shelf::{Shelf, ShelfFault, Watch};
+use groups::{Group, Intervals, Piece, Shape};
+use shelf::{MemoryShelf, Shelf, ShelfFault, Watch};
 use silence::silent_of;
 use std::alloc::Global;
 use std::test::Fail;
-use stores::MemoryShelf;
 use wavread::open;
 
 /// A shelf that counts the bytes that are read.

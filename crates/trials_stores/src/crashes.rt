@@ -1,8 +1,7 @@
 // What a crash leaves of outputs in memory.
-use shelf::{Bench, DeviceFault, ShelfFault};
+use shelf::{Bench, DeviceFault, MemoryBench, ShelfFault};
 use std::alloc::Global;
 use std::test::Fail;
-use stores::MemoryBench;
 
 /// A file that is synced and then written over and added to, and one that is created and never synced.
 fn worked(alloc: Global) -> Result<MemoryBench, DeviceFault> {

@@ -1,12 +1,11 @@
 // Sources and outputs in a folder of the file system. Each test has a folder of its own, beside where it runs.
 mod small_disk;
 
-use shelf::{Bench, DeviceFault, Shelf, ShelfFault};
+use shelf::{Bench, DeviceFault, FolderBench, FolderShelf, Overwrite, Reasons, Shelf, ShelfFault};
 use std::fs;
 use std::io::ErrorKind;
 use std::os::unix::fs::{MetadataExt, symlink};
 use std::test::Fail;
-use stores::{FolderBench, FolderShelf, Overwrite, Reasons};
 
 /// Names of no file right inside a folder.
 const NO_NAMES: [&str; 8] = [

@@ -1,11 +1,10 @@
 // The marks of a rendering, byte for byte.
 use markfile::{FreshMarks, MARKS, MarksFault, RunId, RunRange, SOUND, mark, open_marks, start};
 use sampletime::SampleTime;
-use shelf::{Bench, DeviceFault};
+use shelf::{Bench, DeviceFault, MemoryBench};
 use sound_terms::Depth;
 use std::alloc::Global;
 use std::test::Fail;
-use stores::MemoryBench;
 
 /// The list of the run.
 const LIST: &[u8] = b"<ADL>\r\n</ADL>\r\n";

@@ -1,12 +1,11 @@
 // The memory stores, and functions over any shelf and any bench.
 ghost use Rattle.std.specs.Prelude.{IsTrue, IfOk, OnOk};
 ghost use Rattle.work_terms.specs.Disk.{Changes, IsRange, IsDurable};
-ghost use Rattle.stores.specs.Files.{IsPut};
+ghost use Rattle.shelf.specs.Files.{IsPut};
 
-use shelf::{Bench, DeviceFault, Shelf, ShelfFault};
+use shelf::{Bench, DeviceFault, MemoryBench, MemoryShelf, Shelf, ShelfFault, ZeroShelf};
 use std::alloc::{AllocError, Global};
 use std::test::Fail;
-use stores::{MemoryBench, MemoryShelf, ZeroShelf};
 
 /// The length of a file that no memory holds.
 const LONG: u64 = 10_000_000_000_000;

@@ -2,13 +2,13 @@
 ghost use Rattle.std.specs.Prelude.{◌≡◌, ◌≤◌, ◌<◌, ◌+◌, ◌^◌, ℕ, List, Some, IsTrue, IfOk, IfErr, IfSome, IsErrOf, length, take, drop, true, vec_len};
 ghost use Rattle.sound_terms.specs.Bext.{bext_of};
 ghost use Rattle.work_terms.specs.Refusals.{is_excused};
-ghost use Rattle.shelf.specs.Frame.{OnlyReads};
+ghost use Rattle.devices.specs.Frame.{OnlyReads};
 ghost use Rattle.riff.specs.Fault.{number_of};
 ghost use Rattle.wavread.specs.Told.{TellsAll, contents_of};
 
 use bext::read_bext;
+use devices::{Shelf, ShelfFault};
 use riff::MediaFault;
-use shelf::{Shelf, ShelfFault};
 use sound_terms::{Bext, Span};
 use std::alloc::Global;
 

@@ -3,11 +3,11 @@ ghost use Rattle.std.specs.Prelude.{◌≡◌, ◌≤◌, ℕ, List, Some, IsTru
 ghost use Rattle.sound_terms.specs.Sounds.{bytes_of_span};
 ghost use Rattle.sound_terms.specs.Formats.{format_of};
 ghost use Rattle.work_terms.specs.Refusals.{Gives};
-ghost use Rattle.shelf.specs.Frame.{OnlyReads};
+ghost use Rattle.devices.specs.Frame.{OnlyReads};
 ghost use Rattle.riff.specs.Fault.{number_of, as_media};
 
+use devices::Shelf;
 use riff::{Format, MediaFault, read_fmt};
-use shelf::Shelf;
 use sound_terms::Span;
 
 /// The most bytes of a `fmt ` chunk that are read: those of WAVE_FORMAT_EXTENSIBLE.

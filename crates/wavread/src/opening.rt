@@ -1,15 +1,15 @@
 // Opening a sound file.
 ghost use Rattle.std.specs.Prelude.{◌≡◌, IsTrue, IfOk, IfErr, string_bytes};
 ghost use Rattle.work_terms.specs.Refusals.{Gives};
-ghost use Rattle.shelf.specs.Frame.{OnlyReads};
+ghost use Rattle.devices.specs.Frame.{OnlyReads};
 ghost use Rattle.riff.specs.Fault.{number_of};
 ghost use Rattle.wavread.specs.Facts.{sound_of_file};
 
 use crate::Sound;
 use crate::bext_chunk::read_told;
 use crate::format_chunk::read_format;
+use devices::Shelf;
 use riff::{MediaFault, walk_indexed};
-use shelf::Shelf;
 use std::alloc::Global;
 
 /// The name, in memory of its own.

@@ -3,16 +3,16 @@ ghost use Rattle.std.specs.Prelude.{◌≡◌, ◌≤◌, ◌<◌, ◌+◌, ◌-
 ghost use Rattle.std.specs.List.{All};
 ghost use Rattle.sound_terms.specs.Depth.{bits_of};
 ghost use Rattle.work_terms.specs.Disk.{IsRange};
-ghost use Rattle.shelf.specs.Frame.{OnlyReads};
+ghost use Rattle.devices.specs.Frame.{OnlyReads};
 ghost use Rattle.sound_terms.specs.Media.{frame_length};
 ghost use Rattle.sound_terms.specs.Waves.{sample_at};
 ghost use Rattle.wavread.specs.Facts.{facts_told, AreFrames};
 ghost use Rattle.pcm.specs.Samples.{FitsDepth};
 
 use crate::bext_chunk::Told;
+use devices::{Shelf, ShelfFault};
 use pcm::unpack;
 use riff::{Format, Span};
-use shelf::{Shelf, ShelfFault};
 use sound_terms::{Bext, Depth};
 use std::marker::Model;
 

@@ -10,7 +10,7 @@ ghost use Rattle.opening.specs.Paths.{Knows};
 use super::paths::{Naming, Paths};
 use crate::Fault;
 use adlmodel::{Place, Project, Source, place_of};
-use shelf::Shelf;
+use devices::Shelf;
 use sourceindex::UsedNumbers;
 use std::alloc::{AllocError, Global};
 use wavread::{MediaFault, open};

@@ -2,7 +2,7 @@
 ghost use Rattle.std.specs.Prelude.{IsErr};
 
 use super::{fresh_folder, three_bytes};
-use shelf::{Bench, DeviceFault};
+use shelf::{Bench, DeviceFault, FolderBench, FolderShelf, Overwrite};
 use std::alloc::Allocator;
 use std::cell::Cell;
 use std::fs::{File, Files, Metadata, OpenFile, OpenOptions};
@@ -10,7 +10,6 @@ use std::io::{Error, ErrorKind, Read, Seek, SeekFrom, Write};
 use std::os::unix::fs::FileExt;
 use std::test::Fail;
 use std::{fs, io};
-use stores::{FolderBench, FolderShelf, Overwrite};
 
 #[derive(Clone, Copy)]
 struct SmallDisk<'a> {

@@ -1,7 +1,7 @@
 use Rattle.std.proofs.Common.{◌≡◌, ℕ, All, IsTrue, take}
 use Rattle.sound_terms.specs.Blocks.{BlockState, executed_all, PlaysFull}
 use Rattle.sound_terms.specs.Sounds.{reading_by}
-use Rattle.shelf.specs.Frame.{IsQuiet}
+use Rattle.devices.specs.Frame.{IsQuiet}
 use Rattle.blockmachine.specs.Holding.{Holds}
 use Rattle.blockmachine.specs.Sums.{AreSums}
 use Rattle.blockmachine.proofs.machine.add_all.Given as goal

@@ -2,7 +2,7 @@ use Rattle.std.proofs.Common.{◌≡◌, ℕ, ◌-◌, ◌≤◌, IsTrue}
 use Rattle.std.specs.Prelude.{ℤ}
 use Rattle.sound_terms.specs.Blocks.{sums_with, IsFull}
 use Rattle.sound_terms.specs.Sounds.{reading_by}
-use Rattle.shelf.specs.Frame.{IsQuiet}
+use Rattle.devices.specs.Frame.{IsQuiet}
 use Rattle.blockmachine.specs.Holding.{Holds}
 use Rattle.blockmachine.specs.Sums.{AreSums}
 use Rattle.blockmachine.proofs.stretches.add_stretch.Given as goal

@@ -3,7 +3,7 @@ use Rattle.sound_terms.specs.Groups.{pieces_of}
 use Rattle.sound_terms.specs.Homes.{LiesAtHome}
 use Rattle.list_terms.specs.BoundHomes.{homes_of}
 use Rattle.list_terms.specs.Heard.{sounds_of}
-use Rattle.projectcheck.specs.AtHome.{IsAtHome}
+use Rattle.interval.specs.AtHome.{IsAtHome}
 use Rattle.consolidation.proofs.Linked.{have_channels}
 use Rattle.consolidation.proofs.planning.text_over.Goals as goal
 

@@ -2,8 +2,8 @@ use Rattle.std.proofs.Common.{◌≡◌, ◌∙◌, ◌+◌, ◌≤◌, Err, ap,
 use Rattle.sound_terms.specs.declared.piece.Run.{Run}
 use Rattle.mediacopy.specs.Pieces.{run_at, source_of}
 use Rattle.mediacopy.proofs.Located.{inside_source, range_bytes, run_read, source_read}
-use Rattle.shelf.specs.declared.fault.ShelfFault.{ShelfFault}
-use Rattle.shelf.specs.declared.fault.ShelfFault.TheVariants.{Device, NotFound}
+use Rattle.devices.specs.declared.fault.ShelfFault.{ShelfFault}
+use Rattle.devices.specs.declared.fault.ShelfFault.TheVariants.{Device, NotFound}
 use Rattle.mediacopy.proofs.copying.fetch_piece.Goals as goal
 
 -- a source that isn't missing is told by its device

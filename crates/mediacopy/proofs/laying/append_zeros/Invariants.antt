@@ -1,6 +1,6 @@
 use Rattle.std.proofs.Common.{◌≡◌, ◌≢◌, ◌≤◌, ◌-◌, ◌++◌, List, ℕ, IsTrue, Some}
 use Rattle.sound_terms.specs.Waves.{zeros}
-use Rattle.shelf.specs.Frame.{IsBuilding}
+use Rattle.devices.specs.Frame.{IsBuilding}
 use Rattle.mediacopy.proofs.laying.append_zeros.Given as goal
 
 -- the zeros that aren't left stand behind what the file held

@@ -1,6 +1,6 @@
 use Rattle.std.proofs.Common.{◌-◌, ◌≡◌, ◌≤◌, ℕ, IsTrue, List, length}
 use Rattle.sha2.specs.Hashers.{Holds256}
-use Rattle.shelf.specs.Frame.{IsQuiet}
+use Rattle.devices.specs.Frame.{IsQuiet}
 use Rattle.provenance.specs.Media.{IsHashed}
 use Rattle.provenance.proofs.hashing.hash_run.Given as goal
 

@@ -1,6 +1,6 @@
 use Rattle.std.proofs.Common.{◌≡◌, All, IsTrue, length, take}
 use Rattle.list_terms.specs.Renewed.{numbered}
-use Rattle.shelf.specs.Frame.{IsQuiet}
+use Rattle.devices.specs.Frame.{IsQuiet}
 use Rattle.provenance.specs.Media.{IsTellable, medium_by}
 use Rattle.provenance.proofs.hashing.hashed_media.Given as goal
 

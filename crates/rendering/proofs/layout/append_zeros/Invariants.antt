@@ -1,7 +1,7 @@
 use Rattle.std.proofs.Common.{◌≡◌, ◌≢◌, ◌≤◌, ◌-◌, ◌++◌, codes, List, ℕ, IsTrue, Some}
 use Rattle.sound_terms.specs.Waves.{zeros}
 use Rattle.work_terms.specs.Disk.{LeavesOthers}
-use Rattle.shelf.specs.Frame.{IsBuilding}
+use Rattle.devices.specs.Frame.{IsBuilding}
 use Rattle.rendering.proofs.layout.append_zeros.Given as goal
 
 -- the zeros that aren't left stand behind what the file held

@@ -1,5 +1,5 @@
 use Rattle.std.proofs.Common.{◌≡◌, ℕ, List, Some, length, IsTrue}
-use Rattle.shelf.specs.Frame.{IsQuiet}
+use Rattle.devices.specs.Frame.{IsQuiet}
 use Rattle.riff.specs.Form.{IsLaid}
 use Rattle.riff.specs.Found.{IsWalked, IsInside}
 use Rattle.riff.specs.Sizes.{IsIndexOf}

@@ -1,7 +1,7 @@
 use Rattle.std.proofs.Common.{◌≡◌, length, IsTrue}
 use Rattle.sound_terms.specs.Sounds.{reading_by}
 use Rattle.passes.specs.Silent.{is_silent_in}
-use Rattle.shelf.specs.Frame.{IsQuiet}
+use Rattle.devices.specs.Frame.{IsQuiet}
 use Rattle.silence.specs.Known.{IsSo}
 use Rattle.silence.proofs.Answered.{AreRight}
 use Rattle.silence.proofs.silences.asked_in_order.Given as goal

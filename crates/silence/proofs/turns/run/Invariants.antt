@@ -3,7 +3,7 @@ use Rattle.std.specs.Vec.Iter.{into_iter_items}
 use Rattle.sound_terms.specs.Groups.{are_whole, mix_of, reads}
 use Rattle.sound_terms.specs.Passes.{in_turn, silences}
 use Rattle.sound_terms.specs.Sounds.{reading_by}
-use Rattle.shelf.specs.Frame.{IsQuiet}
+use Rattle.devices.specs.Frame.{IsQuiet}
 use Rattle.silence.proofs.turns.run.Given as goal
 
 -- what is left of the passes makes of what is left what all of them make of the given groups, and nothing has failed

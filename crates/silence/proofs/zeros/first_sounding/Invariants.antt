@@ -1,5 +1,5 @@
 use Rattle.std.proofs.Common.{◌-◌, ◌≤◌, ℕ, ◌<◌, IsTrue}
-use Rattle.shelf.specs.Frame.{IsQuiet}
+use Rattle.devices.specs.Frame.{IsQuiet}
 use Rattle.silence.specs.Zero.{IsZeroAt, sound_by}
 use Rattle.silence.proofs.zeros.first_sounding.Given as goal
 

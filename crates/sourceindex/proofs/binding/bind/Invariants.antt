@@ -1,5 +1,5 @@
 use Rattle.std.proofs.Common.{◌≡◌, IsTrue, Ok, take}
-use Rattle.shelf.specs.Frame.{IsQuiet}
+use Rattle.devices.specs.Frame.{IsQuiet}
 use Rattle.list_terms.specs.Binding.{nothing_bound}
 use Rattle.list_terms.specs.Bound.{with_sources}
 use Rattle.list_terms.specs.BoundHomes.{IsBinding}

@@ -1,5 +1,5 @@
 use Rattle.std.proofs.Common.{◌≡◌, ◌<◌, ℕ, length, IsTrue}
-use Rattle.shelf.specs.Frame.{IsBuilding}
+use Rattle.devices.specs.Frame.{IsBuilding}
 use Rattle.consolidation.specs.Media.{IsLaidOut, IsNoMedium}
 use Rattle.consolidation.proofs.plan.Consolidation.lay_out.Given as goal
 

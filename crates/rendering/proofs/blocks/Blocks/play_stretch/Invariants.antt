@@ -1,5 +1,5 @@
 use Rattle.std.proofs.Common.{◌≡◌, ◌-◌, IsTrue, take}
-use Rattle.shelf.specs.Frame.{IsQuiet}
+use Rattle.devices.specs.Frame.{IsQuiet}
 use Rattle.rendering.specs.Work.{bytes_for, heard}
 use Rattle.rendering.specs.Written.{bytes_of_blocks, frames_before}
 use Rattle.rendering.proofs.blocks.Blocks.play_stretch.Given as goal

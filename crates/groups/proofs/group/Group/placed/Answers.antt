@@ -1,0 +1,23 @@
+use Rattle.std.proofs.Common.{◌≤◌, arith}
+use Rattle.sound_terms.specs.Entries.{length_of_group}
+use Rattle.sound_terms.specs.GroupLaws.{fades_within}
+use Rattle.sampletime.specs.TimeCode.{day}
+use Rattle.groups.proofs.GroupLength.{length_in_day}
+use Rattle.groups.proofs.group.Group.placed.Goals as goal
+
+pub length_of-requires : goal.length_of-requires
+length_of-requires c =
+    rw c.pieces-pieces.ensures.lent (length_in_day c.args.self.now c.pieces-pieces.ensures.group
+    c.pieces-pieces.ensures.sound)
+
+pub rise_of-requires : goal.rise_of-requires
+rise_of-requires c =
+    let whole : length_of_group c.args.self.now ≤ day =
+    length_in_day c.args.self.now c.pieces-pieces.ensures.group c.pieces-pieces.ensures.sound in
+    rw c.pieces-pieces.ensures.lent (omega (arith, whole, fades_within c.args.self.now))
+
+pub fall_of-requires : goal.fall_of-requires
+fall_of-requires c =
+    let whole : length_of_group c.args.self.now ≤ day =
+    length_in_day c.args.self.now c.pieces-pieces.ensures.group c.pieces-pieces.ensures.sound in
+    rw c.pieces-pieces.ensures.lent (omega (arith, whole, fades_within c.args.self.now))

@@ -1,0 +1,15 @@
+//! The sound of a list as groups of pieces over files.
+#![tactic(auto)]
+
+mod cutting;
+mod fault;
+mod group;
+mod intervals;
+mod parts;
+mod placed;
+
+pub use fault::IntervalFault;
+pub use group::Group;
+pub use intervals::Intervals;
+pub use parts::group_of;
+pub use sound_terms::{Piece, Placed, Shape};

@@ -1,3 +1,0 @@
-pub mod Playable
-pub mod PartsLie
-pub mod InTurn

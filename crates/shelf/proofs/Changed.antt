@@ -1,0 +1,138 @@
+-- What each call on a bench in memory does to its files.
+use Rattle.std.proofs.Common.{◌≡◌, ◌≢◌, ◌⊎◌, ◌∙◌, ℕ, ◌+◌, ◌≤◌, Bool, true, if◌then◌else◌, Option, Some, None, List, [], ◌++◌, length, take, drop, IsTrue, IsSomeAnd, option_map, refl, sym, ap, subst, inl, inr, arith}
+use Rattle.std.proofs.lemmas.Bool.{le-leb}
+use Rattle.std.proofs.lemmas.Option.{none-some}
+use Rattle.std.proofs.lemmas.List.{append-nil, drop_all, length-take, take_all}
+use Rattle.work_terms.specs.Disk.{Changes, Files, Follows, IsAppended, IsGrown, IsTorn, IsTornBehind, IsWritten, end_of}
+use Rattle.shelf.specs.declared.memory.call.Kind.TheVariants.{Append, Write, Sync}
+use Rattle.shelf.specs.Files.{IsMade, IsPut}
+use Rattle.shelf.specs.History.{Note, History, noted, placed, with_bytes, done, replayed, read_of, step, MayLeave}
+use Rattle.shelf.specs.Crashes.{IsChange, HasChanged, HasSynced, changes_noted, does_by, has_changed, has_synced, stays_by}
+
+-- a file that has a length is there
+pub found : (file : Option (List ℕ)) (at : ℕ) → Some at ≡ option_map (λ bytes. length bytes) file
+    → (bytes : List ℕ) × (file ≡ Some bytes) × (at ≡ length bytes)
+found None at some = absurd (none-some at (sym some))
+found (Some bytes) at some = (bytes, refl, same at (length bytes) some)
+  where
+    same : (a b : ℕ) → Some a ≡ Some b → a ≡ b
+    same a b e = cc
+
+-- a file in which a range lies is there
+pub held : (file : Option (List ℕ)) (end : ℕ) → IsSomeAnd file (λ bytes. end ≤ length bytes)
+    → (bytes : List ℕ) × (file ≡ Some bytes) × (end ≤ length bytes)
+held None end inside = absurd inside
+held (Some bytes) end inside = (bytes, refl, inside)
+
+-- bytes behind the end
+with_end : (at n : ℕ) (bytes file : List ℕ) → at ≡ length file → with_bytes Append at n bytes file ≡ file ++ bytes
+with_end at n bytes file end =
+    ap (λ (b : Bool). if b then placed at bytes file else file) (le-leb at (length file) (omega (arith, end)))
+    ∙ ap (λ (l : List ℕ). l ++ (bytes ++ drop (at + length bytes) file)) (take_all at file (omega (arith, end)))
+    ∙ ap (λ (l : List ℕ). file ++ (bytes ++ l)) (drop_all (at + length bytes) file (omega (arith, end)))
+    ∙ ap (λ (l : List ℕ). file ++ l) (append-nil bytes)
+
+-- what a call that was noted made of its file
+made : (note : Note) (old new : History) (file : Option (List ℕ)) → new ≡ noted note old → read_of old note.name ≡ file
+    → read_of new note.name ≡ done note file
+made note old new file is there =
+    ap (λ (h : History). read_of h note.name) is ∙ (changes_noted note old.start old.notes).here ∙ ap (done note) there
+
+others : (note : Note) (old new : History) → IsChange note old new → (n : List ℕ) → n ≢ note.name
+    → read_of new n ≡ read_of old n
+others note old new change = (has_changed note old new change).others
+
+-- what is read of the file after a call is one of the things that may become of it
+pub steps : (note : Note) (old new : History) → IsChange note old new
+    → Changes (step note) note.name (read_of old) (read_of new)
+steps note old new change = record { here = here change; others = others note old new change }
+  where
+    here : IsChange note old new → step note (read_of old note.name) (read_of new note.name)
+    here (inl same) = subst (λ (h : History). step note (read_of old note.name) (read_of h note.name)) (sym same)
+        (stays_by note.kind note (read_of old note.name))
+    here (inr more) = subst (λ (x : Option (List ℕ)). step note (read_of old note.name) x)
+        (sym (made note old new (read_of old note.name) more refl))
+        (does_by note.kind note (read_of old note.name))
+
+module _ (name bytes : List ℕ) (at : ℕ) (old new : History)
+    (there : Some at ≡ option_map (λ (file : List ℕ). length file) (read_of old name)) where
+  -- an append that has this part
+  abbrev pub note_by : ℕ → Note
+  note_by part = record { name = name; kind = Append; at = at; bytes = bytes; part = part }
+
+  pub append_follows : (part : ℕ) → IsChange (note_by part) old new
+      → Follows (Changes (IsTornBehind (end_of (read_of old name)) (length bytes)) name) (MayLeave old) (MayLeave new)
+  append_follows part change =
+      let file = found (read_of old name) at there in
+      let end : at ≡ end_of (read_of old name) = file.2 ∙ sym (ap end_of file.1) in
+      subst (λ (k : ℕ). Follows (Changes (IsTornBehind k (length bytes)) name) (MayLeave old) (MayLeave new)) end
+      (has_changed (note_by part) old new change).crash
+
+  pub appended : new ≡ noted (note_by (length bytes)) old
+      → Changes (IsAppended bytes) name (read_of old) (read_of new)
+  appended is =
+      let file = found (read_of old name) at there in record {
+        here = record {
+          file = file.0;
+          there = file.1;
+          appended = made (note_by (length bytes)) old new (Some file.0) is file.1
+              ∙ ap (λ (l : List ℕ). Some l) (with_end at (length bytes) (take (length bytes) bytes) file.0 file.2
+              ∙ ap (λ (l : List ℕ). file.0 ++ l) (take_all (length bytes) bytes (omega arith)));
+        };
+        others = others (note_by (length bytes)) old new (inr is);
+      }
+
+  pub grown : (part : ℕ) → IsChange (note_by part) old new
+      → Changes (IsGrown (length bytes)) name (read_of old) (read_of new)
+  grown part change = record { here = here change; others = others (note_by part) old new change }
+    where
+      here : IsChange (note_by part) old new → IsGrown (length bytes) (read_of old name) (read_of new name)
+      here (inl same) =
+          let file = found (read_of old name) at there in
+          let none : 0 ≤ length bytes = omega arith in
+          subst (λ (x : Option (List ℕ)). IsGrown (length bytes) x (read_of new name)) (sym file.1)
+          (file.0, ap (λ (h : History). read_of h name) same ∙ file.1, ([], none, sym (append-nil file.0)))
+      here (inr more) =
+          let file = found (read_of old name) at there in
+          let few : length (take part bytes) ≤ length bytes = omega (arith, length-take part bytes) in
+          subst (λ (x : Option (List ℕ)). IsGrown (length bytes) x (read_of new name)) (sym file.1) (
+            file.0 ++ take part bytes,
+            made (note_by part) old new (Some file.0) more file.1
+                ∙ ap (λ (l : List ℕ). Some l) (with_end at (length bytes) (take part bytes) file.0 file.2),
+            (take part bytes, few, refl),
+          )
+
+module _ (name bytes : List ℕ) (at : ℕ) (old new : History)
+    (inside : IsSomeAnd (read_of old name) (λ file. at + length bytes ≤ length file)) where
+  pub written : new ≡ noted (record { name = name; kind = Write; at = at; bytes = bytes; part = length bytes }) old
+      → Changes (IsWritten at bytes) name (read_of old) (read_of new)
+  written is =
+      let note : Note = record { name = name; kind = Write; at = at; bytes = bytes; part = length bytes } in
+      let file = held (read_of old name) (at + length bytes) inside in
+      let whole : take (length bytes) bytes ≡ bytes = take_all (length bytes) bytes (omega arith) in record {
+        here = record {
+          file = file.0;
+          there = file.1;
+          inside = file.2;
+          written = made note old new (Some file.0) is file.1
+              ∙ ap (λ (l : List ℕ). Some l) (ap (λ (l : List ℕ). with_bytes Write at (length bytes) l file.0) whole
+              ∙ ap (λ (b : Bool). if b then placed at bytes file.0 else file.0)
+              (le-leb (at + length bytes) (length file.0) file.2));
+        };
+        others = others note old new (inr is);
+      }
+
+-- a sync of the file
+abbrev pub sync_of : List ℕ → Note
+sync_of name = record { name = name; kind = Sync; at = 0; bytes = []; part = 0 }
+
+pub synced : (name : List ℕ) (old mid new : History) → mid ≡ old → new ≡ noted (sync_of name) mid → HasSynced name old new
+synced name old mid new same is =
+    subst (HasSynced name old) (sym is)
+    (subst (λ (h : History). HasSynced name old (noted (sync_of name) h)) (sym same) (has_synced (sync_of name) old refl))
+
+-- a sync that may not have been noted
+pub sync_leaves : (name : List ℕ) (old mid new : History) → mid ≡ old → IsChange (sync_of name) mid new
+    → (c : Files) → MayLeave new c → MayLeave old c
+sync_leaves name old mid new same (inl none) c left = subst (λ (h : History). MayLeave h c) (none ∙ same) left
+sync_leaves name old mid new same (inr is) c left = (synced name old mid new same is).crash c left

@@ -1,0 +1,21 @@
+-- Files by name in memory.
+use Rattle.std.specs.Prelude.{◌≡◌, ◌⊎◌, ℕ, ◌+◌, ◌<◌, Option, Some, None, List, option_map}
+use Rattle.std.specs.BTreeMap.{get_by_text}
+use Rattle.work_terms.specs.Disk.{Files, end_of}
+use Rattle.shelf.specs.declared.memory.files.NamedFiles.{NamedFiles}
+
+-- the bytes of each file
+abbrev pub files_of : NamedFiles → Files
+files_of named name = option_map (λ bytes. bytes.items) (get_by_text named.files name)
+
+-- the file has these bytes now
+abbrev pub IsPut : List ℕ → Option (List ℕ) → Option (List ℕ) → Type 0
+IsPut bytes old new = new ≡ Some bytes
+
+-- the file is what this makes of it
+abbrev pub IsMade : (Option (List ℕ) → Option (List ℕ)) → Option (List ℕ) → Option (List ℕ) → Type 0
+IsMade make old new = new ≡ make old
+
+-- a range of n bytes from `at` on doesn't lie inside the file
+abbrev pub IsOutside : Option (List ℕ) → ℕ → ℕ → Type 0
+IsOutside file at n = (file ≡ None) ⊎ (end_of file < at + n)

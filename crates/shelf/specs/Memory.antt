@@ -1,0 +1,52 @@
+-- Stores in memory as their callers see them.
+use Rattle.std.specs.Prelude.{ℕ, ◌-◌, Bool, ◌&&◌, ◌==◌, nat_lt, if◌then◌else◌}
+use Rattle.work_terms.specs.Disk.{Files}
+use Rattle.shelf.specs.declared.memory.device.Device.{Device}
+use Rattle.shelf.specs.declared.memory.sources.MemoryShelf.{MemoryShelf}
+use Rattle.shelf.specs.declared.memory.bench.MemoryBench.{MemoryBench}
+use Rattle.shelf.specs.Files.{files_of}
+use Rattle.shelf.specs.History.{History, history_by, read_of}
+
+-- how many calls go on as before, and how many behind those fail
+abbrev pub stretch_of : Device → ℕ × ℕ
+stretch_of device = (device.well, device.failing)
+
+-- the next call is one of those that fail
+abbrev pub fails_now : ℕ × ℕ → Bool
+fails_now stretch = stretch.0 == 0 && nat_lt 0 stretch.1
+
+-- the stretch one call later
+abbrev pub after_call : ℕ × ℕ → ℕ × ℕ
+after_call stretch = if nat_lt 0 stretch.0 then (stretch.0 - 1, stretch.1) else (0, stretch.1 - 1)
+
+-- the bytes of each file of a shelf
+abbrev pub shelf_files : MemoryShelf → Files
+shelf_files shelf = files_of shelf.files
+
+-- how often a shelf has failed
+abbrev pub shelf_failures : MemoryShelf → ℕ
+shelf_failures shelf = shelf.device.failures
+
+-- which calls of a shelf fail
+abbrev pub shelf_stretch : MemoryShelf → ℕ × ℕ
+shelf_stretch shelf = stretch_of shelf.device
+
+-- the calls of a bench
+abbrev pub bench_history : MemoryBench → History
+bench_history bench = history_by (files_of bench.record.start) bench.record.calls.items
+
+-- the bytes of each file of a bench
+abbrev pub bench_files : MemoryBench → Files
+bench_files bench = read_of (bench_history bench)
+
+-- how often a bench has failed
+abbrev pub bench_failures : MemoryBench → ℕ
+bench_failures bench = bench.device.failures
+
+-- which calls of a bench fail
+abbrev pub bench_stretch : MemoryBench → ℕ × ℕ
+bench_stretch bench = stretch_of bench.device
+
+-- how many bytes the first call that fails writes
+abbrev pub bench_part : MemoryBench → ℕ
+bench_part bench = bench.part

@@ -1,0 +1,16 @@
+// The count of a device's failures.
+ghost use Rattle.std.specs.Prelude.{◌≡◌, IsOk, IsErr};
+ghost use Rattle.work_terms.specs.Disk.{HasCause};
+
+use devices::DeviceFault;
+
+/// The outcome, counted where it is a failure. The count stays at its last value.
+pub fn counted<T>(failures: &mut u64, outcome: Result<T, DeviceFault>) -> Result<T, DeviceFault>
+    ensures same { result ≡ outcome }
+    ensures cause { HasCause failures.old failures.new (IsOk result) (IsErr result) }
+{
+    if outcome.is_err() {
+        *failures = failures.saturating_add(1);
+    }
+    outcome
+}

@@ -1,0 +1,141 @@
+// Outputs in a folder.
+ghost use Rattle.std.specs.Prelude.{◌≡◌, false, None, IfOk, ⊤};
+ghost use Rattle.shelf.specs.Folder.{folder_named, not_honest};
+
+use super::failures::Failures;
+use super::open_files::{Access, OpenFiles, Overwrite};
+use crate::reason::{Reason, Reasons};
+use devices::{Bench, DeviceFault, ShelfFault};
+use std::alloc::{AllocError, Global};
+use std::fs::Files;
+use std::marker::Model;
+use std::os::unix::fs::FileExt;
+
+/// Outputs in a folder, which has to be there. Only the names of files right inside the folder name a file, and no link
+/// is followed. While a bench is at work nothing else is to write to its files. A sync closes the file: it is finished,
+/// and a later call opens it again.
+#[derive(Drop)]
+pub struct FolderBench<R: Files + Drop>
+where
+    R::File: FileExt,
+{
+    files: OpenFiles<R>,
+    failures: Failures,
+}
+
+/// A clause sees its folder, whether a file in it may be replaced, and how often it has failed.
+impl<R: Files + Drop> Model for FolderBench<R>
+where
+    R::File: FileExt,
+{
+    ghost use Rattle.std.specs.Prelude.{string_bytes};
+    ghost use Rattle.shelf.specs.Folder.{OutputFolder, overwrite_of};
+
+    ghost Value = { OutputFolder };
+
+    ghost view = { λ bench. record {
+      folder = string_bytes bench.files.folder;
+      overwrite = overwrite_of bench.files.access;
+      failures = bench.failures.count;
+    } };
+}
+
+impl<R: Files + Drop> FolderBench<R>
+where
+    R::File: FileExt,
+{
+    /// The files of the folder of this path; the empty path is the current folder. It is no call of the device. Whether
+    /// `create` may replace a file is settled here.
+    pub fn new(
+        alloc: Global,
+        files: R,
+        folder: &str,
+        overwrite: Overwrite,
+    ) -> Result<Self, AllocError>
+        ensures folder { IfOk result (λ bench. bench.folder ≡ folder_named folder.entry.now) }
+        ensures overwrite { IfOk result (λ bench. bench.overwrite ≡ overwrite) }
+        ensures failures { IfOk result (λ bench. bench.failures ≡ 0) }
+    {
+        Ok(FolderBench {
+            files: OpenFiles::new(alloc, files, folder, Access::Write(overwrite))?,
+            failures: Failures::NONE,
+        })
+    }
+
+    /// How often a call has failed. It stays at its last value.
+    pub fn failures(&self) -> u64
+        ensures { result ≡ self.now.failures }
+    {
+        self.failures.count
+    }
+}
+
+impl<R: Files + Drop> Reasons for FolderBench<R>
+where
+    R::File: FileExt,
+{
+    fn reason(&self) -> Option<Reason> {
+        let error = self.failures.reason?;
+        let has_file = self.files.is_made();
+        Some(Reason { error, has_file })
+    }
+}
+
+impl<R: Files + Drop> Bench for FolderBench<R>
+where
+    R::File: FileExt,
+{
+    ghost stored = { λ _ _. None };
+
+    /// What a file holds, and what a crash leaves of it, is the file system's.
+    ghost honest = { λ _. false };
+
+    ghost failures = { λ bench. bench.failures };
+
+    /// It keeps no names.
+    ghost failed_at = { λ _ _. ⊤ };
+
+    ghost may_leave = { λ _ _. ⊥ };
+
+    ghost moment = { λ _. 0 };
+
+    ghost left_since = { λ _ _ _. ⊥ };
+
+    ghost counts_now = { λ _ _ _ _ left. left };
+
+    ghost reads_now = { λ _ honest. not_honest honest };
+
+    ghost only_now = { λ _ _ left. left };
+
+    ghost absent = { λ _ _ _ _ _ left. absurd left };
+
+    fn create(&mut self, name: &str) -> Result<(), DeviceFault> {
+        let outcome = self.files.create(name);
+        self.failures.counted(outcome)
+    }
+
+    fn append(&mut self, name: &str, bytes: &[u8]) -> Result<(), DeviceFault> {
+        let outcome = self.files.append(name, bytes);
+        self.failures.counted(outcome)
+    }
+
+    fn write_at(&mut self, name: &str, at: u64, bytes: &[u8]) -> Result<(), DeviceFault> {
+        let outcome = self.files.write_at(name, at, bytes);
+        self.failures.counted(outcome)
+    }
+
+    fn length(&mut self, name: &str) -> Result<u64, ShelfFault> {
+        let outcome = self.files.length(name);
+        self.failures.counted(outcome)?.ok_or(ShelfFault::NotFound)
+    }
+
+    fn read_at(&mut self, name: &str, at: u64, buffer: &mut [u8]) -> Result<(), ShelfFault> {
+        let outcome = self.files.read_at(name, at, buffer);
+        Ok(self.failures.counted(outcome)?)
+    }
+
+    fn sync(&mut self, name: &str) -> Result<(), DeviceFault> {
+        let outcome = self.files.sync(name);
+        self.failures.counted(outcome)
+    }
+}

@@ -1,0 +1,388 @@
+// The open files of a folder.
+ghost use Rattle.std.specs.Prelude.{◌≡◌, ◌++◌, codes, false, string_bytes, IsTrue, IsErr, IfOk};
+ghost use Rattle.shelf.specs.FileName.{is_file_name};
+ghost use Rattle.shelf.specs.Folder.{folder_named};
+ghost use Rattle.shelf.specs.declared.folder.open_files.TheConstants.{OPEN_FILES};
+
+use super::handle::Handle;
+use super::name::{is_file_name, require_file_name};
+use super::state::State;
+use lru::LruCache;
+use std::alloc::{AllocError, Global};
+use std::collections::BTreeMap;
+use std::fs::{File, Files, Metadata, OpenFile, OpenOptions};
+use std::io::{Error, ErrorKind};
+use std::num::NonZeroUsize;
+use std::os::unix::fs::FileExt;
+use std::{fs, io};
+
+/// How many files stay open. So a program with one folder of sources and one of outputs has fewer than 64 handles.
+const OPEN_FILES: usize = 28;
+
+/// The system's numbers for 'too many open files': of the process (EMFILE), and of all together (ENFILE).
+const TOO_MANY_OPEN: [i32; 2] = [24, 23];
+
+/// What a bench does where a file of the name that it creates is there already.
+#[derive(Clone, Copy, Debug, PartialEq, Eq)]
+pub enum Overwrite {
+    /// It fails, whatever has the name.
+    Never,
+    /// It empties the file. What is no plain file is a failure.
+    Files,
+}
+
+/// What the files of a folder are opened for.
+#[derive(Clone, Copy, PartialEq, Eq)]
+pub enum Access {
+    Read,
+    Write(Overwrite),
+}
+
+/// The files of a folder by name, of which the last used ones are open. What was written is synced before it is closed,
+/// so that no failure of a close is lost.
+#[derive(Drop)]
+pub struct OpenFiles<R: Files + Drop>
+where
+    R::File: FileExt,
+{
+    alloc: Global,
+    files: R,
+    folder: String,
+    access: Access,
+    handles: LruCache<String, Handle<R::File>>,
+    /// How each source was when it was first opened.
+    first_states: BTreeMap<String, State>,
+    /// How long each output is that was synced since it was last written to.
+    synced: BTreeMap<String, u64>,
+    /// The open folder of outputs, for its syncs. It is a handle in reserve too, for the first output.
+    open_folder: Option<R::File>,
+    /// Files were created since the folder was synced.
+    has_new_names: bool,
+    /// The file of the last create was made.
+    is_made: bool,
+    ghost few_open: { handles.cap ≡ OPEN_FILES },
+}
+
+impl<R: Files + Drop> OpenFiles<R>
+where
+    R::File: FileExt,
+{
+    /// The files of the folder of this path, none of them open. The empty path is the current folder.
+    pub fn new(alloc: Global, files: R, folder: &str, access: Access) -> Result<Self, AllocError>
+        ensures folder { IfOk result (λ opened. string_bytes opened.folder ≡ folder_named folder.entry.now) }
+        ensures access { IfOk result (λ opened. opened.access ≡ access) }
+    {
+        let folder = if folder.is_empty() { "." } else { folder };
+        let open_folder = match access {
+            Access::Read => None,
+            Access::Write(_) => fs::open(&files, folder).ok(),
+        };
+        Ok(OpenFiles {
+            alloc,
+            files,
+            folder: String::from_str(alloc, folder)?,
+            access,
+            handles: LruCache::new(alloc, NonZeroUsize::new(OPEN_FILES).unwrap())?,
+            first_states: BTreeMap::new(alloc),
+            synced: BTreeMap::new(alloc),
+            open_folder,
+            has_new_names: false,
+            is_made: false,
+        })
+    }
+
+    /// Whether the last create made its file.
+    pub fn is_made(&self) -> bool {
+        self.is_made
+    }
+
+    /// How many bytes the file has, or `None` where no file has the name.
+    pub fn length(&mut self, name: &str) -> io::Result<Option<u64>>
+        ensures no_name { is_file_name name.now ≡ false → IsErr result }
+    {
+        Ok(self.handle(name)?.map(|handle| handle.length()))
+    }
+
+    /// Fills the buffer with the file's bytes from `at` on.
+    pub fn read_at(&mut self, name: &str, at: u64, buffer: &mut [u8]) -> io::Result<()>
+        ensures no_name { is_file_name name.now ≡ false → IsErr result }
+    {
+        let outcome = self.handle_there(name)?.read_at(at, buffer);
+        self.closed_if_failed(name, outcome)
+    }
+
+    /// Writes the bytes over those of the file from `at` on.
+    pub fn write_at(&mut self, name: &str, at: u64, bytes: &[u8]) -> io::Result<()>
+        ensures no_name { is_file_name name.now ≡ false → IsErr result }
+    {
+        self.synced.remove(name);
+        let outcome = self.handle_there(name)?.write_at(at, bytes);
+        self.closed_if_failed(name, outcome)
+    }
+
+    /// Adds the bytes at the end of the file.
+    pub fn append(&mut self, name: &str, bytes: &[u8]) -> io::Result<()>
+        ensures no_name { is_file_name name.now ≡ false → IsErr result }
+    {
+        self.synced.remove(name);
+        let outcome = self.handle_there(name)?.append(bytes);
+        self.closed_if_failed(name, outcome)
+    }
+
+    /// Waits until the file is on the disk, and its name too if it is new, and closes it. A later call opens it again.
+    /// It fails where the name isn't that of a file of this length any more.
+    pub fn sync(&mut self, name: &str) -> io::Result<()>
+        ensures no_name { is_file_name name.now ≡ false → IsErr result }
+    {
+        require_file_name(name)?;
+        let synced = match self.synced.get(name) {
+            Some(length) => Ok(*length),
+            None => self.sync_bytes(name),
+        };
+        self.handles.pop(name);
+        self.hold_folder();
+        let length = synced?;
+        if self.has_new_names {
+            // A crash can take away a file that was synced, while its folder wasn't.
+            self.sync_folder()?;
+            self.has_new_names = false;
+        }
+        self.require_whole(name, length)
+    }
+
+    /// Waits until the file's bytes are on the disk. Tells how many they are.
+    fn sync_bytes(&mut self, name: &str) -> io::Result<u64>
+        requires { IsTrue (is_file_name name.now) }
+    {
+        let handle = self.handle_there(name)?;
+        let length = handle.length();
+        handle.sync()?;
+        Ok(length)
+    }
+
+    /// Fails where the name isn't that of a file of this length.
+    fn require_whole(&self, name: &str, length: u64) -> io::Result<()> {
+        require_file_name(name)?;
+        let found = fs::symlink_metadata(&self.files, &self.path_of(name)?)?;
+        if found.is_file() && found.len() == length {
+            Ok(())
+        } else {
+            Err(Error::from(ErrorKind::InvalidData))
+        }
+    }
+
+    /// Opens the folder where it was closed, so that the next output has a handle in reserve again.
+    fn hold_folder(&mut self) {
+        if self.open_folder.is_none() {
+            self.open_folder = fs::open(&self.files, &self.folder).ok();
+        }
+    }
+
+    /// Waits until the names of the folder's files are on the disk.
+    fn sync_folder(&mut self) -> io::Result<()> {
+        if let Some(folder) = &self.open_folder {
+            return folder.sync_all();
+        }
+        let path = String::from_str(self.alloc, &self.folder)?;
+        let folder = self.open(File::options().read(true), &path)?;
+        let outcome = folder.sync_all();
+        self.open_folder = Some(folder);
+        outcome
+    }
+
+    /// Makes an empty file of the name. Where the name is there already it fails, or empties the file.
+    pub fn create(&mut self, name: &str) -> io::Result<()>
+        ensures no_name { is_file_name name.now ≡ false → IsErr result }
+    {
+        require_file_name(name)?;
+        self.synced.remove(name);
+        self.handles.pop(name);
+        self.has_new_names = true;
+        self.is_made = false;
+        let path = self.path_of(name)?;
+        let file = if self.access == Access::Write(Overwrite::Files) {
+            self.open_emptied(&path)?
+        } else {
+            self.open(
+                File::options().read(true).write(true).create_new(true),
+                &path,
+            )?
+        };
+        self.is_made = true;
+        self.keep(name, Handle::new(file, 0))
+    }
+
+    /// Opens the file of the path and empties it, or makes it. A link isn't followed.
+    fn open_emptied(&mut self, path: &str) -> io::Result<R::File> {
+        match fs::symlink_metadata(&self.files, path) {
+            Ok(found) if !found.is_file() => Err(Error::from(ErrorKind::InvalidInput)),
+            _ => self.open(
+                File::options()
+                    .read(true)
+                    .write(true)
+                    .create(true)
+                    .truncate(true),
+                path,
+            ),
+        }
+    }
+
+    /// Opens the path. Where the system has no more handles, open files are closed for it, the oldest first.
+    fn open(&mut self, how: &OpenOptions, path: &str) -> io::Result<R::File> {
+        let mut outcome = how.open(&self.files, path);
+        for _ in 0..OPEN_FILES + 1 {
+            if !has_too_many_open(&outcome) || !self.close_one()? {
+                return outcome;
+            }
+            outcome = how.open(&self.files, path);
+        }
+        outcome
+    }
+
+    /// Closes the file that wasn't used for the longest time, or else the folder. It is false where none is open.
+    fn close_one(&mut self) -> io::Result<bool> {
+        match self.handles.pop_lru() {
+            Some((name, handle)) if self.access != Access::Read => {
+                self.sync_closed(name, &handle)?;
+                Ok(true)
+            }
+            Some(_) => Ok(true),
+            None => Ok(self.open_folder.take().is_some()),
+        }
+    }
+
+    /// Waits until the bytes of a file that is closed are on the disk, so that its own sync needn't open it again. Where
+    /// no memory is left for that, it is synced again.
+    fn sync_closed(&mut self, name: String, handle: &Handle<R::File>) -> io::Result<()> {
+        if !self.synced.contains_key(&name) {
+            handle.sync()?;
+            let _ = self.synced.insert(name, handle.length());
+        }
+        Ok(())
+    }
+
+    /// The open file of the name. It fails where no file has the name.
+    fn handle_there<'a>(&'a mut self, name: &str) -> io::Result<&'a mut Handle<R::File>>
+        ensures no_name { is_file_name name.now ≡ false → IsErr result }
+    {
+        self.handle(name)?.ok_or(Error::from(ErrorKind::NotFound))
+    }
+
+    /// The open file of the name, opened where it wasn't, or `None` where no file has the name.
+    fn handle<'a>(&'a mut self, name: &str) -> io::Result<Option<&'a mut Handle<R::File>>>
+        ensures no_name { is_file_name name.now ≡ false → IsErr result }
+    {
+        require_file_name(name)?;
+        if !self.handles.contains(name) {
+            match self.existing(name)? {
+                Some(handle) => self.keep(name, handle)?,
+                None => return Ok(None),
+            }
+        }
+        Ok(self.handles.get_mut(name))
+    }
+
+    /// Opens the file of the name, or gives `None` where no file has it. Its kind is asked for before it is opened,
+    /// since opening a pipe may wait for ever. A link to a source is followed, one to an output isn't.
+    fn existing(&mut self, name: &str) -> io::Result<Option<Handle<R::File>>>
+        requires { IsTrue (is_file_name name.now) }
+    {
+        let path = self.path_of(name)?;
+        let may_write = self.access != Access::Read;
+        let found = if may_write {
+            fs::symlink_metadata(&self.files, &path)
+        } else {
+            fs::metadata(&self.files, &path)
+        };
+        let found = match found {
+            Ok(found) => found,
+            Err(error) if is_missing(error.kind()) => return Ok(None),
+            Err(error) => return Err(error),
+        };
+        if !found.is_file() {
+            return Err(Error::from(ErrorKind::InvalidInput));
+        }
+        if !may_write {
+            self.note_state(name, &found)?;
+        }
+        let file = self.open(File::options().read(true).write(may_write), &path)?;
+        Ok(Some(Handle::new(file, found.len())))
+    }
+
+    /// Notes how a source is, where it wasn't opened before.
+    fn note_state(&mut self, name: &str, found: &Metadata) -> Result<(), AllocError> {
+        if !self.first_states.contains_key(name) {
+            let name = String::from_str(self.alloc, name)?;
+            self.first_states.insert(name, State::of(found))?;
+        }
+        Ok(())
+    }
+
+    /// The names of the sources that aren't as they were when they were first opened, or are gone; in their order.
+    pub fn changed(&self) -> Result<Vec<&str>, AllocError> {
+        let mut changed = Vec::new(self.alloc);
+        for (name, first) in &self.first_states {
+            if self.state_now(name) != Some(*first) {
+                changed.push(name.as_str())?;
+            }
+        }
+        Ok(changed)
+    }
+
+    /// How the file of this name is now; `None` where that can't be told.
+    fn state_now(&self, name: &str) -> Option<State> {
+        if !is_file_name(name) {
+            return None;
+        }
+        let found = fs::metadata(&self.files, &self.path_of(name).ok()?).ok()?;
+        Some(State::of(&found))
+    }
+
+    /// The path of the file of this name. It lies right inside the folder.
+    fn path_of(&self, name: &str) -> Result<String, AllocError>
+        requires { IsTrue (is_file_name name.now) }
+        ensures { IfOk result (λ path. string_bytes path ≡ string_bytes self.now.folder ++ (codes "/" ++ name.now)) }
+    {
+        let folder = self.folder.as_str();
+        format!(in self.alloc; "{folder}/{name}")
+    }
+
+    /// Keeps the file open, in place of the one that wasn't used for the longest time.
+    fn keep(&mut self, name: &str, handle: Handle<R::File>) -> io::Result<()> {
+        let name = String::from_str(self.alloc, name)?;
+        if self.handles.len() >= OPEN_FILES {
+            self.close_one()?;
+        }
+        self.handles.put(name, handle)?;
+        Ok(())
+    }
+
+    /// The outcome. Where it is a failure the file is closed, since how long it is now is not known.
+    fn closed_if_failed(&mut self, name: &str, outcome: io::Result<()>) -> io::Result<()>
+        ensures { result ≡ outcome }
+    {
+        if outcome.is_err() {
+            self.handles.pop(name);
+        }
+        outcome
+    }
+}
+
+/// Whether an error of this kind says that there is no such file. A folder that isn't there, or is none, has no files,
+/// and nor is there one whose name is too long.
+fn is_missing(kind: ErrorKind) -> bool {
+    matches!(
+        kind,
+        ErrorKind::NotFound | ErrorKind::NotADirectory | ErrorKind::InvalidFilename
+    )
+}
+
+/// Whether the system says that too many files are open.
+fn has_too_many_open<T>(outcome: &io::Result<T>) -> bool {
+    match outcome {
+        Ok(_) => false,
+        Err(error) => error
+            .raw_os_error()
+            .is_some_and(|code| TOO_MANY_OPEN.contains(&code)),
+    }
+}

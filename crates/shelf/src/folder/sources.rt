@@ -1,0 +1,115 @@
+// Sources in a folder.
+ghost use Rattle.std.specs.Prelude.{◌≡◌, false, None, Ok, IfOk, IsOk, IsErr, ⊤};
+ghost use Rattle.work_terms.specs.Disk.{HasCause};
+ghost use Rattle.shelf.specs.FileName.{is_file_name};
+ghost use Rattle.shelf.specs.Folder.{folder_named};
+
+use super::failures::Failures;
+use super::name::is_file_name;
+use super::open_files::{Access, OpenFiles};
+use crate::reason::{Reason, Reasons};
+use devices::{DeviceFault, Shelf, ShelfFault};
+use std::alloc::{AllocError, Global};
+use std::fs::Files;
+use std::marker::Model;
+use std::os::unix::fs::FileExt;
+
+/// Sources in a folder. A file stays open, and is seen as it was when it was opened, until 28 others were used since or
+/// a call on it failed; nothing is to write to it. Only the names of files right inside the folder name a file.
+#[derive(Drop)]
+pub struct FolderShelf<R: Files + Drop>
+where
+    R::File: FileExt,
+{
+    files: OpenFiles<R>,
+    failures: Failures,
+}
+
+/// A clause sees its folder, and how often it has failed.
+impl<R: Files + Drop> Model for FolderShelf<R>
+where
+    R::File: FileExt,
+{
+    ghost use Rattle.std.specs.Prelude.{string_bytes};
+    ghost use Rattle.shelf.specs.Folder.{SourceFolder};
+
+    ghost Value = { SourceFolder };
+
+    ghost view = { λ shelf. record { folder = string_bytes shelf.files.folder; failures = shelf.failures.count } };
+}
+
+impl<R: Files + Drop> FolderShelf<R>
+where
+    R::File: FileExt,
+{
+    /// The files of the folder of this path; the empty path is the current folder. It is no call of the device.
+    pub fn new(alloc: Global, files: R, folder: &str) -> Result<Self, AllocError>
+        ensures folder { IfOk result (λ shelf. shelf.folder ≡ folder_named folder.entry.now) }
+        ensures failures { IfOk result (λ shelf. shelf.failures ≡ 0) }
+    {
+        Ok(FolderShelf {
+            files: OpenFiles::new(alloc, files, folder, Access::Read)?,
+            failures: Failures::NONE,
+        })
+    }
+
+    /// How often a call has failed. It stays at its last value.
+    pub fn failures(&self) -> u64
+        ensures { result ≡ self.now.failures }
+    {
+        self.failures.count
+    }
+
+    /// How many bytes the file has, or `None` where no file has the name.
+    fn find(&mut self, name: &str) -> Result<Option<u64>, DeviceFault>
+        ensures no_name { is_file_name name.now ≡ false → result ≡ Ok None }
+        ensures cause { HasCause self.old.failures self.new.failures (IsOk result) (IsErr result) }
+    {
+        if !is_file_name(name) {
+            return Ok(None);
+        }
+        let outcome = self.files.length(name);
+        self.failures.counted(outcome)
+    }
+}
+
+impl<R: Files + Drop> Reasons for FolderShelf<R>
+where
+    R::File: FileExt,
+{
+    fn reason(&self) -> Option<Reason> {
+        let error = self.failures.reason?;
+        Some(Reason {
+            error,
+            has_file: true,
+        })
+    }
+
+    fn changed(&self, _: Global) -> Result<Vec<&str>, AllocError> {
+        self.files.changed()
+    }
+}
+
+impl<R: Files + Drop> Shelf for FolderShelf<R>
+where
+    R::File: FileExt,
+{
+    ghost stored = { λ _ _. None };
+
+    /// What a file holds is the file system's.
+    ghost honest = { λ _. false };
+
+    ghost failures = { λ shelf. shelf.failures };
+
+    /// It keeps no names.
+    ghost failed_at = { λ _ _. ⊤ };
+
+    fn length(&mut self, name: &str) -> Result<u64, ShelfFault> {
+        self.find(name)?.ok_or(ShelfFault::NotFound)
+    }
+
+    fn read_at(&mut self, name: &str, at: u64, buffer: &mut [u8]) -> Result<(), ShelfFault> {
+        let outcome = self.files.read_at(name, at, buffer);
+        Ok(self.failures.counted(outcome)?)
+    }
+}

@@ -1,0 +1,303 @@
+// Outputs in memory.
+ghost use Rattle.std.specs.Prelude.{◌≡◌, ◌≢◌, ◌+◌, ◌≤◌, ℕ, true, None, List, [], IfOk, IsOk, IsErr, IsTrue, IsSomeAnd, OnOk, option_copied, option_map, length, ⊤};
+ghost use Rattle.work_terms.specs.Disk.{Changes, Files, HasCause, IsEmptyOrAbsent};
+ghost use Rattle.shelf.specs.Crashes.{IsChange, counts_now, gone_held, only_now, reads_held};
+ghost use Rattle.shelf.specs.History.{LeftSince, MayLeave, Note, crashed, noted, read_of, step};
+ghost use Rattle.shelf.specs.Memory.{bench_failures, bench_files, bench_history, bench_part, bench_stretch};
+ghost use Rattle.shelf.specs.declared.memory.call.Kind.TheVariants.{Sync};
+
+use super::call::{Call, Kind};
+use super::device::Device;
+use super::record::Record;
+use devices::{Bench, DeviceFault, ShelfFault};
+use std::alloc::{AllocError, Global};
+
+/// Outputs in memory, with a record of the calls that changed them, so that what a crash may leave is known, and each
+/// moment of it. A read takes no memory.
+#[derive(Drop)]
+pub struct MemoryBench {
+    record: Record,
+    device: Device,
+    /// How many bytes the next call that fails writes.
+    part: u64,
+}
+
+impl MemoryBench {
+    /// A bench with no file, whose calls don't fail.
+    pub fn new(alloc: Global) -> Self
+        ensures empty { (name : List ℕ) → bench_files result name ≡ None }
+        ensures failures { bench_failures result ≡ 0 }
+        ensures stretch { bench_stretch result ≡ (0, 0) }
+        ensures part { bench_part result ≡ 0 }
+    {
+        MemoryBench {
+            record: Record::new(alloc),
+            device: Device::new(),
+            part: 0,
+        }
+    }
+
+    /// The same bench, whose next `from` calls go on as before and whose `count` calls behind those fail. They write
+    /// nothing.
+    pub fn failing(mut self, from: u64, count: u64) -> Self
+        ensures history { bench_history result ≡ bench_history self }
+        ensures failures { bench_failures result ≡ bench_failures self }
+        ensures stretch { bench_stretch result ≡ (from, count) }
+        ensures part { bench_part result ≡ 0 }
+    {
+        self.device.fail_later(from, count);
+        self.part = 0;
+        self
+    }
+
+    /// The same bench, whose next `from` calls go on as before and whose others all fail, as where the program is
+    /// stopped. The first that fails writes its first `part` bytes, or all where it has fewer; a create makes its file
+    /// where `part` isn't 0.
+    pub fn stop_at(mut self, from: u64, part: u64) -> Self
+        ensures history { bench_history result ≡ bench_history self }
+        ensures failures { bench_failures result ≡ bench_failures self }
+        ensures stretch { bench_stretch result ≡ (from, 18446744073709551615) }
+        ensures part { bench_part result ≡ part }
+    {
+        self.device.fail_later(from, u64::MAX);
+        self.part = part;
+        self
+    }
+
+    /// What a crash now leaves, as a bench whose calls don't fail and of which nothing is pending. Of the bytes of each
+    /// call since the last sync of its file the first `kept` stand as they were written and the others are `fill`; a
+    /// create since then left the old bytes where `kept` is 0.
+    pub fn after_crash(self, kept: u64, fill: u8) -> Result<Self, AllocError>
+        ensures left { IfOk result (λ bench. (name : List ℕ) → bench_files bench name
+            ≡ crashed kept fill (bench_history self).start (bench_history self).notes name) }
+        ensures outcome { IfOk result (λ bench. MayLeave (bench_history self) (bench_files bench)) }
+        ensures settled { IfOk result (λ bench. (c : Files) → MayLeave (bench_history bench) c
+            → (name : List ℕ) → c name ≡ bench_files bench name) }
+        ensures failures { IfOk result (λ bench. bench_failures bench ≡ 0) }
+        ensures stretch { IfOk result (λ bench. bench_stretch bench ≡ (0, 0)) }
+    {
+        Ok(MemoryBench {
+            record: self.record.after_crash(kept, fill)?,
+            device: Device::new(),
+            part: 0,
+        })
+    }
+
+    /// The bytes of the file, or `None` where no file has the name. It is no call of the device.
+    pub fn bytes(&self, name: &str) -> Option<&[u8]>
+        ensures { option_copied result ≡ bench_files self.now name.now }
+    {
+        self.record.files.get(name)
+    }
+
+    /// How many calls have changed files or synced them, also in part. What a crash may leave after the next is all
+    /// that the call's step allows; only where no file is read, none is left or an empty one.
+    pub fn calls(&self) -> usize
+        ensures count { result ≡ length (bench_history self.now).notes }
+        ensures all { (note : Note) → note.kind ≢ Sync → (d c : Files) → MayLeave (bench_history self.now) d
+            → Changes (step note) note.name d c
+            → (read_of (noted note (bench_history self.now)) note.name ≡ None → IsEmptyOrAbsent (c note.name))
+            → MayLeave (noted note (bench_history self.now)) c }
+    {
+        self.record.calls.len()
+    }
+
+    /// How often a call has failed.
+    pub fn failures(&self) -> u64
+        ensures { result ≡ bench_failures self.now }
+    {
+        self.device.failures
+    }
+
+    /// How many bytes the file has, or `None` where no file has the name.
+    fn length_of(&self, name: &str) -> Option<u64>
+        ensures { result ≡ option_map (λ bytes. length bytes) (bench_files self.now name.now) }
+    {
+        self.record.files.length(name)
+    }
+
+    /// Whether so many bytes from `at` on lie inside a file that is there.
+    fn has_range(&self, name: &str, at: u64, count: usize) -> bool
+        ensures { IsTrue result → IsSomeAnd (bench_files self.now name.now) (λ file. at + count ≤ length file) }
+    {
+        self.record.files.has_range(name, at, count)
+    }
+
+    /// One call begins that writes nothing.
+    fn begin(&mut self) -> Result<(), DeviceFault>
+        ensures history { bench_history self.new ≡ bench_history self.old }
+        ensures cause { HasCause (bench_failures self.old) (bench_failures self.new) (IsOk result) (IsErr result) }
+    {
+        match self.device.begin() {
+            Ok(()) => return Ok(()),
+            Err(fault) => {
+                self.part = 0;
+                return Err(fault);
+            }
+        }
+    }
+
+    /// A call that names no file of the bench.
+    fn refused(&mut self) -> Result<(), DeviceFault>
+        ensures history { bench_history self.new ≡ bench_history self.old }
+        ensures fails { IsErr result }
+        ensures cause { HasCause (bench_failures self.old) (bench_failures self.new) (IsOk result) (IsErr result) }
+    {
+        match self.begin() {
+            Ok(()) => return self.device.counted(Err(DeviceFault)),
+            Err(fault) => return Err(fault),
+        }
+    }
+
+    /// Does so much of a call, and notes it.
+    fn note(
+        &mut self,
+        name: &str,
+        kind: Kind,
+        at: u64,
+        bytes: &[u8],
+        part: u64,
+    ) -> Result<(), DeviceFault>
+        ensures done { OnOk result (bench_history self.new ≡ noted (record {
+          name = name.now;
+          kind = kind;
+          at = at;
+          bytes = bytes.now;
+          part = part;
+        }) (bench_history self.old)) }
+        ensures change { IsChange (record {
+          name = name.now;
+          kind = kind;
+          at = at;
+          bytes = bytes.now;
+          part = part;
+        }) (bench_history self.old) (bench_history self.new) }
+        ensures failures { bench_failures self.new ≡ bench_failures self.old }
+    {
+        let call = match Call::new(self.record.alloc, name, kind, at, bytes, part) {
+            Ok(call) => call,
+            Err(_) => return Err(DeviceFault),
+        };
+        match self.record.note(call) {
+            Ok(()) => return Ok(()),
+            Err(_) => return Err(DeviceFault),
+        }
+    }
+
+    /// A call that writes: all of it, or its first part where the device fails. Of `whole` parts.
+    fn change(
+        &mut self,
+        name: &str,
+        kind: Kind,
+        at: u64,
+        bytes: &[u8],
+        whole: u64,
+    ) -> Result<(), DeviceFault>
+        ensures done { OnOk result (bench_history self.new ≡ noted (record {
+          name = name.now;
+          kind = kind;
+          at = at;
+          bytes = bytes.now;
+          part = whole;
+        }) (bench_history self.old)) }
+        ensures change { (part : ℕ) × IsChange (record {
+          name = name.now;
+          kind = kind;
+          at = at;
+          bytes = bytes.now;
+          part = part;
+        }) (bench_history self.old) (bench_history self.new) }
+        ensures cause { HasCause (bench_failures self.old) (bench_failures self.new) (IsOk result) (IsErr result) }
+    {
+        let part = self.part;
+        match self.begin() {
+            Ok(()) => {
+                let noted = self.note(name, kind, at, bytes, whole);
+                return self.device.counted(noted);
+            }
+            Err(fault) => {
+                let _ = self.note(name, kind, at, bytes, part);
+                return Err(fault);
+            }
+        }
+    }
+}
+
+impl Bench for MemoryBench {
+    ghost stored = { bench_files };
+
+    ghost honest = { λ _. true };
+
+    ghost failures = { bench_failures };
+
+    /// It keeps no names.
+    ghost failed_at = { λ _ _. ⊤ };
+
+    ghost may_leave = { λ bench. MayLeave (bench_history bench) };
+
+    /// Each call that was noted is one moment more.
+    ghost moment = { λ bench. length (bench_history bench).notes };
+
+    ghost left_since = { λ bench. LeftSince (bench_history bench).start (bench_history bench).notes };
+
+    ghost counts_now = { λ bench t c _ left. counts_now (bench_history bench) t c left };
+
+    ghost reads_now = { λ bench _ name. reads_held (bench_history bench).start (bench_history bench).notes name };
+
+    ghost only_now = { λ bench c since. only_now (bench_history bench).start (bench_history bench).notes c since };
+
+    ghost absent = { λ bench name c _ none left.
+        gone_held (bench_history bench).start (bench_history bench).notes name (c name) none (left name) };
+
+    fn create(&mut self, name: &str) -> Result<(), DeviceFault> {
+        match self.change(name, Kind::Create, 0, &[], 1) {
+            Ok(()) => return Ok(()),
+            Err(fault) => return Err(fault),
+        }
+    }
+
+    fn append(&mut self, name: &str, bytes: &[u8]) -> Result<(), DeviceFault> {
+        let Some(at) = self.length_of(name) else {
+            return self.refused();
+        };
+        match self.change(name, Kind::Append, at, bytes, bytes.len() as u64) {
+            Ok(()) => return Ok(()),
+            Err(fault) => return Err(fault),
+        }
+    }
+
+    fn write_at(&mut self, name: &str, at: u64, bytes: &[u8]) -> Result<(), DeviceFault> {
+        if !self.has_range(name, at, bytes.len()) {
+            return self.refused();
+        }
+        match self.change(name, Kind::Write, at, bytes, bytes.len() as u64) {
+            Ok(()) => return Ok(()),
+            Err(fault) => return Err(fault),
+        }
+    }
+
+    fn length(&mut self, name: &str) -> Result<u64, ShelfFault> {
+        self.begin()?;
+        self.record.files.length(name).ok_or(ShelfFault::NotFound)
+    }
+
+    fn read_at(&mut self, name: &str, at: u64, buffer: &mut [u8]) -> Result<(), ShelfFault> {
+        self.begin()?;
+        let outcome = self.record.files.read_at(name, at, buffer);
+        Ok(self.device.counted(outcome)?)
+    }
+
+    fn sync(&mut self, name: &str) -> Result<(), DeviceFault> {
+        if self.length_of(name).is_none() {
+            return self.refused();
+        }
+        match self.begin() {
+            Ok(()) => {}
+            Err(fault) => return Err(fault),
+        }
+        match self.note(name, Kind::Sync, 0, &[], 0) {
+            Ok(()) => return Ok(()),
+            Err(fault) => return self.device.counted(Err(fault)),
+        }
+    }
+}

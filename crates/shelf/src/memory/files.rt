@@ -1,0 +1,266 @@
+// Files by name, each with its bytes.
+ghost use Rattle.std.specs.Prelude.{◌≡◌, ◌+◌, ◌<◌, ℕ, false, IsTrue, None, List, length, IfOk, OnOk, OnErr, IfSome, IfNone, IsSomeAnd, ◌≤◌, option_copied, option_map, string_bytes};
+ghost use Rattle.work_terms.specs.Disk.{Changes, IsRange};
+ghost use Rattle.shelf.specs.Files.{IsMade, IsOutside, IsPut, files_of};
+ghost use Rattle.shelf.specs.History.{done, has_place, left_of, note_of, or_else, placed, spoilt_by, with_bytes};
+
+use super::call::{Call, Kind};
+use devices::DeviceFault;
+use std::alloc::{AllocError, Global};
+use std::collections::BTreeMap;
+
+#[derive(Drop)]
+pub struct NamedFiles {
+    alloc: Global,
+    files: BTreeMap<String, Vec<u8>>,
+}
+
+impl NamedFiles {
+    /// No files.
+    pub fn new(alloc: Global) -> Self
+        ensures { (name : List ℕ) → files_of result name ≡ None }
+    {
+        NamedFiles {
+            alloc,
+            files: BTreeMap::new(alloc),
+        }
+    }
+
+    /// The bytes of the file, or `None` where no file has the name.
+    pub fn get(&self, name: &str) -> Option<&[u8]>
+        ensures { option_copied result ≡ files_of self.now name.now }
+    {
+        self.files.get(name).map(|bytes| bytes.as_slice())
+    }
+
+    /// How many bytes the file has, or `None` where no file has the name.
+    pub fn length(&self, name: &str) -> Option<u64>
+        ensures { result ≡ option_map (λ bytes. length bytes) (files_of self.now name.now) }
+    {
+        self.get(name).map(|bytes| bytes.len() as u64)
+    }
+
+    /// Puts the bytes under the name, in place of what is there.
+    pub fn put(&mut self, name: &str, bytes: &[u8]) -> Result<(), AllocError>
+        ensures put { OnOk result (Changes (IsPut bytes.now) name.now (files_of self.old) (files_of self.new)) }
+        ensures unchanged { OnErr result ((n : List ℕ) → files_of self.new n ≡ files_of self.old n) }
+    {
+        let name = String::from_str(self.alloc, name)?;
+        self.files.insert(name, bytes.to_vec(self.alloc)?)?;
+        Ok(())
+    }
+
+    /// Whether so many bytes from `at` on lie inside a file that is there.
+    pub fn has_range(&self, name: &str, at: u64, count: usize) -> bool
+        ensures { IsTrue result → IsSomeAnd (files_of self.now name.now) (λ file. at + count ≤ length file) }
+    {
+        match self.get(name) {
+            None => false,
+            Some(file) => place_of(at, count, file.len()).is_some(),
+        }
+    }
+
+    /// Writes the bytes, of `count` that were to be written, at their place, where a file is there that has one.
+    pub fn place(
+        &mut self,
+        name: &str,
+        kind: Kind,
+        at: u64,
+        count: usize,
+        bytes: &[u8],
+    ) -> Result<(), AllocError>
+        requires { length bytes.now ≤ count }
+        ensures placed { OnOk result (Changes (IsMade (option_map (with_bytes kind at count bytes.now))) name.now
+            (files_of self.old) (files_of self.new)) }
+        ensures unchanged { OnErr result ((n : List ℕ) → files_of self.new n ≡ files_of self.old n) }
+    {
+        let Some(file) = self.files.get_mut(name) else {
+            return Ok(());
+        };
+        match place_in(file, kind, at, count, bytes) {
+            Ok(()) => return Ok(()),
+            Err(fault) => return Err(fault),
+        }
+    }
+
+    /// Does what a call did.
+    pub fn apply(&mut self, call: &Call) -> Result<(), AllocError>
+        ensures done { OnOk result (Changes (IsMade (done (note_of call.now))) (string_bytes call.now.name)
+            (files_of self.old) (files_of self.new)) }
+        ensures unchanged { OnErr result ((n : List ℕ) → files_of self.new n ≡ files_of self.old n) }
+    {
+        let name = call.name.as_str();
+        match call.kind {
+            Kind::Create => if call.part == 0 {
+                Ok(())
+            } else {
+                self.put(name, &[])
+            },
+            Kind::Append => self.place(
+                name,
+                Kind::Append,
+                call.at,
+                call.bytes.len(),
+                call.written(),
+            ),
+            Kind::Write => self.place(name, Kind::Write, call.at, call.bytes.len(), call.written()),
+            Kind::Sync => Ok(()),
+        }
+    }
+
+    /// Does what a crash leaves of a call, where the files were read as `read` before it.
+    pub fn lose(
+        &mut self,
+        read: &NamedFiles,
+        call: &Call,
+        kept: u64,
+        fill: u8,
+    ) -> Result<(), AllocError>
+        ensures left { OnOk result (Changes (IsMade (left_of kept fill (note_of call.now)
+            (files_of read.now (string_bytes call.now.name)))) (string_bytes call.now.name)
+            (files_of self.old) (files_of self.new)) }
+    {
+        let name = call.name.as_str();
+        match call.kind {
+            Kind::Create => if kept == 0 || call.part == 0 {
+                Ok(())
+            } else {
+                self.put(name, &[])
+            },
+            Kind::Append => {
+                let bytes = spoilt(self.alloc, call.written(), kept, fill)?;
+                self.place(
+                    name,
+                    Kind::Append,
+                    call.at,
+                    call.bytes.len(),
+                    bytes.as_slice(),
+                )
+            }
+            Kind::Write => {
+                let bytes = spoilt(self.alloc, call.written(), kept, fill)?;
+                self.place(
+                    name,
+                    Kind::Write,
+                    call.at,
+                    call.bytes.len(),
+                    bytes.as_slice(),
+                )
+            }
+            Kind::Sync => self.put_again(read, name),
+        }
+    }
+
+    /// Puts the bytes that another file of the name has, where it is there.
+    fn put_again(&mut self, read: &NamedFiles, name: &str) -> Result<(), AllocError>
+        ensures put { OnOk result (Changes (IsMade (or_else (files_of read.now name.now))) name.now
+            (files_of self.old) (files_of self.new)) }
+    {
+        let Some(bytes) = read.get(name) else {
+            return Ok(());
+        };
+        match self.put(name, bytes) {
+            Ok(()) => return Ok(()),
+            Err(fault) => return Err(fault),
+        }
+    }
+
+    /// The same files once more.
+    pub fn copied(&self) -> Result<NamedFiles, AllocError>
+        ensures { IfOk result (λ copy. (name : List ℕ) → files_of copy name ≡ files_of self.now name) }
+    {
+        let files = self.files.clone()?;
+        Ok(NamedFiles {
+            alloc: self.alloc,
+            files,
+        })
+    }
+
+    /// Fills the buffer from `at` on. It fails where that doesn't lie inside a file.
+    pub fn read_at(&self, name: &str, at: u64, buffer: &mut [u8]) -> Result<(), DeviceFault>
+        ensures read { OnOk result (IsRange (files_of self.now name.now) at buffer.new) }
+        ensures outside { OnErr result (IsOutside (files_of self.now name.now) at (length buffer.old)) }
+    {
+        let file = self.get(name).ok_or(DeviceFault)?;
+        let at = place_of(at, buffer.len(), file.len()).ok_or(DeviceFault)?;
+        buffer.copy_from_slice(&file[at..at + buffer.len()]);
+        Ok(())
+    }
+}
+
+/// The place as an index, where a range of so many bytes from it on lies inside a file of this length.
+fn place_of(at: u64, count: usize, file_length: usize) -> Option<usize>
+    ensures inside { IfSome result (λ place. (place ≡ at) × (at + count ≤ file_length)) }
+    ensures outside { IfNone result (file_length < at + count) }
+{
+    let at = usize::try_from(at).ok()?;
+    let end = at.checked_add(count)?;
+    if end <= file_length { Some(at) } else { None }
+}
+
+/// The place as an index, where so many bytes have one in a file of this length.
+fn place_for(kind: Kind, at: u64, count: usize, length: usize) -> Option<usize>
+    ensures place { IfSome result (λ place. (place ≡ at) × IsTrue (has_place kind at count length)) }
+    ensures none { IfNone result (has_place kind at count length ≡ false) }
+{
+    let at = usize::try_from(at).ok()?;
+    let count = match kind {
+        Kind::Create => return None,
+        Kind::Append => 0,
+        Kind::Write => count,
+        Kind::Sync => return None,
+    };
+    if at <= length && count <= length - at {
+        Some(at)
+    } else {
+        None
+    }
+}
+
+/// Writes the bytes at their place, where the file has one.
+fn place_in(
+    file: &mut Vec<u8>,
+    kind: Kind,
+    at: u64,
+    count: usize,
+    bytes: &[u8],
+) -> Result<(), AllocError>
+    requires { length bytes.now ≤ count }
+    ensures placed { OnOk result (file.new.items ≡ with_bytes kind at count bytes.now file.old.items) }
+    ensures unchanged { OnErr result (file.new.items ≡ file.old.items) }
+{
+    match place_for(kind, at, count, file.len()) {
+        None => Ok(()),
+        Some(place) => write_over(file, place, bytes),
+    }
+}
+
+/// Writes the bytes over those from `at` on, and behind the end where they reach further.
+fn write_over(file: &mut Vec<u8>, at: usize, bytes: &[u8]) -> Result<(), AllocError>
+    requires { at ≤ length file.old.items }
+    ensures placed { OnOk result (file.new.items ≡ placed at bytes.now file.old.items) }
+    ensures unchanged { OnErr result (file.new.items ≡ file.old.items) }
+{
+    let over = (file.len() - at).min(bytes.len());
+    file.extend_from_slice(&bytes[over..])?;
+    copy_over(file.as_mut_slice(), at, &bytes[..over]);
+    Ok(())
+}
+
+/// Writes the bytes over those from `at` on.
+fn copy_over(file: &mut [u8], at: usize, bytes: &[u8])
+    requires { at + length bytes.now ≤ length file.old }
+    ensures { file.new ≡ placed at bytes.now file.old }
+{
+    file[at..at + bytes.len()].copy_from_slice(bytes);
+}
+
+/// The bytes as written up to the first `kept`, and `fill` from there on.
+fn spoilt(alloc: Global, bytes: &[u8], kept: u64, fill: u8) -> Result<Vec<u8>, AllocError>
+    ensures { IfOk result (λ spoilt. spoilt.items ≡ spoilt_by kept fill bytes.now) }
+{
+    let kept = (kept as usize).min(bytes.len());
+    let mut spoilt = bytes[..kept].to_vec(alloc)?;
+    spoilt.resize(bytes.len(), fill)?;
+    Ok(spoilt)
+}
