@@ -8,7 +8,7 @@ use Rattle.shelf.specs.declared.Overwrite.TheVariants.{Files, Never}
 use Rattle.commandline.specs.CommandLine.{Asked, Resume}
 use Rattle.consolidate.specs.declared.Fault.{Fault}
 use Rattle.console.specs.declared.console.Console as console
-use Rattle.adlcons.specs.Answers.{IsAnswered, IsChecked, Tells, accepted_lines, refusal_line}
+use Rattle.answers.specs.Answers.{IsAnswered, IsChecked, Tells, accepted_lines, refusal_line}
 use Rattle.checkreport.specs.Reported.{IsReported}
 use Rattle.adlcons.specs.declared.folders.OpenFault.{OpenFault}
 use Rattle.adlcons.specs.declared.folders.OpenFault.TheVariants as opened

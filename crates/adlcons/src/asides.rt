@@ -1,4 +1,5 @@
 // What a command tells on standard error beside the refusal and its explanation.
+use answers::Asides;
 use std::alloc::Global;
 use std::fs;
 use std::fs::Files;
@@ -9,15 +10,6 @@ const FEW: usize = 20;
 
 /// How many names of a folder are looked at.
 const MOST_NAMES: usize = 1_048_576;
-
-/// What is told beside a refusal.
-pub trait Asides {
-    /// How many further faults are told at most.
-    fn most(&self) -> usize;
-
-    /// The name of a source that differs from this one in case or in its form of Unicode alone.
-    fn similar(&self, alloc: Global, name: &str) -> Option<String>;
-}
 
 /// What is told of a list over the folder of its media.
 #[derive(Clone, Copy)]

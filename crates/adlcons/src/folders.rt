@@ -7,17 +7,17 @@ ghost use Rattle.commandline.specs.CommandLine.{asks_for_help, request_of};
 ghost use Rattle.commandline.specs.Request.{asked_of};
 ghost use Rattle.console.specs.Places.{where_of};
 ghost use Rattle.sound_terms.specs.Passes.{standard_groups};
-ghost use Rattle.adlcons.specs.Answers.{RendersBy, ResumesBy, asking, rendered_lines, resumed_lines, written_lines};
+ghost use Rattle.answers.specs.Answers.{RendersBy, ResumesBy, asking, rendered_lines, resumed_lines, written_lines};
 ghost use Rattle.adlcons.specs.Openings.{ChecksFolder, IsKeptOut, ReportsFolder, WorksInFolders, overwrite_for, refusal_of_opening};
 ghost use Rattle.shelf.specs.declared.Overwrite.TheVariants as overwrite;
 
-use crate::also::tell_further;
-use crate::answer::{MISTAKE, REFUSED, answer, answer_error, explain, explain_notice};
 use crate::asides::{FolderAsides, listed};
 use crate::looks::{report_folder, show_folder};
-use crate::meter::Meter;
 use crate::reading::{ReadFault, read_list};
-use crate::standard::answer_standard;
+use answers::{
+    MISTAKE, Meter, REFUSED, answer_error, answer_request, answer_standard, explain,
+    explain_notice, tell_further,
+};
 use commandline::{Places, Request, parse};
 use console::{Console, Place, Refusal, put_refusal};
 use consolidate::{MARKS, check_project};
@@ -229,7 +229,7 @@ where
     let mut bench = MemoryBench::new(rt.alloc());
     let unlisted = unlisted_reason(rt, media);
     let asides = FolderAsides::new(rt, media, tells_all);
-    let status = answer(
+    let status = answer_request(
         rt.alloc(),
         request,
         &list,

@@ -2,11 +2,9 @@
 ghost use Rattle.std.specs.Prelude.{◌≡◌, ◌≤◌, ◌⊎◌, codes, IfOk, OnErr};
 ghost use Rattle.adlcons.specs.Openings.{IsKeptOut, ReportsFolder};
 
-use crate::answer::REFUSED;
-use crate::check_report::answer_report;
-use crate::drawing::answer_picture;
 use crate::folders::{OpenFault, keep_out, tell_all_further, tell_unlisted, unlisted_reason};
 use crate::reading::read_list;
+use answers::{REFUSED, answer_picture, answer_report};
 use console::Console;
 use shelf::FolderShelf;
 use std::fs::Files;

@@ -2,20 +2,12 @@
 //! renders a stored example over memory and prints what came of it.
 #![tactic(auto)]
 
-mod also;
-mod answer;
 mod asides;
-mod check_report;
-mod chosen;
-mod drawing;
 mod example;
 mod folders;
 mod looks;
 mod meter;
 mod reading;
-mod refusal;
-mod report;
-mod standard;
 mod stored;
 
 use anyhow::Result;

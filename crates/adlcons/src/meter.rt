@@ -1,16 +1,11 @@
 // How far a command has come, shown on a terminal while it runs.
 ghost use Rattle.std.specs.Prelude.{◌≤◌};
 
+use answers::Meter;
 use console::Console;
 use devices::Watch;
 use std::fmt::Display;
 use std::time::{Clock, Duration, Instant};
-
-/// Shows how far a command has come, until that is taken off again.
-pub trait Meter: Watch {
-    /// Takes off what is shown.
-    fn clear(&mut self);
-}
 
 /// A line on a terminal, written over again and again: none in the first second, then ten a second at most.
 #[derive(Drop)]

@@ -1,4 +1,5 @@
 pub mod Channels
 pub mod CommandLine
 pub mod Request
+pub mod RequestLaws
 pub mod Vectors

@@ -1,7 +1,7 @@
 use Rattle.std.proofs.Common.{◌≡◌, Some, refl, rules}
 use Rattle.commandline.specs.CommandLine.{Consolidate, Render, Resume}
 use Rattle.commandline.specs.Request.{chosen_of}
-use Rattle.adlcons.proofs.Requests.{consolidate_fields, render_fields, resume_fields}
+use Rattle.commandline.specs.RequestLaws.{consolidate_fields, render_fields, resume_fields}
 use Rattle.adlcons.proofs.folders.answer_words.Goals as goal
 
 pub returns-in-Render-clause-rendered : goal.returns-in-Render-clause-rendered

@@ -8,8 +8,8 @@ use Rattle.consolidate.specs.Commands.{IsRendering}
 use Rattle.consolidate.specs.Resuming.{IsResuming}
 use Rattle.commandline.specs.CommandLine.{Chosen}
 use Rattle.console.specs.declared.console.Console as console
-use Rattle.adlcons.specs.Answers.{IsAnswered, RendersBy, ResumesBy, rendered_lines, resumed_lines}
-use Rattle.adlcons.specs.Times.{values_of}
+use Rattle.answers.specs.Answers.{IsAnswered, RendersBy, ResumesBy, rendered_lines, resumed_lines}
+use Rattle.answers.specs.Times.{values_of}
 
 pub answered_by : {S B O : Type 0} (shelf : source.Ghosts S) (bench : output.Ghosts B) (out : console.Ghosts O)
     (chosen : Chosen) (values : OptionValues) (list : List ℕ) (shelf_old shelf_new : S) (bench_old bench_new : B)

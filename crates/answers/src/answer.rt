@@ -15,10 +15,10 @@ ghost use Rattle.commandline.specs.CommandLine.{is_shown};
 ghost use Rattle.commandline.specs.Request.{asked_of};
 ghost use Rattle.console.specs.Printing.{Prints};
 ghost use Rattle.list_terms.specs.Text.{rate_of as rate_at};
-ghost use Rattle.adlcons.specs.Answers.{IsAnswered, IsChecked, MayBeMistaken, RendersBy, ResumesBy, accepted_lines, asking, refusal_line, rendered_lines, resumed_lines, written_lines};
-ghost use Rattle.adlcons.specs.BadTime.{name_of};
+ghost use Rattle.answers.specs.Answers.{IsAnswered, IsChecked, MayBeMistaken, RendersBy, ResumesBy, accepted_lines, asking, refusal_line, rendered_lines, resumed_lines, written_lines};
+ghost use Rattle.answers.specs.BadTime.{name_of};
 ghost use Rattle.checkreport.specs.Reported.{IsReported};
-ghost use Rattle.adlcons.specs.Times.{bad_time_line, values_of};
+ghost use Rattle.answers.specs.Times.{bad_time_line, values_of};
 
 use crate::also::tell_further;
 use crate::asides::Asides;
@@ -54,7 +54,14 @@ pub const MISTAKE: u8 = 2;
 /// there too, in a line of its own; behind that of a check stand the list's further faults. What numbers mean is printed
 /// on `out`, with 0, or with 2 where nothing has the number.
 #[tactic(auto, using(crate::proofs::Rates::answered_by, crate::proofs::Rates::resumed_by))]
-pub fn answer<S: Shelf + Reasons, B: Bench + Reasons, O: Console, E: Console, M: Meter, A: Asides>(
+pub fn answer_request<
+    S: Shelf + Reasons,
+    B: Bench + Reasons,
+    O: Console,
+    E: Console,
+    M: Meter,
+    A: Asides,
+>(
     alloc: Global,
     request: Request<'_>,
     list: &[u8],

@@ -18,7 +18,7 @@ use Rattle.commandline.specs.CommandLine.{Asked, Chosen, Check, Report, Render, 
 use Rattle.console.specs.declared.console.Console as console
 use Rattle.console.specs.Lines.{accepted_text, notices_text, refusal_text, rendered_text, resumed_text, written_text}
 use Rattle.console.specs.Printing.{Prints}
-use Rattle.adlcons.specs.Times.{values_of}
+use Rattle.answers.specs.Times.{values_of}
 
 -- the version of this program, where a report is asked for
 abbrev pub asking : Bool → Option (List ℕ)

@@ -2,9 +2,9 @@ use Rattle.std.proofs.Common.{◌≡◌, ◌∙◌, true, refl, ap, sym, inl, in
 use Rattle.commandline.specs.Request.{asked_of}
 use Rattle.sound_terms.specs.Passes.{join_cuts, regroup, split_fades, without_silent}
 use Rattle.passes.specs.contracts.turn as turn
-use Rattle.adlcons.proofs.Tables.{at_table}
-use Rattle.adlcons.proofs.standard.answer_standard.OwnLists as own
-use Rattle.adlcons.proofs.standard.answer_standard.Goals as goal
+use Rattle.answers.proofs.Tables.{at_table}
+use Rattle.answers.proofs.standard.answer_standard.OwnLists as own
+use Rattle.answers.proofs.standard.answer_standard.Goals as goal
 
 pub returns-in_ok-passes-in-Consolidate-clause-consolidated : goal.returns-in_ok-passes-in-Consolidate-clause-consolidated
 returns-in_ok-passes-in-Consolidate-clause-consolidated g c place media target handle report request =

@@ -5,9 +5,9 @@ ghost use Rattle.commandline.specs.CommandLine as asked;
 ghost use Rattle.commandline.specs.Request.{asked_of};
 ghost use Rattle.consolidate.specs.Commands.{IsConsolidation};
 ghost use Rattle.sound_terms.specs.Passes.{standard_groups};
-ghost use Rattle.adlcons.specs.Answers.{IsAnswered, RendersBy, ResumesBy, asking, rendered_lines, resumed_lines, written_lines};
+ghost use Rattle.answers.specs.Answers.{IsAnswered, RendersBy, ResumesBy, asking, rendered_lines, resumed_lines, written_lines};
 
-use crate::answer::answer;
+use crate::answer::answer_request;
 use crate::asides::Asides;
 use crate::meter::Meter;
 use commandline::Request;
@@ -16,7 +16,7 @@ use passes::{DropSilent, JoinCuts, Pass, Regroup, SplitFades};
 use shelf::{Bench, Reasons, Shelf};
 use std::alloc::{AllocError, Global};
 
-/// Answers a request as `answer` does, a consolidation with the standard passes: each fade becomes a piece of its own,
+/// Answers a request as `answer_request` does, a consolidation with the standard passes: each fade becomes a piece of its own,
 /// what is silent is left out, cuts are joined, and pieces that continue one another are groups again.
 pub fn answer_standard<
     S: Shelf + Reasons,
@@ -59,7 +59,7 @@ pub fn answer_standard<
             let joining: Box<dyn Pass> = Box::new(alloc, JoinCuts)?;
             let grouping: Box<dyn Pass> = Box::new(alloc, Regroup)?;
             let passes = vec![in alloc; splitting, leaving_out, joining, grouping]?;
-            Ok(answer(
+            Ok(answer_request(
                 alloc, request, list, passes, shelf, bench, out, err, meter, asides,
             ))
         }
@@ -69,7 +69,7 @@ pub fn answer_standard<
         | Request::Resume(_, _)
         | Request::Show(_, _, _)
         | Request::Explain(_)
-        | Request::ExplainNotice(_) => Ok(answer(
+        | Request::ExplainNotice(_) => Ok(answer_request(
             alloc,
             request,
             list,

@@ -3,8 +3,8 @@ ghost use Rattle.std.specs.Prelude.{◌≡◌, Err, IfErr, IfOk, Ok, option_map}
 ghost use Rattle.sampletime.specs.FrameRate.{frames_per_second};
 ghost use Rattle.rendering.specs.Rendering as rendering;
 ghost use Rattle.rendering.specs.Rendering.{HaveChannels};
-ghost use Rattle.adlcons.specs.BadTime.{name_of};
-ghost use Rattle.adlcons.specs.Times.{bad_time_line, time_in, values_of};
+ghost use Rattle.answers.specs.BadTime.{name_of};
+ghost use Rattle.answers.specs.Times.{bad_time_line, time_in, values_of};
 ghost use Rattle.commandline.specs.Request.{chosen_of};
 ghost use Rattle.console.specs.Printing.{Prints};
 

@@ -1,4 +1,4 @@
-use Rattle.adlcons.proofs.check_report.answer_report.Goals as goal
+use Rattle.answers.proofs.check_report.answer_report.Goals as goal
 
 pub returns-in-Ok-clause-reported : goal.returns-in-Ok-clause-reported
 returns-in-Ok-clause-reported g c = λ honest. c.put_accepted.ensures.reported _ _ (c.in-Ok.ensures.accepted honest)

@@ -2,9 +2,9 @@ use Rattle.std.proofs.Common.{◌∙◌, ℕ, Bool, List, Option, Some, ap, subs
 use Rattle.passes.specs.Left.{Leaving, left_by, standard_left}
 use Rattle.consolidate.specs.Commands.{IsConsolidation}
 use Rattle.commandline.specs.Request.{asked_of}
-use Rattle.adlcons.specs.Answers.{IsAnswered, asking, written_lines}
-use Rattle.adlcons.proofs.Requests.{consolidate_fields}
-use Rattle.adlcons.proofs.answer.answer.Goals as goal
+use Rattle.answers.specs.Answers.{IsAnswered, asking, written_lines}
+use Rattle.commandline.specs.RequestLaws.{consolidate_fields}
+use Rattle.answers.proofs.answer.answer_request.Goals as goal
 
 pub returns-in-Consolidate-clause-consolidated : goal.returns-in-Consolidate-clause-consolidated
 returns-in-Consolidate-clause-consolidated g c place media target handle report request =

@@ -1,3 +1,2 @@
 mod Rates
-mod Requests
 pub mod Tables

@@ -8,7 +8,7 @@ ghost use Rattle.consolidate.specs.Fault.{name_of_output, place_of_marks, refusa
 ghost use Rattle.console.specs.Lines.{place_text, refusal_text};
 ghost use Rattle.console.specs.Places.{where_of};
 ghost use Rattle.console.specs.Printing.{Prints};
-ghost use Rattle.adlcons.specs.Answers.{place_told};
+ghost use Rattle.answers.specs.Answers.{place_told};
 
 use adlmodel::{Source, place_of};
 use adlread::AdlFault;

@@ -1,0 +1,22 @@
+//! What the program answers to a request over any sources and any outputs: status, notices and lines.
+#![tactic(auto)]
+
+mod also;
+mod answer;
+mod asides;
+mod check_report;
+mod chosen;
+mod drawing;
+mod meter;
+mod refusal;
+mod report;
+mod standard;
+
+pub use also::tell_further;
+pub use answer::{MISTAKE, REFUSED, answer_error, answer_request, explain, explain_notice};
+pub use asides::Asides;
+pub use check_report::answer_report;
+pub use chosen::BadTime;
+pub use drawing::answer_picture;
+pub use meter::Meter;
+pub use standard::answer_standard;
