@@ -3,11 +3,11 @@
 
 mod end;
 mod fault;
-mod groups;
 mod jobs;
 mod layout;
 mod list;
 mod media;
+mod output_groups;
 mod pieces;
 mod plan;
 mod planning;

@@ -12,7 +12,7 @@ ghost use Rattle.consolidation.specs.Planned.{IsMediaPlan, IsPlanOf};
 ghost use Rattle.consolidation.specs.There.{AreThere};
 
 use crate::ConsolidationFault;
-use crate::groups::groups_left;
+use crate::output_groups::groups_left;
 use crate::planning::plan_of;
 use devices::{Shelf, Watch};
 use interval::from_checked;

@@ -2,7 +2,7 @@ use Rattle.std.proofs.Common.{◌∙◌}
 use Rattle.list_terms.specs.BoundHomes.{homes_of}
 use Rattle.list_terms.specs.Heard.{reading_of, sounds_of}
 use Rattle.consolidation.proofs.LeftAtHome.{still_at_home}
-use Rattle.consolidation.proofs.groups.groups_left.Goals as goal
+use Rattle.consolidation.proofs.output_groups.groups_left.Goals as goal
 
 pub returns-clause-left : goal.returns-clause-left
 returns-clause-left g c =
