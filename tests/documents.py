@@ -151,6 +151,18 @@ def named_files(_: Scene) -> None:
                 raise Mismatch(f"{page.relative_to(TOP)} names {name}, which isn't there")
 
 
+def worked_sum(_: Scene) -> None:
+    """The crossfade that PROOF.md works out is that of its rules: a sound of 5 at 16 bits, over three samples."""
+    rows = re.findall(r"^\| (\d) \|[^=]*= ([\d,]+) \|[^=]*= ([\d,]+) \| ([\d,]+) \| (\d+) \|$",
+                      (DOCS / "PROOF.md").read_text(), re.M)
+    value = 5 * 2 ** 32
+    for sample, *told in rows:
+        ends, begins = value * (3 - int(sample)) // 3, value * int(sample) // 3
+        wanted = [ends, begins, ends + begins, (ends + begins + 2 ** 31) // 2 ** 32]
+        same(f"sample {sample}", [int(number.replace(",", "")) for number in told], wanted)
+    same("how many samples are worked out", len(rows), 3)
+
+
 def wrong_bodies(_: Scene) -> None:
     """Each wrong body beside the gate changes a text that stands once in its crate."""
     for edit in sorted((TOP / "tests/wrong").glob("*/*.edit")):
@@ -175,4 +187,5 @@ def run(suite: Suite) -> None:
     suite.case("man shows the page", man_shows_page)
     suite.case("the completion", completion)
     suite.case("the files that pages name", named_files)
+    suite.case("the sum of PROOF.md", worked_sum)
     suite.case("the wrong bodies beside the gate", wrong_bodies)
