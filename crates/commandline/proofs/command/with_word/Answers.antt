@@ -1,7 +1,15 @@
-use Rattle.std.proofs.Common.{◌≡◌, false, rules}
+use Rattle.std.proofs.Common.{◌≡◌, ◌∙◌, ap, false, rules}
 use Rattle.std.proofs.lemmas.Result.{IfOk-weaker}
 use Rattle.std.proofs.Math.Bool.{or-false}
+use Rattle.clap.specs.Words.{app_of, rule_of, with_rule}
 use Rattle.commandline.proofs.command.with_word.Goals as goal
+
+pub returns-clause-app : goal.returns-clause-app
+returns-clause-app c =
+    let one : c.help.result.global ≡ false = search rules in
+    let plain = ap rule_of c.help.ensures ∙ c.new.ensures.rule in
+    IfOk-weaker c.arg.result _ _ (λ added adds. adds.shape one ∙ ap (with_rule (app_of c.args.command)) plain)
+    c.arg.ensures
 
 pub returns-clause-local : goal.returns-clause-local
 returns-clause-local c =

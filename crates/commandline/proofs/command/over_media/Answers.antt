@@ -1,0 +1,14 @@
+use Rattle.std.proofs.Common.{◌∙◌, ap, codes}
+use Rattle.std.proofs.lemmas.Result.{IfOk-weaker}
+use Rattle.clap.specs.Simple.{app_of_fields}
+use Rattle.commandline.specs.CommandLine.{flag_rule, place_rule}
+use Rattle.commandline.proofs.CommandLineLaws.{one_more}
+use Rattle.commandline.proofs.command.over_media.Goals as goal
+
+pub returns-clause-app : goal.returns-clause-app
+returns-clause-app c =
+    let named = ap app_of_fields c.after_help-command.ensures ∙ ap app_of_fields c.about.ensures ∙ c.new.ensures.app in
+    let listed = one_more _ _ _ (place_rule (codes "LIST")) c.in_ok-command.ensures.app named in
+    let placed = one_more _ _ _ (place_rule (codes "MEDIA")) c.in_ok-command-2.ensures.app listed in
+    IfOk-weaker c.with_flag.result _ _ (λ added adds. one_more _ _ _ (flag_rule (codes "all")) adds placed)
+    c.with_flag.ensures.app
