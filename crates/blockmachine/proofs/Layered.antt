@@ -9,10 +9,9 @@ use Rattle.sound_terms.specs.declared.piece.Shape.TheVariants.{Flat}
 use Rattle.sound_terms.specs.Mix.{full_scale}
 use Rattle.sound_terms.specs.Groups.{fraction_of}
 use Rattle.sound_terms.specs.Blocks.{FitsBlock, sums_with}
-use Rattle.blockmachine.specs.Sums.{AreSums, HasAdded, HasGrown, HasPlayed, IsWithin, widened}
+use Rattle.blockmachine.specs.Sums.{AreSums, HasAdded, HasPlayed, IsWithin, widened}
 use Rattle.blockmachine.proofs.Added.{IsRun, no_sample, run_fits, run_more}
 use Rattle.blockmachine.proofs.AtDepth.{widened-part, widened-put}
-use Rattle.blockmachine.proofs.Bounds.{part_grown, within_more}
 use Rattle.blockmachine.proofs.Places.{get_or-part}
 
 -- a stretch without a fade, of all channels of its file on all there are
@@ -56,21 +55,6 @@ module _ (stretch : Stretch) (shape : Shape) (source channels depth : ℕ) (old 
         let near : j < long = omega (arith, length-take long (drop from (widened depth old)), below) in
         subst (IsWithin 254) (sym (get_or-part from long j (widened depth old) d near))
         (small (from + j) d (omega (arith, run_inside, count, near, length-map old (full_scale depth)))))
-
-    pub layer_grown : (new : List ℤ) → length new ≡ length run → HasGrown (widened depth run) (widened depth new)
-        → HasGrown (widened depth old) (widened depth (put_mid from long old new))
-    layer_grown new same grown = λ m small.
-        let wide = length-map old (full_scale depth) in
-        let part : HasGrown (take long (drop from (widened depth old))) (widened depth new) =
-        subst (λ (l : List ℤ). HasGrown l (widened depth new)) (widened-part depth from long old) grown in
-        subst (All (IsWithin (m + 1))) (sym (widened-put depth from long old new))
-        (part_grown (m + 1) from long (widened depth old) (widened depth new) (omega (arith, run_inside, count, wide))
-        (length-map new (full_scale depth) ∙ same ∙ length-run ∙ sym count)
-        (part m (λ j d below.
-        let near : j < long = omega (arith, length-take long (drop from (widened depth old)), below) in
-        subst (IsWithin m) (sym (get_or-part from long j (widened depth old) d near))
-        (small (from + j) d (omega (arith, run_inside, count, near, wide)))))
-        (λ j d below. within_more m (m + 1) _ (omega arith) (small j d below)))
 
     pub layer_played : (bits : ℕ) (samples new : List ℤ) → stretch.first + stretch.width ≤ source + 1
         → length new ≡ length run → HasAdded (1, 1) bits samples (widened depth run) (widened depth new)

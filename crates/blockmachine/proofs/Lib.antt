@@ -1,6 +1,7 @@
 pub mod Places
 pub mod Added
 pub mod Bounds
+pub mod Counted
 pub mod Emitted
 pub mod Fits
 pub mod Full

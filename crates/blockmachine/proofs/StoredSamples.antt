@@ -8,10 +8,9 @@ use Rattle.sound_terms.specs.Depth.{bits_of}
 use Rattle.sound_terms.specs.Mix.{full_scale}
 use Rattle.pcm.specs.Samples.{FitsDepth, summed}
 use Rattle.pcm.specs.Laws.{get_or-summed, length-summed}
-use Rattle.blockmachine.specs.Sums.{HasAdded, HasGrown, IsWithin, widened}
+use Rattle.blockmachine.specs.Sums.{HasAdded, IsWithin, widened}
 use Rattle.blockmachine.proofs.Added.{flat_share}
 use Rattle.blockmachine.proofs.AtDepth.{get_or-widened, layer_fits, layer_sum}
-use Rattle.blockmachine.proofs.Bounds.{run_grown}
 
 module _ (depth : Depth) (sums samples : List ℤ) (shallow : bits_of depth ≤ 24) (each : length samples ≡ length sums)
     (fit : All (FitsDepth (bits_of depth)) samples) (small : All (IsWithin 254) (widened (bits_of depth) sums))
@@ -45,11 +44,3 @@ module _ (depth : Depth) (sums samples : List ℤ) (shallow : bits_of depth ≤ 
         ∙ ap (full_scale bits) (get_or-summed sums samples k (pos 0) inside near)
         ∙ layer_sum depth sum sample (small_at k inside) (fit k (pos 0) near)
         ∙ rw (get_or-widened bits sums k inside, flat_share (full_scale bits sample)) refl
-
-    pub stored_grown : HasGrown (widened (bits_of depth) sums) (widened (bits_of depth) (summed sums samples))
-    stored_grown = λ m within.
-        let bits = bits_of depth in
-        let old = length-map sums (full_scale bits) in
-        let new = length-map (summed sums samples) (full_scale bits) ∙ length-summed sums samples in
-        run_grown m 1 1 depth samples (widened bits sums) (widened bits (summed sums samples))
-        (each ∙ sym new) (old ∙ sym new) (omega arith) (omega arith) fit stored_added within

@@ -1,5 +1,5 @@
 -- The sums of a block as a machine keeps them: frame after frame.
-use Rattle.std.specs.Prelude.{◌≡◌, ℕ, ◌+◌, ◌-◌, ◌*◌, ◌^◌, ◌<◌, ◌≤◌, Bool, ℤ, pos, neg_ℤ, ◌+ℤ◌, ◌≤ℤ◌, List, All, length, map, slice_index_or, if◌then◌else◌}
+use Rattle.std.specs.Prelude.{◌≡◌, ◌⊎◌, ℕ, ◌+◌, ◌-◌, ◌*◌, ◌^◌, ◌<◌, ◌≤◌, Bool, ℤ, pos, neg_ℤ, ◌+ℤ◌, ◌≤ℤ◌, List, All, length, map, slice_index_or, if◌then◌else◌}
 use Rattle.sound_terms.specs.declared.block.Stretch.{Stretch}
 use Rattle.sound_terms.specs.declared.piece.Shape.{Shape}
 use Rattle.sound_terms.specs.Mix.{Reading, full_scale, share_of}
@@ -33,13 +33,18 @@ kept_sums at_depth depth layers values = if at_depth then widened depth layers e
 abbrev pub IsWithin : ℕ → ℤ → Type 0
 IsWithin m z = (neg_ℤ (pos (m * 2 ^ 47)) ≤ℤ z) × (z ≤ℤ pos (m * 2 ^ 47))
 
+-- no sum is larger than that of so many samples, and from the k-th on of one fewer
+abbrev pub AreFew : (most k : ℕ) → List ℤ → Type 0
+AreFew most k sums = All (IsWithin most) sums
+    × ((n : ℕ) → k ≤ n → n < length sums → IsWithin (most - 1) (slice_index_or sums n (pos 0)))
+
+-- where so many were added at one frame, and one fewer from a frame on, a stretch that begins at `at` makes so many
+abbrev pub Counts : (most fewer_from at more : ℕ) → Type 0
+Counts most fewer_from at more = (more ≡ most + 1) ⊎ ((more ≡ most) × (1 ≤ most) × (fewer_from ≤ at))
+
 -- the most additions that are added plainly: none of them can leave 64 bits
 abbrev pub few_additions : ℕ
 few_additions = 32767
-
--- each sum is larger by one sample at most
-abbrev pub HasGrown : (old new : List ℤ) → Type 0
-HasGrown old new = (m : ℕ) → All (IsWithin m) old → All (IsWithin (m + 1)) new
 
 -- each of the first n sums had its sample added, so much of it, and the others are as they were
 abbrev pub HasAddedTo : ℕ → (fraction : ℕ × ℕ) → (depth : ℕ) → (samples old new : List ℤ) → Type 0

@@ -6,7 +6,7 @@ ghost use Rattle.sound_terms.specs.Depth.{bits_of};
 ghost use Rattle.sound_terms.specs.Mix.{full_scale};
 ghost use Rattle.sound_terms.specs.Blocks.{FitsBlock, held};
 ghost use Rattle.pcm.specs.Samples.{FitsDepth};
-ghost use Rattle.blockmachine.specs.Sums.{HasAdded, HasAddedTo, HasGrown, HasPlayed, IsWithin};
+ghost use Rattle.blockmachine.specs.Sums.{HasAdded, HasAddedTo, HasPlayed, IsWithin};
 
 use crate::frames::Played;
 use crate::scale::Scale;
@@ -79,8 +79,7 @@ fn add_flat(samples: &[i32], scale: Scale, is_small: bool, sums: &mut [i64])
     requires each { length samples.now ≡ length sums.old }
     requires fit { All (FitsDepth (bits_of scale.depth)) samples.now }
     requires small { IsTrue is_small → All (IsWithin 32766) sums.old }
-    ensures added { HasAdded (1, 1) (bits_of scale.depth) samples.now sums.old sums.new }
-    ensures grown { HasGrown sums.old sums.new }
+    ensures { HasAdded (1, 1) (bits_of scale.depth) samples.now sums.old sums.new }
 {
     let done = if is_small {
         add_lanes(samples, scale, sums)
@@ -99,8 +98,7 @@ fn add_shares(gain: Gain, samples: &[i32], scale: Scale, is_small: bool, sums: &
     requires each { length samples.now ≡ length sums.old }
     requires fit { All (FitsDepth (bits_of scale.depth)) samples.now }
     requires small { IsTrue is_small → All (IsWithin 32766) sums.old }
-    ensures added { HasAdded (gain.num, gain.den) (bits_of scale.depth) samples.now sums.old sums.new }
-    ensures grown { HasGrown sums.old sums.new }
+    ensures { HasAdded (gain.num, gain.den) (bits_of scale.depth) samples.now sums.old sums.new }
 {
     for (i, sum) in sums.iter_mut().enumerate() {
         let sample = full_sample(samples, i, scale);
@@ -123,8 +121,7 @@ fn add_row(
     requires each { length samples.now ≡ length sums.old }
     requires fit { All (FitsDepth (bits_of scale.depth)) samples.now }
     requires small { IsTrue is_small → All (IsWithin 32766) sums.old }
-    ensures added { HasAdded (gain.num, gain.den) (bits_of scale.depth) samples.now sums.old sums.new }
-    ensures grown { HasGrown sums.old sums.new }
+    ensures { HasAdded (gain.num, gain.den) (bits_of scale.depth) samples.now sums.old sums.new }
 {
     if is_flat {
         add_flat(samples, scale, is_small, sums)
@@ -150,8 +147,7 @@ fn add_rows(
     requires inside { FitsBlock 4096 channels played.now.stretch }
     requires room { length sums.old ≡ 4096 * channels }
     requires small { IsTrue is_small → All (IsWithin 32766) sums.old }
-    ensures grown { HasGrown sums.old sums.new }
-    ensures played { HasPlayed played.now.stretch played.now.shape played.now.frames.channels (bits_of scale.depth)
+    ensures { HasPlayed played.now.stretch played.now.shape played.now.frames.channels (bits_of scale.depth)
         played.now.frames.samples.now (record { channels = channels; values = sums.old })
         (record { channels = channels; values = sums.new }) }
 {
@@ -193,8 +189,7 @@ fn add_by_width(played: &Played, scale: Scale, channels: usize, is_flat: bool, s
     requires inside { FitsBlock 4096 channels played.now.stretch }
     requires room { length sums.old ≡ 4096 * channels }
     requires small { All (IsWithin 32766) sums.old }
-    ensures grown { HasGrown sums.old sums.new }
-    ensures played { HasPlayed played.now.stretch played.now.shape played.now.frames.channels (bits_of scale.depth)
+    ensures { HasPlayed played.now.stretch played.now.shape played.now.frames.channels (bits_of scale.depth)
         played.now.frames.samples.now (record { channels = channels; values = sums.old })
         (record { channels = channels; values = sums.new }) }
 {
@@ -211,8 +206,7 @@ fn add_run(samples: &[i32], depth: Depth, sums: &mut [i64])
     requires each { length samples.now ≡ length sums.old }
     requires fit { All (FitsDepth (bits_of depth)) samples.now }
     requires small { All (IsWithin 32766) sums.old }
-    ensures added { HasAdded (1, 1) (bits_of depth) samples.now sums.old sums.new }
-    ensures grown { HasGrown sums.old sums.new }
+    ensures { HasAdded (1, 1) (bits_of depth) samples.now sums.old sums.new }
 {
     match depth {
         Depth::Sixteen => add_flat(samples, Scale::of(Depth::Sixteen), true, sums),
@@ -227,8 +221,7 @@ fn add_by_shape(played: &Played, channels: usize, sums: &mut [i64])
     requires inside { FitsBlock 4096 channels played.now.stretch }
     requires room { length sums.old ≡ 4096 * channels }
     requires small { All (IsWithin 32766) sums.old }
-    ensures grown { HasGrown sums.old sums.new }
-    ensures played { HasPlayed played.now.stretch played.now.shape played.now.frames.channels
+    ensures { HasPlayed played.now.stretch played.now.shape played.now.frames.channels
         (bits_of played.now.frames.depth) played.now.frames.samples.now (record { channels = channels; values = sums.old })
         (record { channels = channels; values = sums.new }) }
 {
@@ -246,8 +239,7 @@ fn add_small(played: &Played, channels: usize, sums: &mut [i64])
     requires inside { FitsBlock 4096 channels played.now.stretch }
     requires room { length sums.old ≡ 4096 * channels }
     requires small { All (IsWithin 32766) sums.old }
-    ensures grown { HasGrown sums.old sums.new }
-    ensures played { HasPlayed played.now.stretch played.now.shape played.now.frames.channels
+    ensures { HasPlayed played.now.stretch played.now.shape played.now.frames.channels
         (bits_of played.now.frames.depth) played.now.frames.samples.now (record { channels = channels; values = sums.old })
         (record { channels = channels; values = sums.new }) }
 {
@@ -267,8 +259,7 @@ pub fn add_played(played: &Played, channels: usize, is_small: bool, sums: &mut [
     requires inside { FitsBlock 4096 channels played.now.stretch }
     requires room { length sums.old ≡ 4096 * channels }
     requires small { IsTrue is_small → All (IsWithin 32766) sums.old }
-    ensures grown { HasGrown sums.old sums.new }
-    ensures played { HasPlayed played.now.stretch played.now.shape played.now.frames.channels
+    ensures { HasPlayed played.now.stretch played.now.shape played.now.frames.channels
         (bits_of played.now.frames.depth) played.now.frames.samples.now (record { channels = channels; values = sums.old })
         (record { channels = channels; values = sums.new }) }
 {

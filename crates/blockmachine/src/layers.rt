@@ -6,7 +6,7 @@ ghost use Rattle.sound_terms.specs.Depth.{bits_of};
 ghost use Rattle.sound_terms.specs.Mix.{full_scale, quantized};
 ghost use Rattle.sound_terms.specs.Blocks.{FitsBlock, held};
 ghost use Rattle.pcm.specs.Samples.{FitsDepth, samples_in};
-ghost use Rattle.blockmachine.specs.Sums.{HasAdded, HasGrown, HasPlayed, IsWithin, kept_sums, widened};
+ghost use Rattle.blockmachine.specs.Sums.{HasAdded, HasPlayed, IsWithin, kept_sums, widened};
 
 use crate::addition::is_run;
 use crate::frames::{Played, Stored};
@@ -67,9 +67,8 @@ fn add_samples(samples: &[i32], source: Depth, depth: Depth, sums: &mut [i32])
     requires no_deeper { bits_of source ≤ bits_of depth }
     requires shallow { bits_of depth ≤ 24 }
     requires small { All (IsWithin 254) (widened (bits_of depth) sums.old) }
-    ensures added { HasAdded (1, 1) (bits_of source) samples.now (widened (bits_of depth) sums.old)
+    ensures { HasAdded (1, 1) (bits_of source) samples.now (widened (bits_of depth) sums.old)
         (widened (bits_of depth) sums.new) }
-    ensures grown { HasGrown (widened (bits_of depth) sums.old) (widened (bits_of depth) sums.new) }
 {
     for (i, sum) in sums.iter_mut().enumerate() {
         *sum = layered(*sum, samples[i], source, depth);
@@ -85,8 +84,7 @@ pub fn add_layer(played: &Played, channels: usize, depth: Depth, sums: &mut [i32
     requires inside { FitsBlock 4096 channels played.now.stretch }
     requires room { length sums.old ≡ 4096 * channels }
     requires small { All (IsWithin 254) (widened (bits_of depth) sums.old) }
-    ensures grown { HasGrown (widened (bits_of depth) sums.old) (widened (bits_of depth) sums.new) }
-    ensures played { HasPlayed played.now.stretch played.now.shape played.now.frames.channels
+    ensures { HasPlayed played.now.stretch played.now.shape played.now.frames.channels
         (bits_of played.now.frames.depth) played.now.frames.samples.now
         (record { channels = channels; values = widened (bits_of depth) sums.old })
         (record { channels = channels; values = widened (bits_of depth) sums.new }) }
@@ -118,7 +116,7 @@ fn add_stored(bytes: &[u8], depth: Depth, sums: &mut [i32])
     requires small { All (IsWithin 254) (widened (bits_of depth) sums.old) }
     ensures added { HasAdded (1, 1) (bits_of depth) (samples_in (bits_of depth) (length sums.old) bytes.now)
         (widened (bits_of depth) sums.old) (widened (bits_of depth) sums.new) }
-    ensures grown { HasGrown (widened (bits_of depth) sums.old) (widened (bits_of depth) sums.new) }
+    ensures fit { All (FitsDepth (bits_of depth)) (samples_in (bits_of depth) (length sums.old) bytes.now) }
 {
     add_unpacked(depth, bytes, sums);
 }
@@ -131,7 +129,8 @@ pub fn add_stored_layer(stored: &Stored, channels: usize, sums: &mut [i32])
     requires inside { FitsBlock 4096 channels stored.now.stretch }
     requires room { length sums.old ≡ 4096 * channels }
     requires small { All (IsWithin 254) (widened (bits_of stored.now.depth) sums.old) }
-    ensures grown { HasGrown (widened (bits_of stored.now.depth) sums.old) (widened (bits_of stored.now.depth) sums.new) }
+    ensures fit { All (FitsDepth (bits_of stored.now.depth))
+        (samples_in (bits_of stored.now.depth) (stored.now.stretch.length * stored.now.channels) stored.now.bytes.now) }
     ensures played { HasPlayed stored.now.stretch stored.now.shape stored.now.channels (bits_of stored.now.depth)
         (samples_in (bits_of stored.now.depth) (stored.now.stretch.length * stored.now.channels) stored.now.bytes.now)
         (record { channels = channels; values = widened (bits_of stored.now.depth) sums.old })

@@ -2,6 +2,7 @@
 #![tactic(auto)]
 
 mod addition;
+mod additions;
 mod alone;
 mod buffer;
 mod fault;

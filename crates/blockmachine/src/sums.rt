@@ -6,6 +6,7 @@ ghost use Rattle.pcm.specs.Samples.{samples_in};
 ghost use Rattle.blockmachine.specs.Sums.{AreSums, BlockSums, HasPlayed};
 
 use crate::addition;
+use crate::additions::Additions;
 use crate::frames::{Frames, Played, Stored};
 use crate::layers::{
     self, FEW_LAYERS, add_layer, add_stored_layer, emit_kept, is_layer, is_stored_layer,
@@ -19,12 +20,12 @@ use std::marker::Model;
 /// The frames of a block; the last one may have fewer.
 const BLOCK_LENGTH: usize = 4096;
 
-/// So many stretches can't take a sum out of 64 bits.
+/// So many samples can't take a sum out of 64 bits.
 const FEW: u32 = 32_767;
 
-/// The sums of a block, frame after frame. As long as few stretches were added since all were zero, none is larger than
-/// as many samples at full scale. They begin at the depth of the block, in 32 bits, and go to full scale at the first
-/// stretch that is faded, deeper, or on some of the channels alone.
+/// The sums of a block, frame after frame. As long as few stretches were added at one frame since all were zero, none is
+/// larger than as many samples at full scale. They begin at the depth of the block, in 32 bits, and go to full scale at
+/// the first stretch that is faded, deeper, or on some of the channels alone.
 #[derive(Drop)]
 pub struct Sums {
     channels: u8,
@@ -32,14 +33,13 @@ pub struct Sums {
     depth: Depth,
     layers: Vec<i32>,
     values: Vec<i64>,
-    additions: u32,
+    additions: Additions,
 }
 
 impl Model for Sums {
     ghost use Rattle.std.specs.Prelude.{◌≡◌, ◌*◌, ◌<◌, ◌≤◌, length};
-    ghost use Rattle.std.specs.List.{All};
     ghost use Rattle.sound_terms.specs.Depth.{bits_of};
-    ghost use Rattle.blockmachine.specs.Sums.{BlockSums, IsWithin, few_additions, kept_sums};
+    ghost use Rattle.blockmachine.specs.Sums.{AreFew, BlockSums, few_additions, kept_sums};
 
     ghost Value = { BlockSums };
 
@@ -49,8 +49,9 @@ impl Model for Sums {
     } };
 
     ghost invariant = { λ s. (length s.values.items ≡ 4096 * s.channels) × (length s.layers.items ≡ 4096 * s.channels)
-        × (1 ≤ s.channels) × (s.channels ≤ 64) × (s.additions < few_additions
-        → All (IsWithin s.additions) (kept_sums s.at_depth (bits_of s.depth) s.layers.items s.values.items)) };
+        × (1 ≤ s.channels) × (s.channels ≤ 64) × (s.additions.most < few_additions
+        → AreFew s.additions.most (s.additions.fewer_from * s.channels)
+        (kept_sums s.at_depth (bits_of s.depth) s.layers.items s.values.items)) };
 }
 
 impl Sums {
@@ -69,7 +70,10 @@ impl Sums {
             depth: Depth::TwentyFour,
             layers,
             values,
-            additions: FEW,
+            additions: Additions {
+                most: FEW,
+                fewer_from: 0,
+            },
         })
     }
 
@@ -89,7 +93,10 @@ impl Sums {
         layers::set_to_zero(self.layers.as_mut_slice());
         self.at_depth = true;
         self.depth = depth;
-        self.additions = 0;
+        self.additions = Additions {
+            most: 0,
+            fewer_from: 0,
+        };
     }
 
     /// Adds what a stretch plays. `samples` has room for its frames.
@@ -102,10 +109,10 @@ impl Sums {
         ensures same_channels { self.new.channels ≡ self.old.channels }
     {
         let channels = self.channels as usize;
-        let few = self.at_depth && self.additions < FEW_LAYERS;
+        let few = self.at_depth && self.additions.most < FEW_LAYERS;
         if few && is_stored_layer(stored, channels, self.depth) {
             add_stored_layer(stored, channels, self.layers.as_mut_slice());
-            self.additions += 1;
+            self.additions = self.additions.with(&stored.stretch);
         } else {
             self.add_unpacked(stored, samples);
         }
@@ -142,10 +149,10 @@ impl Sums {
         ensures same_channels { self.new.channels ≡ self.old.channels }
     {
         let channels = self.channels as usize;
-        let few = self.at_depth && self.additions < FEW_LAYERS;
+        let few = self.at_depth && self.additions.most < FEW_LAYERS;
         if few && is_layer(played, channels, self.depth) {
             add_layer(played, channels, self.depth, self.layers.as_mut_slice());
-            self.additions += 1;
+            self.additions = self.additions.with(&played.stretch);
         } else {
             self.add_at_full_scale(played);
         }
@@ -161,18 +168,16 @@ impl Sums {
         let layers = self.layers.as_slice();
         widen_layers(
             self.at_depth,
-            self.additions == 0,
+            self.additions.most == 0,
             self.depth,
             layers,
             self.values.as_mut_slice(),
         );
         self.at_depth = false;
-        let is_small = self.additions < FEW;
+        let is_small = self.additions.most < FEW;
         let channels = self.channels as usize;
         addition::add_played(played, channels, is_small, self.values.as_mut_slice());
-        if is_small {
-            self.additions += 1;
-        }
+        self.additions = self.additions.with(&played.stretch);
     }
 
     /// Hands out the first frames, as many as there is room for, at this depth.

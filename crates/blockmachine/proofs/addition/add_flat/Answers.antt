@@ -6,7 +6,6 @@ use mir.Val.{SFits}
 use Rattle.sound_terms.specs.Depth.{bits_of}
 use Rattle.sound_terms.specs.Blocks.{held}
 use Rattle.blockmachine.proofs.Added.{added_more, flat_share}
-use Rattle.blockmachine.proofs.Bounds.{run_grown}
 use Rattle.blockmachine.proofs.addition.add_flat.Goals as goal
 
 pub loop-i-preserved : goal.loop-i-preserved
@@ -38,12 +37,5 @@ added-requires-clause-share c =
     let sample_fits : SFits w64 c.full_sample-sample.result = search rules in
     rw (to_z-of_z w64 c.full_sample-sample.result sample_fits) c.full_sample-sample.ensures.within
 
-pub returns-clause-added : goal.returns-clause-added
-returns-clause-added c = λ k below. c.loop-i.invariant.0 k (omega arith)
-
-pub returns-clause-grown : goal.returns-clause-grown
-returns-clause-grown c = λ m small.
-    let same : length c.loop-i.sums ≡ length c.args.sums.now = search rules in
-    run_grown m 1 1 c.args.scale.depth c.args.samples.now c.args.sums.now c.loop-i.sums
-    (c.requires.each ∙ sym same) (sym same) (omega arith) (omega arith)
-    c.requires.fit (returns-clause-added c) small
+pub returns : goal.returns
+returns c = λ k below. c.loop-i.invariant.0 k (omega arith)

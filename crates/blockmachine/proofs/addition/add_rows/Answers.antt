@@ -6,7 +6,6 @@ use Rattle.sound_terms.specs.Groups.{fraction_of}
 use Rattle.sound_terms.specs.Blocks.{sums_with}
 use Rattle.blockmachine.specs.Sums.{AreSums, IsWithin}
 use Rattle.blockmachine.proofs.Added.{IsRun, no_sample, run_fits, run_more, ramp_shorter}
-use Rattle.blockmachine.proofs.Bounds.{part_grown, within_more}
 use Rattle.blockmachine.proofs.Slopes.{slope_fraction, slope_less, slope_next, slope_room}
 use Rattle.blockmachine.proofs.Places.{get_or-part, kept_elsewhere}
 use Rattle.facts.specs.Parts.{length-put_mid}
@@ -53,20 +52,13 @@ loop-i-preserved c =
           room whole (λ n below. get_or-part f m n played.frames.samples.now (pos 0) (omega (arith, wide, below)))
           (λ j low high. let here : j ≡ i = omega arith in
           ap (λ n. fraction_of played.shape n) here ∙ fraction)
-          (c.loop-i.invariant.played reading plays before are) c.add_row.ensures.added;
+          (c.loop-i.invariant.played reading plays before are) c.add_row.ensures;
       behind = λ n d later.
           let row : (stretch.at + (i + 1)) * channels ≤ n = later in
           let next : (stretch.at + i + 1) * channels ≤ n = omega arith in
           kept_elsewhere a k old new d fit whole n
           (inr (omega (arith, next, long, inside.dest_inside, inside.dest_from_one)))
           ∙ c.loop-i.invariant.behind n d (omega (arith, next));
-      grown = λ n small.
-          part_grown (n + 1) a k old new fit whole
-          (c.add_row.ensures.grown n (λ j d below.
-          let near : j < k = omega (arith, length-take k (drop a old), below) in
-          subst (IsWithin n) (sym (get_or-part a k j old d near ∙ c.loop-i.invariant.behind (a + j) d (omega arith)))
-          (small (a + j) d (omega (arith, same, fit, near)))))
-          (c.loop-i.invariant.grown n small);
     }
 
 pub loop-i-init : goal.loop-i-init
@@ -77,7 +69,6 @@ loop-i-init c = record {
       are i channel near low high
       ∙ sym (no_sample reading c.args.played.now.stretch c.args.played.now.shape before i channel);
   behind = λ n d later. refl;
-  grown = λ m small i d below. within_more m (m + 1) _ (omega arith) (small i d below);
 }
 
 pub of-slope-requires : goal.of-slope-requires
@@ -138,8 +129,8 @@ slice_bounds-add_row-end c =
     omega (arith, fits, c.loop-i.invariant.same_length, c.requires.room) in
     search (rules, fit)
 
-pub returns-clause-played : goal.returns-clause-played
-returns-clause-played c = λ reading plays before are.
+pub returns : goal.returns
+returns c = λ reading plays before are.
     let played = c.args.played.now in
     let end : c.loop-i.i ≡ played.stretch.length = omega arith in
     subst (λ (n : ℕ). AreSums (record { channels = c.args.channels; values = c.loop-i.sums })

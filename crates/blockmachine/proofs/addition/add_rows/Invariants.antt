@@ -5,7 +5,7 @@ use Rattle.sound_terms.specs.Mix.{Reading}
 use Rattle.sound_terms.specs.Blocks.{sums_with}
 use Rattle.blockmachine.specs.Playing.{Plays}
 use Rattle.blockmachine.specs.Slopes.{IsAt}
-use Rattle.blockmachine.specs.Sums.{AreSums, HasGrown}
+use Rattle.blockmachine.specs.Sums.{AreSums}
 use Rattle.blockmachine.proofs.addition.add_rows.Given as goal
 
 abbrev pub invariant-loop-i : goal.invariant-loop-i
@@ -18,5 +18,4 @@ invariant-loop-i l = record {
       → AreSums (record { channels = l.channels; values = l.sums })
       (sums_with reading (record l.played.stretch { length = l.i }) l.played.shape before);
   behind : (n : ℕ) (d : ℤ) → (l.played.stretch.at + l.i) * l.channels ≤ n → get_or l.sums n d ≡ get_or l.fn.sums n d;
-  grown : HasGrown l.fn.sums l.sums;
 }

@@ -1,4 +1,4 @@
-use Rattle.std.proofs.Common.{◌≡◌, ◌<◌, length, get_or, arith, rules, sym, ap, ◌∙◌}
+use Rattle.std.proofs.Common.{◌≡◌, ◌<◌, length, get_or, arith, rules, ap, ◌∙◌}
 use Rattle.std.specs.Prelude.{pos, ◌+ℤ◌}
 use Rattle.std.proofs.lemmas.Int.{to_z-of_z}
 use mir.Syntax.{w64}
@@ -6,7 +6,6 @@ use mir.Val.{SFits}
 use Rattle.sound_terms.specs.Depth.{bits_of}
 use Rattle.sound_terms.specs.Blocks.{held}
 use Rattle.blockmachine.proofs.Added.{added_more}
-use Rattle.blockmachine.proofs.Bounds.{run_grown}
 use Rattle.blockmachine.proofs.addition.add_shares.Goals as goal
 
 pub loop-i-preserved : goal.loop-i-preserved
@@ -36,12 +35,5 @@ added-requires-clause-small c = λ yes.
     let same : get_or sums n (pos 0) ≡ get_or c.args.sums.now n (pos 0) = c.loop-i.invariant.1 n (omega arith) in
     rw (to_z-of_z w64 (get_or sums n (pos 0)) sum_fits, same) (c.requires.small yes n (pos 0) inside)
 
-pub returns-clause-added : goal.returns-clause-added
-returns-clause-added c = λ k below. c.loop-i.invariant.0 k (omega arith)
-
-pub returns-clause-grown : goal.returns-clause-grown
-returns-clause-grown c = λ m small.
-    let added = (returns-clause-added c) in
-    run_grown m c.args.gain.num c.args.gain.den c.args.scale.depth c.args.samples.now c.args.sums.now c.loop-i.sums
-    (c.requires.each ∙ sym c.loop-i.auto.sums) (sym c.loop-i.auto.sums) c.args.gain.fraction c.args.gain.some
-    c.requires.fit added small
+pub returns : goal.returns
+returns c = λ k below. c.loop-i.invariant.0 k (omega arith)

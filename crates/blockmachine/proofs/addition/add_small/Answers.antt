@@ -1,14 +1,12 @@
-use Rattle.std.proofs.Common.{◌≡◌, ◌<◌, ◌≤◌, ℕ, ◌+◌, ◌-◌, ◌*◌, inr, drop, get_or, length, take, arith, rules, refl, sym, ap, ◌∙◌, subst, length-take, length-drop}
+use Rattle.std.proofs.Common.{◌≡◌, ◌≤◌, ℕ, ◌+◌, ◌-◌, ◌*◌, inr, drop, get_or, length, take, arith, rules, refl, sym, ap, ◌∙◌, subst, length-take, length-drop}
 use Rattle.std.specs.Prelude.{ℤ, pos}
 use borrow.Rule.Slice.PartMut.{put_mid}
 use Rattle.sound_terms.specs.declared.piece.Shape.{Shape}
 use Rattle.sound_terms.specs.Depth.{bits_of}
 use Rattle.sound_terms.specs.Groups.{fraction_of}
 use Rattle.sound_terms.specs.Blocks.{sums_with}
-use Rattle.blockmachine.specs.Sums.{AreSums, HasAdded, IsWithin}
+use Rattle.blockmachine.specs.Sums.{AreSums, HasAdded}
 use Rattle.blockmachine.proofs.Added.{IsRun, no_sample, run_fits, run_more}
-use Rattle.blockmachine.proofs.Bounds.{part_grown, within_more}
-use Rattle.blockmachine.proofs.Places.{get_or-part}
 use Rattle.blockmachine.proofs.addition.add_small.Goals as goal
 
 pub slice_bounds-run-end : goal.slice_bounds-run-end
@@ -27,33 +25,8 @@ slice_bounds-run-end c =
     omega (arith, fits, begin, c.requires.room) in
     search (rules, fit)
 
-pub returns-then-is_run-clause-grown : goal.returns-then-is_run-clause-grown
-returns-then-is_run-clause-grown c = λ m small.
-    let played = c.args.played.now in
-    let stretch = played.stretch in
-    let channels = c.args.channels in
-    let a = stretch.at * channels in
-    let k = a + stretch.length * channels - a in
-    let source = played.frames.channels in
-    let old = c.args.sums.now in
-    let new = c.add_run.new.sums in
-    let inside = c.requires.inside in
-    let run = c.is_run.ensures (search rules) in
-    let long : k ≡ stretch.length * channels = omega arith in
-    let piece : IsRun stretch.length stretch.width source channels k = inr (run.1, run.2, long) in
-    let fits = run_fits stretch source channels 0 stretch.length k inside piece (omega arith) in
-    let begin : (stretch.at + 0) * channels + (stretch.dest - 1) ≡ a =
-    omega (arith, run.1, inside.dest_inside, inside.dest_from_one) in
-    let fit : a + k ≤ length old = omega (arith, fits, begin, c.requires.room) in
-    let whole : length new ≡ k = c.add_run.auto.sums ∙ omega (arith, length-take {A = ℤ}, length-drop {A = ℤ}, fit) in
-    part_grown (m + 1) a k old new fit whole
-    (c.add_run.ensures.grown m (λ j d below.
-    let near : j < k = omega (arith, length-take k (drop a old), below) in
-    subst (IsWithin m) (sym (get_or-part a k j old d near)) (small (a + j) d (omega (arith, fit, near)))))
-    (λ j d below. within_more m (m + 1) _ (omega arith) (small j d below))
-
-pub returns-then-is_run-clause-played : goal.returns-then-is_run-clause-played
-returns-then-is_run-clause-played c = λ reading plays before are.
+pub returns-then-is_run : goal.returns-then-is_run
+returns-then-is_run c = λ reading plays before are.
     let played = c.args.played.now in
     let stretch = played.stretch in
     let source = played.frames.channels in
@@ -77,7 +50,7 @@ returns-then-is_run-clause-played c = λ reading plays before are.
     let added : HasAdded (1, 1) (bits_of played.frames.depth) played.frames.samples.now
     (take k (drop ((stretch.at + 0) * channels + (stretch.dest - 1)) old)) new =
     subst (λ (n : ℕ). HasAdded (1, 1) (bits_of played.frames.depth) played.frames.samples.now (take k (drop n old)) new)
-    (sym begin) c.add_run.ensures.added in
+    (sym begin) c.add_run.ensures in
     subst (λ (n : ℕ). AreSums (record { channels = channels; values = put_mid n k old new })
     (sums_with reading stretch played.shape before)) begin
     (subst (λ (n : ℕ). AreSums (record {

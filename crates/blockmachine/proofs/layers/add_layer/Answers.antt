@@ -1,6 +1,6 @@
 use Rattle.std.proofs.Common.{rules}
 use Rattle.sound_terms.specs.Depth.{bits_of}
-use Rattle.blockmachine.proofs.Layered.{layer_grown, layer_played, run_inside, small_run}
+use Rattle.blockmachine.proofs.Layered.{layer_played, run_inside, small_run}
 use Rattle.blockmachine.proofs.layers.add_layer.Goals as goal
 
 pub slice_bounds-run-end : goal.slice_bounds-run-end
@@ -16,16 +16,9 @@ add_samples-requires-clause-small c =
     small_run played.stretch played.shape played.frames.channels c.args.channels (bits_of c.args.depth)
     c.args.sums.now c.requires.inside c.requires.run c.requires.room c.requires.small
 
-pub returns-clause-grown : goal.returns-clause-grown
-returns-clause-grown c =
-    let played = c.args.played.now in
-    layer_grown played.stretch played.shape played.frames.channels c.args.channels (bits_of c.args.depth)
-    c.args.sums.now c.requires.inside c.requires.run c.requires.room c.add_samples.new.sums c.add_samples.auto.sums
-    c.add_samples.ensures.grown
-
-pub returns-clause-played : goal.returns-clause-played
-returns-clause-played c =
+pub returns : goal.returns
+returns c =
     let played = c.args.played.now in
     layer_played played.stretch played.shape played.frames.channels c.args.channels (bits_of c.args.depth)
     c.args.sums.now c.requires.inside c.requires.run c.requires.room (bits_of played.frames.depth)
-    played.frames.samples.now c.add_samples.new.sums played.source c.add_samples.auto.sums c.add_samples.ensures.added
+    played.frames.samples.now c.add_samples.new.sums played.source c.add_samples.auto.sums c.add_samples.ensures

@@ -9,7 +9,6 @@ use Rattle.sound_terms.specs.Mix.{full_scale, share_of}
 use Rattle.sound_terms.specs.Blocks.{held}
 use Rattle.blockmachine.specs.Sums.{HasAddedTo, IsWithin, widened}
 use Rattle.blockmachine.proofs.Added.{added_more, flat_share}
-use Rattle.blockmachine.proofs.Bounds.{run_grown}
 use Rattle.blockmachine.proofs.AtDepth.{get_or-widened}
 use Rattle.blockmachine.proofs.layers.add_samples.Goals as goal
 
@@ -50,16 +49,3 @@ layered-requires-clause-small c =
     let same = sym (c.loop-i.invariant.1 n (omega arith)) ∙ get_or-widened depth sums n inside in
     rw (to_z-of_z w32 (get_or sums n (pos 0)) sum_fits)
     (subst (IsWithin 254) same (c.requires.small n (pos 0) (rw (length-map old (full_scale depth)) within)))
-
-pub returns-clause-grown : goal.returns-clause-grown
-returns-clause-grown c = λ m small.
-    let sums = c.loop-i.sums in
-    let old = c.args.sums.now in
-    let depth = bits_of c.args.depth in
-    let same : length sums ≡ length old = search rules in
-    let end : c.loop-i.i ≡ length sums = omega arith in
-    let long = length-map sums (full_scale depth) in
-    run_grown m 1 1 c.args.source c.args.samples.now (widened depth old) (widened depth sums)
-    (c.requires.each ∙ sym same ∙ sym long) (length-map old (full_scale depth) ∙ sym same ∙ sym long)
-    (omega arith) (omega arith) c.requires.fit
-    (λ k below. c.loop-i.invariant.0 k (omega (arith, below, long, end))) small

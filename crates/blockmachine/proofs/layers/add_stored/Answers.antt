@@ -3,8 +3,8 @@ use Rattle.std.specs.Prelude.{ℤ}
 use Rattle.sound_terms.specs.Depth.{bits_of}
 use Rattle.pcm.specs.Samples.{samples_in}
 use Rattle.pcm.specs.Laws.{all_fit, length-samples_in}
-use Rattle.blockmachine.specs.Sums.{HasAdded, HasGrown, widened}
-use Rattle.blockmachine.proofs.StoredSamples.{stored_added, stored_grown, stored_room}
+use Rattle.blockmachine.specs.Sums.{HasAdded, widened}
+use Rattle.blockmachine.proofs.StoredSamples.{stored_added, stored_room}
 use Rattle.blockmachine.proofs.layers.add_stored.Goals as goal
 
 pub add_unpacked-requires-clause-room : goal.add_unpacked-requires-clause-room
@@ -26,12 +26,6 @@ returns-clause-added c =
     (stored_added c.args.depth sums samples c.requires.shallow (length-samples_in bits (length sums) bytes)
     (all_fit c.args.depth (length sums) bytes (λ k. omega (arith, c.type_inv.bytes k))) c.requires.small)
 
-pub returns-clause-grown : goal.returns-clause-grown
-returns-clause-grown c =
-    let bits = bits_of c.args.depth in
-    let sums = c.args.sums.now in
-    let bytes = c.args.bytes.now in
-    let samples = samples_in bits (length sums) bytes in
-    subst (λ (l : List ℤ). HasGrown (widened bits sums) (widened bits l)) (sym c.add_unpacked.ensures)
-    (stored_grown c.args.depth sums samples c.requires.shallow (length-samples_in bits (length sums) bytes)
-    (all_fit c.args.depth (length sums) bytes (λ k. omega (arith, c.type_inv.bytes k))) c.requires.small)
+pub returns-clause-fit : goal.returns-clause-fit
+returns-clause-fit c =
+    all_fit c.args.depth (length c.args.sums.now) c.args.bytes.now (λ k. omega (arith, c.type_inv.bytes k))

@@ -1,8 +1,8 @@
-use Rattle.std.proofs.Common.{ℕ, ◌+◌, ◌-◌, ◌*◌, ◌/◌, ◌∙◌, ap, drop, subst, sym, take, rules}
+use Rattle.std.proofs.Common.{ℕ, ◌+◌, ◌-◌, ◌*◌, ◌/◌, All, ◌∙◌, ap, drop, subst, sym, take, rules}
 use Rattle.sound_terms.specs.Depth.{bits_of}
-use Rattle.pcm.specs.Samples.{samples_in}
+use Rattle.pcm.specs.Samples.{FitsDepth, samples_in}
 use Rattle.blockmachine.specs.Sums.{HasAdded, widened}
-use Rattle.blockmachine.proofs.Layered.{layer_grown, layer_played, length-run, run_inside, small_run}
+use Rattle.blockmachine.proofs.Layered.{layer_played, length-run, run_inside, small_run}
 use Rattle.blockmachine.proofs.layers.add_stored_layer.Goals as goal
 
 pub slice_bounds-run-end : goal.slice_bounds-run-end
@@ -27,13 +27,6 @@ add_stored-requires-clause-small c =
     small_run stored.stretch stored.shape stored.channels c.args.channels (bits_of stored.depth)
     c.args.sums.now c.requires.inside c.requires.run c.requires.room c.requires.small
 
-pub returns-clause-grown : goal.returns-clause-grown
-returns-clause-grown c =
-    let stored = c.args.stored.now in
-    layer_grown stored.stretch stored.shape stored.channels c.args.channels (bits_of stored.depth)
-    c.args.sums.now c.requires.inside c.requires.run c.requires.room c.add_stored.new.sums c.add_stored.auto.sums
-    c.add_stored.ensures.grown
-
 pub returns-clause-played : goal.returns-clause-played
 returns-clause-played c =
     let stored = c.args.stored.now in
@@ -48,3 +41,12 @@ returns-clause-played c =
     c.add_stored.new.sums stored.source c.add_stored.auto.sums
     (subst (λ (n : ℕ). HasAdded (1, 1) bits (samples_in bits n stored.bytes.now) (widened bits run)
     (widened bits c.add_stored.new.sums)) all c.add_stored.ensures.added)
+
+pub returns-clause-fit : goal.returns-clause-fit
+returns-clause-fit c =
+    let stored = c.args.stored.now in
+    let bits = bits_of stored.depth in
+    let count = length-run stored.stretch stored.shape stored.channels c.args.channels bits
+    c.args.sums.now c.requires.inside c.requires.run c.requires.room in
+    let all = count ∙ ap (λ n. stored.stretch.length * n) (sym c.requires.run.2) in
+    subst (λ (n : ℕ). All (FitsDepth bits) (samples_in bits n stored.bytes.now)) all c.add_stored.ensures.fit

@@ -1,11 +1,11 @@
-use Rattle.std.proofs.Common.{◌≡◌, ◌≤◌, ◌<◌, suc, ◌+◌, ◌-◌, ◌*◌, ◌++◌, length, take, drop, rules, arith, sym, ◌∙◌, subst}
+use Rattle.std.proofs.Common.{◌≡◌, ◌≤◌, ◌<◌, ℕ, suc, ◌+◌, ◌-◌, ◌*◌, ◌++◌, length, take, drop, get_or, rules, arith, sym, ◌∙◌, subst}
 use Rattle.std.specs.Prelude.{pos}
 use Rattle.std.proofs.Math.Nat.{mul-le-mul_right}
 use Rattle.std.proofs.lemmas.Int.{ints}
 use Rattle.std.proofs.lemmas.List.{get_or_default, length-map}
 use Rattle.sound_terms.specs.Depth.{bits_of}
 use Rattle.sound_terms.specs.Mix.{full_scale}
-use Rattle.blockmachine.specs.Sums.{IsWithin}
+use Rattle.blockmachine.specs.Sums.{IsWithin, widened}
 use Rattle.blockmachine.proofs.AtDepth.{length-front, zero_at}
 use Rattle.blockmachine.proofs.sums.Sums.clear.Goals as goal
 
@@ -17,21 +17,21 @@ invariant_of-self c =
     let rest = drop (length new) inside.layers.items in
     let long : length new ≡ n = search rules in
     let whole : n ≡ 4096 * inside.channels = search rules in
-    let front = length-front n new rest (omega arith) in (
+    let front = length-front n new rest (omega arith) in
+    let wide = length-map (take n (new ++ rest)) (full_scale (bits_of c.args.depth)) in
+    let nothing : (k : ℕ) → k < length (widened (bits_of c.args.depth) (take n (new ++ rest)))
+    → IsWithin 0 (get_or (widened (bits_of c.args.depth) (take n (new ++ rest))) k (pos 0)) = λ k below.
+    subst (IsWithin 0) (sym (zero_at (bits_of c.args.depth) n new rest c.set_to_zero.ensures (omega arith) k
+    (omega (arith, below, front, wide))))
+    (omega (arith, ints), omega (arith, ints)) in (
       c.self.invariant.0,
       front ∙ whole,
       c.self.invariant.2,
       c.self.invariant.3,
-      λ few k d below.
-          let near : k < n = omega (
-            arith,
-            below,
-            front,
-            length-map (take n (new ++ rest)) (full_scale (bits_of c.args.depth)),
-          ) in
-          subst (IsWithin 0) (sym (get_or_default _ k d (pos 0) below
-          ∙ zero_at (bits_of c.args.depth) n new rest c.set_to_zero.ensures (omega arith) k near))
-          (omega (arith, ints), omega (arith, ints)),
+      λ few. (
+        λ k d below. subst (IsWithin 0) (sym (get_or_default _ k d (pos 0) below)) (nothing k below),
+        λ k later below. nothing k below,
+      ),
     )
 
 pub returns-clause-zero : goal.returns-clause-zero

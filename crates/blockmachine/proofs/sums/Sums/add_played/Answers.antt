@@ -1,0 +1,50 @@
+use Rattle.std.proofs.Common.{◌≡◌, ◌<◌, ◌*◌, ℕ, true, List, ◌++◌, length, take, drop, rules, sym, ap, ◌∙◌, subst}
+use Rattle.std.specs.Prelude.{ℤ}
+use Rattle.std.proofs.lemmas.List.{length-map}
+use Rattle.sound_terms.specs.Depth.{bits_of}
+use Rattle.sound_terms.specs.Mix.{full_scale}
+use Rattle.sound_terms.specs.Blocks.{FitsBlock}
+use Rattle.blockmachine.specs.Sums.{AreFew, BlockSums, kept_sums, widened}
+use Rattle.blockmachine.proofs.Counted.{few_after, written}
+use Rattle.blockmachine.proofs.sums.Sums.add_played.Goals as goal
+
+pub invariant_of-self : goal.invariant_of-self
+invariant_of-self c =
+    let inside = c.self.inside in
+    let played = c.args.played.now in
+    let bits = bits_of inside.depth in
+    let n = inside.layers.len in
+    let old = c.as_mut_slice.result.now in
+    let new = c.add_layer.new.sums in
+    let rest = drop (length new) inside.layers.items in
+    let long : length new ≡ n = search rules in
+    let whole : n ≡ 4096 * inside.channels = search rules in
+    let deep : inside.at_depth ≡ true = search rules in
+    let channels : inside.channels ≡ c.args.self.now.channels = ap (λ (s : BlockSums). s.channels) c.self.view_is in
+    let fits : FitsBlock 4096 inside.channels played.stretch =
+    subst (λ (m : ℕ). FitsBlock 4096 m played.stretch) (sym channels) c.requires in
+    let over = written n new rest long in
+    let counted = c.with-self-inside.ensures in
+    let from = inside.additions.fewer_from * inside.channels in
+    let before : inside.additions.most < 32767 → AreFew inside.additions.most from (widened bits old) = λ few.
+    subst (λ (l : List ℤ). AreFew inside.additions.most from (widened bits l)) (sym c.as_mut_slice.ensures.value)
+    (subst (λ b. AreFew inside.additions.most from (kept_sums b bits inside.layers.items inside.values.items)) deep
+    (c.self.invariant.4 few)) in (
+      c.self.invariant.0,
+      ap (λ (l : List ℤ). length l) over ∙ long ∙ whole,
+      c.self.invariant.2,
+      c.self.invariant.3,
+      λ few.
+          subst (λ b. AreFew c.with-self-inside.result.most (c.with-self-inside.result.fewer_from * inside.channels)
+          (kept_sums b bits (take n (new ++ rest)) inside.values.items)) (sym deep)
+          (subst (λ (l : List ℤ). AreFew c.with-self-inside.result.most
+          (c.with-self-inside.result.fewer_from * inside.channels) (widened bits l)) (sym over)
+          (subst (λ (m : ℕ). AreFew c.with-self-inside.result.most (m * inside.channels) (widened bits new))
+          (sym counted.from)
+          (few_after played.stretch played.shape played.frames.channels inside.channels played.frames.depth
+          played.frames.samples.now (widened bits old) (widened bits new) fits played.ramp played.frames.fit
+          played.whole played.source (length-map new (full_scale bits) ∙ long ∙ whole)
+          (length-map old (full_scale bits) ∙ search rules ∙ sym (length-map new (full_scale bits)))
+          c.add_layer.ensures inside.additions.most inside.additions.fewer_from
+          c.with-self-inside.result.most before few (counted.counted few)))),
+    )
