@@ -28,10 +28,20 @@ impl ShelfFault {
     }
 }
 
-/// An output's device failed, which it counts. What number that is depends on the output.
+/// An output's device failed, which it counts.
 #[derive(Clone, Copy, Debug, PartialEq, Eq, Error)]
 #[error("the device failed")]
 pub struct DeviceFault;
+
+impl DeviceFault {
+    /// The number of the refusal as a fault of a device. A call of the product that writes an output says 62, or 19 of a
+    /// list.
+    pub fn number(&self) -> u8
+        ensures { result ≡ 22 }
+    {
+        22
+    }
+}
 
 impl From<DeviceFault> for ShelfFault {
     ghost from_gives = { λ _ fault. fault ≡ Device };
