@@ -15,11 +15,10 @@ pub use gain::Gain;
 use pcm::Depth;
 pub use rise::Rise;
 
-/// A sample of this depth at full scale: from -2^47 to 2^47.
+/// A sample of this depth at full scale: from -2^47 to 2^47 where it lies within the range of the depth.
 pub fn widen(x: i32, depth: Depth) -> i64
-    requires { FitsDepth (bits_of depth) x }
     ensures value { result ≡ full_scale (bits_of depth) x }
-    ensures within { (neg_ℤ (pos (2 ^ 47)) ≤ℤ result) × (result ≤ℤ pos (2 ^ 47)) }
+    ensures within { FitsDepth (bits_of depth) x → (neg_ℤ (pos (2 ^ 47)) ≤ℤ result) × (result ≤ℤ pos (2 ^ 47)) }
 {
     let sample = i64::from(x);
     match depth {
