@@ -1,7 +1,7 @@
 -- One sample more is read, or written.
 use Rattle.std.proofs.Common.{◌≡◌, ◌⊎◌, inl, inr, ℕ, zero, suc, ◌+◌, ◌-◌, ◌*◌, ◌/◌, ◌^◌, ◌<◌, ◌≤◌, List, [], ◌++◌, All, length, take, drop, set, get_or, refl, sym, ap, ◌∙◌, arith, length-append}
-use Rattle.std.specs.Prelude.{ℤ, pos, negsuc}
-use Rattle.std.specs.Int.{w16, w32, cast_signed, cast_unsigned}
+use Rattle.std.specs.Prelude.{ℤ, pos}
+use Rattle.std.specs.Int.{w16, cast_signed}
 use Rattle.std.specs.List.{flat_map}
 use Rattle.std.proofs.Math.Nat.{mul-le-mul_right}
 use Rattle.std.proofs.lemmas.Bool.{cases_lt}
@@ -10,7 +10,7 @@ use Rattle.std.proofs.lemmas.Int.{ints}
 use Rattle.std.proofs.lemmas.List.{append_assoc, append-nil, drop-drop, drop-take, length-take-le, take_all, take_at, take_more, take_more_set}
 use Rattle.std.proofs.lemmas.List.Concat.{flat_map-append}
 use borrow.Rule.Slice.PartMut.{post_of, put_mid}
-use Rattle.byteorder.specs.Endian.{low_bytes, twos_complement}
+use Rattle.byteorder.specs.Endian.{twos_complement}
 use Rattle.sound_terms.specs.declared.Depth.{Depth}
 use Rattle.sound_terms.specs.Depth.{bits_of}
 use Rattle.sound_terms.specs.Waves.{sample_bytes, sample_of}
@@ -20,11 +20,6 @@ use Rattle.pcm.specs.Laws.{AreBytes, all_fit, bytes_again, length-sample_bytes, 
 -- the two ways to read 16 bits as a signed number
 pub signed16 : (x : ℕ) → x < 256 ^ 2 → cast_signed w16 x ≡ twos_complement 2 x
 signed16 x below = grind (arith, ints, nat_tests)
-
--- the bits of a sample of 16 bits
-pub bits16 : (sample : ℤ) → FitsDepth 16 sample → cast_unsigned w16 sample ≡ low_bytes w32 2 sample
-bits16 (pos n) fits = grind (arith, ints)
-bits16 (negsuc n) fits = grind (arith, ints)
 
 pub one_read : (depth i : ℕ) (bytes : List ℕ) (samples : List ℤ) (sample : ℤ) → i < length samples
     → sample ≡ sample_of depth (drop (i * (depth / 8)) bytes)

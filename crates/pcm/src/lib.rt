@@ -42,13 +42,13 @@ pub fn add_unpacked(depth: Depth, bytes: &[u8], sums: &mut [i32])
     }
 }
 
-/// Writes `samples`, each within the range of the depth, over `bytes`, which has room for just these: 2, 3 or 4
-/// bytes a sample at 16, 24 or 32 bits.
+/// Writes `samples` over `bytes`, which has room for just these: the lowest 2, 3 or 4 bytes of each at 16, 24 or 32
+/// bits. They are read again where each is within the range of the depth.
 pub fn pack(depth: Depth, samples: &[i32], bytes: &mut [u8])
-    requires length { length bytes.old ≡ length samples.now * (bits_of depth / 8) }
-    requires fit { All (FitsDepth (bits_of depth)) samples.now }
+    requires { length bytes.old ≡ length samples.now * (bits_of depth / 8) }
     ensures bytes { bytes.new ≡ flat_map (sample_bytes (bits_of depth)) samples.now }
-    ensures again { samples_in (bits_of depth) (length samples.now) bytes.new ≡ samples.now }
+    ensures again { All (FitsDepth (bits_of depth)) samples.now
+        → samples_in (bits_of depth) (length samples.now) bytes.new ≡ samples.now }
 {
     match depth {
         Depth::Sixteen => pack_sixteen(samples, bytes),
@@ -100,10 +100,9 @@ fn add_at(depth: Depth, bytes: &[u8], sums: &mut [i32])
 }
 
 fn pack_sixteen(samples: &[i32], bytes: &mut [u8])
-    requires length { length bytes.old ≡ length samples.now * 2 }
-    requires fit { All (FitsDepth 16) samples.now }
+    requires { length bytes.old ≡ length samples.now * 2 }
     ensures bytes { bytes.new ≡ flat_map (sample_bytes 16) samples.now }
-    ensures again { samples_in 16 (length samples.now) bytes.new ≡ samples.now }
+    ensures again { All (FitsDepth 16) samples.now → samples_in 16 (length samples.now) bytes.new ≡ samples.now }
 {
     for (i, sample) in samples.iter().enumerate() {
         write_sixteen(&mut bytes[i * 2..], *sample);
@@ -111,10 +110,9 @@ fn pack_sixteen(samples: &[i32], bytes: &mut [u8])
 }
 
 fn pack_twenty_four(samples: &[i32], bytes: &mut [u8])
-    requires length { length bytes.old ≡ length samples.now * 3 }
-    requires fit { All (FitsDepth 24) samples.now }
+    requires { length bytes.old ≡ length samples.now * 3 }
     ensures bytes { bytes.new ≡ flat_map (sample_bytes 24) samples.now }
-    ensures again { samples_in 24 (length samples.now) bytes.new ≡ samples.now }
+    ensures again { All (FitsDepth 24) samples.now → samples_in 24 (length samples.now) bytes.new ≡ samples.now }
 {
     let done = pack_lanes(samples, bytes);
     for i in done..samples.len() {
@@ -123,10 +121,9 @@ fn pack_twenty_four(samples: &[i32], bytes: &mut [u8])
 }
 
 fn pack_thirty_two(samples: &[i32], bytes: &mut [u8])
-    requires length { length bytes.old ≡ length samples.now * 4 }
-    requires fit { All (FitsDepth 32) samples.now }
+    requires { length bytes.old ≡ length samples.now * 4 }
     ensures bytes { bytes.new ≡ flat_map (sample_bytes 32) samples.now }
-    ensures again { samples_in 32 (length samples.now) bytes.new ≡ samples.now }
+    ensures again { All (FitsDepth 32) samples.now → samples_in 32 (length samples.now) bytes.new ≡ samples.now }
 {
     for (i, sample) in samples.iter().enumerate() {
         write_thirty_two(&mut bytes[i * 4..], *sample);

@@ -2,7 +2,6 @@
 ghost use Rattle.std.specs.Prelude.{◌≡◌, ◌+◌, ◌*◌, ◌/◌, ◌≤◌, ◌++◌, length, drop};
 ghost use Rattle.sound_terms.specs.Depth.{bits_of};
 ghost use Rattle.sound_terms.specs.Waves.{sample_bytes, sample_of};
-ghost use Rattle.pcm.specs.Samples.{FitsDepth};
 
 use byteorder::{ByteOrder, LittleEndian};
 use sound_terms::Depth;
@@ -69,31 +68,28 @@ pub fn sample_at(depth: Depth, bytes: &[u8], i: usize) -> i32
     }
 }
 
-/// Puts a sample of 16 bits over the first bytes.
+/// Puts the lowest 16 bits of a sample over the first bytes.
 #[inline(always)]
 pub fn write_sixteen(bytes: &mut [u8], sample: i32)
-    requires room { 2 ≤ length bytes.old }
-    requires fit { FitsDepth 16 sample }
+    requires { 2 ≤ length bytes.old }
     ensures { bytes.new ≡ sample_bytes 16 sample ++ drop 2 bytes.old }
 {
-    LittleEndian::write_i16(bytes, sample as i16);
+    LittleEndian::write_u16(bytes, (sample.cast_unsigned() % 65_536) as u16);
 }
 
-/// Puts a sample of 24 bits over the first bytes.
+/// Puts the lowest 24 bits of a sample over the first bytes.
 #[inline(always)]
 pub fn write_twenty_four(bytes: &mut [u8], sample: i32)
-    requires room { 3 ≤ length bytes.old }
-    requires fit { FitsDepth 24 sample }
+    requires { 3 ≤ length bytes.old }
     ensures { bytes.new ≡ sample_bytes 24 sample ++ drop 3 bytes.old }
 {
-    LittleEndian::write_i24(bytes, sample);
+    LittleEndian::write_u24(bytes, sample.cast_unsigned() % 16_777_216);
 }
 
 /// Puts a sample of 32 bits over the first bytes.
 #[inline(always)]
 pub fn write_thirty_two(bytes: &mut [u8], sample: i32)
-    requires room { 4 ≤ length bytes.old }
-    requires fit { FitsDepth 32 sample }
+    requires { 4 ≤ length bytes.old }
     ensures { bytes.new ≡ sample_bytes 32 sample ++ drop 4 bytes.old }
 {
     LittleEndian::write_i32(bytes, sample);

@@ -84,6 +84,3 @@ returns-in-Some-clause-ran g c = λ honest. on_ok c.read_stored.result (c.read_s
     sym (bytes_again depth (frames * n) bytes small room) ∙ ap (flat_map (sample_bytes bits)) (handed
     ∙ ap (λ (l : List Instruction). (executed_all reading n (Start frames ∷ (l ++ Emit depth ∷ [])) start).out) lines
     ∙ ap (λ (p : List Instruction). (executed_all reading n p start).out) (sym block.whole)))
-
-pub pack-requires-clause-fit : goal.pack-requires-clause-fit
-pack-requires-clause-fit g c = c.in_ok-run.ensures.fit c.requires.fits.0 c.args.depth c.requires.fits.2
