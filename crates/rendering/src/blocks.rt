@@ -13,7 +13,7 @@ use crate::RenderFault;
 use blockcut::Stretch;
 use blockmachine::Machine;
 use devices::{DeviceFault, Shelf};
-use renderplan::{Instruction, Plan, SourceFrame};
+use renderplan::{Instruction, Plan};
 use std::alloc::Global;
 use std::marker::Model;
 use wavread::Sound;
@@ -139,9 +139,9 @@ impl<'a> Blocks<'a> {
     }
 
     /// Where the first block of a stretch in which something sounds begins in its file; `None` where all are silent.
-    pub fn source_of(&self, stretch: &Stretch) -> Option<SourceFrame>
+    pub fn source_of(&self, stretch: &Stretch) -> Option<(u32, u64)>
         requires { stretch.now.behind ≤ block_count self.now.planned.range }
-        ensures in_day { IfSome result (λ source. source.frame < day) }
+        ensures in_day { IfSome result (λ source. source.1 < day) }
     {
         for k in stretch.first as u64..stretch.behind as u64 {
             let source = self.plan.source_of(k);

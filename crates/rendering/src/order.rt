@@ -13,16 +13,15 @@ use crate::blocks::Blocks;
 use blockcut::Stretch;
 use job_terms::Order;
 use projectcheck::Checked;
-use renderplan::SourceFrame;
 use schedule::{JobMaker, in_order_of, in_turn};
 use sound_terms::Home;
 use std::alloc::{AllocError, Global};
 
 /// Files go by the place of their home index, and in a file by the frame. What begins nowhere comes last.
-fn key_of(source: Option<SourceFrame>, homes: &[Home]) -> u64
-    requires { IfSome source (λ source. source.frame < day) }
+fn key_of(source: Option<(u32, u64)>, homes: &[Home]) -> u64
+    requires { IfSome source (λ source. source.1 < day) }
 {
-    let Some(SourceFrame { file, frame }) = source else {
+    let Some((file, frame)) = source else {
         return u64::MAX;
     };
     match homes.get(file as usize) {

@@ -3,23 +3,22 @@ use Rattle.std.specs.Prelude.{ℕ, ◌+◌, ◌-◌, ◌&&◌, nat_le, nat_lt, m
 use Rattle.sound_terms.specs.declared.piece.Piece.{Piece}
 use Rattle.sound_terms.specs.Blocks.{block_frames, block_start}
 use Rattle.sound_terms.specs.Render.{Range}
-use Rattle.renderplan.specs.declared.source.SourceFrame.{SourceFrame}
 
 -- the piece sounds in some of the n samples from this time on, on one of so many channels
 abbrev pub sounds_in : (from n channels : ℕ) → Piece → Bool
 sounds_in from n channels p =
     nat_lt (max from p.start) (min (from + n) (p.start + p.length)) && nat_le p.dest channels
 
--- the frame of its file that a piece plays at this time, or at its start where that is later
-abbrev pub source_at : ℕ → Piece → SourceFrame
-source_at from p = record { file = p.file; frame = p.frame + (max from p.start - p.start) }
+-- the file of a piece, and the frame of it that it plays at this time, or at its start where that is later
+abbrev pub source_at : ℕ → Piece → ℕ × ℕ
+source_at from p = (p.file, p.frame + (max from p.start - p.start))
 
 -- that of the first piece that sounds there; none where all are silent
-abbrev pub first_source : (from n channels : ℕ) → List Piece → Option SourceFrame
+abbrev pub first_source : (from n channels : ℕ) → List Piece → Option (ℕ × ℕ)
 first_source from n channels [] = None
 first_source from n channels (p ∷ ps) =
     if sounds_in from n channels p then Some (source_at from p) else first_source from n channels ps
 
 -- in block k of a range
-abbrev pub source_of : List Piece → Range → ℕ → Option SourceFrame
+abbrev pub source_of : List Piece → Range → ℕ → Option (ℕ × ℕ)
 source_of pieces range k = first_source (block_start range k) (block_frames range k) range.channels pieces

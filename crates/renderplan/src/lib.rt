@@ -11,4 +11,3 @@ mod source;
 pub use fault::PlanFault;
 pub use plan::Plan;
 pub use sound_terms::{Depth, Instruction, Shape, Stretch};
-pub use source::SourceFrame;

@@ -1,5 +1,5 @@
 // The plan of a rendering.
-ghost use Rattle.std.specs.Prelude.{◌≡◌, ◌+◌, ◌<◌, ◌≤◌, ◌↔◌, List, length, take, IfOk, IfSome, IsErrOf};
+ghost use Rattle.std.specs.Prelude.{◌≡◌, ◌+◌, ◌<◌, ◌≤◌, ◌↔◌, List, length, take, IfOk, IfSome, IsErrOf, None};
 ghost use Rattle.std.specs.List.{All};
 ghost use Rattle.sampletime.specs.TimeCode.{day};
 ghost use Rattle.sound_terms.specs.Sounds.{SoundFacts};
@@ -14,7 +14,7 @@ ghost use Rattle.renderplan.specs.Sources as sources;
 use crate::PlanFault;
 use crate::lines::{Window, put, put_lines};
 use crate::reach::{Reach, reaches_of};
-use crate::source::{SourceFrame, first_source};
+use crate::source::first_source;
 use groups::Intervals;
 use sampletime::SampleTime;
 use sound_terms::{Depth, Format, Instruction, Piece};
@@ -152,12 +152,16 @@ impl Plan {
     }
 
     /// Where the first of the plan's pieces that sounds in block k meets it: its file, and the frame that is heard first.
-    /// `None` where the block is silent.
-    pub fn source_of(&self, k: u64) -> Option<SourceFrame>
-        requires { k < block_count self.now.range }
-        ensures source { result ≡ sources.source_of self.now.pieces self.now.range k }
-        ensures in_day { IfSome result (λ source. source.frame < day) }
+    /// `None` where the block is silent, and behind the last block.
+    pub fn source_of(&self, k: u64) -> Option<(u32, u64)>
+        ensures source { k < block_count self.now.range
+            → result ≡ sources.source_of self.now.pieces self.now.range k }
+        ensures past { block_count self.now.range ≤ k → result ≡ None }
+        ensures in_day { IfSome result (λ source. source.1 < day) }
     {
+        if k >= self.blocks() {
+            return None;
+        }
         let window = self.window_of(k);
         first_source(self.pieces.as_slice(), self.reaches.as_slice(), window)
     }

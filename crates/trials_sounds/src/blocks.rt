@@ -4,7 +4,7 @@ ghost use Rattle.sound_terms.specs.Groups.{IsRamp};
 
 use blockmachine::Machine;
 use groups::{Group, Intervals, Piece};
-use renderplan::{Depth, Instruction, Plan, Shape, SourceFrame, Stretch};
+use renderplan::{Depth, Instruction, Plan, Shape, Stretch};
 use sampletime::SampleTime;
 use shelf::MemoryShelf;
 use std::alloc::Global;
@@ -244,13 +244,7 @@ fn a_block_begins_where_its_first_piece_sounds(rt: HostRuntime) -> Result<(), Fa
     let alloc = rt.alloc();
     let plan = plan(alloc, SampleTime::ZERO, time(10_000)?)?;
     assert_eq!(rt; plan.blocks(), 3);
-    let start = SourceFrame { file: 0, frame: 7 };
-    let later = SourceFrame {
-        file: 0,
-        frame: 4003,
-    };
-    for (k, source) in [(0, Some(start)), (1, Some(later)), (2, None)] {
-        assert!(rt; k < plan.blocks());
+    for (k, source) in [(0, Some((0, 7))), (1, Some((0, 4003))), (2, None), (3, None)] {
         assert_eq!(rt; plan.source_of(k), source);
     }
     Ok(())
