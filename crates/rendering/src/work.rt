@@ -91,7 +91,7 @@ fn plan_of(alloc: Global, checked: &Checked, span: &RunRange) -> Result<Plan, Re
     let intervals = from_checked(alloc, checked)?;
     let plan = Plan::new(
         alloc,
-        &intervals,
+        intervals,
         span.from,
         span.to,
         span.channels,

@@ -72,17 +72,17 @@ impl Plan {
     /// more than 32,767 pieces. `EmptyRange` where `to` isn't behind `from`.
     pub fn new(
         alloc: Global,
-        intervals: &Intervals,
+        intervals: Intervals,
         from: SampleTime,
         to: SampleTime,
         channels: u8,
         depth: Depth,
     ) -> Result<Self, PlanFault>
-        requires bounded { IsBounded 32767 (spec.pieces_of intervals.now) }
+        requires bounded { IsBounded 32767 (spec.pieces_of intervals) }
         requires channels { (1 ≤ channels) × (channels ≤ 64) }
         ensures made { IfOk result (λ plan. plan
             ≡ record {
-              pieces = spec.pieces_of intervals.now;
+              pieces = spec.pieces_of intervals;
               range = record { from = from; to = to; channels = channels; depth = depth };
             }) }
         ensures empty { IsErrOf result PlanFault.EmptyRange ↔ (to ≤ from) }
@@ -90,7 +90,7 @@ impl Plan {
         if to.get() <= from.get() {
             return Err(PlanFault::EmptyRange);
         }
-        let pieces = pieces_of(alloc, intervals)?;
+        let pieces = pieces_of(alloc, &intervals)?;
         let reaches = reaches_of(alloc, pieces.as_slice())?;
         Ok(Plan {
             pieces,

@@ -184,7 +184,7 @@ const FALL: Piece = Piece {
 fn plan(alloc: Global, from: SampleTime, to: SampleTime) -> Result<Plan, Fail> {
     let groups = vec![in alloc; Group::alone(alloc, FALL)]?;
     let intervals = Intervals::ordered(groups)?;
-    Ok(Plan::new(alloc, &intervals, from, to, 2, Depth::TwentyFour)?)
+    Ok(Plan::new(alloc, intervals, from, to, 2, Depth::TwentyFour)?)
 }
 
 #[test]
