@@ -244,7 +244,12 @@ fn a_block_begins_where_its_first_piece_sounds(rt: HostRuntime) -> Result<(), Fa
     let alloc = rt.alloc();
     let plan = plan(alloc, SampleTime::ZERO, time(10_000)?)?;
     assert_eq!(rt; plan.blocks(), 3);
-    for (k, source) in [(0, Some((0, 7))), (1, Some((0, 4003))), (2, None), (3, None)] {
+    for (k, source) in [
+        (0, Some((0, 7))),
+        (1, Some((0, 4003))),
+        (2, None),
+        (3, None),
+    ] {
         assert_eq!(rt; plan.source_of(k), source);
     }
     Ok(())
