@@ -1,6 +1,5 @@
 // Why a list isn't read.
 ghost use Rattle.std.specs.Prelude.{◌≡◌, ◌≤◌, ◌+◌, Ok, Err, MatchResult, length};
-ghost use Rattle.list_terms.specs.Text as text;
 ghost use Rattle.list_terms.specs.declared.Location.TheVariants as location;
 ghost use Rattle.adlread.specs.Fault.{entry_of, index_of, line_of, refusal};
 ghost use Rattle.adlread.specs.Fault as spec;
@@ -35,7 +34,7 @@ impl AdlFault {
         ensures { result ≡ (refusal self.now).number }
     {
         match self {
-            AdlFault::Text { fault, .. } => fault_number(*fault),
+            AdlFault::Text { fault, .. } => fault.number(),
             AdlFault::Memory => 18,
         }
     }
@@ -83,30 +82,6 @@ fn line_of_location(location: Location) -> u64
     match location {
         Location::Line { line } | Location::Entry { line, .. } | Location::Index { line, .. } =>
             line,
-    }
-}
-
-fn fault_number(fault: TextFault) -> u8
-    ensures { result ≡ text.fault_number fault }
-{
-    match fault {
-        TextFault::BadByte => 1,
-        TextFault::BadLine => 2,
-        TextFault::SectionMismatch => 3,
-        TextFault::MissingSection => 4,
-        TextFault::RepeatedSection => 5,
-        TextFault::BadTime => 6,
-        TextFault::BadNumber => 7,
-        TextFault::BadChannels => 8,
-        TextFault::BadUrl => 9,
-        TextFault::MissingField => 10,
-        TextFault::MissingSequence => 11,
-        TextFault::WrongSequence => 12,
-        TextFault::Unsupported => 13,
-        TextFault::DuplicateNumber => 14,
-        TextFault::TooMany => 15,
-        TextFault::Unplaced => 16,
-        TextFault::RepeatedFade => 17,
     }
 }
 

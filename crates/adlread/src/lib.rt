@@ -35,7 +35,7 @@ use draft::Draft;
 pub use fault::AdlFault;
 use fault::{at_line, first_in};
 pub use faults::Faults;
-use list_terms::TextFault;
+pub use list_terms::{Location, TextFault};
 pub use rate::rate_of;
 use sampletime::Rate;
 use std::alloc::Global;

@@ -1,6 +1,9 @@
 //! The words of lists: a project, what its indexes are bound to, and which project is refused where.
 #![tactic(auto)]
 
+ghost use Rattle.std.specs.Prelude.{◌≡◌};
+ghost use Rattle.list_terms.specs.Text.{fault_number};
+
 use sound_terms::Event;
 
 /// Something about a project that its user should know of: its kind, and the line or the index that it is at.
@@ -106,6 +109,33 @@ pub enum TextFault {
     Unplaced,
     /// A second fade-in or fade-out of an entry.
     RepeatedFade,
+}
+
+impl TextFault {
+    /// The number of the refusal, 1 to 17.
+    pub fn number(&self) -> u8
+        ensures { result ≡ fault_number self.now }
+    {
+        match self {
+            TextFault::BadByte => 1,
+            TextFault::BadLine => 2,
+            TextFault::SectionMismatch => 3,
+            TextFault::MissingSection => 4,
+            TextFault::RepeatedSection => 5,
+            TextFault::BadTime => 6,
+            TextFault::BadNumber => 7,
+            TextFault::BadChannels => 8,
+            TextFault::BadUrl => 9,
+            TextFault::MissingField => 10,
+            TextFault::MissingSequence => 11,
+            TextFault::WrongSequence => 12,
+            TextFault::Unsupported => 13,
+            TextFault::DuplicateNumber => 14,
+            TextFault::TooMany => 15,
+            TextFault::Unplaced => 16,
+            TextFault::RepeatedFade => 17,
+        }
+    }
 }
 
 /// Where the text of a list is at fault: the line, counted from 1, and the entry or index that it is about.
