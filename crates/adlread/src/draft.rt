@@ -250,7 +250,7 @@ impl<'a> Draft<'a> {
         }
         let location = Location::Line { line: number };
         let mut tokens = Tokens::new(line);
-        let Some(token) = located(tokens.next_token(), location, tokens.stood())? else {
+        let Some(token) = located(tokens.cut_next(), location, tokens.stood())? else {
             return Ok(());
         };
         if is_keyword(b"Index", &token) {
@@ -308,7 +308,7 @@ impl<'a> Draft<'a> {
         }
         let location = location_in(number, self.events.entry);
         let mut tokens = Tokens::new(line);
-        let Some(token) = located(tokens.next_token(), location, tokens.stood())? else {
+        let Some(token) = located(tokens.cut_next(), location, tokens.stood())? else {
             return Ok(());
         };
         if is_keyword(b"Entry", &token) {

@@ -234,7 +234,7 @@ pub fn remark(token: &Token<'_>, tokens: &mut Tokens<'_>) -> Result<(), TextFaul
 pub fn sequence_line(rates: Rates, tokens: &mut Tokens<'_>, rate: Rate) -> Result<Rates, TextFault>
     ensures { result ≡ spec.sequence_line (frames_per_second rate) rates tokens.old.rest.now }
 {
-    let Some(token) = tokens.next_token()? else {
+    let Some(token) = tokens.cut_next()? else {
         return Ok(rates);
     };
     let mut rates = rates;
@@ -293,7 +293,7 @@ fn tells_rate(text: &[u8], rate: Rate) -> bool
 pub fn system_line(tokens: &mut Tokens<'_>, rate: Rate) -> Result<(), TextFault>
     ensures { ok_map (λ _. tt) result ≡ spec.system_line (frames_per_second rate) tokens.old.rest.now }
 {
-    let Some(token) = tokens.next_token()? else {
+    let Some(token) = tokens.cut_next()? else {
         return Ok(());
     };
     if is_keyword(b"SYS_SRC_OFFSET", &token) {
@@ -311,7 +311,7 @@ fn offset_setting(tokens: &mut Tokens<'_>, rate: Rate) -> Result<(), TextFault>
     ensures { ok_map (λ _. tt {0}) result
         ≡ reads (form.May (λ t. spec.is_no_offset (frames_per_second rate) t.content) Unsupported (tt {0})) tokens.old.rest.now }
 {
-    let Some(token) = tokens.next_token()? else {
+    let Some(token) = tokens.cut_next()? else {
         return Ok(());
     };
     if is_no_offset(token.content, rate) {
@@ -327,7 +327,7 @@ fn gain_setting(tokens: &mut Tokens<'_>) -> Result<(), TextFault>
     ensures { ok_map (λ _. tt {0}) result
         ≡ reads (form.May (λ t. is_zero t.content) Unsupported (tt {0})) tokens.old.rest.now }
 {
-    let Some(token) = tokens.next_token()? else {
+    let Some(token) = tokens.cut_next()? else {
         return Ok(());
     };
     if is_zero(token.content) {

@@ -189,7 +189,7 @@ fn is_of_a_line(fault: TextFault) -> bool {
 
 /// Whether the line is that of an entry.
 fn opens_entry(line: &[u8]) -> bool {
-    match Tokens::new(line).next_token() {
+    match Tokens::new(line).cut_next() {
         Ok(Some(token)) => is_keyword(b"Entry", &token),
         _ => false,
     }

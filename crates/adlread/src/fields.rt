@@ -33,7 +33,7 @@ pub fn field<'a>(tokens: &mut Tokens<'a>) -> Result<Token<'a>, TextFault>
     ensures exact { ok_map (λ token. (token_view token, tokens.new.rest.now)) result ≡ spec.field tokens.old.rest.now }
     ensures whole { IfOk result (λ token. token.text.now ≡ token_text (token_view token)) }
 {
-    match tokens.next_token()? {
+    match tokens.cut_next()? {
         Some(token) => Ok(token),
         None => Err(TextFault::MissingField),
     }
@@ -130,7 +130,7 @@ pub fn identifier_field<'a>(tokens: &mut Tokens<'a>) -> Result<&'a [u8], TextFau
 pub fn end_line(tokens: &mut Tokens<'_>) -> Result<(), TextFault>
     ensures exact { ok_map (λ _. tt) result ≡ spec.end_line tokens.old.rest.now }
 {
-    while let Some(_) = tokens.next_token()? {}
+    while let Some(_) = tokens.cut_next()? {}
     Ok(())
 }
 
@@ -140,7 +140,7 @@ pub fn end_with_zeros(tokens: &mut Tokens<'_>) -> Result<(), TextFault>
     ensures exact { ok_map (λ _. tt) result ≡ all_tokens (λ t.
         spec.is_zero t.content) (length tokens.old.rest.now) tokens.old.rest.now }
 {
-    while let Some(token) = tokens.next_token()? {
+    while let Some(token) = tokens.cut_next()? {
         if !is_zero(token.content) {
             return Err(TextFault::Unsupported);
         }

@@ -251,7 +251,7 @@ fn whole_token<'a>(tokens: &mut Tokens<'a>) -> Option<Token<'a>>
     ensures { option_map (λ token. (token_view token, tokens.new.rest.now)) result
         ≡ spec.whole_token tokens.old.rest.now }
 {
-    match tokens.next_token() {
+    match tokens.cut_next() {
         Ok(token) => token,
         Err(_) => None,
     }

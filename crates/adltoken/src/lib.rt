@@ -5,11 +5,13 @@
 #![tactic(auto)]
 
 mod blanks;
+mod fault;
 mod lines;
 mod names;
 mod tokens;
 
 pub use blanks::{is_blank, skip_blanks, trimmed};
+pub use fault::TokenFault;
 pub use lines::Lines;
 pub use list_terms::{TextFault, TokenKind};
 pub use names::{behind_byte, is_same_name, length_before, starts_in_any_case};

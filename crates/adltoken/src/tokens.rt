@@ -1,12 +1,14 @@
 // The tokens of a line, one after another.
-ghost use Rattle.std.specs.Prelude.{◌≡◌, ◌≤◌, ◌<◌, ◌+◌, ◌^◌, ◌++◌, ℕ, List, IfOk, IfSome, Some, length, option_map};
+ghost use Rattle.std.specs.Prelude.{◌≡◌, ◌≤◌, ◌<◌, ◌+◌, ◌^◌, ◌++◌, ℕ, List, IfErr, IfOk, IfSome, None, Some, length, option_map};
 ghost use Rattle.std.specs.List.{prefix_len};
 ghost use Rattle.std.proofs.Props.{props};
-ghost use Rattle.list_terms.specs.Steps.{ok_map};
+ghost use Rattle.list_terms.specs.Steps.{err_map, ok_map};
 ghost use Rattle.list_terms.specs.Tokens as spec;
 ghost use Rattle.list_terms.specs.Tokens.{token_text};
+ghost use Rattle.adltoken.specs.Fault.{IsTokenFault, line_of, text_fault};
 ghost use Rattle.adltoken.specs.Views.{cut_view, token_view};
 
+use crate::TokenFault;
 use crate::blanks::{is_blank, skip_blanks};
 use list_terms::{TextFault, TokenKind};
 
@@ -27,10 +29,11 @@ pub struct Span {
     pub length: usize,
 }
 
-/// What is left of a line, how many of its bytes were cut off, and where the token stands that was asked for last, if
-/// one was.
+/// The number of a line, what is left of it, how many of its bytes were cut off, and where the token stands that was asked
+/// for last, if one was.
 #[derive(Drop)]
 pub struct Tokens<'a> {
+    pub number: u64,
     pub rest: &'a [u8],
     pub at: usize,
     pub last: Option<Span>,
@@ -39,12 +42,24 @@ pub struct Tokens<'a> {
 }
 
 impl<'a> Tokens<'a> {
-    /// The tokens of a line, from its first byte on.
+    /// The tokens of a line, from its first byte on, of which nobody asks for the number: its faults name line 0.
     pub fn new(line: &'a [u8]) -> Self
         ensures rest { result.rest.now ≡ line.now }
         ensures at { result.at ≡ 0 }
+        ensures last { result.last ≡ None }
+    {
+        Tokens::numbered(line, 0)
+    }
+
+    /// The tokens of the line of this number, from its first byte on.
+    pub fn numbered(line: &'a [u8], number: u64) -> Self
+        ensures number { result.number ≡ number }
+        ensures rest { result.rest.now ≡ line.now }
+        ensures at { result.at ≡ 0 }
+        ensures last { result.last ≡ None }
     {
         Tokens {
+            number,
             rest: line,
             at: 0,
             last: None,
@@ -64,8 +79,28 @@ impl<'a> Tokens<'a> {
     }
 
     /// The next token; `None` where only spaces and tabs are left. Nothing is cut off where there is none or a fault.
+    pub fn next_token(&mut self) -> Result<Option<Token<'a>>, TokenFault>
+        ensures exact { err_map text_fault (ok_map (λ next. option_map (λ token. (token_view token, self.new.rest.now)) next)
+            result) ≡ spec.token_at self.old.rest.now }
+        ensures number { IfErr result (λ fault. line_of fault ≡ self.old.number) }
+        ensures shorter { IfOk result (λ next. IfSome next (λ token.
+            length self.new.rest.now < length self.old.rest.now)) }
+        ensures whole { IfOk result (λ next. IfSome next (λ token. token.text.now ≡ token_text (token_view token))) }
+        ensures place { IfOk result (λ next. IfSome next (λ token.
+            (token.at + length token.text.now ≡ self.new.at)
+            × (self.new.last ≡ Some (record { at = token.at; length = length token.text.now })))) }
+        ensures line { self.new.at + length self.new.rest.now ≡ self.old.at + length self.old.rest.now }
+        ensures same_number { self.new.number ≡ self.old.number }
+    {
+        match self.cut_next() {
+            Ok(next) => Ok(next),
+            Err(fault) => Err(TokenFault::in_line(fault, self.number)),
+        }
+    }
+
+    /// The next token, as `next_token` gives it, and of a fault what is wrong with the text.
     #[tactic(auto, unfolding(list_terms::specs::Tokens::token_at))]
-    pub fn next_token(&mut self) -> Result<Option<Token<'a>>, TextFault>
+    pub fn cut_next(&mut self) -> Result<Option<Token<'a>>, TextFault>
         ensures exact { ok_map (λ next. option_map (λ token. (token_view token, self.new.rest.now)) next) result
             ≡ spec.token_at self.old.rest.now }
         ensures shorter { IfOk result (λ next. IfSome next (λ token.
@@ -75,6 +110,8 @@ impl<'a> Tokens<'a> {
             (token.at + length token.text.now ≡ self.new.at)
             × (self.new.last ≡ Some (record { at = token.at; length = length token.text.now })))) }
         ensures line { self.new.at + length self.new.rest.now ≡ self.old.at + length self.old.rest.now }
+        ensures fault { IfErr result IsTokenFault }
+        ensures same_number { self.new.number ≡ self.old.number }
     {
         let line = skip_blanks(self.rest);
         let at = self.at + (self.rest.len() - line.len());
@@ -137,6 +174,7 @@ pub struct Cut<'a> {
 /// The token that a line begins with; `None` in an empty line.
 #[inline(always)]
 fn first_token(line: &[u8]) -> Result<Option<Cut<'_>>, TextFault>
+    ensures fault { IfErr result IsTokenFault }
     ensures exact { ok_map (λ next. option_map cut_view next) result ≡ spec.token_from line.now }
     ensures whole { IfOk result (λ next. IfSome next (λ cut. line.now ≡ token_text (cut_view cut).0 ++ cut.rest.now)) }
     ensures shorter { IfOk result (λ next. IfSome next (λ cut. length cut.rest.now < length line.now)) }
@@ -163,6 +201,7 @@ fn first_token(line: &[u8]) -> Result<Option<Cut<'_>>, TextFault>
 
 /// The quoted text behind a quotation mark.
 fn quoted(line: &[u8]) -> Result<Cut<'_>, TextFault>
+    ensures fault { IfErr result IsTokenFault }
     ensures exact { ok_map (λ cut. Some (cut_view cut)) result ≡ spec.quoted line.now }
     ensures inside { IfOk result (λ cut. length cut.rest.now ≤ length line.now) }
 {
@@ -172,6 +211,7 @@ fn quoted(line: &[u8]) -> Result<Cut<'_>, TextFault>
 
 /// The keyword behind an opening parenthesis.
 fn keyword(line: &[u8]) -> Result<Cut<'_>, TextFault>
+    ensures fault { IfErr result IsTokenFault }
     ensures exact { ok_map (λ cut. Some (cut_view cut)) result ≡ spec.keyword line.now }
     ensures inside { IfOk result (λ cut. length cut.rest.now ≤ length line.now) }
 {
@@ -201,6 +241,7 @@ fn closed<'a>(
     content: &'a [u8],
     rest: &'a [u8],
 ) -> Result<Cut<'a>, TextFault>
+    ensures fault { IfErr result IsTokenFault }
     ensures exact { ok_map (λ cut. Some (cut_view cut)) result ≡ spec.closed kind close content.now rest.now }
     ensures inside { IfOk result (λ cut. length cut.rest.now ≤ length rest.now) }
 {
@@ -249,7 +290,8 @@ fn is_quoted_byte(byte: u8) -> bool
 
 /// The fault of a token that these bytes don't go on with: of the first one, or of the line's end.
 fn fault_at(rest: &[u8]) -> TextFault
-    ensures { result ≡ spec.open_fault rest.now }
+    ensures fault { IsTokenFault result }
+    ensures exact { result ≡ spec.open_fault rest.now }
 {
     match rest {
         [] => TextFault::BadLine,
@@ -259,7 +301,8 @@ fn fault_at(rest: &[u8]) -> TextFault
 
 /// The fault of a byte that can't stand where it stands.
 fn byte_fault(byte: u8) -> TextFault
-    ensures { result ≡ spec.byte_fault byte }
+    ensures fault { IsTokenFault result }
+    ensures exact { result ≡ spec.byte_fault byte }
 {
     if is_blank(byte) || (byte >= b' ' && byte < 127) {
         TextFault::BadLine

@@ -4,10 +4,10 @@ use Rattle.list_terms.specs.Tokens.{token_at}
 use Rattle.adlread.proofs.TokenRun.{IsLeft-fault}
 use Rattle.adlread.proofs.fields.end_line.Goals as goal
 
-pub returns-in_err-next_token : goal.returns-in_err-next_token
+pub returns-in_err-cut_next : goal.returns-in_err-cut_next
 unfolding end_line
-returns-in_err-next_token c =
-    let at : token_at c.loop.tokens.rest.now ≡ Err c.in_err-next_token.field-0.0 = search rules in
+returns-in_err-cut_next c =
+    let at : token_at c.loop.tokens.rest.now ≡ Err c.in_err-cut_next.field-0.0 = search rules in
     let e = IsLeft-fault (λ token. true)
-    c.args.tokens.now.rest.now c.loop.tokens.rest.now c.in_err-next_token.field-0.0 c.loop.invariant at in
+    c.args.tokens.now.rest.now c.loop.tokens.rest.now c.in_err-cut_next.field-0.0 c.loop.invariant at in
     rw e (search rules)

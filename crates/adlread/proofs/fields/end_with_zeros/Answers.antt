@@ -15,11 +15,11 @@ returns-in_err-token c =
 pub returns-then-not-is_zero : goal.returns-then-not-is_zero
 returns-then-not-is_zero c =
     let at : token_at c.loop-token.tokens.rest.now
-    ≡ Ok (Some (token_view c.in-Some.token, c.next_token.new.self.rest.now)) = search rules in
+    ≡ Ok (Some (token_view c.in-Some.token, c.cut_next.new.self.rest.now)) = search rules in
     let other : spec.is_zero c.in-Some.token.content.now ≡ false = cc in
-    let shorter : length c.next_token.new.self.rest.now < length c.loop-token.tokens.rest.now = search rules in
+    let shorter : length c.cut_next.new.self.rest.now < length c.loop-token.tokens.rest.now = search rules in
     let e = IsLeft-refused (λ t. spec.is_zero t.content)
-    c.args.tokens.now.rest.now c.loop-token.tokens.rest.now c.next_token.new.self.rest.now
+    c.args.tokens.now.rest.now c.loop-token.tokens.rest.now c.cut_next.new.self.rest.now
     (token_view c.in-Some.token)
     c.loop-token.invariant at other shorter in
     record { exact = sym e }
