@@ -29,6 +29,18 @@ pub struct Span {
     pub length: usize,
 }
 
+impl<'a> Token<'a> {
+    /// Where the token stands in its line.
+    pub fn span(&self) -> Span
+        ensures { result ≡ record { at = self.now.at; length = length self.now.text.now } }
+    {
+        Span {
+            at: self.at,
+            length: self.text.len(),
+        }
+    }
+}
+
 /// The number of a line, what is left of it, how many of its bytes were cut off, and where the token stands that was asked
 /// for last, if one was.
 #[derive(Drop)]
