@@ -1,6 +1,7 @@
 // Why a list isn't read.
 ghost use Rattle.std.specs.Prelude.{◌≡◌, ◌≤◌, ◌+◌, Ok, Err, MatchResult, length};
 ghost use Rattle.list_terms.specs.declared.Location.TheVariants as location;
+ghost use Rattle.adltoken.specs.Spans.{first_span};
 ghost use Rattle.adlread.specs.Fault.{entry_of, index_of, line_of, refusal};
 ghost use Rattle.adlread.specs.Fault as spec;
 ghost use Rattle.adlread.specs.declared.fault.AdlFault.TheVariants.{Text, Memory};
@@ -139,6 +140,7 @@ pub fn at_line(fault: TextFault, number: u64, stood: Span) -> AdlFault
 
 /// What stands first in a line.
 pub fn first_in(line: &[u8]) -> Span
+    ensures first { result ≡ first_span 0 line.now }
     ensures inside { result.at + result.length ≤ length line.now }
 {
     Tokens::new(line).stood()

@@ -6,6 +6,7 @@ ghost use Rattle.list_terms.specs.Steps.{err_map, ok_map};
 ghost use Rattle.list_terms.specs.Tokens as spec;
 ghost use Rattle.list_terms.specs.Tokens.{token_text};
 ghost use Rattle.adltoken.specs.Fault.{IsTokenFault, line_of, text_fault};
+ghost use Rattle.adltoken.specs.Spans.{first_span};
 ghost use Rattle.adltoken.specs.Views.{cut_view, token_view};
 
 use crate::TokenFault;
@@ -82,6 +83,7 @@ impl<'a> Tokens<'a> {
     /// none can be cut there, it is all that is left, and where the line ends, nothing at its end.
     pub fn stood(&self) -> Span
         ensures last { IfSome self.now.last (λ span. result ≡ span) }
+        ensures first { self.now.last ≡ None → result ≡ first_span self.now.at self.now.rest.now }
         ensures inside { result.at + result.length ≤ self.now.at + length self.now.rest.now }
     {
         match self.last {
@@ -102,6 +104,7 @@ impl<'a> Tokens<'a> {
             (token.at + length token.text.now ≡ self.new.at)
             × (self.new.last ≡ Some (record { at = token.at; length = length token.text.now })))) }
         ensures line { self.new.at + length self.new.rest.now ≡ self.old.at + length self.old.rest.now }
+        ensures stood { self.new.last ≡ Some (first_span self.old.at self.old.rest.now) }
         ensures same_number { self.new.number ≡ self.old.number }
     {
         match self.cut_next() {
@@ -122,6 +125,7 @@ impl<'a> Tokens<'a> {
             (token.at + length token.text.now ≡ self.new.at)
             × (self.new.last ≡ Some (record { at = token.at; length = length token.text.now })))) }
         ensures line { self.new.at + length self.new.rest.now ≡ self.old.at + length self.old.rest.now }
+        ensures stood { self.new.last ≡ Some (first_span self.old.at self.old.rest.now) }
         ensures fault { IfErr result IsTokenFault }
         ensures same_number { self.new.number ≡ self.old.number }
     {
@@ -152,8 +156,10 @@ impl<'a> Tokens<'a> {
 
 /// Where the first token of this part of a line stands, behind so many bytes: all of it but the blanks in front where
 /// none can be cut, nothing at its end where there is none.
+#[tactic(auto, unfolding(list_terms::specs::Tokens::token_at))]
 fn span_of_first(rest: &[u8], before: usize) -> Span
     requires { before + length rest.now < 2 ^ 64 }
+    ensures first { result ≡ first_span before rest.now }
     ensures inside { result.at + result.length ≤ before + length rest.now }
 {
     let line = skip_blanks(rest);

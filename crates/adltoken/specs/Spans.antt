@@ -1,0 +1,18 @@
+-- Where tokens stand in their line.
+use Rattle.std.specs.Prelude.{ℕ, ◌+◌, ◌-◌, List, length, Option, None, Some, Result, Ok, Err}
+use Rattle.list_terms.specs.declared.TextFault.{TextFault}
+use Rattle.list_terms.specs.Tokens.{TokenText, behind_blanks, token_at, token_text}
+use Rattle.adltoken.specs.declared.tokens.Span.{Span}
+
+-- so many bytes of this part of a line, behind the blanks in front, where so many bytes of the line come before it
+abbrev pub span_of : (before long : ℕ) → List ℕ → Span
+span_of before long line = record { at = before + (length line - length (behind_blanks line)); length = long }
+
+-- the first token of this part of a line; all of it but the blanks in front where none can be cut, and nothing at its end
+-- where there is none
+abbrev pub first_span : (before : ℕ) → List ℕ → Span
+first_span before line = of_token (token_at line) where
+  of_token : Result (Option (TokenText × List ℕ)) TextFault → Span
+  of_token (Ok (Some (token, rest))) = span_of before (length (token_text token)) line
+  of_token (Ok None) = span_of before (length (behind_blanks line)) line
+  of_token (Err fault) = span_of before (length (behind_blanks line)) line
