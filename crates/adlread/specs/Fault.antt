@@ -59,3 +59,8 @@ Says view (Err line.Memory) reading = ⊤
 abbrev pub located : Location → Span → LineFault → AdlFault
 located location stood (line.Text fault) = Text fault location stood
 located location stood line.Memory = Memory
+
+-- the refusal of a list that isn't read; none where it is
+abbrev pub refused : {V : Type 0} → Result V LocatedFault → Option Refusal
+refused (Ok value) = None
+refused (Err fault) = Some (text_refusal fault)

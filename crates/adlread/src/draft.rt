@@ -1,11 +1,11 @@
 // What was read of a list so far.
-ghost use Rattle.std.specs.Prelude.{◌≡◌, ◌&&◌, IfOk, IsTrue, Ok, is_some};
+ghost use Rattle.std.specs.Prelude.{◌≡◌, ◌&&◌, ℕ, Err, IfOk, IsTrue, MatchOption, None, Ok, is_some, option_map};
 ghost use Rattle.sampletime.specs.FrameRate.{frames_per_second};
 ghost use Rattle.list_terms.specs.Text as text;
 ghost use Rattle.list_terms.specs.Text.{nothing_read};
 ghost use Rattle.list_terms.specs.Tokens.{trimmed};
 ghost use Rattle.list_terms.specs.WholeProject.{IsProject};
-ghost use Rattle.adlread.specs.Fault.{Reads};
+ghost use Rattle.adlread.specs.Fault.{Reads, refusal, refused};
 ghost use Rattle.adlread.specs.Context.{context_of};
 ghost use Rattle.adlread.specs.SoFar.{IsSoFar};
 
@@ -341,33 +341,45 @@ impl<'a> Draft<'a> {
     }
 
     /// The project, behind `</ADL>`: three sections have to be there, and both rates.
-    #[tactic(auto, unfolding(list_terms::specs::Text::finished))]
     pub fn finish(self, line: &[u8], number: u64, rate: Rate) -> Result<Project, AdlFault>
         requires { IsSoFar (frames_per_second rate) (context_of self) }
         ensures exact { Reads (λ project. project) result
             (text.finished (frames_per_second rate) (context_of self.entry) number) }
         ensures whole { IfOk result IsProject }
     {
-        if !self.has_sections() {
-            return Err(at_line(TextFault::MissingSection, number, first_in(line)));
-        }
-        let rates = self.header.rates;
-        if !(rates.sample_rate && rates.frame_rate) {
-            return Err(at_line(TextFault::MissingSequence, number, first_in(line)));
+        if let Some(fault) = self.lacks() {
+            return Err(at_line(fault, number, first_in(line)));
         }
         self.project(rate)
     }
 
-    /// What a list lacks that ends at this line: a section, or a rate.
-    pub fn missing(&self, line: &[u8], number: u64) -> Option<AdlFault> {
+    /// The fault of a list that ends at this line and lacks a section or a rate; `None` where it lacks none.
+    pub fn missing(&self, line: &[u8], number: u64) -> Option<AdlFault>
+        ensures { (rate : ℕ) → option_map refusal result ≡ refused (text.finished rate (context_of self.now) number) }
+    {
+        match self.lacks() {
+            Some(fault) => Some(at_line(fault, number, first_in(line))),
+            None => None,
+        }
+    }
+
+    /// What a list lacks that ends here: a section, or a rate.
+    #[tactic(auto, unfolding(list_terms::specs::Text::finished))]
+    fn lacks(&self) -> Option<TextFault>
+        ensures fault { (rate number : ℕ) → MatchOption result
+            (text.finished rate (context_of self.now) number ≡ Ok (text.project_of rate (context_of self.now)))
+            (λ fault. text.finished rate (context_of self.now) number ≡ Err (text.at_line number fault)) }
+        ensures rates { result ≡ None
+            → IsTrue (self.now.header.rates.sample_rate && self.now.header.rates.frame_rate) }
+    {
         if !self.has_sections() {
-            return Some(at_line(TextFault::MissingSection, number, first_in(line)));
+            return Some(TextFault::MissingSection);
         }
         let rates = self.header.rates;
         if rates.sample_rate && rates.frame_rate {
             None
         } else {
-            Some(at_line(TextFault::MissingSequence, number, first_in(line)))
+            Some(TextFault::MissingSequence)
         }
     }
 
