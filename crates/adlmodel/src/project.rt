@@ -101,15 +101,15 @@ impl Project {
         &self.header
     }
 
-    /// The lines of the source index.
-    pub fn sources(&self) -> &[Source]
+    /// The lines of the source index, each under its number.
+    pub fn sources(&self) -> &Sources
         ensures sources { result.now ≡ self.now.sources }
         ensures again { AreSources result.now }
         ensures whole { IsTrue (list_all is_source result.now) }
         ensures distinct { AreDistinct (index_numbers result.now) }
         ensures few { length result.now ≤ 32767 }
     {
-        self.sources.as_slice()
+        &self.sources
     }
 
     /// The entries of the event list.

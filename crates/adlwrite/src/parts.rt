@@ -405,7 +405,7 @@ pub fn put_list<B: Bench>(bench: &mut B, name: &str, project: &Project) -> Resul
         name,
         project,
         header,
-        project.sources(),
+        project.sources().as_slice(),
         project.events(),
     )
 }

@@ -80,7 +80,7 @@ fn json_text(
 {
     let media = media_values(
         alloc,
-        project.sources(),
+        project.sources().as_slice(),
         bound.indexes(),
         bound.sounds(),
         runs.homes(),

@@ -28,7 +28,7 @@ pub fn bind<S: Shelf>(alloc: Global, project: &Project, shelf: &mut S) -> Result
         (λ fault. (refusal_of project.now.sources fault).number ≡ 22)
         (λ fault failed. HoldsOfFile failed (refusal_of project.now.sources fault).place) }
 {
-    let sources = project.sources();
+    let sources = project.sources().as_slice();
     let used = UsedNumbers::new(alloc, project.events());
     let mut binder = Binder::new(alloc);
     for (place, source) in sources.iter().enumerate() {

@@ -52,8 +52,8 @@ fn time(samples: u64) -> Result<SampleTime, Fail> {
 }
 
 fn assert_sample(rt: &impl Abort, project: &Project) -> Result<(), Fail> {
-    assert_eq!(rt; project.sources().len(), 1);
-    let source = &project.sources()[0];
+    assert_eq!(rt; project.sources().as_slice().len(), 1);
+    let source = &project.sources().as_slice()[0];
     assert_eq!(rt; source.number(), 1);
     assert_eq!(rt; source.url(), b"URL:file://localhost/A.wav".as_slice());
     assert_eq!(rt; source.uid(), b"_".as_slice());
@@ -171,7 +171,7 @@ fn times_have_the_rate_of_a_sequence_behind_them(rt: HostRuntime) -> Result<(), 
 ";
     let project = read(rt.alloc(), text.as_bytes())?;
     assert_eq!(rt; project.rate(), Rate::Frames24);
-    let source = project.sources().first().ok_or("no source")?;
+    let source = project.sources().as_slice().first().ok_or("no source")?;
     assert_eq!(rt; source.start(), SampleTime::new(239_990));
     Ok(())
 }

@@ -114,7 +114,7 @@ fn a_copy_is_the_same_project(rt: HostRuntime) -> Result<(), Fail> {
 #[test]
 fn a_project_of_the_same_parts_is_the_same_list(rt: HostRuntime) -> Result<(), Fail> {
     let project = read(rt.alloc(), GIVEN.as_bytes())?;
-    let sources = Sources::from_slice(rt.alloc(), project.sources())?;
+    let sources = Sources::from_slice(rt.alloc(), project.sources().as_slice())?;
     assert_eq!(rt;
         sources.get(12_345).map(|source| source.number()),
         Some(12_345)
@@ -153,7 +153,7 @@ fn a_list_is_written_at_its_rate(rt: HostRuntime) -> Result<(), Fail> {
     ] {
         let text = list_at(rt.alloc(), rate, time)?;
         let project = read(rt.alloc(), text.as_bytes())?;
-        let source = project.sources().first().ok_or("no source")?;
+        let source = project.sources().as_slice().first().ok_or("no source")?;
         assert_eq!(rt; source.start(), SampleTime::new(239_990));
         let written = text_of(rt.alloc(), &project.try_copy()?)?;
         assert_eq!(rt; written.as_slice(), text.as_bytes());

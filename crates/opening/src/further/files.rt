@@ -155,7 +155,7 @@ pub fn file_faults<S: Shelf>(
 {
     let used = UsedNumbers::new(alloc, project.events());
     let mut paths = Paths::new(alloc);
-    let sources = project.sources();
+    let sources = project.sources().as_slice();
     let (before, behind) = sources.split_at(count_up_to(sources, told));
     note_files(alloc, &used, before, &mut paths)?;
     tell_files(alloc, &used, behind, &mut paths, shelf)

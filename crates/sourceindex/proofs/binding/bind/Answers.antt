@@ -1,8 +1,9 @@
 use Rattle.std.proofs.Common.{◌≡◌, ◌∙◌, ◌+◌, ◌∷◌, ◌++◌, [], IsTrue, MatchBool, Some, Err, add-one, ap, drop, drop-cons, length, refl, rules, subst, sym, take, take-append-drop, take-suc}
-use Rattle.std.specs.List.{slice_get}
+use Rattle.std.specs.List.{list_all, slice_get}
 use Rattle.std.proofs.lemmas.Option.{slice_get_read}
 use Rattle.work_terms.specs.Refusals.{Refusal, is_excused}
 use Rattle.list_terms.specs.Project.{Source}
+use Rattle.list_terms.specs.WholeProject.{is_source}
 use Rattle.list_terms.specs.Bound.{binding_of}
 use Rattle.sourceindex.specs.Fault.{at_index, refusal_of, refusal_of_source}
 use Rattle.sourceindex.specs.Own.{IsOfProject}
@@ -14,8 +15,8 @@ pub returns-in-Err-clause-exact : goal.returns-in-Err-clause-exact
 returns-in-Err-clause-exact g c = λ honest.
     let project = c.args.project.now in
     let files = g.S.Shelf.stored c.args.shelf.now in
-    let sources = c.sources-sources.result.now in
-    let listed = c.sources-sources.ensures.sources in
+    let sources = c.as_slice-sources.result.now in
+    let listed = c.as_slice-sources.ensures.sources ∙ c.sources.ensures.sources in
     let place = c.loop-place.place in
     let source : Source = c.index-sources-place.result in
     let there : slice_get sources place ≡ Some source =
@@ -39,15 +40,16 @@ returns-in-Err-clause-exact g c = λ honest.
 pub returns-in-Err-clause-own : goal.returns-in-Err-clause-own
 returns-in-Err-clause-own g c =
     let project = c.args.project.now in
-    let sources = c.sources-sources.result.now in
-    let listed = c.sources-sources.ensures.sources in
+    let sources = c.as_slice-sources.result.now in
+    let listed = c.as_slice-sources.ensures.sources ∙ c.sources.ensures.sources in
     let place = c.loop-place.place in
     let source : Source = c.index-sources-place.result in
     let there : slice_get sources place ≡ Some source =
     slice_get_read sources (length sources) place source refl c.loop-place-test.true c.index-sources-place.is in
     let fault : c.of_index.result ≡ at_index source.number place c.in-Err.fault =
     c.of_index.ensures ∙ ap (λ n. at_index n place c.in-Err.fault) c.number.ensures in
-    let file = names_file sources place source c.sources-sources.ensures.whole there in
+    let whole = subst (λ l. IsTrue (list_all is_source l)) (sym c.as_slice-sources.ensures.sources) c.sources.ensures.whole in
+    let file = names_file sources place source whole there in
     let used = rw (c.new-used.ensures, c.events.ensures.events) at c.in-Err.ensures.used in
     subst (IsOfProject project) (sym fault) (own_index project place source c.in-Err.fault
     (ap (λ l. slice_get l place) (sym listed) ∙ there) file used)
@@ -55,8 +57,8 @@ returns-in-Err-clause-own g c =
 pub returns-in-Err-clause-only_reads : goal.returns-in-Err-clause-only_reads
 returns-in-Err-clause-only_reads g c =
     let project = c.args.project.now in
-    let sources = c.sources-sources.result.now in
-    let listed = c.sources-sources.ensures.sources in
+    let sources = c.as_slice-sources.result.now in
+    let listed = c.as_slice-sources.ensures.sources ∙ c.sources.ensures.sources in
     let place = c.loop-place.place in
     let source : Source = c.index-sources-place.result in
     let there : slice_get sources place ≡ Some source =
@@ -75,7 +77,7 @@ pub loop-place-preserved : goal.loop-place-preserved
 loop-place-preserved g c =
     let project = c.args.project.now in
     let files = g.S.Shelf.stored c.args.shelf.now in
-    let sources = c.sources-sources.result.now in
+    let sources = c.as_slice-sources.result.now in
     let place = c.loop-place.place in
     let source : Source = c.index-sources-place.result in
     let here : take (place + 1) sources ≡ take place sources ++ source ∷ [] =
