@@ -9,11 +9,11 @@ use Rattle.sourceindex.specs.Homes.{AreLeast, least_so_far}
 use Rattle.sourceindex.proofs.HomeLaws.{home_from-push}
 
 -- the home of a file that an index isn't of stays
-other_file : (before : List BoundIndex) (index : BoundIndex) (file : ℕ) → nat_eq index.file file ≡ false
+pub other_file : (before : List BoundIndex) (index : BoundIndex) (file : ℕ) → nat_eq index.file file ≡ false
     → home_from 0 (before ++ index ∷ []) file ≡ home_from 0 before file
 other_file before index file other = home_from-push 0 before index file ∙ rw other refl
 
-own_file : (before : List BoundIndex) (index : BoundIndex) (file : ℕ) → nat_eq index.file file ≡ true
+pub own_file : (before : List BoundIndex) (index : BoundIndex) (file : ℕ) → nat_eq index.file file ≡ true
     → home_from 0 (before ++ index ∷ []) file
     ≡ Some (least_so_far (home_from 0 before file) (home_at (length before) index))
 own_file before index file own = home_from-push 0 before index file ∙ rw (own, zero-add (length before)) refl

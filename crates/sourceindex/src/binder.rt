@@ -1,5 +1,5 @@
 // A binding in the making.
-ghost use Rattle.std.specs.Prelude.{◌≡◌, ◌<◌, ◌⊎◌, IfErr, IsTrue, None, OnOk, Some, length, slice_get, string_bytes, true};
+ghost use Rattle.std.specs.Prelude.{◌≡◌, ◌^◌, ◌<◌, ◌⊎◌, IfErr, IsTrue, None, OnOk, Some, length, slice_get, string_bytes, true};
 ghost use Rattle.sound_terms.specs.Mix.{index_of};
 ghost use Rattle.devices.specs.Frame.{OnlyReads};
 ghost use Rattle.list_terms.specs.Binding.{OpenedFile, file_named, is_used, nothing_bound, with_index, with_known_file};
@@ -60,7 +60,8 @@ impl Binder {
 
     /// The indexes that are bound.
     pub fn indexes(&self) -> &[BoundIndex]
-        ensures { result.now ≡ self.now.indexes }
+        ensures all { result.now ≡ self.now.indexes }
+        ensures few { length result.now < 2 ^ 32 }
     {
         self.indexes.as_slice()
     }

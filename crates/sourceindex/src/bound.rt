@@ -1,15 +1,15 @@
 // What a project is bound to.
-ghost use Rattle.std.specs.Prelude.{◌≡◌, ◌≤◌, IfOk, IfSome, IsSome, Some, slice_get, string_bytes};
+ghost use Rattle.std.specs.Prelude.{◌≡◌, ◌^◌, ◌<◌, ◌≤◌, IfOk, IfSome, IsSome, Some, length, slice_get, string_bytes};
 ghost use Rattle.sound_terms.specs.Homes.{addressable_by};
 ghost use Rattle.sound_terms.specs.Mix.{index_of};
 ghost use Rattle.sound_terms.specs.Sounds.{SoundFacts};
-ghost use Rattle.list_terms.specs.BoundHomes.{IsBinding, IsBoundTo, homes_of};
+ghost use Rattle.list_terms.specs.BoundHomes.{IsBinding, IsBoundTo, home_from, homes_of};
 ghost use Rattle.list_terms.specs.Heard.{sounds_of};
 
 use crate::binder::Binder;
-use crate::homes::homes_by;
+use crate::homes::{home_among, homes_by};
 use list_terms::Notice;
-use sound_terms::{BoundIndex, Homes};
+use sound_terms::{BoundIndex, Home, Homes};
 use std::alloc::{AllocError, Global};
 use std::marker::Model;
 use wavread::Sound;
@@ -52,6 +52,7 @@ impl Bound {
     /// The bound indexes, in the order of their sources.
     pub fn indexes(&self) -> &[BoundIndex]
         ensures indexes { result.now ≡ self.now.indexes }
+        ensures few { length result.now < 2 ^ 32 }
         ensures bound { IsBinding self.now }
     {
         self.binder.indexes()
@@ -82,6 +83,14 @@ impl Bound {
         ensures { result.now ≡ self.now.notices }
     {
         self.binder.notices()
+    }
+
+    /// The home index of a file, by its place among those opened: of its bound indexes the first of those with the least
+    /// base. `None` behind the last file.
+    pub fn home(&self, file: u32) -> Option<Home>
+        ensures { result ≡ home_from 0 self.now.indexes file }
+    {
+        home_among(self.indexes(), file)
     }
 
     /// The home index of each file: of its bound indexes the first of those with the least base.

@@ -1,5 +1,5 @@
 // The indexes that are bound, each found by its number.
-ghost use Rattle.std.specs.Prelude.{◌≡◌, ℕ, List, [], ◌∷◌, ◌++◌, IfOk, is_ok, if◌then◌else◌, None, slice_index_or};
+ghost use Rattle.std.specs.Prelude.{◌≡◌, ◌^◌, ◌<◌, length, ℕ, List, [], ◌∷◌, ◌++◌, IfOk, is_ok, if◌then◌else◌, None, slice_index_or};
 ghost use Rattle.sound_terms.specs.Mix.{index_of};
 ghost use Rattle.sound_terms.specs.declared.BoundIndex.{BoundIndex};
 ghost use Rattle.sourceindex.specs.Places.{ArePlaces};
@@ -11,6 +11,9 @@ use std::marker::Model;
 /// The numbers below this one have a place in the table: all that a list spells.
 const PLACES: usize = 32_768;
 
+/// The most indexes: the place of each fits 32 bits.
+const MOST: usize = 4_294_967_295;
+
 /// The indexes that are bound so far, in the order of their sources.
 #[derive(Drop)]
 pub struct BoundIndexes {
@@ -19,11 +22,16 @@ pub struct BoundIndexes {
 }
 
 impl Model for BoundIndexes {
+    ghost use Rattle.std.specs.Prelude.{◌^◌, ◌<◌, List, length};
+    ghost use Rattle.sound_terms.specs.declared.BoundIndex.{BoundIndex};
+    ghost use Rattle.sourceindex.specs.Places.{ArePlaces};
+
     ghost Value = { List BoundIndex };
 
     ghost view = { λ bound. bound.indexes.items };
 
-    ghost invariant = { λ bound. ArePlaces bound.indexes.items bound.places.items };
+    ghost invariant = { λ bound. ArePlaces bound.indexes.items bound.places.items
+        × (length bound.indexes.items < 2 ^ 32) };
 }
 
 /// A table of so many numbers, none of which has a place.
@@ -46,7 +54,8 @@ impl BoundIndexes {
 
     /// All of them.
     pub fn as_slice(&self) -> &[BoundIndex]
-        ensures { result.now ≡ self.now }
+        ensures all { result.now ≡ self.now }
+        ensures few { length result.now < 2 ^ 32 }
     {
         self.indexes.as_slice()
     }
@@ -76,12 +85,16 @@ impl BoundIndexes {
         Ok(())
     }
 
-    /// Adds an index behind the others. An error leaves them as they were.
+    /// Adds an index behind the others. An error leaves them as they were; it also stands for more than 32 bits can
+    /// number.
     pub fn push(&mut self, alloc: Global, index: BoundIndex) -> Result<(), AllocError>
         ensures { self.new ≡ (if is_ok result then self.old ++ index ∷ [] else self.old) }
     {
         self.make_places(alloc)?;
         let place = self.indexes.len();
+        if place >= MOST {
+            return Err(AllocError);
+        }
         let number = index.number as usize;
         self.indexes.push(index)?;
         if number < self.places.len() && self.places[number].is_none() {

@@ -1,6 +1,7 @@
 // The home index of each file.
-ghost use Rattle.std.specs.Prelude.{◌≡◌, List, [], IfOk, length, map, unwrap_or};
+ghost use Rattle.std.specs.Prelude.{◌≡◌, ◌^◌, ◌<◌, List, [], IfOk, length, map, unwrap_or};
 ghost use Rattle.list_terms.specs.Binding.{OpenedFile};
+ghost use Rattle.list_terms.specs.BoundHomes as spec;
 ghost use Rattle.list_terms.specs.BoundHomes.{homes_from, no_home};
 ghost use Rattle.sourceindex.specs.Homes.{AreLeast, least_so_far};
 
@@ -32,6 +33,31 @@ fn least(home: Option<Home>, later: Home) -> Home
     }
 }
 
+/// What an index tells that stands at this place among those bound.
+fn home_at(place: u32, index: &BoundIndex) -> Home
+    ensures { result ≡ spec.home_at place index.now }
+{
+    Home {
+        base: index.base,
+        addressable: index.addressable,
+        place,
+    }
+}
+
+/// The first with the least base of the indexes of this file; `None` where it has no index.
+pub fn home_among(indexes: &[BoundIndex], file: u32) -> Option<Home>
+    requires { length indexes.now < 2 ^ 32 }
+    ensures { result ≡ spec.home_from 0 indexes.now file }
+{
+    let mut home = None;
+    for (i, index) in indexes.iter().enumerate() {
+        if index.file == file {
+            home = Some(least(home, home_at(i as u32, index)));
+        }
+    }
+    home
+}
+
 /// The first with the least base of the indexes of each file; `None` where a file has no index. The error also stands
 /// for more indexes than 32 bits can number.
 fn least_homes(
@@ -47,11 +73,7 @@ fn least_homes(
         let Ok(place) = u32::try_from(i) else {
             return Err(AllocError);
         };
-        let home = Home {
-            base: index.base,
-            addressable: index.addressable,
-            place,
-        };
+        let home = home_at(place, index);
         let file = index.file as usize;
         if file < homes.len() {
             homes[file] = Some(least(homes[file], home));

@@ -22,7 +22,7 @@ loop-i-preserved c =
           let inside : index.file < length homes = omega (arith, w.if-file-len.true, c.len.ensures) in
           let read = read_as homes index.file w.index.result.now None w.index.result.now inside w.index.ensures refl in
           let value : w.least.result ≡ least_so_far (get_or homes index.file None) (home_at (length before) index) =
-          w.least.ensures ∙ rw (read, many, c.in-Ok.ensures.1) refl in
+          w.least.ensures ∙ rw (c.home_at-home.ensures, read, many, c.in-Ok.ensures.1) refl in
           record {
             least = rw (here, w.homes-is, value) (least_put homes before index c.loop-i.invariant.least inside);
             count = rw w.homes-is (length-set homes index.file _ ∙ c.loop-i.invariant.count);

@@ -1,5 +1,5 @@
 use Rattle.std.proofs.lemmas.Bool.{not-false, not-true}
-use Rattle.std.proofs.Common.{◌≡◌, ◌∙◌, Bool, true, false, not, Ok, bytes_eq, refl, sym, subst, ap}
+use Rattle.std.proofs.Common.{◌≡◌, ◌∙◌, true, false, not, Ok, bytes_eq, sym, subst, ap}
 use Rattle.std.specs.List.{slice_get}
 use Rattle.list_terms.specs.Binding.{Binding}
 use Rattle.list_terms.specs.BoundHomes.{IsBinding}

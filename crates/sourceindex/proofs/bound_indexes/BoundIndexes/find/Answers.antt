@@ -11,7 +11,7 @@ returns-in_err-place c =
     let places = c.self.inside.places.items in
     let below : c.args.number < length places = omega (arith, c.if-len-number.false, c.self.inside.places.ok.0) in
     let held = read_as places c.args.number c.index.result.now None None below c.index.ensures c.in_err-place.was in
-    c.from_residual.ensures ∙ sym (found_by_no_place indexes places c.args.number c.self.invariant below held)
+    c.from_residual.ensures ∙ sym (found_by_no_place indexes places c.args.number c.self.invariant.0 below held)
     ∙ ap (λ l. index_of l c.args.number) c.self.view_is
 
 pub returns : goal.returns
@@ -22,8 +22,8 @@ returns c =
     let below : c.args.number < length places = omega (arith, c.if-len-number.false, c.self.inside.places.ok.0) in
     let held =
     read_as places c.args.number c.index.result.now None (Some place) below c.index.ensures c.in_ok-place.was in
-    let inside = place_inside indexes places c.args.number place c.self.invariant below held in
+    let inside = place_inside indexes places c.args.number place c.self.invariant.0 below held in
     let there : slice_get indexes place ≡ Some c.index-2.result.now =
     slice_get_read indexes (length indexes) place c.index-2.result.now refl inside c.index-2.ensures in
-    sym there ∙ found_by_place indexes places c.args.number place c.self.invariant below held
+    sym there ∙ found_by_place indexes places c.args.number place c.self.invariant.0 below held
     ∙ ap (λ l. index_of l c.args.number) c.self.view_is

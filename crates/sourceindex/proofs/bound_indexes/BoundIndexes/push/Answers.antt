@@ -1,4 +1,4 @@
-use Rattle.std.proofs.Common.{◌≡◌, ◌∷◌, ◌++◌, ◌<◌, [], None, arith, length}
+use Rattle.std.proofs.Common.{◌≡◌, ◌∷◌, ◌++◌, ◌^◌, ◌<◌, [], None, arith, length, length-append}
 use Rattle.facts.specs.Tests.{not_some}
 use Rattle.sourceindex.proofs.Places.{place_added, read_as}
 use Rattle.sourceindex.proofs.bound_indexes.BoundIndexes.push.Goals as goal
@@ -14,4 +14,8 @@ invariant_of-self-then-is_none c =
     let free =
     read_as places index.number c.index.result.now None None below c.index.ensures
     (not_some c.index.result.now c.if-is_none.ensures) in
-    rw (pushed, place) (place_added indexes places index c.self.invariant below free)
+    let few : length (indexes ++ index ∷ []) < 2 ^ 32 =
+    omega (arith, length-append indexes (index ∷ []), place, c.if-place-ge-MOST.false) in (
+      rw (pushed, place) (place_added indexes places index c.self.invariant.0 below free),
+      rw pushed few,
+    )
