@@ -1,9 +1,9 @@
 // Outputs in memory.
-ghost use Rattle.std.specs.Prelude.{◌≡◌, ◌≢◌, ◌+◌, ◌≤◌, ℕ, true, None, List, [], IfOk, IsOk, IsErr, IsTrue, IsSomeAnd, OnOk, option_copied, option_map, length, ⊤};
+ghost use Rattle.std.specs.Prelude.{◌≡◌, ◌≢◌, ◌+◌, ◌≤◌, ◌↔◌, ℕ, true, None, List, [], IfOk, IsOk, IsErr, IsTrue, IsSomeAnd, OnOk, option_copied, option_map, length, ⊤};
 ghost use Rattle.work_terms.specs.Disk.{Changes, Files, HasCause, IsEmptyOrAbsent};
 ghost use Rattle.shelf.specs.Crashes.{IsChange, counts_now, gone_held, only_now, reads_held};
 ghost use Rattle.shelf.specs.History.{LeftSince, MayLeave, Note, crashed, noted, read_of, step};
-ghost use Rattle.shelf.specs.Memory.{bench_failures, bench_files, bench_history, bench_part, bench_stretch};
+ghost use Rattle.shelf.specs.Memory.{bench_failures, bench_files, bench_history, bench_part, bench_stretch, fails_now};
 ghost use Rattle.shelf.specs.declared.memory.call.Kind.TheVariants.{Sync};
 
 use super::call::{Call, Kind};
@@ -125,6 +125,7 @@ impl MemoryBench {
 
     /// One call begins that writes nothing.
     fn begin(&mut self) -> Result<(), DeviceFault>
+        ensures fails { IsErr result ↔ IsTrue (fails_now (bench_stretch self.old)) }
         ensures history { bench_history self.new ≡ bench_history self.old }
         ensures cause { HasCause (bench_failures self.old) (bench_failures self.new) (IsOk result) (IsErr result) }
     {
@@ -206,6 +207,13 @@ impl MemoryBench {
           at = at;
           bytes = bytes.now;
           part = part;
+        }) (bench_history self.old) (bench_history self.new) }
+        ensures torn { IsTrue (fails_now (bench_stretch self.old)) → IsChange (record {
+          name = name.now;
+          kind = kind;
+          at = at;
+          bytes = bytes.now;
+          part = bench_part self.old;
         }) (bench_history self.old) (bench_history self.new) }
         ensures cause { HasCause (bench_failures self.old) (bench_failures self.new) (IsOk result) (IsErr result) }
     {
