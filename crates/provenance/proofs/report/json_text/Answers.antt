@@ -21,7 +21,7 @@ returns c =
     } in
     let media : map view c.in_ok-media.media.items
     ≡ map (medium_told t.project.sources t.binding.indexes (sounds_of t.binding) t.kept.homes) c.args.media.now =
-    rw (c.sources.ensures.sources, c.indexes.ensures.indexes, c.sounds.ensures.sounds, c.homes.ensures)
+    rw (c.as_slice.ensures.sources, c.sources.ensures.sources, c.indexes.ensures.indexes, c.sounds.ensures.sounds, c.homes.ensures)
     at c.in_ok-media.ensures in
     let entries : map view c.in_ok-entries-2.entries.items
     ≡ map (entry_data (given_entries t.binding.indexes t.project.events))
