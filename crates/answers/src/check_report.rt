@@ -12,7 +12,7 @@ use shelf::{Reasons, Shelf};
 use std::alloc::Global;
 
 /// Checks the list, and prints all that came of it as JSON on `out`, by the form of `docs/REPORT.md`; where no memory was
-/// left for that, the refusal 18. A refusal of the list is explained on `err`. The status is 0 where the list is
+/// left for the first fault of a list that is refused, the refusal 18. A refusal of the list is explained on `err`. The status is 0 where the list is
 /// accepted and told, and else 1.
 pub fn answer_report<S: Shelf + Reasons, O: Console, E: Console>(
     alloc: Global,
@@ -28,7 +28,7 @@ pub fn answer_report<S: Shelf + Reasons, O: Console, E: Console>(
     let outcome = open_project(alloc, list, shelf);
     tell_changed(alloc, shelf, err);
     match outcome {
-        Ok(checked) => put_accepted(alloc, &checked, out),
+        Ok(checked) => put_accepted(&checked, out),
         Err(fault) => {
             let status = put_refused(alloc, list, shelf, &fault, out);
             let fault = Fault::Project(fault);

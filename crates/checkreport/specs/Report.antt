@@ -92,18 +92,23 @@ abbrev pub file_in : Where → Data
 file_in (refused.IndexFile index name) = string name
 file_in place = null
 
--- a fault
+-- a fault of this number, by the parts of its place
+abbrev pub fault_of : (entry : Option ℕ) (file : Data) (index line : Option ℕ) (refusal : ℕ) → Data
+fault_of entry file index line refusal =
+    object (member (codes "entry") (count_in entry)
+    (member (codes "file") file
+    (member (codes "index") (count_in index)
+    (member (codes "line") (count_in line)
+    (member (codes "refused") (count refusal) no_members)))))
+
 abbrev pub fault_data : Refusal → Data
 fault_data refusal =
-    object (member (codes "entry") (count_in (entry_in refusal.place))
-    (member (codes "file") (file_in refusal.place)
-    (member (codes "index") (count_in (index_in refusal.place))
-    (member (codes "line") (count_in (line_in refusal.place))
-    (member (codes "refused") (count refusal.number) no_members)))))
+    fault_of (entry_in refusal.place) (file_in refusal.place) (index_in refusal.place) (line_in refusal.place)
+    refusal.number
 
--- a list that is refused, by its first fault and further ones; whether these are all
+-- a list that is refused, by its first fault and further ones; whether these are all, which is known last
 abbrev pub refused_data : Fault → List Fault → Bool → Data
 refused_data first further are_all =
     object (member (codes "accepted") (boolean false)
-    (member (codes "complete") (boolean are_all)
-    (member (codes "faults") (array (items_of (map (λ fault. fault_data (refusal_of fault)) (first ∷ further)))) no_members)))
+    (member (codes "faults") (array (items_of (map (λ fault. fault_data (refusal_of fault)) (first ∷ further))))
+    (member (codes "complete") (boolean are_all) no_members)))

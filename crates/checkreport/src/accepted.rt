@@ -1,117 +1,148 @@
 // The report of a list that is accepted.
-ghost use Rattle.std.specs.Prelude.{◌≡◌, ◌++◌, IfOk, OnOk, map, option_map, slice_get};
-ghost use Rattle.serde_json.specs.View.{view};
+ghost use Rattle.std.specs.Prelude.{◌≡◌, ◌++◌, ◌||◌, codes, decimal, false, map, option_map, slice_get};
+ghost use Rattle.serde_json.specs.View.{items_of};
+ghost use Rattle.serde_json.specs.Written as written;
+ghost use Rattle.serde_json.specs.Written.{compact_text, items_text};
+ghost use Rattle.console.specs.Printing.{Prints};
 ghost use Rattle.checkreport.specs.Report as spec;
-ghost use Rattle.checkreport.specs.Report.{accepted_data, index_of_file};
+ghost use Rattle.checkreport.specs.Report.{accepted_data, index_of_file, notice_data};
+ghost use Rattle.checkreport.specs.Parts.{after_commas, index_text, listed, notice_text};
 
+use crate::values::put_string;
+use console::{Console, put_counted};
 use list_terms::Notice;
 use projectcheck::Checked;
-use serde_json::{Value, json, push};
 use sound_terms::BoundIndex;
-use std::alloc::{AllocError, Global};
 use wavread::Sound;
 
-/// The report of a list without a fault.
-pub fn accepted_report(alloc: Global, checked: &Checked) -> Result<Value, AllocError>
-    ensures { IfOk result (λ report. view report ≡ accepted_data checked.now.project checked.now.bound) }
+/// Prints the report of a list without a fault.
+pub fn put_report<O: Console>(checked: &Checked, out: &mut O)
+    ensures { Prints O.contents O.failures out.old out.new
+        (compact_text (accepted_data checked.now.project checked.now.bound)) }
 {
     let project = checked.project();
     let bound = checked.bound();
-    let notices = notice_values(alloc, project.notices(), bound.notices())?;
-    let indexes = index_values(alloc, bound.indexes(), bound.sounds(), bound.notices())?;
-    let rate = project.rate().frames_per_second();
-    let entries = project.events().len();
-    accepted_value(alloc, rate, entries, indexes, notices)
+    put_counted(
+        out,
+        "{\"accepted\":true,\"entries\":",
+        project.events().len() as u64,
+    );
+    out.put(b",\"indexes\":[");
+    put_indexes(out, bound.indexes(), bound.sounds(), bound.notices());
+    out.put(b",\"notices\":[");
+    put_notices(out, project.notices(), bound.notices());
+    let rate = u64::from(project.rate().frames_per_second());
+    put_counted(out, ",\"rate\":", rate);
+    out.put(b"}");
 }
 
-/// A list of this rate, with so many entries, these indexes and these notices.
-fn accepted_value(
-    alloc: Global,
-    rate: u8,
-    entries: usize,
-    indexes: Vec<Value>,
-    notices: Vec<Value>,
-) -> Result<Value, AllocError>
-    ensures { IfOk result (λ report. view report
-        ≡ spec.accepted_of rate entries (map view indexes.items) (map view notices.items)) }
+/// Prints the notices of a list and then those of its files, and the end of their array.
+fn put_notices<O: Console>(out: &mut O, list: &[Notice], files: &[Notice])
+    ensures { Prints O.contents O.failures out.old out.new
+        (items_text false (items_of (map notice_data (list.now ++ files.now)))) }
 {
-    json!(in alloc; {
-        "rate": rate,
-        "notices": notices,
-        "indexes": indexes,
-        "entries": entries,
-        "accepted": true
-    })
+    match list.split_first() {
+        Some((first, rest)) => {
+            put_notice(out, first);
+            put_further_notices(out, rest);
+            put_further_notices(out, files);
+            out.put(b"]");
+        }
+        None => put_notices_of_files(out, files),
+    }
 }
 
-/// The notices of a list, and then those of its files.
-fn notice_values(alloc: Global, list: &[Notice], files: &[Notice]) -> Result<Vec<Value>, AllocError>
-    ensures { IfOk result
-        (λ values. map view values.items ≡ map spec.notice_data (list.now ++ files.now)) }
+/// Prints notices, and the end of their array.
+fn put_notices_of_files<O: Console>(out: &mut O, notices: &[Notice])
+    ensures { Prints O.contents O.failures out.old out.new
+        (items_text false (items_of (map notice_data notices.now))) }
 {
-    let mut values = Vec::new(alloc);
-    push_notices(alloc, &mut values, list)?;
-    push_notices(alloc, &mut values, files)?;
-    Ok(values)
+    match notices.split_first() {
+        Some((first, rest)) => {
+            put_notice(out, first);
+            put_further_notices(out, rest);
+            out.put(b"]");
+        }
+        None => out.put(b"]"),
+    }
 }
 
-/// Adds notices.
-fn push_notices(
-    alloc: Global,
-    values: &mut Vec<Value>,
-    notices: &[Notice],
-) -> Result<(), AllocError>
-    ensures { OnOk result (map view values.new.items
-        ≡ map view values.old.items ++ map spec.notice_data notices.now) }
+/// Prints notices, each after a comma.
+fn put_further_notices<O: Console>(out: &mut O, notices: &[Notice])
+    ensures { Prints O.contents O.failures out.old out.new (after_commas notice_text notices.now) }
 {
     for notice in notices {
-        let value = notice_value(alloc, *notice)?;
-        push(values, value)?;
+        out.put(b",");
+        put_notice(out, notice);
     }
-    Ok(())
 }
 
-/// A notice: its number, and its line or index.
-fn notice_value(alloc: Global, notice: Notice) -> Result<Value, AllocError>
-    ensures { IfOk result (λ value. view value ≡ spec.notice_data notice) }
+/// Prints a notice: its number, and its line or index.
+#[tactic(auto, unfolding(crate::specs::Parts::notice_text, json::specs::Print::escape_byte))]
+fn put_notice<O: Console>(out: &mut O, notice: &Notice)
+    ensures { Prints O.contents O.failures out.old out.new (notice_text notice.now) }
 {
     if notice.kind <= 2 {
-        json!(in alloc; {"notice": (notice.kind), "line": (notice.at)})
+        put_notice_at(out, "{\"line\":", notice);
     } else {
-        json!(in alloc; {"notice": (notice.kind), "index": (notice.at)})
+        put_notice_at(out, "{\"index\":", notice);
     }
 }
 
-/// All indexes.
-fn index_values(
-    alloc: Global,
+/// Prints a notice, with these words before its line or index.
+fn put_notice_at<O: Console>(out: &mut O, words: &str, notice: &Notice)
+    ensures { Prints O.contents O.failures out.old out.new (words.now
+        ++ (decimal notice.now.at ++ (codes ",\"notice\":" ++ (decimal notice.now.kind ++ codes "}")))) }
+{
+    put_counted(out, words, notice.at);
+    put_counted(out, ",\"notice\":", u64::from(notice.kind));
+    out.put(b"}");
+}
+
+/// Prints indexes over these opened files, and the end of their array.
+fn put_indexes<O: Console>(
+    out: &mut O,
     indexes: &[BoundIndex],
     sounds: &[Sound],
     notices: &[Notice],
-) -> Result<Vec<Value>, AllocError>
-    ensures { IfOk result
-        (λ values. map view values.items ≡ map (spec.index_data sounds.now notices.now) indexes.now) }
+)
+    ensures { Prints O.contents O.failures out.old out.new
+        (items_text false (items_of (map (spec.index_data sounds.now notices.now) indexes.now))) }
 {
-    let mut values = Vec::new(alloc);
-    for index in indexes {
-        let value = index_value(alloc, index, sounds, notices)?;
-        push(&mut values, value)?;
+    match indexes.split_first() {
+        Some((first, rest)) => {
+            put_index(out, first, sounds, notices);
+            put_further_indexes(out, rest, sounds, notices);
+            out.put(b"]");
+        }
+        None => out.put(b"]"),
     }
-    Ok(values)
 }
 
-/// An index.
-fn index_value(
-    alloc: Global,
-    index: &BoundIndex,
+/// Prints indexes, each after a comma.
+fn put_further_indexes<O: Console>(
+    out: &mut O,
+    indexes: &[BoundIndex],
     sounds: &[Sound],
     notices: &[Notice],
-) -> Result<Value, AllocError>
-    ensures { IfOk result (λ value. view value ≡ spec.index_data sounds.now notices.now index.now) }
+)
+    ensures { Prints O.contents O.failures out.old out.new
+        (after_commas (index_text sounds.now notices.now) indexes.now) }
+{
+    for index in indexes {
+        out.put(b",");
+        put_index(out, index, sounds, notices);
+    }
+}
+
+/// Prints an index.
+#[tactic(auto, unfolding(crate::specs::Parts::index_text))]
+fn put_index<O: Console>(out: &mut O, index: &BoundIndex, sounds: &[Sound], notices: &[Notice])
+    ensures { Prints O.contents O.failures out.old out.new (index_text sounds.now notices.now index.now) }
 {
     match sound_at(sounds, index.file) {
-        Some(sound) => file_value(alloc, index, sound, notices),
-        None => Ok(Value::Null),
+        Some(sound) => put_index_of(out, index, sound, notices),
+        None => out.put(b"null"),
     }
 }
 
@@ -122,43 +153,51 @@ fn sound_at(sounds: &[Sound], place: u32) -> Option<&Sound>
     sounds.get(place as usize)
 }
 
-/// An index of this file.
-fn file_value(
-    alloc: Global,
-    index: &BoundIndex,
-    sound: &Sound,
-    notices: &[Notice],
-) -> Result<Value, AllocError>
-    ensures { IfOk result (λ value. view value ≡ index_of_file notices.now index.now sound.now) }
+/// Prints an index of this file.
+fn put_index_of<O: Console>(out: &mut O, index: &BoundIndex, sound: &Sound, notices: &[Notice])
+    ensures { Prints O.contents O.failures out.old out.new
+        (compact_text (index_of_file notices.now index.now sound.now)) }
 {
-    let kinds = kinds_of(alloc, index.number, notices)?;
-    let name = sound.name();
-    let frames = sound.frames();
-    let depth = sound.depth().bits();
-    let channels = sound.channels();
-    let (number, base) = (index.number, index.base);
-    json!(in alloc; {
-        "notices": kinds,
-        "index": number,
-        "frames": frames,
-        "file": name,
-        "depth": depth,
-        "channels": channels,
-        "base": base
-    })
+    put_counted(out, "{\"base\":", index.base);
+    put_counted(out, ",\"channels\":", u64::from(sound.channels()));
+    put_counted(out, ",\"depth\":", u64::from(sound.depth().bits()));
+    out.put(b",\"file\":");
+    put_string(out, sound.name());
+    put_counted(out, ",\"frames\":", sound.frames());
+    put_counted(out, ",\"index\":", u64::from(index.number));
+    out.put(b",\"notices\":[");
+    put_kinds(out, index.number, notices);
+    out.put(b"]}");
 }
 
-/// The numbers of the notices of an index.
-fn kinds_of(alloc: Global, index: u32, notices: &[Notice]) -> Result<Vec<Value>, AllocError>
-    ensures { IfOk result (λ kinds. map view kinds.items ≡ spec.kinds_of index notices.now) }
+/// Prints the numbers of the notices of an index, a comma between two.
+fn put_kinds<O: Console>(out: &mut O, index: u32, notices: &[Notice])
+    ensures { Prints O.contents O.failures out.old out.new (listed false (spec.kinds_of index notices.now)) }
 {
-    let mut kinds = Vec::new(alloc);
+    let mut is_later = false;
     for notice in notices {
-        if is_of_index(index, notice) {
-            push(&mut kinds, Value::from(notice.kind))?;
-        }
+        is_later = put_kind(out, index, notice, is_later);
     }
-    Ok(kinds)
+}
+
+/// Prints the number of a notice, where it is of this index, after a comma where others are before it. Answers whether
+/// one is before the next.
+fn put_kind<O: Console>(out: &mut O, index: u32, notice: &Notice, is_later: bool) -> bool
+    ensures printed { Prints O.contents O.failures out.old out.new (listed is_later (spec.kind_at index notice.now)) }
+    ensures later { result ≡ is_later || spec.is_of_index index notice.now }
+{
+    if !is_of_index(index, notice) {
+        return is_later;
+    }
+    put_counted(out, comma_if(is_later), u64::from(notice.kind));
+    true
+}
+
+/// A comma, where another value is before the next one.
+fn comma_if(is_later: bool) -> &'static str
+    ensures { result.now ≡ written.comma_if is_later }
+{
+    if is_later { "," } else { "" }
 }
 
 /// Whether a notice is of this index.

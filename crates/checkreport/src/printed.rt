@@ -1,14 +1,20 @@
 // Reports as they are printed.
-ghost use Rattle.std.specs.Prelude.{◌≡◌, ◌≤◌, ◌++◌, ◌∷◌, [], ℕ, IfOk, List, string_bytes};
+ghost use Rattle.std.specs.Prelude.{◌≡◌, ◌≤◌, ◌++◌, ◌∷◌, [], ℕ, IsTrue, List, OnErr, OnOk, ⊤};
+ghost use Rattle.serde_json.specs.Written.{compact_text};
 ghost use Rattle.work_terms.specs.Disk.{Files};
 ghost use Rattle.work_terms.specs.Refusals.{IsDue, Nowhere};
 ghost use Rattle.list_terms.specs.Heard.{IsAccepted, project_fault};
 ghost use Rattle.opening.specs.Faults.{refusal_of};
+ghost use Rattle.opening.specs.Further.{AreAll};
+ghost use Rattle.opening.specs.declared.fault.Fault.{Fault};
 ghost use Rattle.console.specs.Lines.{refusal_text};
 ghost use Rattle.console.specs.Printing.{Prints};
-ghost use Rattle.checkreport.specs.Reported.{IsReportOf, IsReported};
+ghost use Rattle.checkreport.specs.Parts.{after_commas, fault_text};
+ghost use Rattle.checkreport.specs.Report.{accepted_data};
+ghost use Rattle.checkreport.specs.Reported.{AreComplete, IsReported, PrintsRefused, PrintsRefusedLine};
 
-use crate::text::{accepted_text, refused_text};
+use crate::accepted::put_report;
+use crate::refused::{put_all, put_end, put_first, put_of_text};
 use adlread::{AdlFault, Faults};
 use console::{Console, Refusal, put_refusal};
 use devices::Shelf;
@@ -16,24 +22,24 @@ use opening::{Fault, further_faults};
 use projectcheck::Checked;
 use std::alloc::{AllocError, Global};
 
-/// Prints the report of a list without a fault as a line of JSON, and answers the status 0; where no memory was left for
-/// it the refusal 18, and 1.
-pub fn put_accepted<O: Console>(alloc: Global, checked: &Checked, out: &mut O) -> u8
+/// Prints the report of a list without a fault as a line of JSON, part by part and without memory, and answers the
+/// status 0.
+pub fn put_accepted<O: Console>(checked: &Checked, out: &mut O) -> u8
+    ensures printed { Prints O.contents O.failures out.old out.new
+        (compact_text (accepted_data checked.now.project checked.now.bound) ++ 10 ∷ []) }
     ensures reported { (list : List ℕ) (files : Files) → IsAccepted list files checked.now.project checked.now.bound
         → IsReported list files O.Console out.old out.new result }
-    ensures statuses { result ≤ 1 }
+    ensures status { result ≡ 0 }
 {
-    match accepted_text(alloc, checked) {
-        Ok(text) => {
-            put_text(text.as_str(), out);
-            0
-        }
-        Err(_) => put_untold(out),
-    }
+    put_report(checked, out);
+    out.end_line();
+    0
 }
 
-/// Prints the report of a list that is refused by this first fault as a line of JSON, and answers the status 1. Further
-/// faults are looked for in the list and in the sources of the shelf. The refusal 18 where no memory was left for it.
+/// Prints the report of a list that is refused by this first fault as a line of JSON, fault by fault, and answers the
+/// status 1. Further faults are looked for in the list and in the sources of the shelf. Where no memory was left before
+/// the first byte, the refusal 18; where none was left for a later fault, the report ends before it and says that it
+/// isn't complete.
 pub fn put_refused<S: Shelf, O: Console>(
     alloc: Global,
     list: &[u8],
@@ -41,83 +47,105 @@ pub fn put_refused<S: Shelf, O: Console>(
     first: &Fault,
     out: &mut O,
 ) -> u8
-    ensures reported { (files : Files) → IsDue (refusal_of first.now) (project_fault list.now files)
-        → IsReported list.now files O.Console out.old out.new result }
+    ensures printed { PrintsRefusedLine O.Console out.old out.new first.now
+        (λ further. IsTrue (S.honest shelf.old) → AreComplete list.now (S.stored shelf.old) first.now further) }
+    ensures reported { IsTrue (S.honest shelf.old)
+        → IsDue (refusal_of first.now) (project_fault list.now (S.stored shelf.old))
+        → IsReported list.now (S.stored shelf.old) O.Console out.old out.new result }
     ensures status { result ≡ 1 }
 {
-    match report_of(alloc, list, shelf, first) {
-        Ok(text) => {
-            put_text(text.as_str(), out);
+    match put_faults(alloc, list, shelf, first, out) {
+        Ok(()) => {
+            out.end_line();
             1
         }
-        Err(_) => put_untold(out),
+        Err(_) => put_no_memory(out),
     }
 }
 
-/// Prints a text as a line.
-fn put_text<O: Console>(text: &str, out: &mut O)
-    ensures { Prints O.contents O.failures out.old out.new (text.now ++ 10 ∷ []) }
-{
-    out.put(text.as_bytes());
-    out.end_line();
-}
-
 /// Prints that no memory was left for a report, and answers the status.
-fn put_untold<O: Console>(out: &mut O) -> u8
+fn put_no_memory<O: Console>(out: &mut O) -> u8
     ensures status { result ≡ 1 }
-    ensures told { Prints O.contents O.failures out.old out.new (refusal_text 18 Nowhere ++ 10 ∷ []) }
+    ensures printed { Prints O.contents O.failures out.old out.new (refusal_text 18 Nowhere ++ 10 ∷ []) }
 {
     put_refusal(out, Refusal::MEMORY);
     out.end_line();
     1
 }
 
-/// The report of a list that is refused by its first fault, with its further faults.
-fn report_of<S: Shelf>(
+/// Prints the report of a list that is refused, without the line's end. Nothing where no memory was left before the
+/// first byte.
+fn put_faults<S: Shelf, O: Console>(
     alloc: Global,
     list: &[u8],
     shelf: &mut S,
     first: &Fault,
-) -> Result<String, AllocError>
-    ensures { IfOk result (λ text. IsReportOf first.now (string_bytes text)) }
+    out: &mut O,
+) -> Result<(), AllocError>
+    ensures printed { OnOk result (PrintsRefused O.Console out.old out.new first.now
+        (λ further. IsTrue (S.honest shelf.old) → AreComplete list.now (S.stored shelf.old) first.now further)) }
+    ensures unprinted { OnErr result (out.new ≡ out.old) }
 {
-    if let Fault::List(fault) = first {
-        return report_of_lines(alloc, list, first, *fault);
-    }
-    match further_faults(alloc, list, shelf, first, usize::MAX) {
-        Ok(further) => told(alloc, first, &further.faults, true),
-        Err(_) => told(alloc, first, &[], false),
+    match first {
+        Fault::List(fault) => put_lines(alloc, list, first, *fault, out),
+        _ => put_sources(alloc, list, shelf, first, out),
     }
 }
 
-/// The report of a list whose text is refused for this fault of it, with its further lines at fault.
-fn report_of_lines(
+/// The same where its text is refused for this fault, with its further lines at fault.
+fn put_lines<O: Console>(
     alloc: Global,
     list: &[u8],
     first: &Fault,
     fault: AdlFault,
-) -> Result<String, AllocError>
-    ensures { IfOk result (λ text. IsReportOf first.now (string_bytes text)) }
+    out: &mut O,
+) -> Result<(), AllocError>
+    ensures printed { OnOk result (PrintsRefused O.Console out.old out.new first.now (λ _. ⊤)) }
+    ensures unprinted { OnErr result (out.new ≡ out.old) }
 {
-    let mut faults = Vec::new(alloc);
-    let mut found = Faults::behind(alloc, list, fault)?;
-    for _ in 0..list.len() {
-        match found.next_fault(alloc) {
-            Some(fault) => faults.push(Fault::List(fault))?,
-            None => break,
-        }
-    }
-    told(alloc, first, &faults, true)
+    let mut faults = Faults::behind(alloc, list, fault)?;
+    put_first(alloc, first, out)?;
+    let are_all = put_of_text(alloc, &mut faults, out);
+    put_end(are_all, out);
+    Ok(())
 }
 
-/// The report with these further faults.
-fn told(
+/// The same where a file or an entry is at fault, with further ones of the sources.
+fn put_sources<S: Shelf, O: Console>(
     alloc: Global,
+    list: &[u8],
+    shelf: &mut S,
     first: &Fault,
-    further: &[Fault],
-    are_all: bool,
-) -> Result<String, AllocError>
-    ensures { IfOk result (λ text. IsReportOf first.now (string_bytes text)) }
+    out: &mut O,
+) -> Result<(), AllocError>
+    ensures printed { OnOk result (PrintsRefused O.Console out.old out.new first.now
+        (λ further. IsTrue (S.honest shelf.old) → AreAll list.now (S.stored shelf.old) first.now further)) }
+    ensures unprinted { OnErr result (out.new ≡ out.old) }
 {
-    refused_text(alloc, first, further, are_all)
+    put_first(alloc, first, out)?;
+    let are_all = put_further(alloc, list, shelf, first, out);
+    put_end(are_all, out);
+    Ok(())
+}
+
+/// Prints the further faults of the sources, and answers whether these are all.
+fn put_further<S: Shelf, O: Console>(
+    alloc: Global,
+    list: &[u8],
+    shelf: &mut S,
+    first: &Fault,
+    out: &mut O,
+) -> bool
+    ensures { (printed : List Fault)
+        × (IsTrue result → IsTrue (S.honest shelf.old) → AreAll list.now (S.stored shelf.old) first.now printed)
+        × Prints O.contents O.failures out.old out.new (after_commas fault_text printed) }
+{
+    let Ok(further) = further_faults(alloc, list, shelf, first, usize::MAX) else {
+        return false;
+    };
+    let are_printed = put_all(alloc, &further.faults, out);
+    if further.more > 0 {
+        return false;
+    }
+    are_printed
 }

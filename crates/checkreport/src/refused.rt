@@ -1,78 +1,134 @@
-// The report of a list that is refused.
-ghost use Rattle.std.specs.Prelude.{◌≡◌, ◌++◌, ◌∷◌, IfOk, OnOk, map};
-ghost use Rattle.serde_json.specs.View.{view};
+// The faults of a list that is refused, as they are printed.
+ghost use Rattle.std.specs.Prelude.{◌≡◌, ◌∷◌, [], IfOk, OnErr, OnOk, IsTrue, List, option_map, string_bytes};
+ghost use Rattle.serde_json.specs.Written.{compact_text};
 ghost use Rattle.opening.specs.Faults.{refusal_of};
-ghost use Rattle.serde_json.specs.Data.{string};
 ghost use Rattle.sourceindex.specs.Fault.{name_of_source};
+ghost use Rattle.opening.specs.declared.fault.Fault.{Fault};
+ghost use Rattle.console.specs.Printing.{Prints};
 ghost use Rattle.checkreport.specs.Report as spec;
-ghost use Rattle.checkreport.specs.Report.{entry_in, fault_data, file_in, index_in, line_in, refused_data};
+ghost use Rattle.checkreport.specs.Report.{entry_in, fault_data, file_in, index_in, line_in};
+ghost use Rattle.checkreport.specs.Parts.{after_commas, fault_text, name_in, ready_data, refused_end, refused_front};
 
+use crate::values::{put_flag, put_found, put_string};
 use adlmodel::{Source, place_of};
-use adlread::AdlFault;
+use adlread::{AdlFault, Faults};
+use console::{Console, put_counted};
 use list_terms::Location;
 use opening::Fault;
-use serde_json::{Value, json, push};
 use std::alloc::{AllocError, Global};
 
-/// The report of a list that is refused by its first fault: each fault, and whether these are all.
-pub fn refused_report(
-    alloc: Global,
-    first: &Fault,
-    further: &[Fault],
-    are_all: bool,
-) -> Result<Value, AllocError>
-    ensures { IfOk result
-        (λ report. view report ≡ refused_data first.now further.now are_all) }
-{
-    let mut faults = Vec::new(alloc);
-    let value = fault_value(alloc, first)?;
-    push(&mut faults, value)?;
-    push_faults(alloc, &mut faults, further)?;
-    json!(in alloc; {
-        "faults": faults,
-        "complete": are_all,
-        "accepted": false
-    })
+/// A fault that is ready to be printed: its number, and the parts that its place has.
+#[derive(Drop)]
+pub struct ReportedFault {
+    number: u8,
+    entry: Option<u64>,
+    file: Option<String>,
+    index: Option<u64>,
+    line: Option<u64>,
 }
 
-/// Adds faults.
-fn push_faults(alloc: Global, values: &mut Vec<Value>, faults: &[Fault]) -> Result<(), AllocError>
-    ensures { OnOk result (map view values.new.items
-        ≡ map view values.old.items ++ map (λ fault. fault_data (refusal_of fault)) faults.now) }
-{
-    for fault in faults {
-        let value = fault_value(alloc, fault)?;
-        push(values, value)?;
+impl ReportedFault {
+    /// This fault.
+    pub fn of(alloc: Global, fault: &Fault) -> Result<Self, AllocError>
+        ensures { IfOk result (λ ready. ready_data ready ≡ fault_data (refusal_of fault.now)) }
+    {
+        let file = file_of(alloc, fault)?;
+        Ok(ReportedFault {
+            number: fault.number(),
+            entry: entry_of(fault),
+            file,
+            index: index_of(fault),
+            line: line_of(fault),
+        })
     }
+
+    /// Prints the fault.
+    pub fn put<O: Console>(&self, out: &mut O)
+        ensures { Prints O.contents O.failures out.old out.new (compact_text (ready_data self.now)) }
+    {
+        put_found(out, "{\"entry\":", self.entry);
+        out.put(b",\"file\":");
+        self.put_file(out);
+        put_found(out, ",\"index\":", self.index);
+        put_found(out, ",\"line\":", self.line);
+        put_counted(out, ",\"refused\":", u64::from(self.number));
+        out.put(b"}");
+    }
+
+    /// Prints the name of the file, or null.
+    fn put_file<O: Console>(&self, out: &mut O)
+        ensures { Prints O.contents O.failures out.old out.new
+            (compact_text (name_in (option_map string_bytes self.now.file))) }
+    {
+        match &self.file {
+            Some(name) => put_string(out, name.as_str()),
+            None => out.put(b"null"),
+        }
+    }
+}
+
+/// Prints the report of a refused list up to its first fault.
+#[tactic(auto, unfolding(crate::specs::Parts::refused_front, crate::specs::Parts::fault_text))]
+pub fn put_first<O: Console>(alloc: Global, first: &Fault, out: &mut O) -> Result<(), AllocError>
+    ensures printed { OnOk result (Prints O.contents O.failures out.old out.new (refused_front first.now [])) }
+    ensures unprinted { OnErr result (out.new ≡ out.old) }
+{
+    let ready = ReportedFault::of(alloc, first)?;
+    out.put(b"{\"accepted\":false,\"faults\":[");
+    ready.put(out);
     Ok(())
 }
 
-/// A fault: its number and its place.
-fn fault_value(alloc: Global, fault: &Fault) -> Result<Value, AllocError>
-    ensures { IfOk result (λ value. view value ≡ fault_data (refusal_of fault.now)) }
+/// Prints a further fault.
+#[tactic(auto, unfolding(crate::specs::Parts::fault_text))]
+fn put_next<O: Console>(alloc: Global, fault: &Fault, out: &mut O) -> Result<(), AllocError>
+    ensures printed { OnOk result (Prints O.contents O.failures out.old out.new (44 ∷ fault_text fault.now)) }
+    ensures unprinted { OnErr result (out.new ≡ out.old) }
 {
-    let number = fault.number();
-    let line = count_in(line_of(fault));
-    let index = count_in(index_of(fault));
-    let file = file_of(alloc, fault)?;
-    let entry = count_in(entry_of(fault));
-    json!(in alloc; {
-        "refused": number,
-        "line": line,
-        "index": index,
-        "file": file,
-        "entry": entry
-    })
+    let ready = ReportedFault::of(alloc, fault)?;
+    out.put(b",");
+    ready.put(out);
+    Ok(())
 }
 
-/// A number, or null.
-fn count_in(found: Option<u64>) -> Value
-    ensures { view result ≡ spec.count_in found }
+/// Prints further faults, and answers whether these are all: up to the first one for which no memory was left.
+pub fn put_all<O: Console>(alloc: Global, faults: &[Fault], out: &mut O) -> bool
+    ensures { (printed : List Fault) × (IsTrue result → printed ≡ faults.now)
+        × Prints O.contents O.failures out.old out.new (after_commas fault_text printed) }
 {
-    match found {
-        Some(number) => Value::from(number),
-        None => Value::Null,
+    for fault in faults {
+        let Ok(()) = put_next(alloc, fault, out) else {
+            return false;
+        };
     }
+    true
+}
+
+/// Prints the further faults of a text one by one, and answers whether these are all.
+pub fn put_of_text<O: Console>(alloc: Global, faults: &mut Faults<'_>, out: &mut O) -> bool
+    ensures { (printed : List Fault)
+        × Prints O.contents O.failures out.old out.new (after_commas fault_text printed) }
+{
+    'faults: for _ in 0..usize::MAX {
+        let Some(fault) = faults.next_fault(alloc) else {
+            return true;
+        };
+        let fault = Fault::List(fault);
+        let Ok(()) = put_next(alloc, &fault, out) else {
+            return false;
+        };
+    }
+    false
+}
+
+/// Prints the end of the report of a refused list.
+#[tactic(auto, unfolding(crate::specs::Parts::refused_end))]
+pub fn put_end<O: Console>(are_all: bool, out: &mut O)
+    ensures { Prints O.contents O.failures out.old out.new (refused_end are_all) }
+{
+    out.put(b"],\"complete\":");
+    put_flag(out, are_all);
+    out.put(b"}");
 }
 
 /// The line of a fault.
@@ -118,22 +174,22 @@ fn index_of(fault: &Fault) -> Option<u64>
     }
 }
 
-/// The name of the file of a fault, or null.
-fn file_of(alloc: Global, fault: &Fault) -> Result<Value, AllocError>
-    ensures { IfOk result (λ value. view value ≡ file_in (refusal_of fault.now).place) }
+/// The name of the file of a fault.
+fn file_of(alloc: Global, fault: &Fault) -> Result<Option<String>, AllocError>
+    ensures { IfOk result (λ name. name_in (option_map string_bytes name) ≡ file_in (refusal_of fault.now).place) }
 {
     match fault {
-        Fault::Media { source, .. } => name_of(alloc, source),
-        _ => Ok(Value::Null),
+        Fault::Media { source, .. } => Ok(Some(name_of(alloc, source)?)),
+        _ => Ok(None),
     }
 }
 
 /// The name of the file of a source; an empty one where its URL names none.
-fn name_of(alloc: Global, source: &Source) -> Result<Value, AllocError>
-    ensures { IfOk result (λ value. view value ≡ string (name_of_source source.now)) }
+fn name_of(alloc: Global, source: &Source) -> Result<String, AllocError>
+    ensures { IfOk result (λ name. string_bytes name ≡ name_of_source source.now) }
 {
     match place_of(alloc, source.url())? {
-        Some(place) => Value::try_from_str(alloc, place.name()),
-        None => Value::try_from_str(alloc, ""),
+        Some(place) => String::from_str(alloc, place.name()),
+        None => Ok(String::new(alloc)),
     }
 }

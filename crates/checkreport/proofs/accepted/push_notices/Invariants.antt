@@ -1,9 +1,0 @@
-use Rattle.std.proofs.Common.{◌≡◌, ◌++◌, map, take}
-use Rattle.serde_json.specs.View.{view}
-use Rattle.checkreport.specs.Report.{notice_data}
-use Rattle.checkreport.proofs.accepted.push_notices.Given as goal
-
--- those so far
-abbrev pub invariant-loop-notice : goal.invariant-loop-notice
-invariant-loop-notice l =
-    map view l.values.items ≡ map view l.initial.values.items ++ map notice_data (take l.notice-index l.notices)

@@ -1,0 +1,95 @@
+// Values of JSON as they are printed.
+ghost use Rattle.std.specs.Prelude.{◌≡◌, ◌<◌, ◌++◌};
+ghost use Rattle.std.specs.Char.{digit_char};
+ghost use Rattle.json.specs.Print as json;
+ghost use Rattle.json.specs.Print.{escape_byte, quoted};
+ghost use Rattle.serde_json.specs.Data.{boolean};
+ghost use Rattle.serde_json.specs.Written.{compact_text};
+ghost use Rattle.checkreport.specs.Report.{count_in};
+ghost use Rattle.console.specs.Printing.{Prints};
+
+use console::{Console, put_counted};
+
+/// Prints words, and then a number or null.
+pub fn put_found<O: Console>(out: &mut O, words: &str, found: Option<u64>)
+    ensures { Prints O.contents O.failures out.old out.new (words.now ++ compact_text (count_in found)) }
+{
+    match found {
+        Some(number) => put_counted(out, words, number),
+        None => {
+            out.put(words.as_bytes());
+            out.put(b"null");
+        }
+    }
+}
+
+/// Prints `true` or `false`.
+pub fn put_flag<O: Console>(out: &mut O, flag: bool)
+    ensures { Prints O.contents O.failures out.old out.new (compact_text (boolean flag)) }
+{
+    if flag {
+        out.put(b"true");
+    } else {
+        out.put(b"false");
+    }
+}
+
+/// Prints a text as a string.
+pub fn put_string<O: Console>(out: &mut O, text: &str)
+    ensures { Prints O.contents O.failures out.old out.new (quoted text.now) }
+{
+    out.put(b"\"");
+    put_escaped(out, text.as_bytes());
+    out.put(b"\"");
+}
+
+/// Prints bytes of a text as they are in a string.
+fn put_escaped<O: Console>(out: &mut O, bytes: &[u8])
+    ensures { Prints O.contents O.failures out.old out.new (json.escape bytes.now) }
+{
+    for byte in bytes {
+        put_byte(out, *byte);
+    }
+}
+
+/// Prints a byte of a text as it is in a string.
+#[tactic(auto, unfolding(json::specs::Print::escape_byte))]
+fn put_byte<O: Console>(out: &mut O, byte: u8)
+    ensures { Prints O.contents O.failures out.old out.new (escape_byte byte) }
+{
+    let letter = escape_letter(byte);
+    if letter > 0 {
+        out.put(&[b'\\', letter]);
+    } else if byte < 32 {
+        out.put(&[b'\\', b'u', b'0', b'0', digit(byte / 16), digit(byte % 16)]);
+    } else {
+        out.put(&[byte]);
+    }
+}
+
+/// The letter of the short escape of a byte; 0 where it has none.
+fn escape_letter(byte: u8) -> u8
+    ensures { result ≡ json.escape_letter byte }
+{
+    match byte {
+        b'"' | b'\\' => byte,
+        8 => b'b',
+        12 => b'f',
+        b'\n' => b'n',
+        b'\r' => b'r',
+        b'\t' => b't',
+        _ => 0,
+    }
+}
+
+/// The hexadecimal digit of a number below 16.
+fn digit(number: u8) -> u8
+    requires { number < 16 }
+    ensures { result ≡ digit_char number }
+{
+    if number < 10 {
+        b'0' + number
+    } else {
+        b'a' - 10 + number
+    }
+}
