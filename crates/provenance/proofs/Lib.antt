@@ -1,3 +1,4 @@
+mod Grouping
 mod InTurn
 mod NoFloats
 mod Numbering

@@ -1,5 +1,5 @@
 -- No report has a float.
-use Rattle.std.proofs.Common.{◌≡◌, ◌∷◌, [], Bool, true, false, List, Option, None, Some, ℕ, map, take, if◌then◌else◌, refl, subst, sym}
+use Rattle.std.proofs.Common.{◌≡◌, ◌∷◌, [], Bool, true, false, List, Option, None, Some, ℕ, map, if◌then◌else◌, refl, subst, sym}
 use Rattle.std.specs.Str.{is_utf8}
 use Rattle.serde_json.specs.Data.{Data, null, string}
 use Rattle.serde_json.specs.View.{items_of}
@@ -11,9 +11,8 @@ use Rattle.sound_terms.specs.Sounds.{SoundFacts}
 use Rattle.list_terms.specs.Heard.{sounds_of}
 use Rattle.list_terms.specs.Project.{Source}
 use Rattle.provenance.specs.declared.medium.Medium.{Medium}
-use Rattle.provenance.specs.declared.played.Played.{Played}
-use Rattle.provenance.specs.Played.{given_entries, new_entries, numbers_of}
-use Rattle.provenance.specs.Report.{Told, count, entry_data, home_source, medium_told, most_told, origin_data, text_data, told, told_data}
+use Rattle.provenance.specs.Groups.{Shown, grouped_in}
+use Rattle.provenance.specs.Report.{Told, count, entry_data, given_of, group_data, groups_told, home_source, medium_told, news_of, origin_data, text_data, told, told_data}
 
 items_without : {X : Type 0} (f : X → Data) → ((x : X) → has_float (f x) ≡ false) → (xs : List X)
     → items_have_float (items_of (map f xs)) ≡ false
@@ -46,15 +45,14 @@ medium_without sources indexes sounds homes medium =
     let file = medium.run.file in
     rw (origin_without (sound_at sounds file) medium.run.first (home_source sources indexes homes file)) refl
 
-entry_without : (given : List Played) (own : Played) → has_float (entry_data given own) ≡ false
-entry_without given own = rw (items_without count (λ n. refl) (take most_told (numbers_of given own))) refl
+group_without : (group : Shown) → has_float (group_data group) ≡ false
+group_without group = rw (items_without count (λ n. refl) group.0) refl
 
 report_without : (t : Told) (media : List Medium) → has_float (told_data t media) ≡ false
 report_without t media =
     rw (
-      items_without (entry_data (given_entries t.binding.indexes t.project.events))
-          (entry_without (given_entries t.binding.indexes t.project.events))
-          (new_entries t.kept.homes t.kept.runs t.events),
+      items_without entry_data (λ entry. refl) (map (grouped_in (groups_told t) (given_of t)) (news_of t)),
+      items_without group_data group_without (groups_told t),
       items_without (medium_told t.project.sources t.binding.indexes (sounds_of t.binding) t.kept.homes)
           (medium_without t.project.sources t.binding.indexes (sounds_of t.binding) t.kept.homes) media,
     ) refl

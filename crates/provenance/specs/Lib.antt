@@ -1,4 +1,5 @@
 pub mod Fault
+pub mod Groups
 pub mod Media
 pub mod Played
 pub mod Report

@@ -1,5 +1,5 @@
 -- The report of a consolidation, as a value of JSON (RFC 8259).
-use Rattle.std.specs.Prelude.{◌≡◌, ℕ, ◌+◌, ◌-◌, ◌==◌, List, [], ◌∷◌, ◌++◌, map, take, length, Option, option_and_then, option_map, find, slice_get, unwrap_or, if◌then◌else◌, codes}
+use Rattle.std.specs.Prelude.{◌≡◌, ℕ, ◌+◌, ◌==◌, List, [], ◌∷◌, ◌++◌, map, Option, option_and_then, option_map, find, slice_get, unwrap_or, if◌then◌else◌, codes}
 use Rattle.std.specs.Str.{is_utf8}
 use Rattle.hex.specs.Hex.{encode_lower}
 use Rattle.serde_json.specs.Data.{Data, null, number, unsigned, string, array, object, member, no_members}
@@ -19,11 +19,13 @@ use Rattle.list_terms.specs.Heard.{sounds_of}
 use Rattle.list_terms.specs.Project.{ListProject, Source}
 use Rattle.list_terms.specs.Renewed.{media_name}
 use Rattle.mediaset.specs.Runs.{HomedRuns}
+use Rattle.provenance.specs.declared.shared.GroupedEntry.{GroupedEntry}
 use Rattle.provenance.specs.declared.played.Played.{Played}
 use Rattle.provenance.specs.declared.report.Report.{Report}
 use Rattle.provenance.specs.declared.medium.Medium.{Medium}
 use Rattle.provenance.specs.Media.{media_of}
-use Rattle.provenance.specs.Played.{given_entries, new_entries, numbers_of}
+use Rattle.provenance.specs.Groups.{Shown, grouped_in, groups_of}
+use Rattle.provenance.specs.Played.{given_entries, new_entries}
 use Rattle.provenance.specs.Sums.{sums_of}
 
 abbrev pub count : ℕ → Data
@@ -73,29 +75,26 @@ medium_told sources indexes sounds homes medium =
     medium_data (sound_at sounds file) (base_by homes file + medium.run.first)
     (origin_data (sound_at sounds file) medium.run.first (home_source sources indexes homes file)) medium
 
--- how many given entries are told of a new one
-abbrev pub most_told : ℕ
-most_told = 1000
+-- a group of given entries
+abbrev pub group_data : Shown → Data
+group_data group =
+    object (member (codes "given") (array (items_of (map count group.0)))
+    (member (codes "more") (count group.1) no_members))
 
--- a new entry with the numbers of given ones, and how many more there are
-abbrev pub entry_of : (entry : ℕ) → List ℕ → Data
-entry_of entry numbers =
-    object (member (codes "entry") (count entry)
-    (member (codes "given") (array (items_of (map count (take most_told numbers))))
-    (member (codes "more") (count (length numbers - most_told)) no_members)))
-
--- those that play together with it
-abbrev pub entry_data : List Played → Played → Data
-entry_data given own = entry_of own.number (numbers_of given own)
+-- a new entry with the number of its group
+abbrev pub entry_data : GroupedEntry → Data
+entry_data entry =
+    object (member (codes "entry") (count entry.number) (member (codes "group") (count entry.group) no_members))
 
 -- a consolidation with this handle by a program of this version, with the digest of its list
-abbrev pub report_data : (handle : ℕ) (version list : List ℕ) (media entries : List Data) → Data
-report_data handle version list media entries =
+abbrev pub report_data : (handle : ℕ) (version list : List ℕ) (media groups entries : List Data) → Data
+report_data handle version list media groups entries =
     object (member (codes "entries") (array (items_of entries))
+    (member (codes "groups") (array (items_of groups))
     (member (codes "handle") (count handle)
     (member (codes "list_sha256") (digest_data list)
     (member (codes "media") (array (items_of media))
-    (member (codes "version") (string version) no_members)))))
+    (member (codes "version") (string version) no_members))))))
 
 -- what a report is made of: the given project with what it is bound to; the runs that become media; the entries and the
 -- text of the list over them; the handle, and the version of the program
@@ -108,11 +107,22 @@ pub record Told : Type 0 where
   pub handle : ℕ
   pub version : List ℕ
 
+-- the given entries and the new ones, by what they play
+abbrev pub given_of : Told → List Played
+given_of t = given_entries t.binding.indexes t.project.events
+
+abbrev pub news_of : Told → List Played
+news_of t = new_entries t.kept.homes t.kept.runs t.events
+
+-- the groups of given entries that new ones have
+abbrev pub groups_told : Told → List Shown
+groups_told t = groups_of (given_of t) (news_of t)
+
 abbrev pub told_data : Told → List Medium → Data
 told_data t media = report_data t.handle t.version (sha256 t.text)
     (map (medium_told t.project.sources t.binding.indexes (sounds_of t.binding) t.kept.homes) media)
-    (map (entry_data (given_entries t.binding.indexes t.project.events))
-    (new_entries t.kept.homes t.kept.runs t.events))
+    (map group_data (groups_told t))
+    (map entry_data (map (grouped_in (groups_told t) (given_of t)) (news_of t)))
 
 -- the value in a line
 abbrev pub json_of : Told → List Medium → List ℕ

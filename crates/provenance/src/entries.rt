@@ -1,28 +1,12 @@
-// What is told of entries.
+// What is told of groups and of entries.
 ghost use Rattle.std.specs.Prelude.{◌≡◌, IfOk, map};
 ghost use Rattle.serde_json.specs.View.{view};
-ghost use Rattle.provenance.specs.Played as spec;
-ghost use Rattle.provenance.specs.Report.{count, entry_data, entry_of};
+ghost use Rattle.provenance.specs.Groups.{seen};
+ghost use Rattle.provenance.specs.Report.{count, entry_data, group_data};
 
-use crate::Played;
+use crate::shared::{Group, GroupedEntry};
 use serde_json::{Value, json, push};
 use std::alloc::{AllocError, Global};
-
-/// How many given entries are told of a new one.
-const MOST_TOLD: usize = 1000;
-
-/// The numbers of the given entries that play together with an entry.
-fn numbers_of(alloc: Global, given: &[Played], own: &Played) -> Result<Vec<u32>, AllocError>
-    ensures { IfOk result (λ numbers. numbers.items ≡ spec.numbers_of given.now own.now) }
-{
-    let mut numbers = Vec::new(alloc);
-    for entry in given {
-        if own.plays_with(entry) {
-            numbers.push(entry.number)?;
-        }
-    }
-    Ok(numbers)
-}
 
 /// Numbers as values.
 fn number_values(alloc: Global, numbers: &[u32]) -> Result<Vec<Value>, AllocError>
@@ -35,35 +19,40 @@ fn number_values(alloc: Global, numbers: &[u32]) -> Result<Vec<Value>, AllocErro
     Ok(values)
 }
 
-/// What is told of an entry of this number: the first of some numbers, and how many more there are.
-fn told_value(alloc: Global, entry: u32, numbers: &[u32]) -> Result<Value, AllocError>
-    ensures { IfOk result (λ value. view value ≡ entry_of entry numbers.now) }
+/// What is told of a group: the first of some numbers, and how many more there are.
+fn group_value(alloc: Global, group: &Group) -> Result<Value, AllocError>
+    ensures { IfOk result (λ value. view value ≡ group_data (seen group.now)) }
 {
-    let count = MOST_TOLD.min(numbers.len());
-    let given = number_values(alloc, &numbers[..count])?;
-    let more = numbers.len() - count;
-    json!(in alloc; {"entry": entry, "given": given, "more": more})
+    let given = number_values(alloc, &group.given)?;
+    json!(in alloc; {"given": given, "more": (group.more)})
 }
 
-/// What is told of a new entry: the numbers of the given ones that play together with it.
-fn entry_value(alloc: Global, given: &[Played], own: &Played) -> Result<Value, AllocError>
-    ensures { IfOk result (λ value. view value ≡ entry_data given.now own.now) }
+/// What is told of groups.
+pub fn group_values(alloc: Global, groups: &[Group]) -> Result<Vec<Value>, AllocError>
+    ensures { IfOk result (λ values. map view values.items ≡ map group_data (map seen groups.now)) }
 {
-    let numbers = numbers_of(alloc, given, own)?;
-    told_value(alloc, own.number, &numbers)
+    let mut values = Vec::with_capacity(alloc, groups.len())?;
+    for group in groups {
+        let value = group_value(alloc, group)?;
+        push(&mut values, value)?;
+    }
+    Ok(values)
+}
+
+/// What is told of a new entry: the number of its group.
+fn entry_value(alloc: Global, entry: &GroupedEntry) -> Result<Value, AllocError>
+    ensures { IfOk result (λ value. view value ≡ entry_data entry.now) }
+{
+    json!(in alloc; {"entry": (entry.number), "group": (entry.group)})
 }
 
 /// What is told of new entries.
-pub fn entry_values(
-    alloc: Global,
-    given: &[Played],
-    entries: &[Played],
-) -> Result<Vec<Value>, AllocError>
-    ensures { IfOk result (λ values. map view values.items ≡ map (entry_data given.now) entries.now) }
+pub fn entry_values(alloc: Global, entries: &[GroupedEntry]) -> Result<Vec<Value>, AllocError>
+    ensures { IfOk result (λ values. map view values.items ≡ map entry_data entries.now) }
 {
     let mut values = Vec::with_capacity(alloc, entries.len())?;
-    for own in entries {
-        let value = entry_value(alloc, given, own)?;
+    for entry in entries {
+        let value = entry_value(alloc, entry)?;
         push(&mut values, value)?;
     }
     Ok(values)

@@ -9,6 +9,7 @@ mod media;
 mod medium;
 mod played;
 mod report;
+mod shared;
 mod sums;
 
 pub use fault::ReportFault;

@@ -10,10 +10,11 @@ ghost use Rattle.provenance.specs.Media.{IsTellable};
 ghost use Rattle.provenance.specs.Report as spec;
 ghost use Rattle.provenance.specs.Report.{IsReportOf, report_data};
 
-use crate::entries::entry_values;
+use crate::entries::{entry_values, group_values};
 use crate::hashing::hashed_media;
 use crate::media::media_values;
 use crate::played::{given_entries, new_entries};
+use crate::shared::group_entries;
 use crate::sums::sums_text;
 use crate::{Medium, ReportFault};
 use adlmodel::Project;
@@ -40,14 +41,16 @@ fn report_value(
     version: &str,
     text: &[u8],
     media: Vec<Value>,
+    groups: Vec<Value>,
     entries: Vec<Value>,
 ) -> Result<Value, AllocError>
-    ensures { IfOk result (λ value. view value
-        ≡ report_data handle version.now (sha256 text.now) (map view media.items) (map view entries.items)) }
+    ensures { IfOk result (λ value. view value ≡ report_data handle version.now (sha256 text.now)
+        (map view media.items) (map view groups.items) (map view entries.items)) }
 {
     let digits = hex::encode(alloc, &Sha256::digest(text))?;
     json!(in alloc; {
         "entries": entries,
+        "groups": groups,
         "handle": handle,
         "list_sha256": digits,
         "media": media,
@@ -88,8 +91,10 @@ fn json_text(
     )?;
     let given = given_entries(alloc, bound, project.events())?;
     let entries = new_entries(alloc, runs, events)?;
-    let entries = entry_values(alloc, &given, &entries)?;
-    let report = report_value(alloc, handle, version, text, media, entries)?;
+    let grouped = group_entries(alloc, &given, &entries)?;
+    let groups = group_values(alloc, grouped.groups.as_slice())?;
+    let entries = entry_values(alloc, &grouped.entries)?;
+    let report = report_value(alloc, handle, version, text, media, groups, entries)?;
     let line = report.to_string(alloc)?;
     let mut json = line.into_bytes();
     json.push(b'\n')?;

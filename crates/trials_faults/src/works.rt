@@ -97,8 +97,8 @@ const VERSION: &str = "1.2";
 
 /// The report, in which the SHA-256 of both media and of the list are those of another program.
 const REPORT: &[u8] =
-    b"{\"entries\":[{\"entry\":1,\"given\":[1],\"more\":0},{\"entry\":2,\"given\":[1],\"more\":0}],\
-\"handle\":0,\"list_sha256\":\"4691bb81a5d74d115e04cb7c0977f93e64725e1ee50e4cec69e7d525ddca8832\",\
+    b"{\"entries\":[{\"entry\":1,\"group\":0},{\"entry\":2,\"group\":0}],\
+\"groups\":[{\"given\":[1],\"more\":0}],\"handle\":0,\"list_sha256\":\"4691bb81a5d74d115e04cb7c0977f93e64725e1ee50e4cec69e7d525ddca8832\",\
 \"media\":[{\"base\":0,\"channels\":2,\"depth\":16,\"file\":\"M00001.wav\",\"frames\":4,\
 \"sha256\":\"c375e3651a9458f0dc99102df3b6a7d54a9b733b3ace72081d2010a3b508a958\",\
 \"source\":{\"file\":\"A.wav\",\"first\":0,\"identifier\":\"_\",\"index\":1,\"url\":\"URL:file://localhost/A.wav\"}},\
@@ -113,7 +113,7 @@ const SUMS: &[u8] = b"\
 c375e3651a9458f0dc99102df3b6a7d54a9b733b3ace72081d2010a3b508a958  M00001.wav
 8e81d770610a480fd7fd16e43074903a8adff6822f43a41b24f881b00da2d3ec  M00002.wav
 4691bb81a5d74d115e04cb7c0977f93e64725e1ee50e4cec69e7d525ddca8832  consolidated.adl
-d6857fda0bee72c3b705b39c0eaa2a20ad0cfb54fbba2befa6905c6189e7c59f  consolidated.json
+17e9194ccac041a324a6ae92777175c308d9df35a066d7bb0078ace5414a58c3  consolidated.json
 ";
 
 /// All files that these works write.

@@ -4,5 +4,5 @@ use Rattle.provenance.specs.Report.{entry_data}
 use Rattle.provenance.proofs.entries.entry_values.Given as goal
 
 -- those so far
-abbrev pub invariant-loop-own : goal.invariant-loop-own
-invariant-loop-own l = map view l.values.items ≡ map (entry_data l.given) (take l.own-index l.entries)
+abbrev pub invariant-loop-entry : goal.invariant-loop-entry
+invariant-loop-entry l = map view l.values.items ≡ map entry_data (take l.entry-index l.entries)

@@ -3,8 +3,9 @@ use Rattle.serde_json.specs.Data.{Data}
 use Rattle.serde_json.specs.View.{view}
 use Rattle.sha2.specs.Sha256.{sha256}
 use Rattle.list_terms.specs.Heard.{sounds_of}
-use Rattle.provenance.specs.Played.{given_entries, new_entries}
-use Rattle.provenance.specs.Report.{Told, entry_data, medium_told, report_data, told_data}
+use Rattle.provenance.specs.declared.shared.Group.{Group}
+use Rattle.provenance.specs.Groups.{IsGrouped, grouped_in, seen}
+use Rattle.provenance.specs.Report.{Told, entry_data, given_of, group_data, groups_told, medium_told, news_of, report_data, told_data}
 use Rattle.provenance.proofs.NoFloats.{text_of_report}
 use Rattle.provenance.proofs.report.json_text.Goals as goal
 
@@ -23,23 +24,27 @@ returns c =
     ≡ map (medium_told t.project.sources t.binding.indexes (sounds_of t.binding) t.kept.homes) c.args.media.now =
     rw (c.as_slice.ensures.sources, c.sources.ensures.sources, c.indexes.ensures.indexes, c.sounds.ensures.sounds, c.homes.ensures)
     at c.in_ok-media.ensures in
+    let given : c.in_ok-given.given.items ≡ given_of t = rw (c.events.ensures.events) at c.in_ok-given.ensures in
+    let grouped : IsGrouped (given_of t) (news_of t) c.in_ok-grouped.grouped =
+    rw (c.deref.ensures.value, c.deref-2.ensures.value, given, c.in_ok-entries.ensures) at c.in_ok-grouped.ensures in
+    let groups : map view c.in_ok-groups.groups.items ≡ map group_data (groups_told t) =
+    c.in_ok-groups.ensures
+    ∙ ap (λ (keys : List Group). map group_data (map seen keys)) c.as_slice.ensures.keys
+    ∙ ap (map group_data) grouped.groups_are in
     let entries : map view c.in_ok-entries-2.entries.items
-    ≡ map (entry_data (given_entries t.binding.indexes t.project.events))
-    (new_entries t.kept.homes t.kept.runs t.events) =
-    rw (
-      c.deref.ensures.value,
-      c.deref-2.ensures.value,
-      c.in_ok-given.ensures,
-      c.in_ok-entries.ensures,
-      c.events.ensures.events,
-    ) at c.in_ok-entries-2.ensures in
+    ≡ map entry_data (map (grouped_in (groups_told t) (given_of t)) (news_of t)) =
+    c.in_ok-entries-2.ensures
+    ∙ ap (map entry_data) (c.deref-3.ensures.value ∙ grouped.entries_are) in
     let same : view c.in_ok-report.report ≡ told_data t c.args.media.now =
     c.in_ok-report.ensures
     ∙ ap (λ (values : List Data). report_data t.handle t.version (sha256 t.text) values
-    (map view c.in_ok-entries-2.entries.items)) media
+    (map view c.in_ok-groups.groups.items) (map view c.in_ok-entries-2.entries.items)) media
     ∙ ap (λ (values : List Data). report_data t.handle t.version (sha256 t.text)
     (map (medium_told t.project.sources t.binding.indexes (sounds_of t.binding) t.kept.homes) c.args.media.now)
-    values) entries in
+    values (map view c.in_ok-entries-2.entries.items)) groups
+    ∙ ap (λ (values : List Data). report_data t.handle t.version (sha256 t.text)
+    (map (medium_told t.project.sources t.binding.indexes (sounds_of t.binding) t.kept.homes) c.args.media.now)
+    (map group_data (groups_told t)) values) entries in
     let line = text_of_report t c.args.media.now (view c.in_ok-report.report) (string_bytes c.in_ok-line.line) same
     c.in_ok-line.ensures.text in
     c.in_ok-push.ensures.items ∙ ap (λ (bytes : List ℕ). bytes ++ 10 ∷ [])
