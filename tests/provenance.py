@@ -14,13 +14,15 @@ from harness import LIST, MEDIA, OUT, Mismatch, Scene, Skipped, Suite, same, sam
 from model.commands import medium_name
 from model.groups import runs_of, standard_groups
 from random_projects import Dice
-from reports import SCHEMA
+from reports import SCHEMA, measured, within_memory
 from tables import EMPTY_LIST, FIRST_LIST, wave
 
 REPORT = "consolidated.json"
 SUMS = "SHA256SUMS"
 NEW_LIST = "consolidated.adl"
 MOST_TOLD = 1000
+MOST = 32_767
+MOST_REPORT = 10_000_000
 PROJECTS = 40
 FILE_SIZE = 1000
 MIDNIGHT = b"00.00.00.00/0000"
@@ -84,8 +86,8 @@ def told_medium(number: int, run, project, bound, data: bytes) -> dict:
     }
 
 
-def told_entry(number: int, numbers: list) -> dict:
-    return {"entry": number, "given": numbers[:MOST_TOLD], "more": len(numbers[MOST_TOLD:])}
+def told_group(numbers: list) -> dict:
+    return {"given": numbers[:MOST_TOLD], "more": len(numbers[MOST_TOLD:])}
 
 
 def wanted_report(text: bytes, media: dict, handle: int, version: str, files: dict) -> dict:
@@ -95,15 +97,18 @@ def wanted_report(text: bytes, media: dict, handle: int, version: str, files: di
     given = [
         (entry.number, plays(entry, bound.indexes[entry.index].name, bound.indexes[entry.index].base))
         for entry in project.entries]
-    new = []
+    new, groups = [], []
     for entry in model.read_list(files[NEW_LIST]).entries:
         run = runs[entry.index - 1]
         own = plays(entry, run.name, bound.home(run.name).base)
-        new.append(told_entry(entry.number, [number for number, one in given if play_together(one, own)]))
+        group = told_group([number for number, one in given if play_together(one, own)])
+        if group not in groups:
+            groups.append(group)
+        new.append({"entry": entry.number, "group": groups.index(group)})
     return {
         "media": [told_medium(number, run, project, bound, files[medium_name(number)])
                   for number, run in enumerate(runs, 1)],
-        "entries": new, "handle": handle, "list_sha256": digest(files[NEW_LIST]), "version": version,
+        "entries": new, "groups": groups, "handle": handle, "list_sha256": digest(files[NEW_LIST]), "version": version,
     }
 
 
@@ -196,8 +201,9 @@ def entries_told(text: bytes, media: dict, wanted: dict):
     """Of each new entry just these given ones are told."""
     def body(scene: Scene) -> None:
         report = consolidated(scene, text, media, 0)
-        same("the entries", {entry["entry"]: entry["given"] for entry in report["entries"]}, wanted)
-        same("how many more", [entry["more"] for entry in report["entries"]], [0] * len(wanted))
+        same("the entries", {
+            entry["entry"]: report["groups"][entry["group"]]["given"] for entry in report["entries"]}, wanted)
+        same("how many more", {group["more"] for group in report["groups"]}, {0})
     return body
 
 
@@ -226,7 +232,22 @@ def more_than_told(scene: Scene) -> None:
     count = MOST_TOLD + 2
     text = entries_of(*(cut(place + 1, place, place, place + 1) for place in range(count)))
     report = consolidated(scene, text, {"A.wav": wave([7] * count)}, 0)
-    same("the entries", report["entries"], [{"entry": 1, "given": list(range(1, MOST_TOLD + 1)), "more": 2}])
+    same("the entries", report["entries"], [{"entry": 1, "group": 0}])
+    same("the groups", report["groups"], [{"given": list(range(1, MOST_TOLD + 1)), "more": 2}])
+
+
+def equal_entries(scene: Scene) -> None:
+    """As many equal entries as there may be: their group is told once."""
+    scene.put(entries_of(*(cut(number, 0, 0, 4) for number in range(1, MOST + 1))), MEDIUM)
+    _, status, peak = measured(scene, "consolidate", LIST, MEDIA, OUT, "--report")
+    same("the status", status, 0)
+    within_memory(peak)
+    written = (scene.folder / OUT / REPORT).read_bytes()
+    if len(written) > MOST_REPORT:
+        raise Mismatch(f"the report has {len(written)} bytes, more than {MOST_REPORT}")
+    report = read_report(written)
+    same("the groups", report["groups"], [{"given": list(range(1, MOST_TOLD + 1)), "more": MOST - MOST_TOLD}])
+    same("the entries", report["entries"], [{"entry": number, "group": 0} for number in range(1, MOST + 1)])
 
 
 def odd_texts(scene: Scene) -> None:
@@ -308,6 +329,7 @@ def run(suite: Suite) -> None:
     for name, (text, media, wanted) in tables_of_entries().items():
         suite.case(f"entries that are told: {name}", entries_told(text, media, wanted))
     suite.case("more given entries than are told", more_than_told)
+    suite.case("32,767 equal entries", equal_entries)
     suite.case("texts that JSON escapes or can't have", odd_texts)
     suite.case("several lines for one file", several_lines)
     suite.case("no report of an entry at fault", refused(text_of("overrun"), all_media["overrun"]))

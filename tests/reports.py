@@ -1,27 +1,46 @@
 """What check --report prints: by its schema, and by the model."""
 
 import json
+import os
+import subprocess
 import tempfile
+from functools import partial
 from pathlib import Path
+from urllib.parse import quote
 
 import model
 from examples import EXAMPLES, made_media, text_of
-from harness import LIST, MEDIA, Scene, Skipped, Suite, same
+from harness import LIST, MEDIA, Mismatch, Scene, Skipped, Suite, same
 from model.binding import bind, faults_of_entries, faults_of_files
 from model.refusal import Refused
-from tables import FIRST_LIST, wave
+from tables import FIRST_LIST, bext_chunk, data_chunk, format_chunk, riff_file, wave
 
 SCHEMA = Path(__file__).resolve().parent.parent / "docs/report.schema.json"
 PARTS = ("line", "entry", "index", "file")
+MOST_MEMORY = 200_000_000
+
+
+def in_order(value):
+    """A value whose members are in the order of their names, and `complete` behind them."""
+    if isinstance(value, list):
+        return [in_order(each) for each in value]
+    if isinstance(value, dict):
+        return {name: in_order(value[name]) for name in sorted(value, key=lambda name: (name == "complete", name))}
+    return value
+
+
+def line_of(report: dict) -> str:
+    """A line, without a space, with its names in order."""
+    return json.dumps(in_order(report), ensure_ascii=False, separators=(",", ":")) + "\n"
 
 
 def reported(scene: Scene, status: int) -> dict:
-    """The report of the scene's list, which the schema allows: one line, without a space, with its names in order."""
+    """The report of the scene's list, which the schema allows."""
     got = scene.run("check", LIST, MEDIA, "--report")
     same("the status", got.status, status)
     text = got.output.decode()
     report = json.loads(text)
-    same("the text", text, json.dumps(report, ensure_ascii=False, separators=(",", ":"), sort_keys=True) + "\n")
+    same("the text", text, line_of(report))
     try:
         import jsonschema
     except ImportError:
@@ -100,6 +119,77 @@ def entries_of(*lines: bytes) -> bytes:
     return model.list_text([model.source_line(1, "A.wav", b"00.00.00.00/0000")], lines)
 
 
+def base_past_the_day(scene: Scene) -> None:
+    """A file that begins past the end of the day, under an index without a time: its number stands in the report."""
+    first = model.DAY + 5
+    media = {"A.wav": riff_file(format_chunk(), bext_chunk(first), data_chunk((1, 2, 3, 4)))}
+    text = model.list_text([model.source_line(1, "A.wav", b"_")], [entry(1, 1, 0, 0)])
+    scene.put(text, media)
+    report = reported(scene, 0)
+    same("the report", report, accepted_report(text, media))
+    same("the base", report["indexes"][0]["base"], first)
+
+
+def unprintable_names(scene: Scene) -> None:
+    """A name of a file with each character that JSON has to escape, in a report that is accepted and in one that isn't."""
+    name = "".join(chr(code) for code in range(1, 0x30) if chr(code) != "/") + "\\é\u2028.wav"
+    text = model.list_text([model.source_line(1, quote(name), b"_")], [entry(1, 1, 0, 4)])
+    for media, status in (({name: wave()}, 0), ({}, 1)):
+        scene.put(text, media)
+        report = reported(scene, status)
+        (told,) = report["indexes" if status == 0 else "faults"]
+        same("the name", told["file"], name)
+
+
+# Long reports
+
+
+def measured(scene: Scene, *words) -> tuple:
+    """What the program prints over these words, in a file, its status, and its peak of memory in bytes."""
+    printed = scene.folder / "printed"
+    with printed.open("wb") as file:
+        program = subprocess.Popen(  # pylint: disable=consider-using-with
+            [scene.program, *words], cwd=scene.folder, stdin=subprocess.DEVNULL, stdout=file, stderr=subprocess.DEVNULL)
+        _, status, used = os.wait4(program.pid, 0)
+    program.returncode = os.waitstatus_to_exitcode(status)
+    return printed, program.returncode, 1024 * used.ru_maxrss
+
+
+def within_memory(peak: int) -> None:
+    if peak > MOST_MEMORY:
+        raise Mismatch(f"it took {peak} bytes of memory, more than {MOST_MEMORY}")
+
+
+def long_lists() -> dict:
+    """Ten megabytes with a notice or a fault in each line: the text, the status, and how many objects the report has."""
+    sources = FIRST_LIST.index(b"</SOURCE_INDEX>")
+    entries = FIRST_LIST.index(b"</EVENT_LIST>")
+
+    def with_lines(place: int, line: bytes, count: int) -> bytes:
+        return FIRST_LIST[:place] + line * count + FIRST_LIST[place:]
+
+    return {
+        "notices": (with_lines(sources, b"x\n", 5_000_000), 0, 5_000_002),
+        "brackets": (with_lines(entries, b"(\n", 5_000_000), 1, 5_000_001),
+        "gains": (with_lines(entries, b"(Gain) 1\n", 1_100_000), 1, 1_100_001),
+    }
+
+
+def long_report(text: bytes, status: int, objects: int):
+    """Its report takes little memory beside the list and its notices, and has all faults."""
+    def body(scene: Scene) -> None:
+        scene.put(text, {"A.wav": wave()})
+        printed, got, peak = measured(scene, "check", LIST, MEDIA, "--report")
+        same("the status", got, status)
+        within_memory(peak)
+        with printed.open("rb") as file:
+            same("the objects", sum(part.count(b"{") for part in iter(partial(file.read, 1 << 20), b"")), objects)
+            file.seek(-30, os.SEEK_END)
+            end = file.read()
+        same("the end", end.endswith(b'],"complete":true}\n' if status else b'],"rate":25}\n'), True)
+    return body
+
+
 def entry(number: int, index: int, begin: int, end: int) -> bytes:
     return model.entry_line(number, index, *(model.time_text(value) for value in (0, begin, end)))
 
@@ -121,4 +211,8 @@ def run(suite: Suite) -> None:
     suite.case("the report of two files at fault", refused(files, {"A.wav": wave(), "C.wav": b"no"}, files_at_fault))
     suite.case("the report of a line at fault", refused(
         FIRST_LIST.replace(b"(Cut)", b"(Cat)"), {"A.wav": wave()}, lambda *_: []))
+    suite.case("the report of a file that begins past the day", base_past_the_day)
+    suite.case("the report of a name that JSON escapes", unprintable_names)
+    for name, (text, status, objects) in long_lists().items():
+        suite.case(f"the report of ten megabytes of {name}", long_report(text, status, objects))
     suite.case("no report of a list that isn't there", unread)
