@@ -5,7 +5,7 @@ import sys
 from pathlib import Path
 
 import model
-from harness import LIST, MEDIA, Mismatch, Scene, Suite, expect_answer, same, same_bytes, same_files
+from harness import LIST, MEDIA, TIMEOUT, Mismatch, Scene, Suite, expect_answer, same, same_bytes, same_files
 
 FOLDER = Path(__file__).resolve().parent.parent / "examples"
 
@@ -19,7 +19,7 @@ ENDS = (2 ** 23 - 1, -2 ** 23)
 
 def made_media(target: Path) -> dict:
     """The files that the script makes, by example and name."""
-    subprocess.run([sys.executable, FOLDER / "make_media", target], check=True, timeout=60)
+    subprocess.run([sys.executable, FOLDER / "make_media", target], check=True, timeout=TIMEOUT)
     return {
         example: {path.name: path.read_bytes() for path in (target / example / "media").iterdir()}
         for example in EXAMPLES

@@ -6,7 +6,8 @@ from functools import partial
 
 import model
 from harness import (
-    LIST, MEDIA, OUT, Mismatch, Scene, Suite, preloaded, same, same_answer, same_files, same_outcome, words_of,
+    LIST, MEDIA, OUT, TIMEOUT, Mismatch, Scene, Suite, preloaded, same, same_answer, same_files, same_outcome,
+    words_of,
 )
 from tables import FIRST_LIST, wave
 
@@ -45,7 +46,7 @@ def at_once(command: str):
             runs = {name: subprocess.Popen(
                 [scene.program, command, name, MEDIA, OUT, *EXACT.words(command)], cwd=scene.folder,
                 stdout=subprocess.PIPE, stderr=subprocess.PIPE) for name in texts}
-            lines = {name: run.communicate(timeout=60)[0] for name, run in runs.items()}
+            lines = {name: run.communicate(timeout=TIMEOUT)[0] for name, run in runs.items()}
             winners = [name for name, run in runs.items() if run.returncode == 0]
             if len(winners) > 1:
                 raise Mismatch(f"both runs are done: {lines}")
@@ -142,7 +143,7 @@ def one_write_a_line(scene: Scene) -> None:
         words = [scene.program, "render", LIST, MEDIA, OUT]
         runs = [subprocess.Popen(words, cwd=scene.folder, stdout=file, stderr=file) for _ in range(60)]
         for run in runs:
-            run.wait(timeout=60)
+            run.wait(timeout=TIMEOUT)
     lines = log.read_bytes().splitlines()
     same("the lines of refusals", lines.count(b"refused 21 at index 1 file A.wav"), 60)
     same("the lines of explanations", sum(line.endswith(b"(adlcons explain 21)") for line in lines), 60)

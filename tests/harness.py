@@ -3,6 +3,7 @@
 import os
 import re
 import shutil
+import signal
 import subprocess
 import tempfile
 from contextlib import contextmanager
@@ -12,7 +13,8 @@ from typing import Callable, NamedTuple, Optional
 import model
 import second_reader
 
-TIMEOUT = 60
+# How long a program may take before it is taken for one that hangs, on the slowest machine.
+TIMEOUT = 600
 LIST = "L.adl"
 MEDIA = "M"
 OUT = "OUT"
@@ -212,6 +214,42 @@ def preloaded(scene: Scene, **settings) -> dict:
     library = scene.folder / "preload.so"
     subprocess.run(["gcc", "-shared", "-fPIC", "-O1", "-o", library, PRELOAD, "-ldl"], check=True)
     return {**os.environ, "LD_PRELOAD": str(library), **settings}
+
+
+@contextmanager
+def stopped(scene: Scene, words: list, write: int):
+    """The program as it stands before its write of this number."""
+    environment = preloaded(scene, STOP_WRITE=str(write))
+    with subprocess.Popen(
+            [scene.program, *words], cwd=scene.folder, env=environment, stdout=subprocess.PIPE,
+            stderr=subprocess.PIPE) as process:
+        found = os.waitid(os.P_PID, process.pid, os.WSTOPPED | os.WEXITED | os.WNOWAIT)
+        if found.si_code != os.CLD_STOPPED:
+            raise Mismatch(f"{words} makes fewer than {write} writes: {process.communicate()}")
+        try:
+            yield process
+        except BaseException:
+            process.kill()
+            raise
+
+
+def gone_on(process: subprocess.Popen) -> Outcome:
+    """What becomes of a program that was stopped."""
+    process.send_signal(signal.SIGCONT)
+    output, error = process.communicate(timeout=TIMEOUT)
+    return Outcome(process.returncode, output, error)
+
+
+def meddled(scene: Scene, words: list, is_so: Callable[[], bool], meddle: Callable[[], None]) -> Outcome:
+    """What becomes of the program where this is done once that is so: before the first of its writes."""
+    for write in range(1, 1000):
+        with stopped(scene, words, write) as process:
+            if is_so():
+                meddle()
+                return gone_on(process)
+            process.kill()
+        scene.empty_out()
+    raise Mismatch(f"it is never so while {words} work")
 
 
 class Suite:

@@ -2,14 +2,12 @@
 
 import os
 import re
-import subprocess
-import time
 from urllib.parse import quote
 
 import model
 from harness import (
-    LIST, MEDIA, OUT, TIMEOUT, Mismatch, Outcome, Scene, Suite, expect_refused, preloaded, same, same_outcome,
-    same_shape, words_of,
+    LIST, MEDIA, OUT, Mismatch, Outcome, Scene, Suite, expect_refused, meddled, same, same_outcome, same_shape,
+    words_of,
 )
 from model import FRONT
 from progress import on_terminal, put_sound, put_stretches
@@ -93,47 +91,41 @@ def in_the_output(scene: Scene) -> None:
 
 def gone_meanwhile(scene: Scene) -> None:
     """An output that is taken away, or changed, while the command is at work is 62, and 66 where a job finds it so."""
-    entries = [model.entry_line(1, 1, MIDNIGHT, MIDNIGHT, model.time_text(4)),
-               model.entry_line(2, 1, MIDNIGHT, model.time_text(400_000_000), model.time_text(400_000_004))]
-    scene.put(model.list_text([model.source_line(1, "A.wav", MIDNIGHT)], entries), MEDIA_FILES)
+    put_sound(scene)
     path, other = scene.folder / OUT / "render.wav", scene.folder / "other.wav"
-    other.write_bytes(b"another file")
-    for meddle, found in (
-        (path.unlink, r"the system says: No such file or directory \(os error 2\)|it is gone"),
-        (lambda: other.replace(path), "it was changed meanwhile|it is shorter than it was"),
-    ):
-        with subprocess.Popen(
-                [scene.program, "render", LIST, MEDIA, OUT, "--depth", "16"], cwd=scene.folder,
-                stdout=subprocess.PIPE, stderr=subprocess.PIPE) as process:
-            end = time.monotonic() + TIMEOUT
-            while not path.exists() and time.monotonic() < end:
-                time.sleep(0.001)
-            meddle()
-            output, error = process.communicate(timeout=TIMEOUT)
-        line = output.decode().rstrip("\n")
-        if not re.fullmatch(r"refused (62 at file render\.wav|66 at job \d+)", line):
-            raise Mismatch(f"an output that was taken away is answered with {line!r}")
-        got = Outcome(process.returncode, output, error)
-        expect_said(got, line, ("run again into an empty folder",), ("adlcons resume",))
-        if not re.search(rf"; ({found}); ", error.decode()):
-            raise Mismatch(f"what became of the output isn't told: {error!r}")
-        scene.empty_out()
+    marks = scene.folder / OUT / "render.marks"
+    for is_so in (path.exists, marks.exists):
+        for meddle, found in (
+            (path.unlink, r"the system says: No such file or directory \(os error 2\)|it is gone"),
+            (lambda: other.replace(path), "it was changed meanwhile|it is shorter than it was"),
+        ):
+            other.write_bytes(b"another file")
+            got = meddled(scene, ["render", LIST, MEDIA, OUT, "--depth", "16"], is_so, meddle)
+            line = got.output.decode().rstrip("\n")
+            if not re.fullmatch(r"refused (62 at file render\.wav|66 at job \d+)", line):
+                raise Mismatch(f"an output that was taken away is answered with {line!r}")
+            expect_said(got, line, ("run again into an empty folder",), ("adlcons resume",))
+            if not re.search(rf"; ({found}); ", got.error.decode()):
+                raise Mismatch(f"what became of the output isn't told: {got.error!r}")
+            scene.empty_out()
 
 
 def marks_gone_meanwhile(scene: Scene) -> None:
     """Marks that are taken away are 62 at once, and what is unfinished is the rendered file."""
     put_sound(scene)
-    marks = scene.folder / OUT / "render.marks"
-    with subprocess.Popen(
-            [scene.program, *words_of("render")], cwd=scene.folder, stdout=subprocess.PIPE, stderr=subprocess.PIPE,
-            env=preloaded(scene, SLOW="100000")) as process:
-        end = time.monotonic() + TIMEOUT
-        while not (marks.exists() and b"\1" in marks.read_bytes()[FRONT:]) and time.monotonic() < end:
-            time.sleep(0.001)
-        marks.unlink()
-        output, error = process.communicate(timeout=TIMEOUT)
-    said = "; it is gone; unfinished in the output: render.wav; run again into an empty folder"
-    expect_said(Outcome(process.returncode, output, error), "refused 62 at file render.marks", (said,))
+    sound, marks = (scene.folder / OUT / name for name in ("render.wav", "render.marks"))
+    second = slice(690 + 3 * 4096, 690 + 2 * 3 * 4096)
+
+    def is_marked() -> bool:
+        return marks.exists() and b"\1" in marks.read_bytes()[FRONT:]
+
+    for is_so in (is_marked, lambda: is_marked() and any(sound.read_bytes()[second])):
+        got = meddled(scene, words_of("render"), is_so, marks.unlink)
+        said = "; unfinished in the output: render.wav; run again into an empty folder"
+        expect_said(got, "refused 62 at file render.marks", (said,))
+        if not re.search(r"; (the system says: No such file or directory \(os error 2\)|it is gone); ", got.error.decode()):
+            raise Mismatch(f"what became of the marks isn't told: {got.error!r}")
+        scene.empty_out()
 
 
 def medium_gone_meanwhile(scene: Scene) -> None:
@@ -141,15 +133,7 @@ def medium_gone_meanwhile(scene: Scene) -> None:
     put_stretches(scene)
     for number in (1, 2):
         path = scene.folder / OUT / f"M{number:05d}.wav"
-        with subprocess.Popen(
-                [scene.program, *words_of("consolidate", model.Options(handle=0))], cwd=scene.folder,
-                stdout=subprocess.PIPE, stderr=subprocess.PIPE, env=preloaded(scene, SLOW="20000")) as process:
-            end = time.monotonic() + TIMEOUT
-            while not path.exists() and time.monotonic() < end:
-                time.sleep(0.001)
-            path.unlink()
-            output, error = process.communicate(timeout=TIMEOUT)
-        got = Outcome(process.returncode, output, error)
+        got = meddled(scene, words_of("consolidate", model.Options(handle=0)), path.exists, path.unlink)
         said = "; the system says: No such file or directory (os error 2); run again"
         expect_said(got, f"refused 62 at file {path.name}", (said,), ("unfinished",))
         same("whether there is a list", (scene.folder / OUT / "consolidated.adl").exists(), False)
@@ -158,30 +142,30 @@ def medium_gone_meanwhile(scene: Scene) -> None:
 
 def changed_source(scene: Scene) -> None:
     """A source that is written to or taken away meanwhile is told before the line; the status stays."""
-    entries = [model.entry_line(1, 1, MIDNIGHT, MIDNIGHT, model.time_text(4)),
-               model.entry_line(2, 1, MIDNIGHT, model.time_text(400_000_000), model.time_text(400_000_004))]
-    scene.put(model.list_text([model.source_line(1, "A.wav", MIDNIGHT)], entries))
+    frames = put_sound(scene)
     source, path = scene.folder / MEDIA / "A.wav", scene.folder / OUT / "render.wav"
-    other = scene.folder / "other.wav"
+    other, whole = scene.folder / "other.wav", source.read_bytes()
     told = b"the source A.wav changed while the command ran: run it again\n"
     # Another file takes the name at once: a source that is written in place is short for a moment.
     for meddle, wanted in (
         (lambda: os.utime(source, (1, 1)), told), (lambda: other.replace(source), told), (source.unlink, told),
         (lambda: None, b""),
     ):
-        other.write_bytes(wave())
-        source.write_bytes(wave())
-        with subprocess.Popen(
-                [scene.program, "render", LIST, MEDIA, OUT, "--depth", "16"], cwd=scene.folder,
-                stdout=subprocess.PIPE, stderr=subprocess.PIPE) as process:
-            end = time.monotonic() + TIMEOUT
-            while not path.exists() and time.monotonic() < end:
-                time.sleep(0.001)
-            meddle()
-            output, error = process.communicate(timeout=TIMEOUT)
-        line = b"rendered 400000004 frames 1 channels\n"
-        same("what is told of a source", Outcome(process.returncode, output, error), Outcome(0, line, wanted))
+        other.write_bytes(whole)
+        source.write_bytes(whole)
+        got = meddled(scene, ["render", LIST, MEDIA, OUT, "--depth", "16"], path.exists, meddle)
+        line = b"rendered %d frames 1 channels\n" % frames
+        same("what is told of a source", got, Outcome(0, line, wanted))
         scene.empty_out()
+
+
+def cut_source(scene: Scene) -> None:
+    """A source that is cut short meanwhile is given up at the first job that reads past its end."""
+    put_sound(scene)
+    source, path = scene.folder / MEDIA / "A.wav", scene.folder / OUT / "render.wav"
+    got = meddled(
+        scene, ["render", LIST, MEDIA, OUT, "--depth", "16"], path.exists, lambda: os.truncate(source, 44 + 3 * 8192))
+    same("the line and the status", (got.output, got.status), (b"refused 66 at job 3\n", 1))
 
 
 def current_folder(scene: Scene) -> None:
@@ -234,7 +218,7 @@ def control_characters(scene: Scene) -> None:
 
 def where_to_go_on(scene: Scene) -> None:
     """Without words a terminal is told of help, and nothing else is."""
-    shown = on_terminal(scene, []).outcome
+    shown = on_terminal(scene, [])
     told = b"this was a stored example; 'adlcons --help' tells the commands\n"
     same("what a terminal is told", shown, Outcome(0, STORED_RUN, told))
     same("what a pipe is told", scene.run(), Outcome(0, STORED_RUN, b""))
@@ -415,4 +399,5 @@ def run(suite: Suite) -> None:
     suite.case("what isn't honoured", passed_over)
     suite.case("much that isn't honoured", many_passed_over)
     suite.case("a source that changed meanwhile", changed_source)
+    suite.case("a source that is cut short meanwhile", cut_source)
     suite.case("further lines at fault", further_lines)

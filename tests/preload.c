@@ -1,16 +1,22 @@
 /* Loaded before the program. It syncs nothing; SYNC_LOG names a file where syncs and prints are written down, and
    SYNC_FAILS is the sync that fails, from 1. INPUT says how standard input is read: 'slow' a byte at a time, with an
-   interruption before each, 'broken' so and failing at the tenth byte, 'endless' as spaces that never end. SLOW is how
-   many microseconds each write at a place of a file takes, SLOW_READS so for each read at a place, and WRITE_FAILS the
-   first of these writes that fails, as all behind it do. ALLOC_FAILS is the allocation that fails, from 1, and
+   interruption before each, 'broken' so and failing at the tenth byte, 'endless' as spaces that never end. SLOW and
+   SLOW_READS are how many microseconds each write and each read at a place of a file takes by the program's clock,
+   which begins at zero and stands still otherwise: nobody waits for it. WRITE_FAILS is the first of these writes that
+   fails, as all behind it do. At the write of the number STOP_WRITE the program stops until it is told to go on, and at
+   that of KILL_WRITE it is killed with half of the bytes written. WRITE_ROOM is how many bytes are written until one
+   write fails for want of room; those behind it go well. ALLOC_FAILS is the allocation that fails, from 1, and
    ALLOC_LOG names a file that is made when it does. */
 #define _GNU_SOURCE
 #include <dlfcn.h>
 #include <errno.h>
 #include <fcntl.h>
+#include <signal.h>
 #include <stdio.h>
 #include <stdlib.h>
 #include <string.h>
+#include <sys/syscall.h>
+#include <time.h>
 #include <unistd.h>
 
 static ssize_t real_write(int fd, const void *bytes, size_t count) {
@@ -75,22 +81,59 @@ ssize_t read(int fd, void *bytes, size_t count) {
     return !strcmp(input, "broken") && calls == 20 ? failed(EIO) : real_read(fd, bytes, 1);
 }
 
+static long long microseconds;
+
+static void take(const char *slow) {
+    if (slow) microseconds += atoll(slow);
+}
+
+int clock_gettime(clockid_t clock, struct timespec *time) {
+    if (!getenv("SLOW") && !getenv("SLOW_READS")) return (int)syscall(SYS_clock_gettime, clock, time);
+    time->tv_sec = microseconds / 1000000;
+    time->tv_nsec = microseconds % 1000000 * 1000;
+    return 0;
+}
+
+/* How many of the bytes there is room for; none where there is none, once. */
+static size_t roomy(size_t count) {
+    static int is_known, has_failed;
+    static size_t left;
+    const char *room = getenv("WRITE_ROOM");
+    if (!room || has_failed) return count;
+    if (!is_known) left = (size_t)atoll(room);
+    is_known = 1;
+    if (count > left) count = left;
+    left -= count;
+    has_failed = count == 0;
+    return count;
+}
+
+static int is_numbered(const char *name, int number) {
+    const char *text = getenv(name);
+    return text && atoi(text) == number;
+}
+
 ssize_t pwrite(int fd, const void *bytes, size_t count, off_t place) {
     static ssize_t (*next)(int, const void *, size_t, off_t);
-    const char *slow = getenv("SLOW");
-    if (!next) next = (ssize_t (*)(int, const void *, size_t, off_t))dlsym(RTLD_NEXT, "pwrite");
-    if (slow) usleep((useconds_t)atoi(slow));
-    const char *fails = getenv("WRITE_FAILS");
     static int writes;
-    if (fails && ++writes >= atoi(fails)) return failed(EIO);
-    return next(fd, bytes, count, place);
+    const char *fails = getenv("WRITE_FAILS");
+    if (!next) next = (ssize_t (*)(int, const void *, size_t, off_t))dlsym(RTLD_NEXT, "pwrite");
+    take(getenv("SLOW"));
+    ++writes;
+    if (is_numbered("STOP_WRITE", writes)) raise(SIGSTOP);
+    if (is_numbered("KILL_WRITE", writes)) {
+        next(fd, bytes, count / 2, place);
+        raise(SIGKILL);
+    }
+    if (fails && writes >= atoi(fails)) return failed(EIO);
+    size_t size = roomy(count);
+    return size == 0 && count > 0 ? failed(ENOSPC) : next(fd, bytes, size, place);
 }
 
 ssize_t pread(int fd, void *bytes, size_t count, off_t place) {
     static ssize_t (*next)(int, void *, size_t, off_t);
-    const char *slow = getenv("SLOW_READS");
     if (!next) next = (ssize_t (*)(int, void *, size_t, off_t))dlsym(RTLD_NEXT, "pread");
-    if (slow) usleep((useconds_t)atoi(slow));
+    take(getenv("SLOW_READS"));
     return next(fd, bytes, count, place);
 }
 

@@ -1,12 +1,13 @@
-"""How far a command has come: shown on a terminal while it works for longer than a second, and nowhere else."""
+"""How far a command has come: shown on a terminal while it works for longer than a second, and nowhere else.
+
+The program is run by a clock of its own, on which nothing but reads and writes takes time: each shown line is known.
+"""
 
 import os
 import pty
 import re
 import select
 import subprocess
-import time
-from typing import NamedTuple
 
 import model
 from harness import (
@@ -17,33 +18,28 @@ from tables import wave
 
 BLOCK = 4096
 BLOCKS = 10
+MANY_BLOCKS = 40
 MARKED = 4
 STRETCHES = 20
 STRETCH = 100
 SILENT = 24
-PIECES = 8
-PIECE = 131072
+PIECES = 16
+PIECE = 65_536
 EXACT = model.Options(handle=0)
-SLOW = {"SLOW": "60000"}
-SLOWER = {"SLOW": "300000"}
-SLOW_READS = {"SLOW_READS": "100000"}
+# Each write or read takes a second, so that each job comes later than the line may be shown again.
+SLOW = {"SLOW": "1000000"}
+SLOW_READS = {"SLOW_READS": "1000000"}
+# A block is written and marked in a twentieth of a second: the line may be shown again after two of them.
+QUICK = {"SLOW": "25000"}
 LOOKED = rb"\r(\d+) %%: (\d+) of %d frames looked at for silence\x1b\[K"
 LINE = rb"\r(\d+) %%: (\d+) of %d frames\x1b\[K"
 CLEARED = rb"\r\x1b\[K"
 
 
-class Shown(NamedTuple):
-    """What a terminal got, and the seconds until it came and until the end."""
-    outcome: Outcome
-    first: float
-    whole: float
-
-
-def on_terminal(scene: Scene, words: list, **how) -> Shown:
+def on_terminal(scene: Scene, words: list, **how) -> Outcome:
     """Runs the program with a terminal as its standard error."""
     terminal, its_end = pty.openpty()
-    began = time.monotonic()
-    shown, first = b"", 0.0
+    shown = b""
     with subprocess.Popen(
             [scene.program, *words], cwd=scene.folder, stdin=subprocess.DEVNULL, stdout=subprocess.PIPE,
             stderr=its_end, **how) as process:
@@ -53,27 +49,31 @@ def on_terminal(scene: Scene, words: list, **how) -> Shown:
                 shown += os.read(terminal, 65536)
             except OSError:
                 break
-            first = first or time.monotonic() - began
         output = process.communicate(timeout=TIMEOUT)[0]
     os.close(terminal)
-    outcome = Outcome(process.returncode, output, shown.replace(b"\r\n", b"\n"))
-    return Shown(outcome, first, time.monotonic() - began)
+    return Outcome(process.returncode, output, shown.replace(b"\r\n", b"\n"))
 
 
-def without_lines(shown: Shown, whole: int) -> bytes:
-    """What a terminal got besides the lines that tell how far the work has come. These are there, rise, come no earlier
-    than after a second and ten a second at most, and are taken off before anything else is told."""
-    line = LINE % whole
-    found = re.fullmatch(rb"((?:%s)+)%s([^\r]*)" % (line, CLEARED), shown.outcome.error)
-    if not found:
-        raise Mismatch(f"no line that is taken off again: {shown.outcome.error!r}")
-    told = [tuple(map(int, each)) for each in re.findall(line, found.group(1))]
+def counts_in(shown: bytes, line: bytes, whole: int) -> list:
+    """How many frames the lines tell, in turn, each with its hundredths."""
+    told = [tuple(map(int, each)) for each in re.findall(line % whole, shown)]
     for percent, done in told:
         same(f"the hundredths of {done} frames", percent, done * 100 // whole)
-    same("how far it is, in turn", [done for _, done in told], sorted({done for _, done in told}))
-    if shown.first < 1 or len(told) > 10 * shown.whole:
-        raise Mismatch(f"{len(told)} lines in {shown.whole} seconds, the first after {shown.first}")
-    return found.group(4)
+    return [done for _, done in told]
+
+
+def without_lines(shown: Outcome, whole: int, counts: list) -> Outcome:
+    """What a terminal got besides the lines that tell how far the work has come. These tell just so many frames, and are
+    taken off before anything else is told."""
+    found = re.fullmatch(rb"((?:%s)+)%s([^\r]*)" % (LINE % whole, CLEARED), shown.error)
+    if not found:
+        raise Mismatch(f"no line that is taken off again: {shown.error!r}")
+    same("the frames that are told", counts_in(found.group(1), LINE, whole), counts)
+    return shown._replace(error=found.group(4))
+
+
+def multiples(step: int, last: int, first: int = 1) -> list:
+    return [step * count for count in range(first, last + 1)]
 
 
 def put_sound(scene: Scene, frames: int = BLOCKS * BLOCK) -> int:
@@ -99,13 +99,24 @@ def put_stretches(scene: Scene) -> int:
 
 
 def rendering(scene: Scene) -> None:
+    """Each job is told, and nothing where standard error is no terminal."""
     frames = put_sound(scene)
     line = f"rendered {frames} frames 1 channels"
-    shown = on_terminal(scene, words_of("render"), env=preloaded(scene, **SLOWER))
-    rest = without_lines(shown, frames)
-    same_outcome(shown.outcome._replace(error=rest), 0, line)
+    environment = preloaded(scene, **SLOW)
+    shown = on_terminal(scene, words_of("render"), env=environment)
+    same_outcome(without_lines(shown, frames, multiples(BLOCK, BLOCKS)), 0, line)
     scene.empty_out()
-    same_outcome(scene.run(*words_of("render"), env=preloaded(scene, **SLOWER)), 0, line)
+    same_outcome(scene.run(*words_of("render"), env=environment), 0, line)
+
+
+def ten_a_second(scene: Scene) -> None:
+    """The line is shown once a second has passed, and then as soon as a tenth of a second has."""
+    frames = put_sound(scene, MANY_BLOCKS * BLOCK)
+    shown = on_terminal(scene, words_of("render"), env=preloaded(scene, **QUICK))
+    counts = counts_in(shown.error, LINE, frames)
+    same("the first line, within the first second's blocks", MANY_BLOCKS // 4 < counts[0] // BLOCK <= MANY_BLOCKS // 2, True)
+    rest = without_lines(shown, frames, list(range(counts[0], frames + 1, 2 * BLOCK)))
+    same_outcome(rest, 0, f"rendered {frames} frames 1 channels")
 
 
 def resumed(scene: Scene) -> None:
@@ -115,34 +126,26 @@ def resumed(scene: Scene) -> None:
     path = scene.folder / OUT / "render.marks"
     head = path.read_bytes()[:model.FRONT]
     path.write_bytes(head + b"\1" * MARKED + bytes(BLOCKS - MARKED))
-    shown = on_terminal(scene, words_of("resume"), env=preloaded(scene, **SLOWER))
-    rest = without_lines(shown, frames)
-    same_outcome(shown.outcome._replace(error=rest), 0, f"resumed {frames} frames {MARKED} blocks were marked")
-    first = int(re.search(LINE % frames, shown.outcome.error).group(2))
-    if first <= MARKED * BLOCK:
-        raise Mismatch(f"the first line tells {first} frames, and {MARKED} blocks were marked")
+    shown = on_terminal(scene, words_of("resume"), env=preloaded(scene, **SLOW))
+    rest = without_lines(shown, frames, multiples(BLOCK, BLOCKS, MARKED + 1))
+    same_outcome(rest, 0, f"resumed {frames} frames {MARKED} blocks were marked")
 
 
 def consolidation(scene: Scene) -> None:
     frames = put_stretches(scene)
     line = f"written {STRETCHES} media {STRETCHES} entries"
-    words = words_of("consolidate", EXACT)
-    shown = on_terminal(scene, words, env=preloaded(scene, **SLOW))
-    rest = without_lines(shown, frames)
-    same_outcome(shown.outcome._replace(error=rest), 0, line)
+    words, environment = words_of("consolidate", EXACT), preloaded(scene, **SLOW)
+    shown = on_terminal(scene, words, env=environment)
+    same_outcome(without_lines(shown, frames, multiples(STRETCH, STRETCHES)), 0, line)
     scene.empty_out()
-    same_outcome(scene.run(*words, env=preloaded(scene, **SLOW)), 0, line)
+    same_outcome(scene.run(*words, env=environment), 0, line)
 
 
 def long_medium(scene: Scene) -> None:
-    """A single medium of several pieces is seen to come."""
+    """A single medium is seen to come piece by piece."""
     frames = put_sound(scene, PIECES * PIECE)
-    shown = on_terminal(scene, words_of("consolidate", EXACT), env=preloaded(scene, **SLOWER))
-    rest = without_lines(shown, frames)
-    same_outcome(shown.outcome._replace(error=rest), 0, "written 1 media 1 entries")
-    counts = {int(done) for _, done in re.findall(LINE % frames, shown.outcome.error)} - {frames}
-    if len(counts) < 2:
-        raise Mismatch(f"a single medium of {PIECES} pieces shows {sorted(counts)} before its end")
+    shown = on_terminal(scene, words_of("consolidate", EXACT), env=preloaded(scene, **SLOW))
+    same_outcome(without_lines(shown, frames, multiples(PIECE, PIECES)), 0, "written 1 media 1 entries")
 
 
 def looking_for_silence(scene: Scene) -> None:
@@ -154,39 +157,35 @@ def looking_for_silence(scene: Scene) -> None:
         [model.entry_line(1, 1, nothing, nothing, model.time_text(frames))])
     scene.put(text, {"A.wav": wave([0] * (frames - 1) + [1])})
     shown = on_terminal(scene, words_of("consolidate", EXACT), env=preloaded(scene, **SLOW_READS))
-    told = [tuple(map(int, each)) for each in re.findall(LOOKED % frames, shown.outcome.error)]
-    for percent, done in told:
-        same(f"the hundredths of {done} frames", percent, done * 100 // frames)
-    counts = [done for _, done in told]
-    same("how far it is, in turn", counts, sorted(set(counts)))
-    if len(counts) < 4:
-        raise Mismatch(f"of {SILENT} blocks that are looked at the terminal shows {counts}")
-    rest = re.sub(rb"(\r[^\r]*)*%s" % CLEARED, b"", re.sub(LOOKED % frames, b"", shown.outcome.error))
-    same_outcome(shown.outcome._replace(error=rest), 0, "written 1 media 1 entries")
+    same("the blocks that are looked at", counts_in(shown.error, LOOKED, frames), multiples(BLOCK, SILENT))
+    rest = without_lines(shown._replace(error=re.sub(LOOKED % frames, b"", shown.error)), frames, [PIECE, frames])
+    same_outcome(rest, 0, "written 1 media 1 entries")
 
 
 def refused(scene: Scene) -> None:
     """Where a job fails later on, the line is taken off before the refusal is explained."""
     frames = put_sound(scene)
-    shown = on_terminal(scene, words_of("render"), env=preloaded(scene, WRITE_FAILS=str(BLOCKS), **SLOWER))
-    rest = without_lines(shown, frames)
-    same_shape("the explanation", rest, EXPLANATION % 66)
-    if not re.fullmatch(rb"refused 66 at job \d+\n", shown.outcome.output):
-        raise Mismatch(f"standard output: {shown.outcome.output!r}")
-    same("the status", shown.outcome.status, 1)
+    shown = on_terminal(scene, words_of("render"), env=preloaded(scene, WRITE_FAILS=str(BLOCKS), **SLOW))
+    done = counts_in(shown.error, LINE, frames)
+    rest = without_lines(shown, frames, multiples(BLOCK, max(1, len(done))))
+    same_shape("the explanation", rest.error, EXPLANATION % 66)
+    same("the answer", (rest.output, rest.status), (b"refused 66 at job %d\n" % len(done), 1))
 
 
 def short(scene: Scene) -> None:
     """What is done within a second shows nothing, on a terminal either."""
+    environment = preloaded(scene, **QUICK)
     put_sound(scene)
-    same("the terminal", on_terminal(scene, words_of("render")).outcome.error, b"")
+    same("the terminal", on_terminal(scene, words_of("render"), env=environment).error, b"")
     scene.empty_out()
     put_stretches(scene)
-    same_shape("the terminal", on_terminal(scene, words_of("consolidate", EXACT)).outcome.error, SAVED)
+    environment = preloaded(scene, SLOW="5000")
+    same_shape("the terminal", on_terminal(scene, words_of("consolidate", EXACT), env=environment).error, SAVED)
 
 
 def run(suite: Suite) -> None:
     suite.case("progress of a rendering", rendering)
+    suite.case("progress, ten times a second", ten_a_second)
     suite.case("progress of a rendering that goes on", resumed)
     suite.case("progress of a consolidation", consolidation)
     suite.case("progress within a medium", long_medium)

@@ -1,4 +1,4 @@
-"""Renderings that are stopped at any moment and gone on with: the bytes of an unbroken one.
+"""Renderings that are stopped in the midst of any write and gone on with: the bytes of an unbroken one.
 
 A kill takes the process alone, and not what it wrote: what a disk may lose besides is tested over memory.
 """
@@ -8,13 +8,12 @@ import re
 import shutil
 import signal
 import subprocess
-import time
 from pathlib import Path
 
 import model
 from harness import (
-    EXPLANATION, LIST, MEDIA, OUT, TIMEOUT, Mismatch, Outcome, Scene, Skipped, Suite, same, same_bytes, same_files,
-    same_outcome, same_shape,
+    EXPLANATION, LIST, MEDIA, OUT, TIMEOUT, Mismatch, Outcome, Scene, Skipped, Suite, preloaded, same, same_bytes,
+    same_files, same_outcome, same_shape,
 )
 from model import BLOCK, FRONT
 from tables import format_chunk, riff_file, wave
@@ -59,16 +58,23 @@ def marked_in(scene: Scene) -> int:
     return marks[FRONT:].count(1) if len(marks) >= FRONT and marks[0] == 1 else 0
 
 
-def stopped(scene: Scene, words: tuple, after: float) -> bool:
-    """Runs the program and kills it after so many seconds; whether it was still at work."""
-    with subprocess.Popen(
-            [scene.program, *words], cwd=scene.folder, stdout=subprocess.DEVNULL, stderr=subprocess.DEVNULL) as process:
-        try:
-            process.wait(after)
-        except subprocess.TimeoutExpired:
-            process.send_signal(signal.SIGKILL)
-        process.wait(TIMEOUT)
-    return process.returncode == -signal.SIGKILL
+def is_killed(scene: Scene, words: tuple, environment: dict, write: int) -> bool:
+    """Whether the program, which is killed in its write of this number, comes so far."""
+    got = scene.run(*words, env={**environment, "KILL_WRITE": str(write)})
+    return got.status == -signal.SIGKILL
+
+
+def writes_of(scene: Scene, words: tuple, environment: dict) -> int:
+    """How many writes a rendering makes."""
+    least, most = 0, 1
+    while is_killed(scene, words, environment, most):
+        scene.empty_out()
+        least, most = most, 2 * most
+    while most - least > 1:
+        scene.empty_out()
+        middle = (least + most) // 2
+        least, most = (middle, most) if is_killed(scene, words, environment, middle) else (least, middle)
+    return least
 
 
 def expect_resumed(scene: Scene, long: Long, whole: dict) -> int:
@@ -81,21 +87,21 @@ def expect_resumed(scene: Scene, long: Long, whole: dict) -> int:
 
 
 def killed(long: Long):
-    """At a random moment each, and some of them again; then they are gone on with to their end."""
+    """In the midst of a random write each, and some of them again; then they are gone on with to their end."""
     def body(scene: Scene) -> None:
         long.put(scene)
-        began = time.monotonic()
+        environment = preloaded(scene)
+        writes = writes_of(scene, (*RENDER, *long.words), environment)
+        scene.empty_out()
         same_outcome(scene.run(*RENDER, *long.words), 0, f"rendered {long.frames} frames {long.channels} channels")
-        length = time.monotonic() - began
         whole = scene.files()
         blocks = len(whole[MARKS]) - FRONT
         moments, kills, again, broken = random.Random(SEED), 0, 0, 0
         while kills < KILLS or again < KILLS_AGAIN:
             scene.empty_out()
-            kills += stopped(scene, (*RENDER, *long.words), moments.uniform(0, length))
+            kills += is_killed(scene, (*RENDER, *long.words), environment, moments.randint(1, writes))
             if again < KILLS_AGAIN:
-                left = length * (blocks - marked_in(scene)) / blocks
-                again += stopped(scene, (*RESUME, *long.words), moments.uniform(0, left))
+                again += is_killed(scene, (*RESUME, *long.words), environment, moments.randint(1, writes))
             marked = expect_resumed(scene, long, whole)
             broken += 0 < marked < blocks
         if broken < KILLS // 4:
@@ -169,6 +175,20 @@ def done_already(scene: Scene) -> None:
     same_outcome(scene.run(*RESUME, *DEPTH), 0, f"resumed {5 * BLOCK} frames 5 blocks were marked")
     same_files(scene.files(), whole)
     same("when they were written", [path.stat().st_mtime_ns for path in paths], before)
+
+
+def a_mark_is_a_one(scene: Scene) -> None:
+    """Any other byte marks no block, which is rendered again; one that is marked is taken as it stands."""
+    whole = put_stopped(scene, 5, {1, 3})
+    files = scene.files()
+    begun = bytearray(files[MARKS])
+    begun[FRONT], begun[FRONT + 2] = 7, 255
+    scene.put_out({**files, MARKS: bytes(begun)})
+    same_outcome(scene.run(*RESUME, *DEPTH), 0, f"resumed {5 * BLOCK} frames 2 blocks were marked")
+    same_files(scene.files(), whole)
+    scene.put_out({**files, MARKS: whole[MARKS]})
+    same_outcome(scene.run(*RESUME, *DEPTH), 0, f"resumed {5 * BLOCK} frames 5 blocks were marked")
+    same_files(scene.files(), {**files, MARKS: whole[MARKS]})
 
 
 def another_order(scene: Scene) -> None:
@@ -345,6 +365,7 @@ def run(suite: Suite) -> None:
     suite.case("no marked block is read or written", half_done(12, {1, 2, 5, 11}))
     suite.case("no marked block of a stretch is read or written", half_done(700, set(range(40, 350)) | {699}))
     suite.case("a rendering that is done", done_already)
+    suite.case("a mark is a byte of one", a_mark_is_a_one)
     suite.case("another order", another_order)
     suite.case("the same range", the_same_range)
     suite.case("a list on standard input", from_standard_input)

@@ -3,7 +3,7 @@
 import shutil
 import subprocess
 
-from harness import Mismatch, Suite
+from harness import TIMEOUT, Mismatch, Suite
 
 PACKAGES = {
     "sox": "sox",
@@ -16,7 +16,6 @@ PACKAGES = {
     "sndfile-metadata-set": "sndfile-programs",
     "mediainfo": "mediainfo",
 }
-TIMEOUT = 60
 
 
 def case(suite: Suite, tool: str, name: str, body) -> None:

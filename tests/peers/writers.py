@@ -6,10 +6,10 @@ from pathlib import Path
 from typing import Callable, NamedTuple
 
 import model
-from harness import MEDIA, OUT, Scene, Suite, expect_answer, expect_line, same, same_bytes
+from harness import MEDIA, OUT, TIMEOUT, Scene, Suite, expect_answer, expect_line, same, same_bytes
 from tables import data_chunk, format_chunk, riff_file
 
-from .tools import TIMEOUT, case, output_of
+from .tools import case, output_of
 
 FRAMES = 700
 PLAIN = "plain.wav"
