@@ -9,12 +9,13 @@ from pathlib import Path
 from typing import NamedTuple
 
 import model
-from harness import LIST, MEDIA, OUT, Mismatch, Outcome, Scene, Skipped, Suite, preloaded, same, same_files
+from harness import (
+    LIST, MEDIA, OUT, TIMEOUT, Mismatch, Outcome, Scene, Skipped, Suite, preloaded, same, same_files,
+)
 from tables import wave
 
 FRAMES = 9_000
 SOURCES = ("A.wav", "B.wav")
-TIMEOUT = 60
 MEDIA_COUNT = 40
 # Calls that ask a device for something. `close` comes behind a sync, and `lseek` asks no device.
 CALLS = "openat,read,pread64,write,pwrite64,fstat,newfstatat,statx,fsync,fdatasync,ftruncate,fallocate,getdents64"
@@ -200,6 +201,17 @@ def killed_with_a_report(scene: Scene) -> None:
             same_files(rest, {name: data for name, data in whole.items() if name != "consolidated.adl"})
 
 
+def opened_once(scene: Scene) -> None:
+    """Each source is opened once, however often it is read."""
+    put_project(scene)
+    for command in model.WRITING:
+        scene.empty_out()
+        _, calls = calls_of(scene, command)
+        opened = [call.file for call in calls if call.name == "openat"]
+        counts = [opened.count(f"{MEDIA}/{name}") for name in SOURCES]
+        same(f"how often {command} opens each source", counts, [1, 1])
+
+
 def synced_before_the_list(scene: Scene) -> None:
     """Of more media than stay open each is synced behind its last write, twice in all, before the list is made."""
     if not shutil.which("strace"):
@@ -225,6 +237,7 @@ def synced_before_the_list(scene: Scene) -> None:
 
 
 def run(suite: Suite) -> None:
+    suite.case("each source is opened once", opened_once)
     suite.case("each medium is synced before the list", synced_before_the_list)
     for command in model.WRITING:
         suite.case(f"each call of {command} fails once", each_call(command, 1))

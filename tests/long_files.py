@@ -15,13 +15,12 @@ from functools import partial
 from pathlib import Path
 
 import model
-from harness import MEDIA, OUT, Scene, Skipped, Suite, same, same_bytes, same_outcome, words_of
+from harness import MEDIA, OUT, TIMEOUT, Scene, Skipped, Suite, same, same_bytes, same_outcome, words_of
 from peers.tools import PACKAGES, output_of, text_of
 from tables import format_chunk, rf64_file, riff_chunk, wave
 
 MIDNIGHT = b"00.00.00.00/0000"
 MEMORY_LIMIT = 256 * 2 ** 20
-TIMEOUT = 300
 
 # The most frames of one channel and 16 bits that RIFF can tell.
 LONGEST_AT_16_BITS = 2_147_483_306
@@ -71,6 +70,23 @@ def one_frame_past_riff(scene: Scene) -> None:
         same("the length", file.tell(), HEAD_SIZE + 2 * frames)
     same_bytes("the head", head[:56], RF64_HEAD)
     same_bytes("the head of the samples", head[682:], bytes.fromhex("64617461 ffffffff"))
+
+
+def day_of_fade(scene: Scene) -> None:
+    """An in-fade over all of the day: its last sample is one step from full scale at 32 bits."""
+    entry = model.entry_line(1, 1, MIDNIGHT, MIDNIGHT, model.time_text(model.DAY))
+    fade = model.fade_line(b"Infade", model.DAY)
+    scene.put(model.list_text([model.source_line(1, "A.wav", MIDNIGHT)], [entry, fade]))
+    told = riff_chunk(b"ds64", struct.pack("<QQQI", 0, 2 * model.DAY, model.DAY, 0))
+    with open(scene.folder / MEDIA / "A.wav", "wb") as file:
+        file.write(rf64_file(told, format_chunk(), b"data" + b"\xff" * 4))
+        file.seek(2 * model.DAY - 2, os.SEEK_CUR)
+        file.write(struct.pack("<h", -32_768))
+    last = model.time_text(model.DAY - 1).decode()
+    run_limited(scene, "render", model.Options(depth=32, begin=last), "rendered 1 frames 1 channels")
+    # -2^47 by (day - 1) / day, rounded down and then to steps of 2^16
+    sample = (scene.folder / OUT / "render.wav").read_bytes()[HEAD_SIZE:]
+    same_bytes("the sample", sample, struct.pack("<i", -2_147_483_647))
 
 
 def last_second() -> bytes:
@@ -193,5 +209,6 @@ def consolidated(scene: Scene) -> None:
 
 def run(suite: Suite) -> None:
     suite.case("a file one frame past RIFF", one_frame_past_riff)
+    suite.case("a fade that takes a day", day_of_fade)
     suite.case("a rendering of 6 GB", rendered)
     suite.case("a consolidation of 6 GB", consolidated)

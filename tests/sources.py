@@ -3,7 +3,7 @@
 import struct
 
 import model
-from harness import Scene, Suite, expect_done, expect_refused, same
+from harness import Scene, Suite, expect_done, expect_line, expect_refused, same
 from tables import (
     FIRST_LIST, bext_chunk, data_chunk, extensible_chunk, format_chunk, rf64_file, riff_chunk, riff_file, size_changed,
     sizes_chunk, wave, with_line_after,
@@ -124,6 +124,8 @@ ACCEPTED = {
 NOTICES = {
     "a chunk that isn't carried": ("6", riff_file(FORMAT, DATA, riff_chunk(b"LIST", b""))),
     "a place for sizes alone": ("", riff_file(riff_chunk(b"JUNK", bytes(28)), FORMAT, DATA)),
+    "a place for sizes that passes the end": ("", riff_file(FORMAT, DATA, size_changed(riff_chunk(b"JUNK", b""), UNTOLD))),
+    "an empty bext": ("5", riff_file(FORMAT, DATA, riff_chunk(b"bext", b""))),
     "ds64 of RF64": ("", rf64_file(sizes_chunk(8), FORMAT, LARGE_DATA)),
     "ds64 of RIFF": ("6", riff_file(sizes_chunk(8), FORMAT, DATA)),
     "a second bext": ("6", riff_file(bext_chunk(), bext_chunk(), FORMAT, DATA)),
@@ -214,6 +216,27 @@ def unused_file(scene: Scene) -> None:
     expect_refused(scene, used, media, "refused 23 at index 2 file B.wav")
 
 
+def answer_to_prefix(length: int) -> str:
+    """What `check` says of that much of a file with `ds64`, EXTENSIBLE, data and `bext`, by where each of them ends."""
+    for end, number in ((12, 23), (48, 28), (56, 24), (96, 26), (104, 25), (152, 26)):
+        if length < end:
+            return f"refused {number} at index 1 file A.wav"
+    # less than a head of a chunk is no chunk, and `bext` has 603 bytes
+    if 160 <= length < 763:
+        return "refused 26 at index 1 file A.wav"
+    return "accepted 1 entries 1 indexes"
+
+
+def each_prefix(scene: Scene) -> None:
+    """Wherever the file ends."""
+    data = size_changed(data_chunk([7] * 16, 24), UNTOLD)
+    form = extensible_chunk(channels=4, bits=24)
+    whole = rf64_file(sizes_chunk(48, samples=4), form, data, bext_chunk(history=b"A"))[:-1]
+    same("the length of the whole", len(whole), 763)
+    for length in range(len(whole) + 1):
+        expect_line(scene, "check", FIRST_LIST, {"A.wav": whole[:length]}, answer_to_prefix(length))
+
+
 def names_with_case(scene: Scene) -> None:
     """Names of files are exact."""
     text = FIRST_LIST.replace(b"A.wav", b"Take.2.b.WAV")
@@ -247,5 +270,6 @@ def run(suite: Suite) -> None:
     suite.case("the first index at fault decides", first_index_decides)
     suite.case("files come before entries", files_before_entries)
     suite.case("the file of an unused index", unused_file)
+    suite.case("a file of each length", each_prefix)
     suite.case("names are exact", names_with_case)
     suite.case("a file of several blocks", long_file)

@@ -5,8 +5,8 @@ from typing import Callable, NamedTuple
 
 import model
 from harness import (
-    LIST, Mismatch, Scene, Suite, expect_answer, expect_done, expect_line, expect_refused, preloaded,
-    same, same_answer, same_bytes, words_of,
+    LIST, MEDIA, Mismatch, Scene, Suite, expect_answer, expect_done, expect_line, expect_refused, preloaded,
+    same, same_answer, same_bytes, same_files, words_of,
 )
 from tables import (
     CONSOLIDATED_LIST, EMPTY_LIST, FIRST_LIST, FIRST_SAMPLES, bext_chunk, changed, consolidated_bytes, data_chunk,
@@ -315,6 +315,33 @@ def cuts_are_joined(scene: Scene) -> None:
     expect_line(scene, "consolidate", apart, media, "written 2 media 2 entries", EXACT)
 
 
+def thousand_cuts(scene: Scene) -> None:
+    """A thousand cuts of ten frames, one behind the other: in the file, too, or with a frame between them there; all
+    flat, or an in-fade, a flat one and an out-fade in turn, which are one entry again."""
+    media = mono(*[7] * 11_000)
+    fades = ({"rise": 10}, {}, {"fall": 10})
+    for apart, is_flat, line in (
+        (10, True, "written 1 media 1 entries"), (11, True, "written 1000 media 1000 entries"),
+        (10, False, "written 1 media 334 entries"), (11, False, "written 1000 media 1000 entries"),
+    ):
+        lines = [
+            entry(place + 1, apart * place, 10 * place, 10 * place + 10, **({} if is_flat else fades[place % 3]))
+            for place in range(1000)
+        ]
+        expect_line(scene, "consolidate", one_source(*lines), media, line, EXACT)
+
+
+def both_orders(scene: Scene) -> None:
+    """A rendering whose jobs go by source is the same as one whose jobs go by time."""
+    text = one_source(entry(1, 4096, 0, 4096), entry(2, 0, 4096, 8192))
+    scene.put(text, mono(*[place % 1000 for place in range(8192)]))
+    wanted = model.answer("render", text, scene.files(MEDIA), EXACT)
+    for order in ("time", "source"):
+        same_answer(scene.run(*words_of("render", EXACT), "--order", order), wanted)
+        same_files(scene.files(), wanted.files)
+        scene.empty_out()
+
+
 def missing_file(scene: Scene) -> None:
     expect_refused(scene, FIRST_LIST, {}, "refused 21 at index 1 file A.wav")
     unused = with_line_after(7, model.source_line(2, "B.wav", MIDNIGHT))
@@ -443,6 +470,8 @@ CASES = {
     "an entry of no length is gone": no_length,
     "two files of one name": two_files_of_one_name,
     "cuts are joined": cuts_are_joined,
+    "a thousand cuts": thousand_cuts,
+    "both orders of jobs": both_orders,
     "a file that isn't there, used and unused": missing_file,
     "the time of a file": time_of_file,
     "a handle at the day's end": handle_at_the_days_end,
