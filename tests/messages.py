@@ -123,7 +123,8 @@ def marks_gone_meanwhile(scene: Scene) -> None:
         got = meddled(scene, words_of("render"), is_so, marks.unlink)
         said = "; unfinished in the output: render.wav; run again into an empty folder"
         expect_said(got, "refused 62 at file render.marks", (said,))
-        if not re.search(r"; (the system says: No such file or directory \(os error 2\)|it is gone); ", got.error.decode()):
+        found = r"; (the system says: No such file or directory \(os error 2\)|it is gone); "
+        if not re.search(found, got.error.decode()):
             raise Mismatch(f"what became of the marks isn't told: {got.error!r}")
         scene.empty_out()
 

@@ -63,8 +63,8 @@ def counts_in(shown: bytes, line: bytes, whole: int) -> list:
 
 
 def without_lines(shown: Outcome, whole: int, counts: list) -> Outcome:
-    """What a terminal got besides the lines that tell how far the work has come. These tell just so many frames, and are
-    taken off before anything else is told."""
+    """What a terminal got besides the lines that tell how far the work has come. These tell just so many frames, and
+    are taken off before anything else is told."""
     found = re.fullmatch(rb"((?:%s)+)%s([^\r]*)" % (LINE % whole, CLEARED), shown.error)
     if not found:
         raise Mismatch(f"no line that is taken off again: {shown.error!r}")
@@ -114,7 +114,8 @@ def ten_a_second(scene: Scene) -> None:
     frames = put_sound(scene, MANY_BLOCKS * BLOCK)
     shown = on_terminal(scene, words_of("render"), env=preloaded(scene, **QUICK))
     counts = counts_in(shown.error, LINE, frames)
-    same("the first line, within the first second's blocks", MANY_BLOCKS // 4 < counts[0] // BLOCK <= MANY_BLOCKS // 2, True)
+    first = counts[0] // BLOCK
+    same("whether the first line comes with a second's blocks", MANY_BLOCKS // 4 < first <= MANY_BLOCKS // 2, True)
     rest = without_lines(shown, frames, list(range(counts[0], frames + 1, 2 * BLOCK)))
     same_outcome(rest, 0, f"rendered {frames} frames 1 channels")
 

@@ -124,7 +124,8 @@ ACCEPTED = {
 NOTICES = {
     "a chunk that isn't carried": ("6", riff_file(FORMAT, DATA, riff_chunk(b"LIST", b""))),
     "a place for sizes alone": ("", riff_file(riff_chunk(b"JUNK", bytes(28)), FORMAT, DATA)),
-    "a place for sizes that passes the end": ("", riff_file(FORMAT, DATA, size_changed(riff_chunk(b"JUNK", b""), UNTOLD))),
+    "a place for sizes that passes the end": (
+        "", riff_file(FORMAT, DATA, size_changed(riff_chunk(b"JUNK", b""), UNTOLD))),
     "an empty bext": ("5", riff_file(FORMAT, DATA, riff_chunk(b"bext", b""))),
     "ds64 of RF64": ("", rf64_file(sizes_chunk(8), FORMAT, LARGE_DATA)),
     "ds64 of RIFF": ("6", riff_file(sizes_chunk(8), FORMAT, DATA)),
