@@ -1,231 +1,116 @@
 // Consolidations of files in memory, by lists of passes.
 use crate::flat_cut::FlatCut;
-use crate::renderings::head;
-use crate::whole_lists::list;
+use crate::lists::{head, list};
+use adlmodel::Project;
 use adlread::read;
 use consolidate::{Written, consolidate};
 use passes::{DropSilent, JoinCuts, Pass, Regroup, SplitFades};
 use shelf::{MemoryBench, MemoryShelf, Unwatched};
-use sound_terms::Depth;
 use std::alloc::{AllocError, Global};
 use std::test::Fail;
 
-/// A stereo file of 12 frames that begins at midnight: the left is silent, the right sounds in the frames of `sounds`.
-fn one_side(alloc: Global, sounds: &[bool]) -> Result<Vec<u8>, Fail> {
-    let mut file = head(alloc, 2, Depth::Sixteen, 12)?;
-    for frame in 0..12 {
-        let right = if sounds.get(frame).copied().unwrap_or(true) {
-            100
-        } else {
-            0
-        };
-        file.extend_from_slice(&[0, 0, right, 0])?;
+/// An entry of 12 samples with both fades of four.
+const ENTRY: &str = "(Entry) 1 (Cut) I 1 1~2 1~2 00.00.00.00/0000 00.00.00.00/0000 00.00.00.00/0012
+(Infade) 00.00.00.00/0004 LIN
+(Outfade) 00.00.00.00/0004 LIN
+";
+
+/// Four frames whose right channel sounds.
+const LOUD: [u8; 16] = [0, 0, 100, 0, 0, 0, 100, 0, 0, 0, 100, 0, 0, 0, 100, 0];
+
+/// A stereo file of 12 frames, of which the first four and the last four sound.
+fn silent_middle(alloc: Global) -> Result<Vec<u8>, Fail> {
+    let mut file = head(alloc, 2, 12)?;
+    for frames in [LOUD, [0; 16], LOUD] {
+        file.extend_from_slice(&frames)?;
     }
     Ok(file)
 }
 
-/// A list over `A.wav` with these entries.
-fn over_one_file(alloc: Global, entries: &str) -> Result<String, AllocError> {
-    let source = "(Index) 1 (F) \"URL:file://localhost/A.wav\" _ 00.00.00.00/0000 _\n";
-    list(alloc, source, entries)
-}
-
-/// What a consolidation wrote: how many frames each medium has, and where each entry begins and how long it is.
-#[derive(Drop)]
-struct Told {
-    media: Vec<usize>,
-    entries: Vec<(u64, u64)>,
-}
-
-/// How many frames of 4 bytes the media have.
-fn frames_of(alloc: Global, bench: &MemoryBench) -> Result<Vec<usize>, Fail> {
-    let header = head(alloc, 2, Depth::Sixteen, 12)?;
-    let mut media = Vec::new(alloc);
-    for name in ["M00001.wav", "M00002.wav", "M00003.wav"] {
-        if let Some(file) = bench.bytes(name) {
-            media.push(file.len().saturating_sub(header.len()) / 4)?;
-        }
+/// Adds the pass of a letter.
+fn push_pass(alloc: Global, letter: u8, passes: &mut Vec<Box<dyn Pass>>) -> Result<(), AllocError> {
+    match letter {
+        b's' => passes.push(Box::new(alloc, SplitFades)?)?,
+        b'd' => passes.push(Box::new(alloc, DropSilent)?)?,
+        b'j' => passes.push(Box::new(alloc, JoinCuts)?)?,
+        b'r' => passes.push(Box::new(alloc, Regroup)?)?,
+        _ => passes.push(Box::new(alloc, FlatCut { time: 6 })?)?,
     }
-    Ok(media)
+    Ok(())
 }
 
-/// Where the entries of the new list begin, and how long they are.
-fn entries_of(alloc: Global, bench: &MemoryBench) -> Result<Vec<(u64, u64)>, Fail> {
-    let Ok(project) = read(alloc, bench.bytes("consolidated.adl").ok_or("no list")?) else {
-        return Err("a list that isn't read".into());
-    };
-    let mut entries = Vec::new(alloc);
-    for event in project.events() {
-        let start = event.dest_in.get();
-        entries.push((start, event.dest_out.get().saturating_sub(start)))?;
-    }
-    Ok(entries)
-}
-
-/// Consolidates a list over this file without handles, by these passes: what is told, and what is written.
-fn written(
-    alloc: Global,
-    file: &[u8],
-    text: &str,
-    passes: Vec<Box<dyn Pass>>,
-) -> Result<(Written, MemoryBench), Fail> {
-    let mut shelf = MemoryShelf::new(alloc).with_file("A.wav", file)?;
-    let mut bench = MemoryBench::new(alloc);
-    let text = text.as_bytes();
-    match consolidate(
-        alloc,
-        text,
-        0,
-        passes,
-        None,
-        &mut shelf,
-        &mut bench,
-        &mut Unwatched,
-    ) {
-        Ok(written) => Ok((written, bench)),
-        Err(_) => Err("it is refused".into()),
-    }
-}
-
-/// What a consolidation by these passes wrote, which is as many media and entries as it tells.
-fn consolidated(
-    alloc: Global,
-    file: &[u8],
-    text: &str,
-    passes: Vec<Box<dyn Pass>>,
-) -> Result<Told, Fail> {
-    let (written, bench) = written(alloc, file, text, passes)?;
-    let told = Told {
-        media: frames_of(alloc, &bench)?,
-        entries: entries_of(alloc, &bench)?,
-    };
-    if written.media as usize != told.media.len()
-        || written.entries as usize != told.entries.len()
-    {
-        return Err("other numbers are told".into());
-    }
-    Ok(told)
-}
-
-/// Consolidates an entry of 12 samples with both fades of four and a silent middle, by these passes.
-fn left_of_entry(alloc: Global, passes: Vec<Box<dyn Pass>>) -> Result<Told, Fail> {
-    let sounds = [
-        true, true, true, true, false, false, false, false, true, true, true, true,
-    ];
-    let file = one_side(alloc, sounds.as_slice())?;
-    let times = "00.00.00.00/0000 00.00.00.00/0000 00.00.00.00/0012";
-    let fades = "(Infade) 00.00.00.00/0004 LIN\n(Outfade) 00.00.00.00/0004 LIN";
-    let entry = format!(in alloc; "(Entry) 1 (Cut) I 1 1~2 1~2 {times}\n{fades}\n")?;
-    let text = over_one_file(alloc, entry.as_str())?;
-    consolidated(alloc, file.as_slice(), text.as_str(), passes)
-}
-
-/// The four standard passes.
-fn standard(alloc: Global) -> Result<Vec<Box<dyn Pass>>, AllocError> {
+/// The passes of these letters.
+fn passes_of(alloc: Global, letters: &[u8]) -> Result<Vec<Box<dyn Pass>>, AllocError> {
     let mut passes: Vec<Box<dyn Pass>> = Vec::new(alloc);
-    passes.push(Box::new(alloc, SplitFades)?)?;
-    passes.push(Box::new(alloc, DropSilent)?)?;
-    passes.push(Box::new(alloc, JoinCuts)?)?;
-    passes.push(Box::new(alloc, Regroup)?)?;
+    for letter in letters {
+        push_pass(alloc, *letter, &mut passes)?;
+    }
     Ok(passes)
 }
 
-#[test]
-fn no_pass_leaves_the_entry(rt: HostRuntime) -> Result<(), Fail> {
-    let told = left_of_entry(rt.alloc(), Vec::new(rt.alloc()))?;
-    assert_eq!(rt; told.media.as_slice(), [12].as_slice());
-    assert_eq!(rt; told.entries.as_slice(), [(0, 12)].as_slice());
-    Ok(())
+/// Consolidates the entry without handles, by these passes.
+fn written(alloc: Global, letters: &[u8], bench: &mut MemoryBench) -> Result<Written, Fail> {
+    let mut shelf = MemoryShelf::new(alloc).with_file("A.wav", silent_middle(alloc)?.as_slice())?;
+    let text = list(alloc, ENTRY)?;
+    let passes = passes_of(alloc, letters)?;
+    let list = text.as_bytes();
+    let watch = &mut Unwatched;
+    Ok(consolidate(alloc, list, 0, passes, None, &mut shelf, bench, watch)?)
 }
 
-#[test]
-fn an_entry_that_sounds_in_part_is_kept_whole(rt: HostRuntime) -> Result<(), Fail> {
-    let alloc = rt.alloc();
-    let mut passes: Vec<Box<dyn Pass>> = Vec::new(alloc);
-    passes.push(Box::new(alloc, DropSilent)?)?;
-    let told = left_of_entry(alloc, passes)?;
-    assert_eq!(rt; told.media.as_slice(), [12].as_slice());
-    assert_eq!(rt; told.entries.as_slice(), [(0, 12)].as_slice());
-    Ok(())
+/// How many frames of 4 bytes the media have, of which there are three at most; behind the last one none.
+fn frames_of(alloc: Global, bench: &MemoryBench) -> Result<[usize; 3], Fail> {
+    let head = head(alloc, 2, 12)?.len();
+    let frames = |name| match bench.bytes(name) {
+        Some(file) => file.len().saturating_sub(head) / 4,
+        None => 0,
+    };
+    Ok([
+        frames("M00001.wav"),
+        frames("M00002.wav"),
+        frames("M00003.wav"),
+    ])
 }
 
-#[test]
-fn fades_are_entries_once_they_are_split(rt: HostRuntime) -> Result<(), Fail> {
-    let alloc = rt.alloc();
-    let mut passes: Vec<Box<dyn Pass>> = Vec::new(alloc);
-    passes.push(Box::new(alloc, SplitFades)?)?;
-    let told = left_of_entry(alloc, passes)?;
-    assert_eq!(rt; told.media.as_slice(), [12].as_slice());
-    assert_eq!(rt;
-        told.entries.as_slice(),
-        [(0, 4), (4, 4), (8, 4)].as_slice()
-    );
-    Ok(())
-}
-
-#[test]
-fn a_silent_middle_is_not_kept(rt: HostRuntime) -> Result<(), Fail> {
-    let alloc = rt.alloc();
-    let mut passes: Vec<Box<dyn Pass>> = Vec::new(alloc);
-    passes.push(Box::new(alloc, SplitFades)?)?;
-    passes.push(Box::new(alloc, DropSilent)?)?;
-    let told = left_of_entry(alloc, passes)?;
-    assert_eq!(rt; told.media.as_slice(), [4, 4].as_slice());
-    assert_eq!(rt; told.entries.as_slice(), [(0, 4), (8, 4)].as_slice());
-    Ok(())
-}
-
-#[test]
-fn the_standard_passes_keep_the_fades_round_a_silent_middle(rt: HostRuntime) -> Result<(), Fail> {
-    let alloc = rt.alloc();
-    let told = left_of_entry(alloc, standard(alloc)?)?;
-    assert_eq!(rt; told.media.as_slice(), [4, 4].as_slice());
-    assert_eq!(rt; told.entries.as_slice(), [(0, 4), (8, 4)].as_slice());
-    Ok(())
-}
-
-#[test]
-fn the_standard_passes_join_a_cut_that_is_not_heard(rt: HostRuntime) -> Result<(), Fail> {
-    let alloc = rt.alloc();
-    let file = one_side(alloc, &[])?;
-    for (from, entries) in [("4", 1), ("5", 2)] {
-        let cuts = format!(in alloc;
-            "(Entry) 1 (Cut) I 1 1~2 1~2 00.00.00.00/000{from} 00.00.00.00/0004 00.00.00.00/0008\n"
-        )?;
-        let first =
-            "(Entry) 2 (Cut) I 1 1~2 1~2 00.00.00.00/0000 00.00.00.00/0000 00.00.00.00/0004\n";
-        let both = format!(in alloc; "{cuts}{first}")?;
-        let text = over_one_file(alloc, both.as_str())?;
-        let told = consolidated(alloc, file.as_slice(), text.as_str(), standard(alloc)?)?;
-        assert_eq!(rt; told.entries.len(), entries);
+/// Where the entries of a project begin, and how long they are.
+fn spans_of(alloc: Global, project: &Project) -> Result<Vec<(u64, u64)>, AllocError> {
+    let mut spans = Vec::new(alloc);
+    for event in project.events() {
+        let start = event.dest_in.get();
+        spans.push((start, event.dest_out.get().saturating_sub(start)))?;
     }
-    Ok(())
+    Ok(spans)
 }
 
-#[test]
-fn a_pass_of_its_own_cuts_the_middle_in_two(rt: HostRuntime) -> Result<(), Fail> {
-    let alloc = rt.alloc();
-    let mut passes: Vec<Box<dyn Pass>> = Vec::new(alloc);
-    passes.push(Box::new(alloc, SplitFades)?)?;
-    passes.push(Box::new(alloc, FlatCut { time: 6 })?)?;
-    let told = left_of_entry(alloc, passes)?;
-    assert_eq!(rt; told.media.as_slice(), [12].as_slice());
-    assert_eq!(rt;
-        told.entries.as_slice(),
-        [(0, 4), (4, 2), (6, 2), (8, 4)].as_slice()
-    );
-    Ok(())
+/// So they are in the list that was written.
+fn entries_of(alloc: Global, bench: &MemoryBench) -> Result<Vec<(u64, u64)>, Fail> {
+    let text = bench.bytes("consolidated.adl").ok_or("no list")?;
+    Ok(spans_of(alloc, &read(alloc, text)?)?)
 }
 
+/// Passes by their letters; how many frames each medium has, and where the entries begin and how long they are.
+type Case = (&'static [u8], [usize; 3], &'static [(u64, u64)]);
+
+const CASES: [Case; 7] = [
+    (b"", [12, 0, 0], &[(0, 12)]),
+    (b"d", [12, 0, 0], &[(0, 12)]),
+    (b"s", [12, 0, 0], &[(0, 4), (4, 4), (8, 4)]),
+    (b"sd", [4, 4, 0], &[(0, 4), (8, 4)]),
+    (b"sdjr", [4, 4, 0], &[(0, 4), (8, 4)]),
+    // a pass of a caller's own cuts the middle in two, and the fades go with both parts
+    (b"sc", [12, 0, 0], &[(0, 4), (4, 2), (6, 2), (8, 4)]),
+    (b"scr", [12, 0, 0], &[(0, 6), (6, 6)]),
+];
+
 #[test]
-fn fades_go_with_both_parts_of_a_middle_that_was_cut(rt: HostRuntime) -> Result<(), Fail> {
+fn an_entry_with_a_silent_middle_goes_by_any_passes(rt: HostRuntime) -> Result<(), Fail> {
     let alloc = rt.alloc();
-    let mut passes: Vec<Box<dyn Pass>> = Vec::new(alloc);
-    passes.push(Box::new(alloc, SplitFades)?)?;
-    passes.push(Box::new(alloc, FlatCut { time: 6 })?)?;
-    passes.push(Box::new(alloc, Regroup)?)?;
-    let told = left_of_entry(alloc, passes)?;
-    assert_eq!(rt; told.media.as_slice(), [12].as_slice());
-    assert_eq!(rt; told.entries.as_slice(), [(0, 6), (6, 6)].as_slice());
+    for (letters, media, entries) in CASES {
+        let mut bench = MemoryBench::new(alloc);
+        let written = written(alloc, letters, &mut bench)?;
+        assert_eq!(rt; frames_of(alloc, &bench)?, media);
+        assert_eq!(rt; entries_of(alloc, &bench)?.as_slice(), entries);
+        assert_eq!(rt; written.entries as usize, entries.len());
+    }
     Ok(())
 }

@@ -1,25 +1,17 @@
-//! Tests of lists: their text, projects that are bound to files, and renderings and consolidations of these.
+//! Tests of lists: copies of their projects, consolidations by any passes, and works by the events of any workers.
 #![tactic(auto)]
 
 #[cfg(test)]
-mod bound_projects;
-#[cfg(test)]
 mod consolidations;
 #[cfg(test)]
+mod copies;
+#[cfg(test)]
 mod flat_cut;
+#[cfg(test)]
+mod lists;
 #[cfg(test)]
 mod media_schedules;
 #[cfg(test)]
 mod orders;
 #[cfg(test)]
-mod played;
-#[cfg(test)]
-mod renderings;
-#[cfg(test)]
 mod schedules;
-#[cfg(test)]
-mod whole_lists;
-#[cfg(test)]
-mod whole_projects;
-#[cfg(test)]
-mod written_lists;

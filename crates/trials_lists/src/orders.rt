@@ -1,26 +1,25 @@
 // Renderings whose jobs go by time and by source.
 ghost use Rattle.rendering.specs.Rendering.{HaveChannels};
 
-use crate::renderings::head;
+use crate::lists::{head, list};
 use crate::schedules::round;
-use crate::whole_lists::list;
-use consolidate::{Depth, Options, Order, Progress, Work, render, run_schedule};
+use consolidate::{Depth, Options, Order, Work, run_schedule};
 use sampletime::SampleTime;
-use shelf::{MemoryBench, MemoryShelf, Unwatched};
+use shelf::{MemoryBench, MemoryShelf};
 use std::alloc::Global;
 use std::test::Fail;
 
-/// The samples of a block.
+/// The frames of a block.
 const BLOCK: usize = 4_096;
 
 /// A list whose first entry plays the second block of `A.wav`, and whose second one plays the first block behind it.
-const ENTRIES: &str = "(Entry) 1 (Cut) I 1 1 1 00.00.00.02/0256 00.00.00.00/0000 00.00.00.02/0256\n\
-    (Entry) 2 (Cut) I 1 1 1 00.00.00.00/0000 00.00.00.02/0256 00.00.00.04/0512\n";
+const ENTRIES: &str = "(Entry) 1 (Cut) I 1 1 1 00.00.00.02/0256 00.00.00.00/0000 00.00.00.02/0256
+(Entry) 2 (Cut) I 1 1 1 00.00.00.00/0000 00.00.00.02/0256 00.00.00.04/0512
+";
 
 /// A list whose only entry plays the first block of `A.wav` behind a block of silence.
-const LATE: &str = "(Entry) 1 (Cut) I 1 1 1 00.00.00.00/0000 00.00.00.02/0256 00.00.00.04/0512\n";
-
-const SOURCE: &str = "(Index) 1 (F) \"URL:file://localhost/A.wav\" _ 00.00.00.00/0000 _\n";
+const LATE: &str = "(Entry) 1 (Cut) I 1 1 1 00.00.00.00/0000 00.00.00.02/0256 00.00.00.04/0512
+";
 
 /// All from midnight on, at 16 bits.
 fn by(order: Order) -> Options
@@ -35,77 +34,44 @@ fn by(order: Order) -> Options
     }
 }
 
-/// The shelf with `A.wav`: two blocks of one channel, each sample of which is 1.
-fn ones(alloc: Global) -> Result<MemoryShelf, Fail> {
-    let mut file = head(alloc, 1, Depth::Sixteen, 8_192)?;
-    for _ in 0..8_192 {
-        file.extend_from_slice(&[1, 0])?;
+/// A file of two blocks of one channel, the samples of each of which are this one.
+fn two_blocks(alloc: Global, samples: [u8; 2]) -> Result<Vec<u8>, Fail> {
+    let mut file = head(alloc, 1, 8_192)?;
+    for frame in 0..2 * BLOCK {
+        file.extend_from_slice(&[samples[frame / BLOCK], 0])?;
     }
-    Ok(MemoryShelf::new(alloc).with_file("A.wav", file.as_slice())?)
+    Ok(file)
 }
 
-/// What one round of one worker leaves of the rendering of a list: how far the jobs are, and the file.
-fn behind_one_round(
+/// Renders a list over a file of ones by one round of one worker: how many jobs wait, and how many are done.
+fn begun(
     alloc: Global,
-    text: &str,
+    entries: &str,
     order: Order,
-) -> Result<(Progress, MemoryBench), Fail> {
-    let events = round(1);
-    let mut shelf = ones(alloc)?;
-    let mut bench = MemoryBench::new(alloc);
+    bench: &mut MemoryBench,
+) -> Result<(u32, u32), Fail> {
+    let mut shelf = MemoryShelf::new(alloc).with_file(
+        "A.wav",
+        two_blocks(alloc, [1, 1])?.as_slice(),
+    )?;
+    let text = list(alloc, entries)?;
     let work = Work::Rendering { options: by(order) };
-    let text = text.as_bytes();
-    let progress = run_schedule(alloc, work, text, events.as_slice(), &mut shelf, &mut bench)?;
-    Ok((progress, bench))
+    let progress = run_schedule(alloc, work, text.as_bytes(), &round(1), &mut shelf, bench)?;
+    Ok((progress.idle, progress.done))
 }
 
 #[test]
 fn one_round_does_the_first_job_of_the_order(rt: HostRuntime) -> Result<(), Fail> {
     let alloc = rt.alloc();
-    let header = head(alloc, 1, Depth::Sixteen, 8_192)?;
-    for (entries, order, block) in [
-        (ENTRIES, Order::ByTime, 0),
-        (ENTRIES, Order::BySource, 1),
-        (LATE, Order::BySource, 1),
+    for (entries, order, samples) in [
+        (ENTRIES, Order::ByTime, [1, 0]),
+        (ENTRIES, Order::BySource, [0, 1]),
+        (LATE, Order::BySource, [0, 1]),
     ] {
-        let text = list(alloc, SOURCE, entries)?;
-        let (progress, bench) = behind_one_round(alloc, text.as_str(), order)?;
-        assert_eq!(rt; (progress.idle, progress.done), (1, 1));
-        let file = bench.bytes("render.wav").ok_or("no file")?;
-        let samples = file.get(header.len()..).ok_or("no samples")?;
-        assert_eq!(rt; samples.len(), 4 * BLOCK);
-        for (frame, sample) in samples.chunks_exact(2).enumerate() {
-            let wanted = if frame / BLOCK == block { 1 } else { 0 };
-            assert_eq!(rt; (sample[0], sample[1]), (wanted, 0));
-        }
+        let mut bench = MemoryBench::new(alloc);
+        assert_eq!(rt; begun(alloc, entries, order, &mut bench)?, (1, 1));
+        let wanted = two_blocks(alloc, samples)?;
+        assert!(rt; bench.bytes("render.wav") == Some(wanted.as_slice()));
     }
-    Ok(())
-}
-
-/// The rendering of a list in this order, and how many frames it is told to have.
-fn rendered_by(alloc: Global, text: &str, order: Order) -> Result<(u64, MemoryBench), Fail> {
-    let mut shelf = ones(alloc)?;
-    let mut bench = MemoryBench::new(alloc);
-    let text = text.as_bytes();
-    let rendered = render(
-        alloc,
-        text,
-        &by(order),
-        &mut shelf,
-        &mut bench,
-        &mut Unwatched,
-    )?;
-    Ok((rendered.frames, bench))
-}
-
-#[test]
-fn both_orders_make_one_file(rt: HostRuntime) -> Result<(), Fail> {
-    let text = list(rt.alloc(), SOURCE, ENTRIES)?;
-    let (frames, by_time) = rendered_by(rt.alloc(), text.as_str(), Order::ByTime)?;
-    assert_eq!(rt; frames, 8_192);
-    let (frames, by_source) = rendered_by(rt.alloc(), text.as_str(), Order::BySource)?;
-    assert_eq!(rt; frames, 8_192);
-    let file = by_time.bytes("render.wav").ok_or("no file")?;
-    assert!(rt; by_source.bytes("render.wav").ok_or("no file")? == file);
     Ok(())
 }

@@ -1,19 +1,29 @@
 // Renderings and consolidations by the events of any number of workers, over files in memory.
-use crate::renderings::{sound, whole};
+use crate::lists::{list, sound};
 use consolidate::{
     BoardEvent, Depth, Fault, Options, Order, Progress, Work, consolidate, render, run_schedule,
 };
 use shelf::{MemoryBench, MemoryShelf, Unwatched};
-use std::alloc::Global;
+use std::alloc::{AllocError, Global};
 use std::process::Abort;
 use std::test::Fail;
 
-/// A rendering of three blocks, each a job: 8,193 frames of one channel.
+/// An entry of 8,193 frames of one channel: its rendering has three blocks, each a job.
+const ENTRY: &str = "(Entry) 1 (Cut) I 1 1 1 00.00.00.00/0000 00.00.00.00/0000 00.00.00.04/0513
+";
+
 const FRAMES: u64 = 8_193;
 
-const END: &str = "00.00.00.04/0513";
-
 const JOBS: u32 = 3;
+
+/// What stands once three jobs are planned.
+pub(crate) const BEGUN: Progress = Progress {
+    idle: JOBS,
+    out: 0,
+    done: 0,
+    stale: 0,
+    finished: false,
+};
 
 const OPTIONS: Options = Options {
     from: None,
@@ -50,45 +60,57 @@ pub(crate) struct Project {
 
 impl Project {
     /// Over a file of so many frames of one channel.
-    pub(crate) fn new(alloc: Global, list: String, frames: u64, kind: Kind) -> Result<Self, Fail> {
-        let file = sound(alloc, 1, frames)?;
+    pub(crate) fn new(alloc: Global, entries: &str, frames: u64, kind: Kind) -> Result<Self, Fail> {
+        let file = sound(alloc, frames)?;
+        let list = list(alloc, entries)?;
         Ok(Project { list, file, kind })
     }
 
     /// The rendering of three jobs.
     fn rendering(alloc: Global) -> Result<Self, Fail> {
-        let list = whole(alloc, "1", END)?;
-        Project::new(alloc, list, FRAMES, Kind::Rendering)
+        Project::new(alloc, ENTRY, FRAMES, Kind::Rendering)
     }
 
     /// The sources, of whose calls so many fail behind so many.
-    pub(crate) fn shelf(&self, alloc: Global, from: u64, count: u64) -> Result<MemoryShelf, Fail> {
+    fn shelf(&self, alloc: Global, from: u64, count: u64) -> Result<MemoryShelf, AllocError> {
         let shelf = MemoryShelf::new(alloc).with_file("A.wav", self.file.as_slice())?;
         Ok(shelf.failing(from, count))
     }
 
+    fn render(
+        &self,
+        alloc: Global,
+        shelf: &mut MemoryShelf,
+        bench: &mut MemoryBench,
+    ) -> Result<(), Fault> {
+        let list = self.list.as_bytes();
+        render(alloc, list, &OPTIONS, shelf, bench, &mut Unwatched).map(|_| ())
+    }
+
+    fn consolidate(
+        &self,
+        alloc: Global,
+        shelf: &mut MemoryShelf,
+        bench: &mut MemoryBench,
+    ) -> Result<(), Fault> {
+        let list = self.list.as_bytes();
+        let passes = Vec::new(alloc);
+        consolidate(alloc, list, 0, passes, None, shelf, bench, &mut Unwatched).map(|_| ())
+    }
+
     /// What `render` or `consolidate` writes.
     fn alone(&self, alloc: Global) -> Result<MemoryBench, Fail> {
-        let list = self.list.as_bytes();
         let mut shelf = self.shelf(alloc, 0, 0)?;
         let mut bench = MemoryBench::new(alloc);
-        let mut watch = Unwatched;
         match self.kind {
-            Kind::Rendering => {
-                render(alloc, list, &OPTIONS, &mut shelf, &mut bench, &mut watch)?;
-            }
-            Kind::Consolidation => {
-                let passes = Vec::new(alloc);
-                consolidate(
-                    alloc, list, 0, passes, None, &mut shelf, &mut bench, &mut watch,
-                )?;
-            }
+            Kind::Rendering => self.render(alloc, &mut shelf, &mut bench)?,
+            Kind::Consolidation => self.consolidate(alloc, &mut shelf, &mut bench)?,
         }
         Ok(bench)
     }
 
     /// Does the work by these events.
-    pub(crate) fn scheduled(
+    fn scheduled(
         &self,
         alloc: Global,
         events: &[BoardEvent],
@@ -109,13 +131,37 @@ impl Project {
         }
     }
 
-    /// How often these events call the shelf: so often that a failure behind that isn't met.
+    /// How far these events bring it, and whether there is a list then.
+    pub(crate) fn begun(
+        &self,
+        alloc: Global,
+        events: &[BoardEvent],
+    ) -> Result<(Progress, bool), Fail> {
+        let mut shelf = self.shelf(alloc, 0, 0)?;
+        let mut bench = MemoryBench::new(alloc);
+        let progress = self.scheduled(alloc, events, &mut shelf, &mut bench)?;
+        Ok((progress, bench.bytes("consolidated.adl").is_some()))
+    }
+
+    /// Whether these events call the shelf no more often than that: a failure behind that isn't met.
+    fn calls_no_more(
+        &self,
+        alloc: Global,
+        events: &[BoardEvent],
+        calls: u64,
+    ) -> Result<bool, Fail> {
+        let mut shelf = self.shelf(alloc, calls, 1000)?;
+        let mut bench = MemoryBench::new(alloc);
+        let is_done = self
+            .scheduled(alloc, events, &mut shelf, &mut bench)
+            .is_ok();
+        Ok(is_done & (shelf.failures() == 0))
+    }
+
+    /// How often these events call the shelf.
     fn calls(&self, alloc: Global, events: &[BoardEvent]) -> Result<u64, Fail> {
         for calls in 0..1000 {
-            let mut shelf = self.shelf(alloc, calls, 1000)?;
-            let mut bench = MemoryBench::new(alloc);
-            let result = self.scheduled(alloc, events, &mut shelf, &mut bench);
-            if result.is_ok() && shelf.failures() == 0 {
+            if self.calls_no_more(alloc, events, calls)? {
                 return Ok(calls);
             }
         }
@@ -125,9 +171,11 @@ impl Project {
 
 /// Whether two benches hold the same files.
 fn are_same(bench: &MemoryBench, other: &MemoryBench) -> bool {
-    OUTPUTS
-        .iter()
-        .all(|name| bench.bytes(name) == other.bytes(name))
+    let mut are_same = true;
+    for name in &OUTPUTS {
+        are_same = are_same & (bench.bytes(name) == other.bytes(name));
+    }
+    are_same
 }
 
 /// Numbers that look drawn at random, the same in each run.
@@ -196,8 +244,21 @@ fn drawn(alloc: Global, draws: &mut Draws, most: u32, ends: u32) -> Result<Vec<B
     Ok(events)
 }
 
-/// A thousand schedules of three jobs, each of which ends with the files of one worker alone.
-pub(crate) fn assert_same_files(
+/// Whether these events end the work, with the files of one worker alone.
+fn ends_whole(
+    project: &Project,
+    alloc: Global,
+    events: &[BoardEvent],
+    alone: &MemoryBench,
+) -> Result<bool, Fail> {
+    let mut shelf = project.shelf(alloc, 0, 0)?;
+    let mut bench = MemoryBench::new(alloc);
+    let progress = project.scheduled(alloc, events, &mut shelf, &mut bench)?;
+    Ok(progress.finished & (progress.done == JOBS) & are_same(&bench, alone))
+}
+
+/// A thousand schedules of three jobs, each of which ends so.
+pub(crate) fn ends_the_same(
     rt: &impl Abort,
     alloc: Global,
     project: &Project,
@@ -205,14 +266,12 @@ pub(crate) fn assert_same_files(
 ) -> Result<(), Fail> {
     let alone = project.alone(alloc)?;
     let mut draws = Draws::new(seed);
-    for _ in 0..1000 {
+    for turn in 0..1000 {
         let events = drawn(alloc, &mut draws, 60, 1)?;
-        let mut shelf = project.shelf(alloc, 0, 0)?;
-        let mut bench = MemoryBench::new(alloc);
-        let progress = project.scheduled(alloc, events.as_slice(), &mut shelf, &mut bench)?;
-        assert!(rt; progress.finished);
-        assert_eq!(rt; progress.done, JOBS);
-        assert!(rt; are_same(&bench, &alone));
+        assert!(rt;
+            ends_whole(project, alloc, events.as_slice(), &alone)?,
+            "{turn}"
+        );
     }
     Ok(())
 }
@@ -237,99 +296,116 @@ impl Ended {
     }
 }
 
+/// How events that are drawn end over devices of whose calls some fail that are drawn, too; and whether the files are
+/// those of one worker alone.
+fn end_of_draw(
+    project: &Project,
+    alloc: Global,
+    draws: &mut Draws,
+    alone: &MemoryBench,
+) -> Result<(Ended, bool), Fail> {
+    let events = drawn(alloc, draws, 40, 2)?;
+    let from = u64::from(draws.below(40));
+    let mut shelf = project.shelf(alloc, from, u64::from(draws.below(4)))?;
+    let from = u64::from(draws.below(40));
+    let mut bench = MemoryBench::new(alloc).failing(from, u64::from(draws.below(4)));
+    let ended = Ended::of(&project.scheduled(alloc, events.as_slice(), &mut shelf, &mut bench));
+    Ok((ended, are_same(&bench, alone)))
+}
+
 /// A thousand schedules of three jobs over devices that fail: where all jobs are done, the files are those of one
-/// worker alone. The bench fails behind fewer calls than `writes`.
-pub(crate) fn assert_right_files(
+/// worker alone.
+pub(crate) fn ends_right(
     rt: &impl Abort,
     alloc: Global,
     project: &Project,
     seed: u64,
-    writes: u32,
 ) -> Result<(), Fail> {
     let alone = project.alone(alloc)?;
     let mut draws = Draws::new(seed);
     let mut seen = [0u32; 4];
-    for _ in 0..1000 {
-        let events = drawn(alloc, &mut draws, 40, 2)?;
-        let from = u64::from(draws.below(40));
-        let mut shelf = project.shelf(alloc, from, u64::from(draws.below(4)))?;
-        let from = u64::from(draws.below(writes));
-        let mut bench = MemoryBench::new(alloc).failing(from, u64::from(draws.below(4)));
-        let ended = Ended::of(&project.scheduled(alloc, events.as_slice(), &mut shelf, &mut bench));
+    for turn in 0..1000 {
+        let (ended, are_same) = end_of_draw(project, alloc, &mut draws, &alone)?;
+        assert!(rt; are_same | (ended != Ended::Whole), "{turn}");
         seen[ended as usize] = seen[ended as usize].saturating_add(1);
-        assert!(rt; ended != Ended::Whole || are_same(&bench, &alone));
     }
     // most end whole, and each other end is met
-    assert!(rt; seen[0] > 200, "{seen:?}");
-    assert!(rt; seen[2] > 0, "{seen:?}");
-    assert!(rt; seen[3] > 0, "{seen:?}");
+    assert!(rt; (seen[0] > 200) & (seen[2] > 0) & (seen[3] > 0), "{seen:?}");
     Ok(())
 }
 
+/// Events, and how far they bring a rendering.
+type Move = (&'static [BoardEvent], Progress);
+
+const MOVES: [Move; 6] = [
+    (&[], BEGUN),
+    (
+        &[BoardEvent::Give(1), BoardEvent::Lose(1)],
+        Progress {
+            idle: 2,
+            out: 1,
+            ..BEGUN
+        },
+    ),
+    (
+        &[
+            BoardEvent::Give(1),
+            BoardEvent::Lose(1),
+            BoardEvent::Reclaim(0),
+        ],
+        BEGUN,
+    ),
+    (
+        &[
+            BoardEvent::Give(1),
+            BoardEvent::Work(1),
+            BoardEvent::Reclaim(0),
+            BoardEvent::Deliver(1),
+        ],
+        Progress { stale: 1, ..BEGUN },
+    ),
+    (
+        &[
+            BoardEvent::Give(7),
+            BoardEvent::Work(7),
+            BoardEvent::Deliver(7),
+        ],
+        Progress {
+            idle: 2,
+            done: 1,
+            ..BEGUN
+        },
+    ),
+    (&[BoardEvent::Deliver(1), BoardEvent::Reclaim(3)], BEGUN),
+];
+
 #[test]
 fn events_move_jobs(rt: HostRuntime) -> Result<(), Fail> {
-    let alloc = rt.alloc();
-    let project = Project::rendering(alloc)?;
-    let given = [BoardEvent::Give(1), BoardEvent::Lose(1)];
-    let back = [
-        BoardEvent::Give(1),
-        BoardEvent::Lose(1),
-        BoardEvent::Reclaim(0),
-    ];
-    let stale = [
-        BoardEvent::Give(1),
-        BoardEvent::Work(1),
-        BoardEvent::Reclaim(0),
-        BoardEvent::Deliver(1),
-    ];
-    let one = round(7);
-    let nothing = [BoardEvent::Deliver(1), BoardEvent::Reclaim(3)];
-    for (events, idle, out, done, late) in [
-        ([].as_slice(), 3, 0, 0, 0),
-        (given.as_slice(), 2, 1, 0, 0),
-        (back.as_slice(), 3, 0, 0, 0),
-        (stale.as_slice(), 3, 0, 0, 1),
-        (one.as_slice(), 2, 0, 1, 0),
-        (nothing.as_slice(), 3, 0, 0, 0),
-    ] {
-        let mut shelf = project.shelf(alloc, 0, 0)?;
-        let mut bench = MemoryBench::new(alloc);
-        let progress = project.scheduled(alloc, events, &mut shelf, &mut bench)?;
-        let told = Progress {
-            idle,
-            out,
-            done,
-            stale: late,
-            finished: false,
-        };
-        assert_eq!(rt; progress, told);
+    let project = Project::rendering(rt.alloc())?;
+    for (events, want) in MOVES {
+        assert_eq!(rt; project.begun(rt.alloc(), events)?, (want, false));
     }
     Ok(())
 }
 
 #[test]
 fn work_alone_reads_samples(rt: HostRuntime) -> Result<(), Fail> {
-    let alloc = rt.alloc();
-    let project = Project::rendering(alloc)?;
-    let given = [BoardEvent::Give(1)];
-    let worked = [BoardEvent::Give(1), BoardEvent::Work(1)];
-    let delivered = round(1);
-    let opened = project.calls(alloc, &[])?;
-    let read = project.calls(alloc, worked.as_slice())?;
-    assert_eq!(rt; project.calls(alloc, given.as_slice())?, opened);
-    assert!(rt; opened < read);
-    assert_eq!(rt; project.calls(alloc, delivered.as_slice())?, read);
+    let project = Project::rendering(rt.alloc())?;
+    let [give, work, _] = round(1);
+    let opened = project.calls(rt.alloc(), &[])?;
+    let given = project.calls(rt.alloc(), &[give])?;
+    let worked = project.calls(rt.alloc(), &[give, work])?;
+    let delivered = project.calls(rt.alloc(), &round(1))?;
+    assert!(rt; (opened == given) & (given < worked) & (worked == delivered));
     Ok(())
 }
 
 #[test]
 fn any_schedule_that_ends_gives_the_same_file(rt: HostRuntime) -> Result<(), Fail> {
-    let alloc = rt.alloc();
-    assert_same_files(&rt, alloc, &Project::rendering(alloc)?, 16)
+    ends_the_same(&rt, rt.alloc(), &Project::rendering(rt.alloc())?, 16)
 }
 
 #[test]
 fn devices_that_fail_leave_right_files(rt: HostRuntime) -> Result<(), Fail> {
-    let alloc = rt.alloc();
-    assert_right_files(&rt, alloc, &Project::rendering(alloc)?, 17, 40)
+    ends_right(&rt, rt.alloc(), &Project::rendering(rt.alloc())?, 17)
 }

@@ -1,0 +1,71 @@
+// Projects that are copied, and made anew of their parts.
+use adlmodel::{Project, Sources};
+use adlread::read;
+use adlwrite::text_of;
+use std::alloc::{AllocError, Global};
+use std::test::Fail;
+
+/// A list of all sections that are kept, in the form in which it is written.
+const WRITTEN: &str = "<ADL>\r
+<VERSION>\r
+(ADL_ID) \"1234\"\r
+\r
+  (VER_ADL_VERSION)\t01.01 \r
+</VERSION>\r
+<SYSTEM>\r
+(SYS_GAIN) 0.0\r
+</SYSTEM>\r
+<SEQUENCE>\r
+(SEQ_SAMPLE_RATE) S48000\r
+(SEQ_FRAME_RATE) 25\r
+(SEQ_DEST_START) 00.00.00.00/0000\r
+</SEQUENCE>\r
+<SOURCE_INDEX>\r
+(Index) 0001 (F) \"URL:file://localhost/First take.wav\" \"a b\" 10:00:00:00.0000 _\r
+(Index) 12345 (F) \"file:///B%20C.wav\" _ _ 00:01:00:00.0000\r
+</SOURCE_INDEX>\r
+<EVENT_LIST>\r
+(Entry) 0001 (Cut) I 0001 1~2 3~4 10:00:00:00.0000 01:00:00:00.0000 01:00:10:00.0000\r
+(Infade) 00:00:00:12.0000 LIN _ _ _\r
+(Outfade) 00:00:01:00.1919 LIN _ _ _\r
+(Entry) 0002 (Cut) I 12345 7 1 00:00:00:00.0000 01:00:10:00.0000 24:00:00:00.0000\r
+</EVENT_LIST>\r
+</ADL>\r
+";
+
+/// Whether a project is written as that list.
+fn is_written(alloc: Global, project: &Project) -> Result<bool, AllocError> {
+    let text = text_of(alloc, project)?;
+    Ok(text.as_slice() == WRITTEN.as_bytes())
+}
+
+#[test]
+fn a_copy_is_the_same_project(rt: HostRuntime) -> Result<(), Fail> {
+    let copy = read(rt.alloc(), WRITTEN.as_bytes())?.try_copy()?;
+    assert!(rt; is_written(rt.alloc(), &copy)?);
+    Ok(())
+}
+
+/// The project of the same parts, with its header.
+fn made_anew(alloc: Global, project: &Project) -> Result<Project, AllocError> {
+    let sources = Sources::from_slice(alloc, project.sources())?;
+    let events = Vec::from_slice(alloc, project.events())?;
+    project.with(sources, events)
+}
+
+#[test]
+fn a_project_of_the_same_parts_is_the_same_list(rt: HostRuntime) -> Result<(), Fail> {
+    let anew = made_anew(rt.alloc(), &read(rt.alloc(), WRITTEN.as_bytes())?)?;
+    assert!(rt; is_written(rt.alloc(), &anew)?);
+    Ok(())
+}
+
+#[test]
+fn a_source_is_found_by_its_number_and_taken_by_its_place(rt: HostRuntime) -> Result<(), Fail> {
+    let project = read(rt.alloc(), WRITTEN.as_bytes())?;
+    let sources = Sources::from_slice(rt.alloc(), project.sources())?;
+    let found = sources.get(12_345).map(|source| source.number());
+    let taken = project.into_source(1).map(|source| source.number());
+    assert_eq!(rt; (found, taken), (Some(12_345), Some(12_345)));
+    Ok(())
+}
