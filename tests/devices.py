@@ -9,7 +9,8 @@ from typing import Callable
 
 import model
 from harness import (
-    LIST, MEDIA, OUT, Mismatch, Outcome, Scene, Skipped, Suite, same, same_bytes, same_files, same_outcome, words_of,
+    LIST, MEDIA, OUT, TIMEOUT, Mismatch, Outcome, Scene, Skipped, Suite, preloaded, same, same_bytes, same_files,
+    same_outcome, words_of,
 )
 from tables import FIRST_LIST, rendered_bytes, size_changed, wave
 
@@ -19,6 +20,8 @@ FRAMES = 20_000
 DISK_SIZE = "32k"
 MEMORY = 64 * 2 ** 20
 LONG = 48 * 2 ** 20
+# The tests of the stores, as they are built, of which one appends to a file on a disk that may be full.
+TRIALS = Path(__file__).resolve().parent.parent / "crates/trials_stores/out/trials_stores_tests"
 
 
 def as_other_user(scene: Scene) -> dict:
@@ -27,7 +30,7 @@ def as_other_user(scene: Scene) -> dict:
         return {}
     how = {"user": NOBODY, "group": NOBODY, "extra_groups": []}
     try:
-        subprocess.run([scene.program], cwd=scene.folder, capture_output=True, timeout=60, **how)
+        subprocess.run([scene.program], cwd=scene.folder, capture_output=True, timeout=TIMEOUT, **how)
     except PermissionError as fault:
         raise Skipped("the program can't be run by another user than root") from fault
     os.chown(scene.folder / OUT, NOBODY, NOBODY)
@@ -162,17 +165,49 @@ def no_memory_for_list(scene: Scene) -> None:
     same_files(scene.files(), {})
 
 
-def memory_of_long_rendering(scene: Scene) -> None:
-    """A rendering is made in blocks: it takes no memory that grows with its range."""
+def put_long_silence(scene: Scene) -> None:
+    """A list of two entries without length, with a long silence between them."""
     entry_lines = [
         model.entry_line(number, 1, b"00.00.00.00/0000", begin, begin)
         for number, begin in ((1, b"00.00.00.00/0000"), (2, model.time_text(LONG)))
     ]
     text = model.list_text([model.source_line(1, "A.wav", b"00.00.00.00/0000")], entry_lines)
     scene.put(text, {"A.wav": wave()})
+
+
+def memory_of_long_rendering(scene: Scene) -> None:
+    """A rendering is made in blocks: it takes no memory that grows with its range."""
+    put_long_silence(scene)
     got = scene.run(*RENDER, **memory_limit(MEMORY))
     same_outcome(got, 0, f"rendered {LONG} frames 1 channels")
     same("the written bytes", (scene.folder / OUT / "render.wav").stat().st_size, 690 + 2 * LONG)
+
+
+def laid_out_as_a_hole(scene: Scene) -> None:
+    """A file is laid out by few writes, and takes no room before its samples come."""
+    put_long_silence(scene)
+    path, environment = scene.folder / OUT / "render.wav", preloaded(scene)
+    for writes in range(1, 10):
+        scene.empty_out()
+        scene.run(*RENDER, env={**environment, "WRITE_FAILS": str(writes)})
+        found = path.stat()
+        if found.st_size == 690 + 2 * LONG:
+            same("whether it takes no room", 512 * found.st_blocks < 2 ** 20, True)
+            return
+    raise Mismatch(f"it has {found.st_size} bytes after {writes} writes")
+
+
+def broken_append(scene: Scene) -> None:
+    """What is appended behind an append that broke off for want of room stands behind what was written of that."""
+    if not TRIALS.exists():
+        raise Skipped("the tests of trials_stores aren't built (rt test in its folder)")
+    words = [TRIALS, "folders::appends_go_on_behind_what_is_there"]
+    for room, told in (
+        ("6", b"3 of 4 calls: [1, 2, 3, 4, 5, 6, 9]"), ("99", b"4 of 4 calls: [1, 2, 3, 4, 5, 6, 7, 8, 9]"),
+    ):
+        done = subprocess.run(
+            words, cwd=scene.folder, env=preloaded(scene, WRITE_ROOM=room), capture_output=True, timeout=TIMEOUT)
+        same(f"what is told of {room} bytes", (done.returncode, told in done.stdout), (0, True))
 
 
 def memory_of_long_consolidation(scene: Scene) -> None:
@@ -229,6 +264,8 @@ def run(suite: Suite) -> None:
     suite.case("a limit of size at the list", limited_list)
     suite.case("no memory for the list", no_memory_for_list)
     suite.case("the memory of a long rendering", memory_of_long_rendering)
+    suite.case("a long file is laid out as a hole", laid_out_as_a_hole)
+    suite.case("an append that breaks off", broken_append)
     suite.case("the memory of a long consolidation", memory_of_long_consolidation)
     suite.case("a full disk, rendered", on_small_disk(full_disk_rendered))
     suite.case("a full disk, consolidated", on_small_disk(full_disk_consolidated))

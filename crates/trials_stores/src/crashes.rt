@@ -1,137 +1,235 @@
 // What a crash leaves of outputs in memory.
-use shelf::{Bench, DeviceFault, MemoryBench, ShelfFault};
-use std::alloc::Global;
+use crate::calls::{Call, made};
+use shelf::{Bench, MemoryBench, ShelfFault};
+use std::alloc::{AllocError, Global};
 use std::test::Fail;
 
 /// A file that is synced and then written over and added to, and one that is created and never synced.
-fn worked(alloc: Global) -> Result<MemoryBench, DeviceFault> {
+const WORKED: [Call; 7] = [
+    Call::Create("A.wav"),
+    Call::Append("A.wav", &[1, 2, 3, 4]),
+    Call::Sync("A.wav"),
+    Call::Write("A.wav", 1, &[20, 30]),
+    Call::Append("A.wav", &[5, 6]),
+    Call::Create("B.wav"),
+    Call::Append("B.wav", &[7]),
+];
+
+/// A file that is synced and then created anew.
+const CREATED: [Call; 4] = [
+    Call::Create("A.wav"),
+    Call::Append("A.wav", &[1, 2, 3, 4]),
+    Call::Sync("A.wav"),
+    Call::Create("A.wav"),
+];
+
+/// So it is, and then it is added to.
+const FILLED: [Call; 5] = [
+    Call::Create("A.wav"),
+    Call::Append("A.wav", &[1, 2, 3, 4]),
+    Call::Sync("A.wav"),
+    Call::Create("A.wav"),
+    Call::Append("A.wav", &[8, 9]),
+];
+
+const BOTH_SYNCED: [Call; 2] = [Call::Sync("A.wav"), Call::Sync("B.wav")];
+
+/// The bytes of `A.wav` and of `B.wav`.
+type Files = (Option<&'static [u8]>, Option<&'static [u8]>);
+
+fn files(bench: &MemoryBench) -> (Option<&[u8]>, Option<&[u8]>) {
+    (bench.bytes("A.wav"), bench.bytes("B.wav"))
+}
+
+/// An output to which these calls were made.
+fn worked(alloc: Global, calls: &[Call]) -> MemoryBench {
     let mut bench = MemoryBench::new(alloc);
-    bench.create("A.wav")?;
-    bench.append("A.wav", &[1, 2, 3, 4])?;
-    bench.sync("A.wav")?;
-    bench.write_at("A.wav", 1, &[20, 30])?;
-    bench.append("A.wav", &[5, 6])?;
-    bench.create("B.wav")?;
-    bench.append("B.wav", &[7])?;
-    Ok(bench)
+    made(&mut bench, calls);
+    bench
+}
+
+/// Calls; how many bytes are kept of each that isn't synced, and what the others are; and the files.
+type Crash = (&'static [Call], u64, u8, Files);
+
+const CRASHES: [Crash; 11] = [
+    (&WORKED, 0, 0, (Some(&[1, 0, 0, 4, 0, 0]), None)),
+    (&WORKED, 0, 1, (Some(&[1, 1, 1, 4, 1, 1]), None)),
+    (&WORKED, 0, 7, (Some(&[1, 7, 7, 4, 7, 7]), None)),
+    (&WORKED, 1, 0, (Some(&[1, 20, 0, 4, 5, 0]), Some(&[7]))),
+    (&WORKED, 1, 7, (Some(&[1, 20, 7, 4, 5, 7]), Some(&[7]))),
+    (
+        &WORKED,
+        u64::MAX,
+        0,
+        (Some(&[1, 20, 30, 4, 5, 6]), Some(&[7])),
+    ),
+    (
+        &WORKED,
+        u64::MAX,
+        7,
+        (Some(&[1, 20, 30, 4, 5, 6]), Some(&[7])),
+    ),
+    // a file that is created stays as it was, or is empty
+    (&CREATED, 0, 7, (Some(&[1, 2, 3, 4]), None)),
+    (&CREATED, 1, 7, (Some(&[]), None)),
+    (&FILLED, 0, 7, (Some(&[7, 7, 3, 4]), None)),
+    (&FILLED, 1, 7, (Some(&[8, 7]), None)),
+];
+
+/// Whether a crash leaves these files, and a bench that counts anew.
+fn leaves(alloc: Global, case: &Crash) -> Result<bool, AllocError> {
+    let (calls, kept, fill, want) = *case;
+    let bench = worked(alloc, calls).after_crash(kept, fill)?;
+    Ok((files(&bench) == want) & (bench.failures() == 0) & (bench.calls() == 0))
 }
 
 #[test]
-fn bytes_that_are_not_synced_are_lost_from_a_place_on(rt: HostRuntime) -> Result<(), Fail> {
-    for (kept, fill, first, second) in [
-        (0, 0, [1, 0, 0, 4, 0, 0], None),
-        (0, 1, [1, 1, 1, 4, 1, 1], None),
-        (0, 7, [1, 7, 7, 4, 7, 7], None),
-        (1, 0, [1, 20, 0, 4, 5, 0], Some([7].as_slice())),
-        (1, 7, [1, 20, 7, 4, 5, 7], Some(&[7])),
-        (u64::MAX, 0, [1, 20, 30, 4, 5, 6], Some(&[7])),
-        (u64::MAX, 7, [1, 20, 30, 4, 5, 6], Some(&[7])),
-    ] {
-        let bench = worked(rt.alloc())?.after_crash(kept, fill)?;
-        assert_eq!(rt;
-            bench.bytes("A.wav").ok_or("lost")?,
-            first.as_slice(),
-            "{kept}, {fill}"
-        );
-        assert_eq!(rt; bench.bytes("B.wav"), second, "{kept}, {fill}");
-        assert_eq!(rt; bench.failures(), 0);
-        assert_eq!(rt; bench.calls(), 0);
-    }
-    Ok(())
-}
-
-#[test]
-fn a_create_that_is_not_synced_leaves_the_old_bytes_or_none(rt: HostRuntime) -> Result<(), Fail> {
-    for (kept, fill, added, want) in [
-        (0, 7, [].as_slice(), [1, 2, 3, 4].as_slice()),
-        (1, 7, &[], &[]),
-        (0, 7, &[8, 9], &[7, 7, 3, 4]),
-        (1, 7, &[8, 9], &[8, 7]),
-    ] {
-        let mut bench = MemoryBench::new(rt.alloc());
-        bench.create("A.wav")?;
-        bench.append("A.wav", &[1, 2, 3, 4])?;
-        bench.sync("A.wav")?;
-        bench.create("A.wav")?;
-        bench.append("A.wav", added)?;
-        let after = bench.after_crash(kept, fill)?;
-        assert_eq!(rt; after.bytes("A.wav").ok_or("lost")?, want, "{kept}, {fill}");
+fn a_crash_loses_what_is_not_synced(rt: HostRuntime) -> Result<(), Fail> {
+    for case in &CRASHES {
+        assert!(rt; leaves(rt.alloc(), case)?, "{}, {}", case.1, case.2);
     }
     Ok(())
 }
 
 #[test]
 fn what_is_synced_stays(rt: HostRuntime) -> Result<(), Fail> {
-    let mut bench = worked(rt.alloc())?;
-    bench.sync("A.wav")?;
-    bench.sync("B.wav")?;
+    let mut bench = worked(rt.alloc(), &WORKED);
+    made(&mut bench, &BOTH_SYNCED);
     assert_eq!(rt; bench.calls(), 9);
     let bench = bench.after_crash(0, 7)?;
-    assert_eq!(rt;
-        bench.bytes("A.wav").ok_or("lost")?,
-        [1, 20, 30, 4, 5, 6].as_slice()
-    );
-    assert_eq!(rt; bench.bytes("B.wav").ok_or("lost")?, [7].as_slice());
+    let want: Files = (Some(&[1, 20, 30, 4, 5, 6]), Some(&[7]));
+    assert_eq!(rt; files(&bench), want);
     Ok(())
 }
 
+/// Calls behind a crash, of which the last one isn't synced.
+const GONE_ON: [Call; 3] = [
+    Call::Append("A.wav", &[8]),
+    Call::Sync("A.wav"),
+    Call::Write("B.wav", 0, &[9]),
+];
+
 #[test]
 fn a_bench_goes_on_after_a_crash(rt: HostRuntime) -> Result<(), Fail> {
-    let mut bench = worked(rt.alloc())?.after_crash(1, 7)?;
-    bench.append("A.wav", &[8])?;
-    assert_eq!(rt; bench.length("A.wav")?, 7);
-    bench.sync("A.wav")?;
-    bench.write_at("B.wav", 0, &[9])?;
-    let mut again = bench.after_crash(0, 0)?;
-    assert_eq!(rt;
-        again.bytes("A.wav").ok_or("lost")?,
-        [1, 20, 7, 4, 5, 7, 8].as_slice()
-    );
-    let mut byte = [5];
-    again.read_at("B.wav", 0, &mut byte)?;
-    assert_eq!(rt; byte, [0]);
+    let mut bench = worked(rt.alloc(), &WORKED).after_crash(1, 7)?;
+    assert_eq!(rt; made(&mut bench, &GONE_ON), 3);
+    let again = bench.after_crash(0, 0)?;
+    let want: Files = (Some(&[1, 20, 7, 4, 5, 7, 8]), Some(&[0]));
+    assert_eq!(rt; files(&again), want);
     Ok(())
+}
+
+/// An output that is stopped.
+struct Stop {
+    /// The calls before, which go well.
+    before: &'static [Call],
+    /// Of those behind them so many go well, and of the next one so many bytes are written.
+    at: u64,
+    part: u64,
+    behind: &'static [Call],
+    files: Files,
+    /// The files once it has crashed, where so many bytes are kept of each call that isn't synced.
+    kept: u64,
+    left: Files,
+}
+
+/// Nothing goes well behind the fourth call.
+const APPENDED: [Call; 6] = [
+    Call::Create("A.wav"),
+    Call::Append("A.wav", &[1, 2]),
+    Call::Sync("A.wav"),
+    Call::Append("A.wav", &[3, 4]),
+    Call::Append("A.wav", &[5]),
+    Call::Create("B.wav"),
+];
+
+const SYNCED: [Call; 2] = [Call::Sync("B.wav"), Call::Append("B.wav", &[8])];
+
+const STOPS: [Stop; 7] = [
+    Stop {
+        before: &[],
+        at: 3,
+        part: 0,
+        behind: &APPENDED,
+        files: (Some(&[1, 2]), None),
+        kept: 0,
+        left: (Some(&[1, 2]), None),
+    },
+    Stop {
+        before: &[],
+        at: 3,
+        part: 1,
+        behind: &APPENDED,
+        files: (Some(&[1, 2, 3]), None),
+        kept: 0,
+        left: (Some(&[1, 2, 0]), None),
+    },
+    Stop {
+        before: &[],
+        at: 3,
+        part: 9,
+        behind: &APPENDED,
+        files: (Some(&[1, 2, 3, 4]), None),
+        kept: 0,
+        left: (Some(&[1, 2, 0, 0]), None),
+    },
+    Stop {
+        before: &[],
+        at: 0,
+        part: 0,
+        behind: &[Call::Create("A.wav")],
+        files: (None, None),
+        kept: 1,
+        left: (None, None),
+    },
+    Stop {
+        before: &[],
+        at: 0,
+        part: 1,
+        behind: &[Call::Create("A.wav")],
+        files: (Some(&[]), None),
+        kept: 0,
+        left: (None, None),
+    },
+    Stop {
+        before: &[],
+        at: 0,
+        part: 1,
+        behind: &[Call::Create("A.wav")],
+        files: (Some(&[]), None),
+        kept: 1,
+        left: (Some(&[]), None),
+    },
+    Stop {
+        before: &WORKED,
+        at: 0,
+        part: 5,
+        behind: &SYNCED,
+        files: (Some(&[1, 20, 30, 4, 5, 6]), Some(&[7])),
+        kept: u64::MAX,
+        left: (Some(&[1, 20, 30, 4, 5, 6]), Some(&[7])),
+    },
+];
+
+/// Whether so many calls go well, and these files are left by then and by a crash.
+fn stops(alloc: Global, stop: &Stop) -> Result<bool, AllocError> {
+    let mut bench = worked(alloc, stop.before).stop_at(stop.at, stop.part);
+    let count = made(&mut bench, stop.behind) as u64;
+    let is_stopped = (count == stop.at) & (bench.length("A.wav") == Err(ShelfFault::Device));
+    let is_left = files(&bench) == stop.files;
+    let bench = bench.after_crash(stop.kept, 0)?;
+    Ok(is_stopped & is_left & (files(&bench) == stop.left))
 }
 
 #[test]
 fn a_stopped_bench_writes_a_part_and_nothing_more(rt: HostRuntime) -> Result<(), Fail> {
-    for (part, written, left) in [
-        (0, [1, 2].as_slice(), [1, 2].as_slice()),
-        (1, &[1, 2, 3], &[1, 2, 0]),
-        (9, &[1, 2, 3, 4], &[1, 2, 0, 0]),
-    ] {
-        let mut bench = MemoryBench::new(rt.alloc()).stop_at(3, part);
-        bench.create("A.wav")?;
-        bench.append("A.wav", &[1, 2])?;
-        bench.sync("A.wav")?;
-        assert_eq!(rt; bench.append("A.wav", &[3, 4]), Err(DeviceFault));
-        assert_eq!(rt; bench.append("A.wav", &[5]), Err(DeviceFault));
-        assert_eq!(rt; bench.create("B.wav"), Err(DeviceFault));
-        assert_eq!(rt; bench.length("A.wav"), Err(ShelfFault::Device));
-        assert_eq!(rt; bench.failures(), 4);
-        assert_eq!(rt; bench.bytes("A.wav").ok_or("lost")?, written, "{part}");
-        assert_eq!(rt; bench.bytes("B.wav"), None);
-        let after = bench.after_crash(0, 0)?;
-        assert_eq!(rt; after.bytes("A.wav").ok_or("lost")?, left, "{part}");
+    for stop in &STOPS {
+        assert!(rt;
+            stops(rt.alloc(), stop)?,
+            "{} of call {}",
+            stop.part,
+            stop.at
+        );
     }
-    Ok(())
-}
-
-#[test]
-fn a_stopped_create_makes_its_file_or_not(rt: HostRuntime) -> Result<(), Fail> {
-    let mut bench = MemoryBench::new(rt.alloc()).stop_at(0, 0);
-    assert_eq!(rt; bench.create("A.wav"), Err(DeviceFault));
-    assert_eq!(rt; bench.bytes("A.wav"), None);
-    for (kept, want) in [(0, None), (1, Some([].as_slice()))] {
-        let mut bench = MemoryBench::new(rt.alloc()).stop_at(0, 1);
-        assert_eq!(rt; bench.create("A.wav"), Err(DeviceFault));
-        assert_eq!(rt; bench.bytes("A.wav").ok_or("lost")?, [].as_slice());
-        let after = bench.after_crash(kept, 0)?;
-        assert_eq!(rt; after.bytes("A.wav"), want, "{kept}");
-    }
-    let mut stopped = worked(rt.alloc())?.stop_at(0, 5);
-    assert_eq!(rt; stopped.sync("B.wav"), Err(DeviceFault));
-    assert_eq!(rt; stopped.append("B.wav", &[8]), Err(DeviceFault));
-    assert_eq!(rt; stopped.bytes("B.wav").ok_or("lost")?, [7].as_slice());
     Ok(())
 }

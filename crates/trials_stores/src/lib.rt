@@ -1,11 +1,11 @@
-//! Tests of the stores of files: in memory, and in folders; and of the marks that are kept on them.
+//! Tests of the stores: in memory, of zeros and in folders.
 #![tactic(auto)]
 
+#[cfg(test)]
+mod calls;
 #[cfg(test)]
 mod crashes;
 #[cfg(test)]
 mod folders;
-#[cfg(test)]
-mod marks;
 #[cfg(test)]
 mod memory;
