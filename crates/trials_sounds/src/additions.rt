@@ -136,6 +136,7 @@ fn adds_on_all(
         return Err("another file".into());
     }
     let mut machine = Machine::new(alloc, 2)?;
+    let channels = [(1, 1, 2), (1, 2, 1), (2, 1, 1)];
     adds_at_each_place(
         rt,
         &mut machine,
@@ -143,7 +144,7 @@ fn adds_on_all(
         &mut shelf,
         depth,
         shown,
-        (1, 1, 2),
+        channels[0],
     )?;
     adds_at_each_place(
         rt,
@@ -152,7 +153,7 @@ fn adds_on_all(
         &mut shelf,
         depth,
         shown,
-        (1, 2, 1),
+        channels[1],
     )?;
     adds_at_each_place(
         rt,
@@ -161,41 +162,27 @@ fn adds_on_all(
         &mut shelf,
         depth,
         shown,
-        (2, 1, 1),
+        channels[2],
     )
 }
 
 #[test]
 fn adds_sixteen_bits(rt: HostRuntime) -> Result<(), Fail> {
-    adds_on_all(&rt, rt.alloc(), Depth::Sixteen, 2, Depth::ThirtyTwo)
+    for shown in [Depth::Sixteen, Depth::TwentyFour, Depth::ThirtyTwo] {
+        adds_on_all(&rt, rt.alloc(), Depth::Sixteen, 2, shown)?;
+    }
+    Ok(())
 }
 
 #[test]
 fn adds_twenty_four_bits(rt: HostRuntime) -> Result<(), Fail> {
-    adds_on_all(&rt, rt.alloc(), Depth::TwentyFour, 3, Depth::ThirtyTwo)
+    for shown in [Depth::Sixteen, Depth::TwentyFour, Depth::ThirtyTwo] {
+        adds_on_all(&rt, rt.alloc(), Depth::TwentyFour, 3, shown)?;
+    }
+    Ok(())
 }
 
 #[test]
 fn adds_thirty_two_bits(rt: HostRuntime) -> Result<(), Fail> {
     adds_on_all(&rt, rt.alloc(), Depth::ThirtyTwo, 4, Depth::ThirtyTwo)
-}
-
-#[test]
-fn adds_sixteen_bits_at_their_depth(rt: HostRuntime) -> Result<(), Fail> {
-    adds_on_all(&rt, rt.alloc(), Depth::Sixteen, 2, Depth::Sixteen)
-}
-
-#[test]
-fn adds_sixteen_bits_at_more(rt: HostRuntime) -> Result<(), Fail> {
-    adds_on_all(&rt, rt.alloc(), Depth::Sixteen, 2, Depth::TwentyFour)
-}
-
-#[test]
-fn adds_twenty_four_bits_at_their_depth(rt: HostRuntime) -> Result<(), Fail> {
-    adds_on_all(&rt, rt.alloc(), Depth::TwentyFour, 3, Depth::TwentyFour)
-}
-
-#[test]
-fn adds_twenty_four_bits_at_less(rt: HostRuntime) -> Result<(), Fail> {
-    adds_on_all(&rt, rt.alloc(), Depth::TwentyFour, 3, Depth::Sixteen)
 }

@@ -1,9 +1,9 @@
-// Entries as groups of pieces, cut in two, and as events again.
+// Entries as groups of pieces, and cut in two.
 ghost use Rattle.std.specs.Prelude.{◌≡◌, ◌≤◌, ◌+◌, IfOk};
 ghost use Rattle.sampletime.specs.TimeCode.{day};
 ghost use Rattle.sound_terms.specs.Entries.{IsPlayable};
 
-use groups::{Intervals, Piece, Placed, Shape, group_of};
+use groups::{Intervals, Piece, Shape, group_of};
 use sampletime::SampleTime;
 use sound_terms::{BoundIndex, Channels, Event, Fade};
 use std::test::Fail;
@@ -59,23 +59,6 @@ pub(crate) fn entry() -> Result<Event, Fail>
     entry_of(2, 12, 4, 4)
 }
 
-#[test]
-fn an_entry_has_an_in_fade_a_middle_and_an_out_fade(rt: HostRuntime) -> Result<(), Fail> {
-    let group = group_of(rt.alloc(), &MIDNIGHT, &entry()?)?.ok_or("no group")?;
-    let shapes = [
-        (0, Shape::Rise { offset: 0, den: 4 }),
-        (4, Shape::Flat),
-        (8, Shape::Fall { offset: 0, den: 4 }),
-    ];
-    assert_eq!(rt; group.pieces().len(), 3);
-    for (piece, (start, shape)) in group.pieces().iter().zip(shapes) {
-        assert_eq!(rt; (piece.start, piece.frame, piece.length), (start, start, 4));
-        assert_eq!(rt; (piece.first, piece.dest, piece.width), (1, 1, 2));
-        assert_eq!(rt; piece.shape, shape);
-    }
-    Ok(())
-}
-
 /// The groups of this one entry.
 pub(crate) fn intervals(rt: &HostRuntime, event: &Event) -> Result<Intervals, Fail>
     requires { IsPlayable MIDNIGHT event.now }
@@ -88,50 +71,42 @@ pub(crate) fn intervals(rt: &HostRuntime, event: &Event) -> Result<Intervals, Fa
     Ok(Intervals::ordered(groups)?)
 }
 
-#[test]
-fn an_in_fade_that_is_cut_goes_on_where_it_was(rt: HostRuntime) -> Result<(), Fail> {
-    let given = intervals(&rt, &entry_of(1, 4, 4, 0)?)?;
-    assert!(rt; given.whole());
-    let cut = given.cut_at(time(2)?)?;
-    assert!(rt; !cut.whole());
-    let ramp = Piece {
-        start: 0,
-        length: 2,
-        frame: 0,
-        file: 0,
-        first: 1,
-        dest: 1,
-        width: 1,
-        shape: Shape::Rise { offset: 0, den: 4 },
-    };
-    let rest = Piece {
-        start: 2,
-        frame: 2,
-        shape: Shape::Rise { offset: 2, den: 4 },
-        ..ramp
-    };
-    assert_eq!(rt; cut.groups().len(), 2);
-    assert_eq!(rt; cut.groups()[0].pieces(), [ramp].as_slice());
-    assert_eq!(rt; cut.groups()[1].pieces(), [rest].as_slice());
-    Ok(())
+/// The first two frames of an in-fade of four.
+const RAMP: Piece = Piece {
+    start: 0,
+    length: 2,
+    frame: 0,
+    file: 0,
+    first: 1,
+    dest: 1,
+    width: 1,
+    shape: Shape::Rise { offset: 0, den: 4 },
+};
+
+/// The other two, which go on where it was.
+const REST: Piece = Piece {
+    start: 2,
+    frame: 2,
+    shape: Shape::Rise { offset: 2, den: 4 },
+    ..RAMP
+};
+
+/// The in-fade, cut at its third sample.
+fn cut_in_fade(rt: &HostRuntime) -> Result<Intervals, Fail> {
+    let given = intervals(rt, &entry_of(1, 4, 4, 0)?)?;
+    if !given.whole() {
+        return Err("a cut entry".into());
+    }
+    Ok(given.cut_at(time(2)?)?)
 }
 
 #[test]
-fn a_group_is_an_event_again(rt: HostRuntime) -> Result<(), Fail> {
-    let given = intervals(&rt, &entry()?)?;
-    assert!(rt; given.whole());
-    let events = given.to_events()?;
-    let event = Placed {
-        start: 0,
-        length: 12,
-        frame: 0,
-        file: 0,
-        first: 1,
-        dest: 1,
-        width: 2,
-        rise: 4,
-        fall: 4,
-    };
-    assert_eq!(rt; events.as_slice(), [event].as_slice());
+fn an_in_fade_that_is_cut_goes_on_where_it_was(rt: HostRuntime) -> Result<(), Fail> {
+    let cut = cut_in_fade(&rt)?;
+    assert!(rt; !cut.whole());
+    assert_eq!(rt; cut.groups().len(), 2);
+    for (group, piece) in cut.groups().iter().zip([RAMP, REST]) {
+        assert_eq!(rt; group.pieces(), [piece].as_slice());
+    }
     Ok(())
 }

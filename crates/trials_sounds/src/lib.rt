@@ -1,16 +1,11 @@
-//! Tests of time and sound: numbers, pieces and files, up to the blocks of a rendering.
+//! Tests of sound: kernels, chunks, pieces that are cut and go by any passes, what is read for silence, and the longest
+//! files.
 #![tactic(auto)]
 
 #[cfg(test)]
 mod additions;
 #[cfg(test)]
-mod blocks;
-#[cfg(test)]
 mod chunks;
-#[cfg(test)]
-mod cuts;
-#[cfg(test)]
-mod files;
 #[cfg(test)]
 mod intervals;
 #[cfg(test)]
@@ -20,10 +15,4 @@ mod long_files;
 #[cfg(test)]
 mod pass_lists;
 #[cfg(test)]
-mod samples;
-#[cfg(test)]
 mod silences;
-#[cfg(test)]
-mod sums;
-#[cfg(test)]
-mod time_code;

@@ -1,19 +1,19 @@
 // Where RIFF ends and RF64 begins, over files of zeros that take no memory.
-use shelf::{Shelf, ZeroShelf};
+use shelf::ZeroShelf;
 use std::alloc::Global;
 use std::test::Fail;
-use wavread::{Depth, Sound, open};
+use wavread::{Depth, open};
 use wavwrite::{Bext, SoundInfo, header};
 
 /// The most frames of one channel and 16 bits that RIFF can tell, without a CodingHistory.
 const MOST_OF_RIFF: u64 = 2_147_483_306;
 
-/// The first 48 bytes of the shortest RF64: its head, and `ds64` with the sizes of the form and of `data`, the frames
-/// and no table (EBU Tech 3306).
-const RF64_HEAD: [u8; 48] = [
+/// The first 56 bytes of the shortest RF64: its head, and `ds64` with the sizes of the form and of `data`, the frames
+/// and no table (EBU Tech 3306); and how `bext` begins.
+const RF64_HEAD: [u8; 56] = [
     0x52, 0x46, 0x36, 0x34, 0xff, 0xff, 0xff, 0xff, 0x57, 0x41, 0x56, 0x45, 0x64, 0x73, 0x36, 0x34,
     0x1c, 0, 0, 0, 0, 0, 0, 0, 1, 0, 0, 0, 0x56, 0xfd, 0xff, 0xff, 0, 0, 0, 0, 0xab, 0xfe, 0xff,
-    0x7f, 0, 0, 0, 0, 0, 0, 0, 0,
+    0x7f, 0, 0, 0, 0, 0, 0, 0, 0, 0x62, 0x65, 0x78, 0x74, 0x5a, 2, 0, 0,
 ];
 
 /// The head of a mono file of 16 bits with an empty `bext`.
@@ -36,8 +36,8 @@ fn silent(alloc: Global, frames: u64) -> Result<ZeroShelf, Fail> {
     Ok(ZeroShelf::new(String::from_str(alloc, "A.wav")?, head, length))
 }
 
-/// The sound of this file, whose last sample is read as zero.
-fn opened(alloc: Global, frames: u64) -> Result<Sound, Fail> {
+/// The channels, the depth and the frames of this file, whose last sample is read as zero.
+fn opened(alloc: Global, frames: u64) -> Result<(u8, Depth, u64), Fail> {
     let mut shelf = silent(alloc, frames)?;
     let sound = open(alloc, &mut shelf, "A.wav")?;
     let last = sound.frames().checked_sub(1).ok_or("no frames")?;
@@ -46,32 +46,30 @@ fn opened(alloc: Global, frames: u64) -> Result<Sound, Fail> {
     if sample != [0] {
         return Err("the last sample isn't zero".into());
     }
-    Ok(sound)
+    Ok((sound.channels(), sound.depth(), sound.frames()))
+}
+
+/// How the head of this file begins and ends.
+fn has_head(alloc: Global, frames: u64, first: &[u8], last: &[u8]) -> Result<bool, Fail> {
+    let head = head_of(alloc, frames)?;
+    Ok((head.len() == 690) & head.starts_with(first) & head.ends_with(last))
 }
 
 #[test]
 fn the_longest_riff_is_opened(rt: HostRuntime) -> Result<(), Fail> {
-    let head = head_of(rt.alloc(), MOST_OF_RIFF)?;
-    assert_eq!(rt; head.len(), 690);
-    assert!(rt; head.starts_with(b"RIFF\xfe\xff\xff\xffWAVEJUNK"));
-    assert!(rt; head.ends_with(b"data\x54\xfd\xff\xff"));
-    let sound = opened(rt.alloc(), MOST_OF_RIFF)?;
-    assert_eq!(rt; (sound.channels(), sound.depth()), (1, Depth::Sixteen));
-    assert_eq!(rt; sound.frames(), MOST_OF_RIFF);
+    let (first, last) = (b"RIFF\xfe\xff\xff\xffWAVEJUNK", b"data\x54\xfd\xff\xff");
+    assert!(rt; has_head(rt.alloc(), MOST_OF_RIFF, first, last)?);
+    assert_eq!(rt;
+        opened(rt.alloc(), MOST_OF_RIFF)?,
+        (1, Depth::Sixteen, MOST_OF_RIFF)
+    );
     Ok(())
 }
 
 #[test]
 fn the_shortest_rf64_is_opened(rt: HostRuntime) -> Result<(), Fail> {
-    let head = head_of(rt.alloc(), MOST_OF_RIFF + 1)?;
-    assert_eq!(rt; head.len(), 690);
-    assert!(rt; head.starts_with(&RF64_HEAD));
-    assert!(rt; head[48..].starts_with(b"bext\x5a\x02\0\0"));
-    assert!(rt; head.ends_with(b"data\xff\xff\xff\xff"));
-    let mut shelf = silent(rt.alloc(), MOST_OF_RIFF + 1)?;
-    assert_eq!(rt; shelf.length("A.wav")?, 4_294_967_304);
-    let sound = opened(rt.alloc(), MOST_OF_RIFF + 1)?;
-    assert_eq!(rt; (sound.channels(), sound.depth()), (1, Depth::Sixteen));
-    assert_eq!(rt; sound.frames(), MOST_OF_RIFF + 1);
+    let frames = MOST_OF_RIFF + 1;
+    assert!(rt; has_head(rt.alloc(), frames, &RF64_HEAD, b"data\xff\xff\xff\xff")?);
+    assert_eq!(rt; opened(rt.alloc(), frames)?, (1, Depth::Sixteen, frames));
     Ok(())
 }

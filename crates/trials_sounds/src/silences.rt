@@ -120,27 +120,23 @@ fn asked(
     Ok((silent, shelf.bytes))
 }
 
-#[test]
-fn equal_pieces_are_read_once(rt: HostRuntime) -> Result<(), Fail> {
-    let (silent, bytes) = asked(&rt, 9000, 0, &mut Told::default())?;
-    assert_eq!(rt; silent.as_slice(), [true; 10].as_slice());
-    assert_eq!(rt; bytes, 10_000);
-    Ok(())
-}
+/// Which frame sounds, how far apart the pieces are, whether they are silent, and how many bytes are read of them.
+const ASKED: [(usize, u64, bool, u64); 3] = [
+    (9000, 0, true, 10_000),
+    (9999, 500, true, 19_000),
+    (4999, 500, false, 10_000),
+];
 
 #[test]
-fn pieces_that_overlap_are_read_once(rt: HostRuntime) -> Result<(), Fail> {
-    let (silent, bytes) = asked(&rt, 9999, 500, &mut Told::default())?;
-    assert_eq!(rt; silent.as_slice(), [true; 10].as_slice());
-    assert_eq!(rt; bytes, 19_000);
-    Ok(())
-}
-
-#[test]
-fn a_frame_that_sounds_is_found_once(rt: HostRuntime) -> Result<(), Fail> {
-    let (silent, bytes) = asked(&rt, 4999, 500, &mut Told::default())?;
-    assert_eq!(rt; silent.as_slice(), [false; 10].as_slice());
-    assert_eq!(rt; bytes, 10_000);
+fn each_stretch_is_read_once(rt: HostRuntime) -> Result<(), Fail> {
+    for (sounding, apart, is_silent, bytes) in ASKED {
+        if apart > 500 {
+            return Err("too far apart".into());
+        }
+        let (silent, read) = asked(&rt, sounding, apart, &mut Told::default())?;
+        assert_eq!(rt; silent.as_slice(), [is_silent; 10].as_slice());
+        assert_eq!(rt; read, bytes);
+    }
     Ok(())
 }
 
