@@ -48,7 +48,7 @@ fn a_copy_is_the_same_project(rt: HostRuntime) -> Result<(), Fail> {
 
 /// The project of the same parts, with its header.
 fn made_anew(alloc: Global, project: &Project) -> Result<Project, AllocError> {
-    let sources = Sources::from_slice(alloc, project.sources())?;
+    let sources = Sources::from_slice(alloc, project.sources().as_slice())?;
     let events = Vec::from_slice(alloc, project.events())?;
     project.with(sources, events)
 }
@@ -63,7 +63,7 @@ fn a_project_of_the_same_parts_is_the_same_list(rt: HostRuntime) -> Result<(), F
 #[test]
 fn a_source_is_found_by_its_number_and_taken_by_its_place(rt: HostRuntime) -> Result<(), Fail> {
     let project = read(rt.alloc(), WRITTEN.as_bytes())?;
-    let sources = Sources::from_slice(rt.alloc(), project.sources())?;
+    let sources = Sources::from_slice(rt.alloc(), project.sources().as_slice())?;
     let found = sources.get(12_345).map(|source| source.number());
     let taken = project.into_source(1).map(|source| source.number());
     assert_eq!(rt; (found, taken), (Some(12_345), Some(12_345)));
