@@ -29,6 +29,8 @@ pub struct Faults<'a> {
     /// The lines that are read belong to an entry whose own line is at fault.
     is_in_faulty_entry: bool,
     is_over: bool,
+    /// No memory was left for a line, and the faults ended there.
+    is_cut_short: bool,
 }
 
 impl<'a> Faults<'a> {
@@ -47,6 +49,7 @@ impl<'a> Faults<'a> {
         }
         let mut none = Faults::at_rate(alloc, text, UNTOLD)?;
         none.is_over = true;
+        none.is_cut_short = is_of_memory(first);
         Ok(none)
     }
 
@@ -61,6 +64,7 @@ impl<'a> Faults<'a> {
             is_behind_first: false,
             is_in_faulty_entry: false,
             is_over: false,
+            is_cut_short: false,
         })
     }
 
@@ -73,9 +77,20 @@ impl<'a> Faults<'a> {
                 let _ = self.told(Some(first), line);
                 return;
             }
-            let _ = self.fault_of(alloc, line);
+            if self.fault_of(alloc, line).is_some() {
+                // None of these lines is at fault, so no memory was left.
+                self.is_cut_short = true;
+                break;
+            }
         }
         self.is_over = true;
+    }
+
+    /// Whether they have ended for want of memory, so that there may be more than were given.
+    pub fn is_cut_short(&self) -> bool
+        ensures { result ≡ self.now.is_cut_short }
+    {
+        self.is_cut_short
     }
 
     /// The next fault; `None` behind the last one, and where no memory was left.
@@ -125,10 +140,11 @@ impl<'a> Faults<'a> {
         } else {
             self.is_over = true;
         }
-        match fault {
-            AdlFault::Memory => None,
-            AdlFault::Text { .. } => Some(fault),
+        if is_of_memory(fault) {
+            self.is_cut_short = true;
+            return None;
         }
+        Some(fault)
     }
 
     /// Takes the rate of frames that the list has without its lines at fault, behind the first one of them.
@@ -156,6 +172,14 @@ fn rate_beside_faults(text: &[u8]) -> Rate {
         }
     }
     UNTOLD
+}
+
+/// Whether no memory was left.
+fn is_of_memory(fault: AdlFault) -> bool {
+    match fault {
+        AdlFault::Memory => true,
+        AdlFault::Text { .. } => false,
+    }
 }
 
 /// Whether what stands behind the line at fault can be told without that line.

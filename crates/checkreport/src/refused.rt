@@ -111,7 +111,7 @@ pub fn put_of_text<O: Console>(alloc: Global, faults: &mut Faults<'_>, out: &mut
 {
     'faults: for _ in 0..usize::MAX {
         let Some(fault) = faults.next_fault(alloc) else {
-            return true;
+            return !faults.is_cut_short();
         };
         let fault = Fault::List(fault);
         let Ok(()) = put_next(alloc, &fault, out) else {
