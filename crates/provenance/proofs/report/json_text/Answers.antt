@@ -29,7 +29,7 @@ returns c =
     rw (c.deref.ensures.value, c.deref-2.ensures.value, given, c.in_ok-entries.ensures) at c.in_ok-grouped.ensures in
     let groups : map view c.in_ok-groups.groups.items ≡ map group_data (groups_told t) =
     c.in_ok-groups.ensures
-    ∙ ap (λ (keys : List Group). map group_data (map seen keys)) c.as_slice.ensures.keys
+    ∙ ap (λ (keys : List Group). map group_data (map seen keys)) c.as_slice-2.ensures.keys
     ∙ ap (map group_data) grouped.groups_are in
     let entries : map view c.in_ok-entries-2.entries.items
     ≡ map entry_data (map (grouped_in (groups_told t) (given_of t)) (news_of t)) =
