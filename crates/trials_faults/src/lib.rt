@@ -1,12 +1,10 @@
-//! Tests of stores that fail or stop at a chosen call, each call in turn, and of files that end early.
+//! Tests of stores that fail or stop at a chosen call, each call in turn.
 #![tactic(auto)]
 
 #[cfg(test)]
 mod failing_devices;
 #[cfg(test)]
 mod memory;
-#[cfg(test)]
-mod prefixes;
 #[cfg(test)]
 mod recorded;
 #[cfg(test)]

@@ -375,12 +375,6 @@ impl Job {
         }
     }
 
-    /// The same work at another depth.
-    pub(crate) fn at_depth(mut self, depth: Depth) -> Self {
-        self.depth = depth;
-        self
-    }
-
     /// All that sounds.
     fn options(&self) -> Options
         ensures { HaveChannels result }
