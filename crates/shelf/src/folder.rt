@@ -2,6 +2,7 @@
 mod bench;
 mod failures;
 mod handle;
+mod identity;
 mod name;
 mod open_files;
 mod sources;

@@ -12,8 +12,9 @@ use std::marker::Model;
 use std::os::unix::fs::FileExt;
 
 /// Outputs in a folder, which has to be there. Only the names of files right inside the folder name a file, and no link
-/// is followed. While a bench is at work nothing else is to write to its files. A sync closes the file: it is finished,
-/// and a later call opens it again.
+/// is followed. While a bench is at work nothing else is to write to its files. A file stays open until 28 others were
+/// used since, or a call on it failed; one that is opened again and isn't the file that it was, by device and number, is
+/// a failure.
 #[derive(Drop)]
 pub struct FolderBench<R: Files + Drop>
 where

@@ -6,11 +6,13 @@ use std::io;
 use std::io::{Error, ErrorKind};
 use std::os::unix::fs::FileExt;
 
-/// An open file, and how many bytes it has. Nothing else is to write to it while it is open.
+/// An open file, how many bytes it has, and whether it was synced since it was opened and last written to. Nothing else
+/// is to write to it while it is open.
 #[derive(Drop)]
 pub struct Handle<F: OpenFile + FileExt + Drop> {
     file: F,
     length: u64,
+    is_synced: bool,
 }
 
 impl<F: OpenFile + FileExt + Drop> Handle<F> {
@@ -18,7 +20,11 @@ impl<F: OpenFile + FileExt + Drop> Handle<F> {
     pub fn new(file: F, length: u64) -> Self
         ensures { result.length ≡ length }
     {
-        Handle { file, length }
+        Handle {
+            file,
+            length,
+            is_synced: false,
+        }
     }
 
     /// How many bytes the file has.
@@ -37,10 +43,12 @@ impl<F: OpenFile + FileExt + Drop> Handle<F> {
     }
 
     /// Writes the bytes over those from `at` on. It fails where they don't lie inside the file.
-    pub fn write_at(&self, at: u64, bytes: &[u8]) -> io::Result<()>
-        ensures outside { self.now.length < at + length bytes.now → IsErr result }
+    pub fn write_at(&mut self, at: u64, bytes: &[u8]) -> io::Result<()>
+        ensures outside { self.old.length < at + length bytes.now → IsErr result }
+        ensures length { self.new.length ≡ self.old.length }
     {
         self.require_inside(at, bytes.len())?;
+        self.is_synced = false;
         self.file.write_all_at(bytes, at)
     }
 
@@ -51,6 +59,7 @@ impl<F: OpenFile + FileExt + Drop> Handle<F> {
         ensures same_end { OnErr result (self.new.length ≡ self.old.length) }
     {
         let end = end_of(self.length, bytes.len())?;
+        self.is_synced = false;
         if is_silent(bytes) {
             self.file.set_len(end)?;
         } else {
@@ -61,8 +70,19 @@ impl<F: OpenFile + FileExt + Drop> Handle<F> {
     }
 
     /// Waits until the file's bytes are on the disk.
-    pub fn sync(&self) -> io::Result<()> {
-        self.file.sync_all()
+    pub fn sync(&mut self) -> io::Result<()>
+        ensures { self.new.length ≡ self.old.length }
+    {
+        self.file.sync_all()?;
+        self.is_synced = true;
+        Ok(())
+    }
+
+    /// The same, where that wasn't done since the file was opened and last written to.
+    pub fn sync_written(&mut self) -> io::Result<()>
+        ensures { self.new.length ≡ self.old.length }
+    {
+        if self.is_synced { Ok(()) } else { self.sync() }
     }
 
     /// Fails where the range of so many bytes from `at` on doesn't lie inside the file.

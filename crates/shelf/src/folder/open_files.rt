@@ -5,6 +5,7 @@ ghost use Rattle.shelf.specs.Folder.{folder_named};
 ghost use Rattle.shelf.specs.declared.folder.open_files.TheConstants.{OPEN_FILES};
 
 use super::handle::Handle;
+use super::identity::Identity;
 use super::name::{is_file_name, require_file_name};
 use super::state::State;
 use lru::LruCache;
@@ -38,8 +39,15 @@ pub enum Access {
     Write(Overwrite),
 }
 
+/// An output that was opened: which file it is, and how long, if it was synced and closed since it was last written to.
+#[derive(Clone, Copy)]
+struct Output {
+    identity: Identity,
+    synced: Option<u64>,
+}
+
 /// The files of a folder by name, of which the last used ones are open. What was written is synced before it is closed,
-/// so that no failure of a close is lost.
+/// so that no failure of a close is lost. An output that is opened again has to be the file that it was.
 #[derive(Drop)]
 pub struct OpenFiles<R: Files + Drop>
 where
@@ -52,8 +60,8 @@ where
     handles: LruCache<String, Handle<R::File>>,
     /// How each source was when it was first opened.
     first_states: BTreeMap<String, State>,
-    /// How long each output is that was synced since it was last written to.
-    synced: BTreeMap<String, u64>,
+    /// Each output that was opened or made.
+    outputs: BTreeMap<String, Output>,
     /// The open folder of outputs, for its syncs. It is a handle in reserve too, for the first output.
     open_folder: Option<R::File>,
     /// Files were created since the folder was synced.
@@ -84,7 +92,7 @@ where
             access,
             handles: LruCache::new(alloc, NonZeroUsize::new(OPEN_FILES).unwrap())?,
             first_states: BTreeMap::new(alloc),
-            synced: BTreeMap::new(alloc),
+            outputs: BTreeMap::new(alloc),
             open_folder,
             has_new_names: false,
             is_made: false,
@@ -115,7 +123,7 @@ where
     pub fn write_at(&mut self, name: &str, at: u64, bytes: &[u8]) -> io::Result<()>
         ensures no_name { is_file_name name.now ≡ false → IsErr result }
     {
-        self.synced.remove(name);
+        self.begin_writing(name);
         let outcome = self.handle_there(name)?.write_at(at, bytes);
         self.closed_if_failed(name, outcome)
     }
@@ -124,24 +132,29 @@ where
     pub fn append(&mut self, name: &str, bytes: &[u8]) -> io::Result<()>
         ensures no_name { is_file_name name.now ≡ false → IsErr result }
     {
-        self.synced.remove(name);
+        self.begin_writing(name);
         let outcome = self.handle_there(name)?.append(bytes);
         self.closed_if_failed(name, outcome)
     }
 
-    /// Waits until the file is on the disk, and its name too if it is new, and closes it. A later call opens it again.
-    /// It fails where the name isn't that of a file of this length any more.
+    /// Notes that an output is written to, so what was synced of it is not all of it any more.
+    fn begin_writing(&mut self, name: &str) {
+        if let Some(output) = self.outputs.get_mut(name) {
+            output.synced = None;
+        }
+    }
+
+    /// Waits until the file is on the disk, and its name too if it is new. It stays open. It fails where the name isn't
+    /// that of this file with this length any more.
     pub fn sync(&mut self, name: &str) -> io::Result<()>
         ensures no_name { is_file_name name.now ≡ false → IsErr result }
     {
         require_file_name(name)?;
-        let synced = match self.synced.get(name) {
-            Some(length) => Ok(*length),
-            None => self.sync_bytes(name),
+        let length = match self.synced_length(name) {
+            Some(length) => length,
+            None => self.sync_bytes(name)?,
         };
-        self.handles.pop(name);
         self.hold_folder();
-        let length = synced?;
         if self.has_new_names {
             // A crash can take away a file that was synced, while its folder wasn't.
             self.sync_folder()?;
@@ -156,18 +169,23 @@ where
     {
         let handle = self.handle_there(name)?;
         let length = handle.length();
-        handle.sync()?;
+        let outcome = handle.sync();
+        self.closed_if_failed(name, outcome)?;
         Ok(length)
     }
 
-    /// Fails where the name isn't that of a file of this length.
+    /// Fails where the name isn't that of the file that was written, with this length.
     fn require_whole(&self, name: &str, length: u64) -> io::Result<()> {
         require_file_name(name)?;
         let found = fs::symlink_metadata(&self.files, &self.path_of(name)?)?;
-        if found.is_file() && found.len() == length {
+        let is_same = match self.outputs.get(name) {
+            Some(output) => output.identity == Identity::of(&found),
+            None => false,
+        };
+        if is_same && found.is_file() && found.len() == length {
             Ok(())
         } else {
-            Err(Error::from(ErrorKind::InvalidData))
+            Err(changed_meanwhile())
         }
     }
 
@@ -195,36 +213,76 @@ where
         ensures no_name { is_file_name name.now ≡ false → IsErr result }
     {
         require_file_name(name)?;
-        self.synced.remove(name);
+        self.begin_writing(name);
         self.handles.pop(name);
         self.has_new_names = true;
         self.is_made = false;
         let path = self.path_of(name)?;
-        let file = if self.access == Access::Write(Overwrite::Files) {
-            self.open_emptied(&path)?
-        } else {
-            self.open(
+        let file = match self.replaced(&path)? {
+            Some(found) => self.open_emptied(name, &path, &found)?,
+            None => self.open(
                 File::options().read(true).write(true).create_new(true),
                 &path,
-            )?
+            )?,
         };
         self.is_made = true;
+        self.note_output(name, Identity::of(&file.metadata()?))?;
         self.keep(name, Handle::new(file, 0))
     }
 
-    /// Opens the file of the path and empties it, or makes it. A link isn't followed.
-    fn open_emptied(&mut self, path: &str) -> io::Result<R::File> {
-        match fs::symlink_metadata(&self.files, path) {
-            Ok(found) if !found.is_file() => Err(Error::from(ErrorKind::InvalidInput)),
-            _ => self.open(
-                File::options()
-                    .read(true)
-                    .write(true)
-                    .create(true)
-                    .truncate(true),
-                path,
-            ),
+    /// What lies under the path of an output that is made, where that may be replaced.
+    fn replaced(&self, path: &str) -> io::Result<Option<Metadata>> {
+        if self.access != Access::Write(Overwrite::Files) {
+            return Ok(None);
         }
+        found_or_none(fs::symlink_metadata(&self.files, path))
+    }
+
+    /// Opens the file of the path, which was found so, and empties it. It is looked at before it is emptied, since a link
+    /// may have come into its stead.
+    fn open_emptied(&mut self, name: &str, path: &str, found: &Metadata) -> io::Result<R::File> {
+        let file = self.open_found(name, path, found)?;
+        file.set_len(0)?;
+        Ok(file)
+    }
+
+    /// Opens the path, under which this was found: a plain file, which the opened one has to be too. An output that was
+    /// opened before has to be the one that it was.
+    fn open_found(&mut self, name: &str, path: &str, found: &Metadata) -> io::Result<R::File> {
+        if !found.is_file() {
+            return Err(Error::from(ErrorKind::InvalidInput));
+        }
+        let identity = Identity::of(found);
+        if self
+            .outputs
+            .get(name)
+            .is_some_and(|output| output.identity != identity)
+        {
+            return Err(changed_meanwhile());
+        }
+        let may_write = self.access != Access::Read;
+        let file = self.open(File::options().read(true).write(may_write), path)?;
+        let opened = file.metadata()?;
+        if opened.is_file() && Identity::of(&opened) == identity {
+            Ok(file)
+        } else {
+            Err(changed_meanwhile())
+        }
+    }
+
+    /// Notes which file an output is.
+    fn note_output(&mut self, name: &str, identity: Identity) -> Result<(), AllocError> {
+        let output = Output {
+            identity,
+            synced: None,
+        };
+        if let Some(noted) = self.outputs.get_mut(name) {
+            *noted = output;
+            return Ok(());
+        }
+        let name = String::from_str(self.alloc, name)?;
+        self.outputs.insert(name, output)?;
+        Ok(())
     }
 
     /// Opens the path. Where the system has no more handles, open files are closed for it, the oldest first.
@@ -243,7 +301,7 @@ where
     fn close_one(&mut self) -> io::Result<bool> {
         match self.handles.pop_lru() {
             Some((name, handle)) if self.access != Access::Read => {
-                self.sync_closed(name, &handle)?;
+                self.sync_closed(&name, handle)?;
                 Ok(true)
             }
             Some(_) => Ok(true),
@@ -251,14 +309,21 @@ where
         }
     }
 
-    /// Waits until the bytes of a file that is closed are on the disk, so that its own sync needn't open it again. Where
-    /// no memory is left for that, it is synced again.
-    fn sync_closed(&mut self, name: String, handle: &Handle<R::File>) -> io::Result<()> {
-        if !self.synced.contains_key(&name) {
-            handle.sync()?;
-            let _ = self.synced.insert(name, handle.length());
+    /// Waits until the bytes of an output that is closed are on the disk, so that its own sync needn't open it again.
+    fn sync_closed(&mut self, name: &str, mut handle: Handle<R::File>) -> io::Result<()> {
+        if self.synced_length(name).is_some() {
+            return Ok(());
+        }
+        handle.sync_written()?;
+        if let Some(output) = self.outputs.get_mut(name) {
+            output.synced = Some(handle.length());
         }
         Ok(())
+    }
+
+    /// How long an output is that was synced and closed since it was last written to.
+    fn synced_length(&self, name: &str) -> Option<u64> {
+        self.outputs.get(name)?.synced
     }
 
     /// The open file of the name. It fails where no file has the name.
@@ -288,24 +353,20 @@ where
         requires { IsTrue (is_file_name name.now) }
     {
         let path = self.path_of(name)?;
-        let may_write = self.access != Access::Read;
-        let found = if may_write {
-            fs::symlink_metadata(&self.files, &path)
-        } else {
+        let found = if self.access == Access::Read {
             fs::metadata(&self.files, &path)
+        } else {
+            fs::symlink_metadata(&self.files, &path)
         };
-        let found = match found {
-            Ok(found) => found,
-            Err(error) if is_missing(error.kind()) => return Ok(None),
-            Err(error) => return Err(error),
+        let Some(found) = found_or_none(found)? else {
+            return Ok(None);
         };
-        if !found.is_file() {
-            return Err(Error::from(ErrorKind::InvalidInput));
-        }
-        if !may_write {
+        let file = self.open_found(name, &path, &found)?;
+        if self.access == Access::Read {
             self.note_state(name, &found)?;
+        } else if !self.outputs.contains_key(name) {
+            self.note_output(name, Identity::of(&found))?;
         }
-        let file = self.open(File::options().read(true).write(may_write), &path)?;
         Ok(Some(Handle::new(file, found.len())))
     }
 
@@ -366,6 +427,20 @@ where
         }
         outcome
     }
+}
+
+/// What was found, or `None` where there is no such file.
+fn found_or_none(found: io::Result<Metadata>) -> io::Result<Option<Metadata>> {
+    match found {
+        Ok(found) => Ok(Some(found)),
+        Err(error) if is_missing(error.kind()) => Ok(None),
+        Err(error) => Err(error),
+    }
+}
+
+/// The failure at a file that isn't the one that it was.
+fn changed_meanwhile() -> Error {
+    Error::from(ErrorKind::InvalidData)
 }
 
 /// Whether an error of this kind says that there is no such file. A folder that isn't there, or is none, has no files,
