@@ -150,11 +150,12 @@ where
         ensures no_name { is_file_name name.now ≡ false → IsErr result }
     {
         require_file_name(name)?;
-        let length = match self.synced_length(name) {
-            Some(length) => length,
-            None => self.sync_bytes(name)?,
+        let synced = match self.synced_length(name) {
+            Some(length) => Ok(length),
+            None => self.sync_bytes(name),
         };
         self.hold_folder();
+        let length = synced?;
         if self.has_new_names {
             // A crash can take away a file that was synced, while its folder wasn't.
             self.sync_folder()?;
