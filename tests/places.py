@@ -87,11 +87,15 @@ def list_is_folder(scene: Scene) -> None:
 
 
 def control_characters(scene: Scene) -> None:
-    """A name is printed on one line: control characters as the escapes of their bytes, all else as it stands."""
+    """A name is printed on one line: control characters, marks of direction and separators of lines as the escapes of
+    their bytes, all else as it stands."""
     prepared(scene)
     for name, printed in (
         ("no\nlist", "no%0Alist"), ("\t.adl", "%09.adl"), ("\x7f", "%7F"), ("\u0085", "%C2%85"),
         ("no list", "no list"), ("Ü%0A.adl", "Ü%0A.adl"),
+        ("wav.\u202edlA", "wav.%E2%80%AEdlA"), ("a\u2028b", "a%E2%80%A8b"), ("a\u2029b", "a%E2%80%A9b"),
+        ("\u2066a\u2069", "%E2%81%A6a%E2%81%A9"), ("a\u200fb\u200e", "a%E2%80%8Fb%E2%80%8E"),
+        ("\u061ca", "%D8%9Ca"), ("\u2027\u202f\u2065\u206a\u200d", "\u2027\u202f\u2065\u206a\u200d"),
     ):
         same_outcome(scene.run("render", name, MEDIA, OUT), 1, f"refused 21 at file {printed}")
         same_outcome(scene.run("render", LIST, MEDIA, name), 1, f"refused 20 at file {printed}")

@@ -1,4 +1,4 @@
--- A medium's name has no control character, so it stands in a line as it is.
+-- A medium's name has only characters that are seen, so it stands in a line as it is.
 use Rattle.std.proofs.Common.{◌≡◌, ◌∙◌, ℕ, ◌-◌, ◌/◌, ◌<◌, ◌≤◌, ◌%◌, ◌==◌, cond, Bool, true, false, ◌&&◌, List, [], ◌∷◌, ◌++◌, length, zero, suc, refl, ap, arith, codes}
 use Rattle.std.specs.Prelude.{nat_le, decimal, replicate, encode_utf8}
 use Rattle.std.specs.List.{All, flat_map, list_all}
@@ -11,7 +11,7 @@ use Rattle.std.proofs.lemmas.List.Folds.{list_all-append}
 use Rattle.std.proofs.lemmas.Str.{chars-IsAscii, encode_ascii}
 use Rattle.std.proofs.lemmas.Str.Ascii.{IsAscii-from_all}
 use Rattle.list_terms.specs.Renewed.{media_name}
-use Rattle.console.specs.Lines.{printed_character, printed_name}
+use Rattle.console.specs.Lines.{is_mark, printed_character, printed_name}
 
 -- a printing ASCII character
 abbrev is_plain : ℕ → Bool
@@ -26,12 +26,16 @@ both x y one two = rw (one, two) refl
 control-plain : (b : ℕ) → 32 ≤ b → b ≤ 126 → is_control b ≡ false
 control-plain b low high = grind (arith, nat_tests)
 
+mark-plain : (b : ℕ) → b ≤ 126 → is_mark b ≡ false
+mark-plain b high = grind (arith, nat_tests)
+
 character-plain : (b : ℕ) → is_plain b ≡ true → printed_character b ≡ b ∷ []
 character-plain b h =
     let within = plain-bounds b h in
     let free : is_control b ≡ false = control-plain b within.0 within.1 in
+    let unmarked : is_mark b ≡ false = mark-plain b within.1 in
     let one : encode_utf8 b ≡ b ∷ [] = encode_ascii b (omega arith) in
-    rw (free, one) refl
+    rw (free, unmarked, one) refl
 
 characters-plain : (bs : List ℕ) → list_all is_plain bs ≡ true → flat_map printed_character bs ≡ bs
 characters-plain [] h = refl

@@ -1,5 +1,5 @@
 -- The lines that the program prints, without their ends.
-use Rattle.std.specs.Prelude.{ℕ, List, [], ◌∷◌, ◌++◌, if◌then◌else◌, nat_le, nat_lt, decimal, codes, encode_utf8}
+use Rattle.std.specs.Prelude.{ℕ, Bool, ◌||◌, ◌&&◌, ◌==◌, List, [], ◌∷◌, ◌++◌, if◌then◌else◌, nat_le, nat_lt, decimal, codes, encode_utf8}
 use Rattle.std.specs.List.{flat_map}
 use Rattle.std.specs.Char.{is_control}
 use Rattle.std.specs.Str.{chars}
@@ -7,10 +7,20 @@ use Rattle.percent_encoding.specs.Percent.{percent_encode_byte}
 use Rattle.list_terms.specs.declared.Notice.{Notice}
 use Rattle.work_terms.specs.Refusals.{Where, Nowhere, Line, LineEntry, LineIndex, IndexFile, Index, Entry, File, Job}
 
--- a control character as the percent escapes of its UTF-8 bytes, all else as it stands
+-- ALM, LRM and RLM, separators of lines and paragraphs, and the embeddings, overrides and isolates of direction
+abbrev pub is_mark : ℕ → Bool
+is_mark code = code == 1564
+    || ((nat_le 8206 code && nat_le code 8207)
+    || ((nat_le 8232 code && nat_le code 8238) || (nat_le 8294 code && nat_le code 8297)))
+
+-- a character that isn't seen in a line, and may change how the rest of it is shown
+abbrev pub is_unseen : ℕ → Bool
+is_unseen character = is_control character || is_mark character
+
+-- such a character as the percent escapes of its UTF-8 bytes, all else as it stands
 abbrev pub printed_character : ℕ → List ℕ
 printed_character character =
-    if is_control character then flat_map percent_encode_byte (encode_utf8 character) else encode_utf8 character
+    if is_unseen character then flat_map percent_encode_byte (encode_utf8 character) else encode_utf8 character
 
 -- a name in a line
 abbrev pub printed_name : List ℕ → List ℕ

@@ -9,5 +9,6 @@ mod printer;
 
 pub use console::Console;
 pub use lines::{Counts, put_counts, put_notices, put_refusal, put_refused};
+pub use names::is_unseen;
 pub use place::{Place, Refusal, put_counted, put_place};
 pub use printer::Printer;

@@ -15,7 +15,7 @@ mod saved;
 pub use changed::ChangedSources;
 pub use explanation::{Explanation, Shown, further_meaning};
 pub use meanings::{Explained, NoSuchNumber, meanings_of};
-pub use names::PrintedLines;
+pub use names::{PrintedLines, PrintedName};
 pub use notices::{ExplainedNotices, NOTICES, NoSuchNotice, NoticeMeaning, notice_meanings_of};
 pub use passed_over::PassedWords;
 pub use saved::Saved;

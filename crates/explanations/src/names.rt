@@ -1,9 +1,11 @@
 // Names of files, and other texts of words, in a text.
+use console::is_unseen;
 use percent_encoding::percent_encode_byte;
 use std::fmt;
 use std::fmt::Display;
 
-/// A name: each control character as the percent escapes of its UTF-8 bytes, all else as it stands.
+/// A name: each character that isn't seen in a line ([`console::is_unseen`]) as the percent escapes of its UTF-8 bytes,
+/// all else as it stands.
 #[derive(Clone, Copy)]
 pub struct PrintedName<'a>(pub &'a str);
 
@@ -16,7 +18,7 @@ impl fmt::Display for PrintedName<'_> {
     }
 }
 
-/// A text of lines that may hold words as they were given: the same of each control character that doesn't end a line.
+/// A text of lines that may hold words as they were given: the same of each such character that doesn't end a line.
 #[derive(Clone, Copy)]
 pub struct PrintedLines<'a>(pub &'a str);
 
@@ -33,9 +35,9 @@ impl fmt::Display for PrintedLines<'_> {
     }
 }
 
-/// Writes a character, as its percent escapes where it is a control character.
+/// Writes a character, as its percent escapes where it isn't seen in a line.
 fn write_character<W: fmt::Write>(character: char, f: &mut fmt::Formatter<W>) -> fmt::Result {
-    if !character.is_control() {
+    if !is_unseen(character) {
         return write!(f, "{character}");
     }
     let mut buffer = [0; 4];
