@@ -8,7 +8,7 @@ use Rattle.answers.proofs.standard.answer_standard.Goals as goal
 
 pub returns-in_ok-passes-in-Consolidate-clause-consolidated : goal.returns-in_ok-passes-in-Consolidate-clause-consolidated
 returns-in_ok-passes-in-Consolidate-clause-consolidated g c place media target handle report request =
-    c.answer.ensures.standard (record {
+    c.answer_request.ensures.standard (record {
       splitting = c.into_dyn_box.result;
       leaving_out = c.into_dyn_box-in_ok-new-in-Consolidate-2.result;
       joining = c.into_dyn_box-in_ok-new-in-Consolidate-3.result;
@@ -37,8 +37,8 @@ returns-in_ok-passes-in-Consolidate-clause-consolidated g c place media target h
 
 pub returns-in-Check : goal.returns-in-Check
 returns-in-Check g c = record {
-  rendered = c.answer-in-Check.ensures.rendered;
-  resumed = c.answer-in-Check.ensures.resumed;
+  rendered = c.answer_request-in-Check.ensures.rendered;
+  resumed = c.answer_request-in-Check.ensures.resumed;
   consolidated = λ place media target handle report request. absurd (elim c.in-Check.is [
     | inl check ↦ let other = ap asked_of (sym check.2) ∙ request in cc
     | inr rest ↦ elim rest [
@@ -58,6 +58,6 @@ returns-in-Check g c = record {
       ]
     ]
   ]);
-  statuses = c.answer-in-Check.ensures.statuses;
+  statuses = c.answer_request-in-Check.ensures.statuses;
   nothing = tt;
 }
