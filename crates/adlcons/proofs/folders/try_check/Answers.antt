@@ -5,7 +5,7 @@ pub returns-clause-answered : goal.returns-clause-answered
 returns-clause-answered g c = record {
   list = c.deref.result.now;
   before = c.in_ok-shelf.shelf;
-  after = c.answer-status.new.shelf;
+  after = c.answer_request-status.new.shelf;
   folder = c.in_ok-shelf.ensures.folder;
-  answered = c.answer-status.ensures.checked _ _ refl;
+  answered = c.answer_request-status.ensures.checked _ _ refl;
 }
