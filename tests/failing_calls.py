@@ -158,8 +158,9 @@ def each_call(command: str, times: int, before=nothing, words: tuple = ()):
         for call in calls:
             scene.put_out(begun)
             got = injected(scene, command, call, "error=EIO", times, words)
-            behind = range(call.number, call.number + times)
-            failed = [other for other in calls if other.name == call.name and other.number in behind]
+            # behind a call that fails others may come than in an unbroken run
+            lines = (scene.folder / "trace").read_text().splitlines()
+            failed = calls_in("\n".join(line for line in lines if line.endswith("(INJECTED)")), scene.folder)
             try:
                 check_failed(got, failed, times, scene.files(), begun, whole)
                 if got.status and command != "consolidate":

@@ -140,7 +140,7 @@ def one_write_a_line(scene: Scene) -> None:
     scene.put(FIRST_LIST, {})
     log = scene.folder / "lines"
     with log.open("ab") as file:
-        words = [scene.program, "render", LIST, MEDIA, OUT]
+        words = [scene.program, "check", LIST, MEDIA]
         runs = [subprocess.Popen(words, cwd=scene.folder, stdout=file, stderr=file) for _ in range(60)]
         for run in runs:
             run.wait(timeout=TIMEOUT)

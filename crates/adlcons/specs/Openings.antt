@@ -29,7 +29,9 @@ abbrev pub refusal_of_opening : OpenFault → List ℕ → List ℕ → Refusal
 refusal_of_opening (opened.List fault) list folder = refusal_of_read fault list
 refusal_of_opening (opened.Unlisted reason) list folder = early 20 (File folder)
 refusal_of_opening opened.NotEmpty list folder = early 20 (File folder)
+refusal_of_opening opened.Busy list folder = early 20 (File folder)
 refusal_of_opening opened.Media list folder = early 20 (File folder)
+refusal_of_opening opened.Shared list folder = early 20 (File folder)
 refusal_of_opening opened.Memory list folder = early 18 Nowhere
 refusal_of_opening opened.Passes list folder = early 51 Nowhere
 

@@ -13,6 +13,7 @@ ghost use Rattle.shelf.specs.declared.Overwrite.TheVariants as overwrite;
 
 use crate::asides::{FolderAsides, listed};
 use crate::looks::{report_folder, show_folder};
+use crate::output::{HeldFolder, Lock, hold_folder, require_ready_folder, require_unshared};
 use crate::reading::{ReadFault, read_list};
 use answers::{
     MISTAKE, Meter, REFUSED, answer_error, answer_request, answer_standard, explain,
@@ -21,11 +22,11 @@ use answers::{
 use commandline::{Places, Request, parse};
 use console::{Console, Place, Refusal, put_refusal};
 use consolidate::{MARKS, check_project};
-use explanations::Explanation;
+use explanations::{Explanation, FoundFolder, PrintedName};
 use shelf::{FolderBench, FolderShelf, MemoryBench, Overwrite};
 use std::alloc::AllocError;
 use std::fs::Files;
-use std::os::unix::fs::{FileExt, MetadataExt};
+use std::os::unix::fs::FileExt;
 use std::{fs, io};
 
 /// Why a command didn't come to its stores.
@@ -37,8 +38,12 @@ pub enum OpenFault {
     Unlisted(io::Error),
     /// Something is in the folder of the output.
     NotEmpty,
+    /// Another command is at work in the folder of the output.
+    Busy,
     /// Files would be replaced in the folder of the media.
     Media,
+    /// A file of the output that would be written to is the list or a source, or has another name.
+    Shared,
     /// Out of memory for the stores.
     Memory,
     /// Out of memory for the passes.
@@ -53,9 +58,11 @@ impl OpenFault {
     {
         match self {
             OpenFault::List(fault) => fault.refusal(list),
-            OpenFault::Unlisted(_) | OpenFault::NotEmpty | OpenFault::Media => {
-                Refusal::of_file(20, out)
-            }
+            OpenFault::Unlisted(_)
+            | OpenFault::NotEmpty
+            | OpenFault::Busy
+            | OpenFault::Media
+            | OpenFault::Shared => Refusal::of_file(20, out),
             OpenFault::Memory => Refusal::MEMORY,
             OpenFault::Passes => Refusal {
                 number: 51,
@@ -69,7 +76,12 @@ impl OpenFault {
         match self {
             OpenFault::List(fault) => fault.reason(),
             OpenFault::Unlisted(error) => Some(error),
-            OpenFault::NotEmpty | OpenFault::Media | OpenFault::Memory | OpenFault::Passes => None,
+            OpenFault::NotEmpty
+            | OpenFault::Busy
+            | OpenFault::Media
+            | OpenFault::Shared
+            | OpenFault::Memory
+            | OpenFault::Passes => None,
         }
     }
 }
@@ -97,7 +109,7 @@ pub fn answer_words<R, O: Console, E: Console, M: Meter>(
 ) -> u8
 where
     R: Files + Input + AllocGlobal + Clone + Drop,
-    R::File: FileExt,
+    R::File: FileExt + Lock,
     // A command was called over a list and folders, and its answer is printed; or what kept it from them is.
     ensures checked { (list media : Text) → request_of (texts words.now) ≡ Some (asked.Check list media) → result ≢ 2
         → IsKeptOut O.Console list (codes "") out.old out.new result
@@ -177,7 +189,9 @@ pub fn keep_out<O: Console, E: Console>(
 fn explanation_of(fault: OpenFault, number: u8, inside: Option<&str>) -> Explanation<'_> {
     let explanation = Explanation::by(number, fault.reason(), inside);
     match fault {
-        OpenFault::Media => explanation.in_media(),
+        OpenFault::Busy => explanation.with_folder(FoundFolder::Busy),
+        OpenFault::Media => explanation.with_folder(FoundFolder::Media),
+        OpenFault::Shared => explanation.with_folder(FoundFolder::Shared),
         _ => explanation,
     }
 }
@@ -257,7 +271,7 @@ fn work_in_folders<R, O: Console, E: Console, M: Meter>(
 ) -> u8
 where
     R: Files + Input + AllocGlobal + Clone + Drop,
-    R::File: FileExt,
+    R::File: FileExt + Lock,
     ensures rendered { (list media target : Text) (chosen : asked.Chosen)
         → asked_of request.entry ≡ asked.Render list media target chosen → result ≢ 2
         → IsKeptOut O.Console places.entry.list.now places.entry.out.now out.old out.new result
@@ -290,7 +304,8 @@ where
 }
 
 /// Answers such a request where its places can be opened. A list that can't be read is refused first, then an output
-/// that isn't an empty folder, or where a rendering is gone on with, that is the folder of the media.
+/// at which another command is at work, or that isn't an empty folder, or where a rendering is gone on with, that is the
+/// folder of the media or has a file that is given too.
 fn try_places<R, O: Console, E: Console, M: Meter>(
     rt: &R,
     request: Request<'_>,
@@ -302,7 +317,7 @@ fn try_places<R, O: Console, E: Console, M: Meter>(
 ) -> Result<u8, OpenFault>
 where
     R: Files + Input + AllocGlobal + Clone + Drop,
-    R::File: FileExt,
+    R::File: FileExt + Lock,
     ensures rendered { (list media target : Text) (chosen : asked.Chosen)
         → asked_of request.entry ≡ asked.Render list media target chosen
         → IfOk result (λ status. status ≢ 2 → WorksInFolders overwrite.Never
@@ -324,7 +339,7 @@ where
 {
     let list = read_list(rt, places.list)?;
     let overwrite = overwrite_for(&request);
-    require_ready_folder(rt, places.out, places.media, overwrite)?;
+    let _held = ready_output(rt, places, &list, overwrite, err)?;
     let mut bench = FolderBench::new(rt.alloc(), rt.clone()?, places.out, overwrite)?;
     let mut shelf = FolderShelf::new(rt.alloc(), rt.clone()?, places.media)?;
     let unlisted = unlisted_reason(rt, places.media);
@@ -366,30 +381,26 @@ fn overwrite_for(request: &Request<'_>) -> Overwrite
     }
 }
 
-/// Fails where nothing is to be replaced in the folder of this path and it isn't empty, or can't be listed, and where
-/// files may be replaced and it is the folder of the media, which may have a source of that name.
-fn require_ready_folder<R: Files + AllocGlobal + Clone + Drop>(
+/// Holds the folder of the output, once it is ready for a command that writes: locked, empty or one where files may be
+/// replaced, and with none of them that is given too.
+fn ready_output<R, E: Console>(
     rt: &R,
-    path: &str,
-    media: &str,
+    places: Places<'_>,
+    list: &[u8],
     overwrite: Overwrite,
-) -> Result<(), OpenFault> {
-    match overwrite {
-        Overwrite::Files if is_same_folder(rt, path, media) => Err(OpenFault::Media),
-        Overwrite::Files => Ok(()),
-        Overwrite::Never => require_empty_folder(rt, path),
+    err: &mut E,
+) -> Result<HeldFolder<R::File>, OpenFault>
+where
+    R: Files + AllocGlobal + Clone + Drop,
+    R::File: Lock,
+{
+    let held = hold_folder(rt, places.out)?;
+    require_ready_folder(rt, places.out, places.media, overwrite)?;
+    if overwrite == Overwrite::Files {
+        require_unshared(rt, places, list, err)?;
     }
-}
-
-/// Whether both paths lead to one folder that is there.
-fn is_same_folder<R: Files + AllocGlobal + Clone + Drop>(rt: &R, path: &str, other: &str) -> bool {
-    match (
-        fs::metadata(rt, listed(path)),
-        fs::metadata(rt, listed(other)),
-    ) {
-        (Ok(one), Ok(other)) => one.dev() == other.dev() && one.ino() == other.ino(),
-        _ => false,
-    }
+    held.tell_unlocked(places.out, err);
+    Ok(held)
 }
 
 /// Tells all that is at fault in a list over the folder of its media behind its first fault, if it has one.
@@ -423,7 +434,8 @@ pub fn unlisted_reason<R: Files + AllocGlobal + Clone + Drop>(
 /// Tells why a folder of media can't be listed, if it can't.
 pub fn tell_unlisted<E: Console>(media: &str, reason: Option<io::Error>, err: &mut E) {
     if let Some(reason) = reason {
-        err.print_line(format_args!("the folder {media} can't be read: {reason}"));
+        let folder = PrintedName(media);
+        err.print_line(format_args!("the folder {folder} can't be read: {reason}"));
     }
 }
 
@@ -450,18 +462,5 @@ fn has_marks<R: Files + AllocGlobal + Clone + Drop>(rt: &R, path: &str) -> bool 
     match format!(in rt.alloc(); "{folder}/{MARKS}") {
         Ok(marks) => fs::symlink_metadata(rt, &marks).is_ok(),
         Err(_) => false,
-    }
-}
-
-/// Fails where the folder of this path can't be listed or isn't empty.
-pub fn require_empty_folder<R: Files + AllocGlobal + Clone + Drop>(
-    rt: &R,
-    path: &str,
-) -> Result<(), OpenFault> {
-    let mut names = fs::read_dir(rt, path).map_err(OpenFault::Unlisted)?;
-    match names.next() {
-        None => Ok(()),
-        Some(Ok(_)) => Err(OpenFault::NotEmpty),
-        Some(Err(error)) => Err(OpenFault::Unlisted(error)),
     }
 }

@@ -7,6 +7,7 @@ mod example;
 mod folders;
 mod looks;
 mod meter;
+mod output;
 mod reading;
 mod stored;
 

@@ -23,17 +23,45 @@ const STOOD_BYTES: usize = 60;
 const BLOCK_BYTES: usize = 4096;
 
 /// What a command found where it refused: the line at fault, a file that the place doesn't name, what lies in a folder,
-/// whether that is the folder of the media, a file there whose name is nearly that of the missing one, what the system
+/// what else is found of the folder of the output, a file whose name is nearly that of the missing one, what the system
 /// said, and what is unfinished.
 #[derive(Clone, Copy)]
 struct Findings<'a> {
     line: Option<LineAtFault<'a>>,
     file: Option<&'a str>,
     inside: Option<&'a str>,
-    is_media: bool,
+    folder: Option<FoundFolder>,
     similar: Option<&'a str>,
     reason: Option<Error>,
     unfinished: Option<Unfinished>,
+}
+
+/// What was found of the folder of an output: it is that of the media, another command is at work there, or a file there
+/// that would be written to is a given one too, or has another name.
+#[derive(Clone, Copy)]
+pub enum FoundFolder {
+    Media,
+    Busy,
+    Shared,
+}
+
+impl FoundFolder {
+    fn text(self) -> &'static str {
+        match self {
+            FoundFolder::Media => "it is the folder of the media",
+            FoundFolder::Busy => "another command is at work there",
+            FoundFolder::Shared => "a file in it that would be written to is another file too",
+        }
+    }
+
+    fn remedy(self) -> &'static str {
+        match self {
+            FoundFolder::Media => "name the folder of the rendering that was stopped",
+            FoundFolder::Busy =>
+                "wait until that is done, or make another empty folder and name that",
+            FoundFolder::Shared => "put a copy into the stead of that file, or name another folder",
+        }
+    }
 }
 
 /// What lies unfinished in the output: a file, a rendering with its marks, or all of it.
@@ -85,11 +113,11 @@ impl<'a> Explanation<'a> {
         }
     }
 
-    /// The same, of an output that is the folder of the media.
-    pub fn in_media(self) -> Explanation<'a> {
+    /// The same, with what else was found of the folder of the output.
+    pub fn with_folder(self, folder: FoundFolder) -> Explanation<'a> {
         Explanation {
             findings: Findings {
-                is_media: true,
+                folder: Some(folder),
                 ..self.findings
             },
             ..self
@@ -109,8 +137,8 @@ impl<'a> Explanation<'a> {
         if self.findings.similar.is_some() {
             return "rename that file, or write its name in the list as it is in the folder";
         }
-        if self.findings.is_media {
-            return "name the folder of the rendering that was stopped";
+        if let Some(folder) = self.findings.folder {
+            return folder.remedy();
         }
         if self.findings.inside == Some(MARKS) {
             return "if that rendering is unfinished, go on with adlcons resume and its words; \
@@ -156,7 +184,7 @@ impl<'a> Findings<'a> {
             line: None,
             file: None,
             inside,
-            is_media: false,
+            folder: None,
             similar: None,
             reason,
             unfinished: None,
@@ -177,7 +205,7 @@ impl<'a> Findings<'a> {
                 _ => None,
             },
             inside: None,
-            is_media: false,
+            folder: None,
             similar: None,
             reason: reason_of(fault, source, output).map(|reason| reason.error),
             unfinished: unfinished_after(fault, output),
@@ -355,8 +383,9 @@ impl fmt::Display for Findings<'_> {
             let name = PrintedName(name);
             write!(f, "; in it lies: {name}")?;
         }
-        if self.is_media {
-            f.write_str("; it is the folder of the media")?;
+        if let Some(folder) = self.folder {
+            let found = folder.text();
+            write!(f, "; {found}")?;
         }
         if let Some(name) = self.similar {
             let name = PrintedName(name);

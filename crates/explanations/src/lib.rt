@@ -13,7 +13,7 @@ mod remedies;
 mod saved;
 
 pub use changed::ChangedSources;
-pub use explanation::{Explanation, Shown, further_meaning};
+pub use explanation::{Explanation, FoundFolder, Shown, further_meaning};
 pub use meanings::{Explained, NoSuchNumber, meanings_of};
 pub use names::{PrintedLines, PrintedName};
 pub use notices::{ExplainedNotices, NOTICES, NoSuchNotice, NoticeMeaning, notice_meanings_of};

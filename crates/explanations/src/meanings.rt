@@ -188,7 +188,7 @@ pub static MEANINGS: [Meaning; 55] = [
         number: 20,
         spot: Spot::File,
         meaning: "the output isn't an empty folder",
-        cause: "it doesn't exist, can't be listed, or something is in it",
+        cause: "it doesn't exist, can't be listed or is at work, or something is in it",
         remedy: "make an empty folder and name that",
         is_answered: true,
     },
