@@ -1,11 +1,14 @@
 """What LIST, MEDIA and OUT name: files, folders, standard input, and nothing."""
 
 import os
+import resource
+import subprocess
+from functools import partial
 
 import model
 from harness import (
-    LIST, MEDIA, OUT, Mismatch, Outcome, Scene, Suite, expect_answer, preloaded, same, same_answer, same_files,
-    same_outcome, same_shape,
+    LIST, MEDIA, OUT, TIMEOUT, Mismatch, Outcome, Scene, Skipped, Suite, expect_answer, preloaded, same, same_answer,
+    same_files, same_outcome, same_shape, words_of,
 )
 from tables import FIRST_LIST, rendered_files, wave
 
@@ -13,6 +16,7 @@ AT_16_BITS = model.Options(depth=16)
 DEPTH = AT_16_BITS.words("render")
 RENDERED = model.Answer(0, "rendered 4 frames 1 channels", rendered_files())
 MEDIA_FILES = {"A.wav": wave()}
+MEMORY = 256 * 2 ** 20
 
 
 def prepared(scene: Scene) -> None:
@@ -164,12 +168,92 @@ def missing_media(scene: Scene) -> None:
     same_files(scene.files(), {})
 
 
+def told_folder(scene: Scene) -> None:
+    """So is the name of a folder that can't be read, on standard error."""
+    prepared(scene)
+    for name, printed in (("no\x1b[31mred", "no%1B[31mred"), ("\u202ered", "%E2%80%AEred")):
+        told = scene.run("check", LIST, name).error.decode().splitlines()[-1]
+        same("what is told of the folder", told.partition(":")[0], f"the folder {printed} can't be read")
+
+
+def unnamed_output(scene: Scene) -> None:
+    """The empty name is no folder for a rendering that is gone on with either, and nothing is written where it runs."""
+    prepared(scene)
+    before = sorted(scene.folder.rglob("*"))
+    same_outcome(scene.run("resume", LIST, MEDIA, ""), 1, "refused 20 at file ")
+    same("the files", sorted(scene.folder.rglob("*")), before)
+
+
+def dangling_link(scene: Scene) -> None:
+    """A link that leads nowhere isn't a file of another name."""
+    scene.put(FIRST_LIST)
+    (scene.folder / MEDIA / "A.wav").symlink_to("gone.wav")
+    got = scene.run("check", LIST, MEDIA)
+    same_outcome(got, 1, "refused 21 at index 1 file A.wav")
+    same("whether another name is told", b"other capitals" in got.error, False)
+    (scene.folder / MEDIA / "a.WAV").write_bytes(wave())
+    if b"; the folder has a.WAV, in other capitals" not in scene.run("check", LIST, MEDIA).error:
+        raise Mismatch("the name that is there isn't told")
+
+
+def list_is_device(scene: Scene) -> None:
+    """A device may have no end: it is refused before it is read. Standard input may be one."""
+    prepared(scene)
+    for path in ("/dev/zero", "/dev/full", "/dev/null"):
+        if not os.path.exists(path):
+            raise Skipped(f"there is no {path} here")
+        for command in model.COMMANDS:
+            got = scene.run(*[path if word == LIST else word for word in words_of(command)])
+            same_outcome(got, 1, f"refused 21 at file {path}")
+            if b"; it isn't a plain file; name a file or a pipe, or - for standard input (" not in got.error:
+                raise Mismatch(f"standard error says {got.error!r}")
+    with open("/dev/zero", "rb") as zeros:
+        done = subprocess.run(
+            [scene.program, "check", "-", MEDIA], cwd=scene.folder, stdin=zeros, capture_output=True, timeout=TIMEOUT)
+    same_outcome(Outcome(done.returncode, done.stdout, done.stderr), 1, "refused 03 at line 1")
+
+
+def long_no_list(scene: Scene) -> None:
+    """A file that can't begin a list is refused by its first line, whatever its length: there is no memory for all of
+    it."""
+    prepared(scene)
+    limit = partial(resource.setrlimit, resource.RLIMIT_AS, (MEMORY, MEMORY))
+    for front, number in ((b"", 1), (b"RIFF", 1), (b"\n \r\n<ADX", 3), (b"\xef\xbb\xbf\t<adl>", 1)):
+        with open(scene.folder / LIST, "wb") as file:
+            file.write(front)
+            file.truncate(2 ** 31)
+        same_outcome(scene.run("check", LIST, MEDIA, preexec_fn=limit), 1, f"refused 03 at line {number}")
+
+
+def fronts(scene: Scene) -> None:
+    """Long texts are judged by their front as they are by all of it."""
+    prepared(scene)
+    tail = FIRST_LIST.partition(b"\n")[2] + b"behind the list\n" * 6_000
+    for front in (
+            b"<ADL>", b"<adl>\t \r", b"\r\n\n  <Adl>", b"\xef\xbb\xbf<ADL>", b"", b" ", b"<ADL", b"<ADL> x", b"<ADL>>", b"x<ADL>",
+            b"\r\r\n<ADL>", b" \r <ADL>", b"<ADL>\r\r", b"<\nADL>", b"</ADL>", b"\xef\xbb<ADL>", b"\xef\xbb\xbf\xef\xbb\xbf<ADL>",
+            b"\n" * 70_000 + b"<ADL>", b" " * 70_000 + b"<ADX>", b"\0<ADL>", b"(" + b"x" * 70_000):
+        text = front + b"\n" + tail
+        wanted = model.answer("check", text, MEDIA_FILES)
+        scene.put(text)
+        got = scene.run("check", LIST, MEDIA)
+        same(f"the answer to {front[:20]!r}", (got.status, got.output.decode()), (
+            wanted.status, "".join(f"{line}\n" for line in (*wanted.notices, wanted.line))))
+        same("the answer from standard input", scene.run("check", "-", MEDIA, given=text), got)
+
+
 def run(suite: Suite) -> None:
     unlisted = "refused 20 at file none"
     suite.case("no such list", refused("refused 21 at file none.adl", "none.adl", MEDIA, OUT))
     suite.case("no such folder of a list", refused("refused 21 at file none/L.adl", "none/L.adl", MEDIA, OUT))
     suite.case("an empty name of a list", refused("refused 21 at file ", "", MEDIA, OUT))
     suite.case("a list that is a folder", list_is_folder)
+    suite.case("a list that is a device", list_is_device)
+    suite.case("a long file that is no list", long_no_list)
+    suite.case("the front of a long text", fronts)
+    suite.case("an empty name of an output that is gone on with", unnamed_output)
+    suite.case("a folder of media that is told", told_folder)
+    suite.case("a link that leads nowhere", dangling_link)
     suite.case("a list from standard input", from_standard_input)
     suite.case("a long list from standard input", long_standard_input)
     suite.case("standard input is closed", closed_standard_input)

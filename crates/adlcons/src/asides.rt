@@ -40,7 +40,9 @@ impl<R: Files + AllocGlobal + Clone + Drop> Asides for FolderAsides<'_, R> {
         let mut names = fs::read_dir(self.rt, listed(self.media)).ok()?;
         for _ in 0..MOST_NAMES {
             if let Ok(found) = names.next()? {
-                if is_similar(alloc, found.file_name(), wanted.as_str()) {
+                if found.file_name() != name
+                    && is_similar(alloc, found.file_name(), wanted.as_str())
+                {
                     return String::from_str(alloc, found.file_name()).ok();
                 }
             }

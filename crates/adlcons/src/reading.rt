@@ -7,7 +7,8 @@ ghost use Rattle.console.specs.Places.{where_of};
 use console::Refusal;
 use std::alloc::{AllocError, Global};
 use std::fs::Files;
-use std::io::{ErrorKind, Read};
+use std::io::{Error, ErrorKind, Read};
+use std::os::unix::fs::FileTypeExt;
 use std::{fs, io};
 
 /// How often a list is read before it has to have ended.
@@ -15,6 +16,15 @@ const MOST_READS: u32 = 1_048_576;
 
 /// How many bytes one read asks for.
 const READ_SIZE: usize = 65_536;
+
+/// How much of a list is read before it is judged whether that can begin one.
+const FRONT_SIZE: u64 = 65_536;
+
+/// How much of that isn't judged, so that a line at fault can be shown as far as lines are.
+const UNJUDGED: usize = 4096;
+
+/// What a list begins with behind blank lines, in any case.
+const TAG: &[u8] = b"<ADL>";
 
 /// Why a list wasn't read.
 #[derive(Clone, Copy, Debug)]
@@ -65,13 +75,49 @@ impl From<io::Error> for ReadFault {
     }
 }
 
-/// Reads the file of this path, or standard input for `-`, to its end.
+/// Reads the file of this path, or standard input for `-`.
 pub fn read_list<R: Files + Input + AllocGlobal>(rt: &R, path: &str) -> Result<Vec<u8>, ReadFault> {
     if path == "-" {
-        read_to_end(rt.alloc(), &mut rt.reader())
-    } else {
-        read_to_end(rt.alloc(), &mut fs::open(rt, path)?)
+        return read_text(rt.alloc(), &mut rt.reader());
     }
+    require_no_device(rt, path)?;
+    read_text(rt.alloc(), &mut fs::open(rt, path)?)
+}
+
+/// Fails where the path leads to a device, which may have no end.
+fn require_no_device<R: Files>(files: &R, path: &str) -> Result<(), ReadFault> {
+    let kind = fs::metadata(files, path)?.file_type();
+    if kind.is_char_device() || kind.is_block_device() {
+        return Err(ReadFault::Unreadable(Error::from(ErrorKind::InvalidInput)));
+    }
+    Ok(())
+}
+
+/// Reads a text to its end; where its front can't begin a list, no further, since what follows changes no answer then.
+fn read_text<R: Read>(alloc: Global, reader: &mut R) -> Result<Vec<u8>, ReadFault> {
+    let front = read_to_end(alloc, &mut reader.by_ref().take(FRONT_SIZE))?;
+    let is_whole = (front.len() as u64) < FRONT_SIZE;
+    let judged = front.len().saturating_sub(UNJUDGED);
+    if is_whole || !may_begin_list(&front[..judged]) {
+        return Ok(front);
+    }
+    read_to_end(alloc, &mut front.as_slice().chain(reader))
+}
+
+/// Whether a text that begins so may be a list: as far as it goes it has blank lines, and then `<ADL>` in a line of its
+/// own. Where it can't be one, its first line that isn't blank is at fault, whatever follows.
+fn may_begin_list(front: &[u8]) -> bool {
+    let text = front.strip_prefix(b"\xEF\xBB\xBF").unwrap_or(front);
+    let blanks = text.iter().take_while(|byte| is_white(**byte)).count();
+    let (_, line) = text.split_at(blanks);
+    let (tag, rest) = line.split_at(line.len().min(TAG.len()));
+    let (expected, _) = TAG.split_at(tag.len());
+    tag.eq_ignore_ascii_case(expected) && rest.first().is_none_or(|byte| is_white(*byte))
+}
+
+/// Whether a byte is a blank, or may end a line.
+fn is_white(byte: u8) -> bool {
+    matches!(byte, b' ' | b'\t' | b'\r' | b'\n')
 }
 
 /// Reads to the end, which has to come within so many reads. A read that a signal interrupts is one of them.

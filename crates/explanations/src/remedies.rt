@@ -60,6 +60,7 @@ fn list_remedy(kind: ErrorKind) -> Option<&'static str> {
     match kind {
         ErrorKind::NotFound => Some("check the path"),
         ErrorKind::IsADirectory => Some("name the list itself, not its folder"),
+        ErrorKind::InvalidInput => Some("name a file or a pipe, or - for standard input"),
         ErrorKind::PermissionDenied => Some("get permission to read it"),
         _ => None,
     }
