@@ -168,7 +168,7 @@ fn source_at<R: Files + AllocGlobal>(
     found: &Metadata,
 ) -> Result<Option<String>, AllocError> {
     let folder = listed(media);
-    for source in project.sources() {
+    for source in project.sources().as_slice() {
         if let Some(place) = place_of(rt.alloc(), source.url())? {
             let name = place.name();
             let path = format!(in rt.alloc(); "{folder}/{name}")?;
