@@ -96,8 +96,7 @@ pub(crate) const CONSOLIDATED: &[u8] = b"<ADL>\r
 const VERSION: &str = "1.2";
 
 /// The report, in which the SHA-256 of both media and of the list are those of another program.
-const REPORT: &[u8] =
-    b"{\"entries\":[{\"entry\":1,\"group\":0},{\"entry\":2,\"group\":0}],\
+const REPORT: &[u8] = b"{\"entries\":[{\"entry\":1,\"group\":0},{\"entry\":2,\"group\":0}],\
 \"groups\":[{\"given\":[1],\"more\":0}],\"handle\":0,\"list_sha256\":\"4691bb81a5d74d115e04cb7c0977f93e64725e1ee50e4cec69e7d525ddca8832\",\
 \"media\":[{\"base\":0,\"channels\":2,\"depth\":16,\"file\":\"M00001.wav\",\"frames\":4,\
 \"sha256\":\"c375e3651a9458f0dc99102df3b6a7d54a9b733b3ace72081d2010a3b508a958\",\
