@@ -160,7 +160,7 @@ def memory_limit(size: int) -> dict:
 
 def no_memory_for_list(scene: Scene) -> None:
     prepared(scene)
-    got = scene.run("render", "-", MEDIA, OUT, given=bytes(MEMORY), **memory_limit(MEMORY))
+    got = scene.run("render", "-", MEDIA, OUT, given=b"<ADL>\n" + bytes(MEMORY), **memory_limit(MEMORY))
     same_outcome(got, 1, "refused 18")
     same_files(scene.files(), {})
 

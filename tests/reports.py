@@ -3,6 +3,7 @@
 import json
 import os
 import subprocess
+import sys
 import tempfile
 from functools import partial
 from pathlib import Path
@@ -134,8 +135,10 @@ def unprintable_names(scene: Scene) -> None:
     """A name of a file with each character that JSON has to escape, in a report that is accepted and in one that isn't."""
     name = "".join(chr(code) for code in range(1, 0x30) if chr(code) != "/") + "\\é\u2028.wav"
     text = model.list_text([model.source_line(1, quote(name), b"_")], [entry(1, 1, 0, 4)])
-    for media, status in (({name: wave()}, 0), ({}, 1)):
-        scene.put(text, media)
+    scene.put(text, {name: wave()})
+    for status in (0, 1):
+        if status == 1:
+            (scene.folder / MEDIA / name).unlink()
         report = reported(scene, status)
         (told,) = report["indexes" if status == 0 else "faults"]
         same("the name", told["file"], name)
@@ -144,15 +147,25 @@ def unprintable_names(scene: Scene) -> None:
 # Long reports
 
 
+MEASURE = """
+import os, sys
+quiet = [(os.POSIX_SPAWN_OPEN, 2, os.devnull, os.O_WRONLY, 0)]
+program = os.posix_spawn(sys.argv[1], sys.argv[1:], os.environ, file_actions=quiet)
+_, status, used = os.wait4(program, 0)
+print(os.waitstatus_to_exitcode(status), used.ru_maxrss, file=sys.stderr)
+"""
+
+
 def measured(scene: Scene, *words) -> tuple:
     """What the program prints over these words, in a file, its status, and its peak of memory in bytes."""
     printed = scene.folder / "printed"
     with printed.open("wb") as file:
-        program = subprocess.Popen(  # pylint: disable=consider-using-with
-            [scene.program, *words], cwd=scene.folder, stdin=subprocess.DEVNULL, stdout=file, stderr=subprocess.DEVNULL)
-        _, status, used = os.wait4(program.pid, 0)
-    program.returncode = os.waitstatus_to_exitcode(status)
-    return printed, program.returncode, 1024 * used.ru_maxrss
+        # The peak of a process counts that of the one which it was forked from: so a small one forks it.
+        done = subprocess.run(
+            [sys.executable, "-I", "-S", "-c", MEASURE, scene.program, *words], cwd=scene.folder,
+            stdin=subprocess.DEVNULL, stdout=file, stderr=subprocess.PIPE, check=True)
+    status, peak = map(int, done.stderr.split()[-2:])
+    return printed, status, 1024 * peak
 
 
 def within_memory(peak: int) -> None:

@@ -33,9 +33,15 @@ pub enum HeldFolder<F: Drop> {
 }
 
 impl<F: Drop> HeldFolder<F> {
-    /// Tells that others aren't kept from the folder of this path, where it couldn't be locked.
+    /// Tells that others aren't kept from the folder of this path, where it is there and couldn't be locked.
     pub fn tell_unlocked<E: Console>(&self, path: &str, err: &mut E) {
         if let HeldFolder::Unlocked(reason) = self {
+            if matches!(
+                reason.kind(),
+                ErrorKind::NotFound | ErrorKind::NotADirectory
+            ) {
+                return;
+            }
             let folder = PrintedName(path);
             err.print_line(format_args!(
                 "the folder {folder} can't be locked: {reason}; run no other command there meanwhile"
