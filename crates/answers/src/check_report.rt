@@ -11,9 +11,9 @@ use opening::open_project;
 use shelf::{Reasons, Shelf};
 use std::alloc::Global;
 
-/// Checks the list, and prints all that came of it as JSON on `out`, by the form of `docs/REPORT.md`; where no memory was
-/// left for the first fault of a list that is refused, the refusal 18. A refusal of the list is explained on `err`. The status is 0 where the list is
-/// accepted and told, and else 1.
+/// Checks the list, and prints all that came of it as JSON on `out`, by the form of `docs/REPORT.md`; where no memory
+/// was left for the first fault of a list that is refused, the refusal 18. A refusal of the list is explained on `err`.
+/// The status is 0 where the list is accepted and told, and else 1.
 pub fn answer_report<S: Shelf + Reasons, O: Console, E: Console>(
     alloc: Global,
     list: &[u8],
