@@ -1,2 +1,1 @@
 pub mod Media
-pub mod Prints

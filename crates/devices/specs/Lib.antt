@@ -1,2 +1,4 @@
 pub mod Fault
 pub mod Frame
+pub mod ViewLaws
+pub mod Views

@@ -2,7 +2,7 @@ use Rattle.std.proofs.Common.{◌≡◌, ◌++◌, ◌∷◌, [], ℕ, List, ref
 use Rattle.work_terms.specs.Refusals.{Where}
 use Rattle.console.specs.Lines.{refusal_text}
 use Rattle.console.specs.Printing.{Prints}
-use Rattle.console.proofs.Prints.{prints_more}
+use Rattle.console.specs.PrintingLaws.{prints_more}
 use Rattle.adlcons.proofs.folders.keep_out.Goals as goal
 
 alike : (number other : ℕ) (place there : Where) → number ≡ other → place ≡ there

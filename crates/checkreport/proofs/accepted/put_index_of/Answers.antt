@@ -1,6 +1,6 @@
 use Rattle.std.proofs.Common.{subst}
 use Rattle.console.specs.Printing.{Prints}
-use Rattle.console.proofs.Prints.{prints_more}
+use Rattle.console.specs.PrintingLaws.{prints_more}
 use Rattle.checkreport.proofs.Parts.{index_parts}
 use Rattle.checkreport.proofs.accepted.put_index_of.Goals as goal
 

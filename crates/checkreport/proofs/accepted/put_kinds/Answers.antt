@@ -3,7 +3,7 @@ use Rattle.list_terms.specs.declared.Notice.{Notice}
 use Rattle.checkreport.specs.Report.{is_of_index}
 use Rattle.checkreport.proofs.Parts.{any_step, kinds_step}
 use Rattle.console.specs.Printing.{Prints}
-use Rattle.console.proofs.Prints.{prints_more}
+use Rattle.console.specs.PrintingLaws.{prints_more}
 use Rattle.checkreport.proofs.accepted.put_kinds.Goals as goal
 
 pub loop-notice-preserved : goal.loop-notice-preserved

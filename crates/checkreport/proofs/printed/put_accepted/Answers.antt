@@ -1,6 +1,6 @@
 use Rattle.std.proofs.Common.{refl}
 use Rattle.checkreport.specs.Reported.{Accepted}
-use Rattle.console.proofs.Prints.{prints_more}
+use Rattle.console.specs.PrintingLaws.{prints_more}
 use Rattle.checkreport.proofs.printed.put_accepted.Goals as goal
 
 pub returns-clause-printed : goal.returns-clause-printed

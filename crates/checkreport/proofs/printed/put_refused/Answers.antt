@@ -1,6 +1,6 @@
 use Rattle.std.proofs.Common.{inl, refl}
 use Rattle.checkreport.specs.Reported.{Refused}
-use Rattle.console.proofs.Prints.{prints_more}
+use Rattle.console.specs.PrintingLaws.{prints_more}
 use Rattle.checkreport.proofs.printed.put_refused.Goals as goal
 
 pub returns-in-Ok-clause-printed : goal.returns-in-Ok-clause-printed

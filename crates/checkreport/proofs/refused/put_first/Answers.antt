@@ -1,7 +1,7 @@
 use Rattle.std.proofs.Common.{subst}
 use Rattle.checkreport.proofs.Parts.{front_first}
 use Rattle.console.specs.Printing.{Prints}
-use Rattle.console.proofs.Prints.{prints_more}
+use Rattle.console.specs.PrintingLaws.{prints_more}
 use Rattle.checkreport.proofs.refused.put_first.Goals as goal
 
 pub returns-clause-printed : goal.returns-clause-printed

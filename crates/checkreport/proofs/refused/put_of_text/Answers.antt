@@ -2,7 +2,7 @@ use Rattle.std.proofs.Common.{◌++◌, ◌∷◌, [], subst}
 use Rattle.opening.specs.declared.fault.Fault.TheVariants.{List}
 use Rattle.checkreport.proofs.Parts.{one_more}
 use Rattle.console.specs.Printing.{Prints}
-use Rattle.console.proofs.Prints.{prints_more}
+use Rattle.console.specs.PrintingLaws.{prints_more}
 use Rattle.checkreport.proofs.refused.put_of_text.Goals as goal
 
 pub faults-preserved : goal.faults-preserved

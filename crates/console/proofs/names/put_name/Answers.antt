@@ -5,7 +5,7 @@ use Rattle.std.proofs.lemmas.Iterator.{YieldsList-from_chars}
 use Rattle.std.proofs.lemmas.Iterator.Consumers.{YieldsList-end}
 use Rattle.console.specs.Lines.{printed_character}
 use Rattle.console.specs.Printing.{Prints}
-use Rattle.console.proofs.Prints.{prints_more, prints_nothing}
+use Rattle.console.specs.PrintingLaws.{prints_more, prints_nothing}
 use Rattle.console.proofs.names.put_name.Goals as goal
 
 pub loop-character-init : goal.loop-character-init

@@ -4,7 +4,7 @@ use Rattle.list_terms.specs.Renewed.{media_name}
 use Rattle.console.specs.Lines.{named}
 use Rattle.console.specs.Printing.{Prints}
 use Rattle.console.proofs.Media.{printed_name-medium}
-use Rattle.console.proofs.Prints.{prints_more}
+use Rattle.console.specs.PrintingLaws.{prints_more}
 use Rattle.console.proofs.place.put_medium.Goals as goal
 
 -- the parts of the name are the name

@@ -2,7 +2,7 @@ use Rattle.std.proofs.Common.{option_map, string_bytes, subst}
 use Rattle.checkreport.specs.Parts.{name_in}
 use Rattle.checkreport.proofs.Parts.{fault_parts}
 use Rattle.console.specs.Printing.{Prints}
-use Rattle.console.proofs.Prints.{prints_more}
+use Rattle.console.specs.PrintingLaws.{prints_more}
 use Rattle.checkreport.proofs.refused.ReportedFault.put.Goals as goal
 
 pub returns : goal.returns
