@@ -1,4 +1,3 @@
-pub mod Appending
 pub mod Events
 pub mod Facts
 pub mod Fields

@@ -10,7 +10,7 @@ ghost use Rattle.list_terms.specs.WholeProject.{without_notices};
 ghost use Rattle.list_terms.specs.WrittenText.{text_of_project};
 ghost use Rattle.work_terms.specs.Disk.{Changes, Follows, IsAppended, IsGrown, IsTornBehind, LeavesOnly, end_of};
 ghost use Rattle.devices.specs.Frame.{OnlyWrites};
-ghost use Rattle.adlwrite.specs.Appended.{MayBeTorn};
+ghost use Rattle.devices.specs.Frame.{MayBeTorn};
 
 mod fault;
 mod parts;

@@ -3,7 +3,7 @@ ghost use Rattle.std.specs.Prelude.{◌≡◌, ◌-◌, IsSome, IsTrue, OnOk, co
 ghost use Rattle.list_terms.specs.WrittenText as written;
 ghost use Rattle.list_terms.specs.WrittenText.{text_of_project, time_text};
 ghost use Rattle.adlmodel.specs.Header.{header_view};
-ghost use Rattle.adlwrite.specs.Appended.{Appends};
+ghost use Rattle.devices.specs.Frame.{Appends};
 ghost use Rattle.adlwrite.specs.Parts.{all_of, channels_behind, curve_text, ending_text, entry_numbers, entry_text, entry_times, event_section, event_text, events_text, fade_line, fade_text, file_text, head_text, header_text, index_section, index_text, lines_text, list_text, opening_text, section_text, source_text, source_times, sources_text};
 
 use adlmodel::{Bytes, Channels, Event, Header, KeptLines, Project, Source};

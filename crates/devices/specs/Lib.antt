@@ -1,3 +1,4 @@
+pub mod AppendLaws
 pub mod Fault
 pub mod Frame
 pub mod ViewLaws

@@ -1,6 +1,6 @@
 // Outputs: files that are written, and what a crash may leave of them.
-ghost use Rattle.std.specs.Prelude.{◌≡◌, ◌≢◌, ◌≤◌, ℕ, Bool, Some, None, List, length, IsTrue, IfOk, OnOk, OnErr, IsSome, IsErrOf, ⊤};
-ghost use Rattle.work_terms.specs.Disk.{Files, IsRange, IsEmptyOrAbsent, end_of, Changes, IsCreated, MayBeCreated, IsPending, IsWritten, IsTorn, IsAppended, IsGrown, IsTornBehind, Follows, IsDurable, Elapses, ReadsTo, WritesTo};
+ghost use Rattle.std.specs.Prelude.{◌≡◌, ◌≢◌, ◌≤◌, ℕ, Bool, Some, None, List, length, replicate, IsTrue, IfOk, OnOk, OnErr, IsSome, IsErrOf, ⊤};
+ghost use Rattle.work_terms.specs.Disk.{Files, IsRange, IsEmptyOrAbsent, end_of, Changes, IsCreated, MayBeCreated, IsPending, IsWritten, IsTorn, IsAppended, IsGrown, IsTornBehind, Follows, IsDurable, Elapses, HasAppended, ReadsTo, WritesTo};
 
 use crate::{DeviceFault, ShelfFault};
 
@@ -52,6 +52,21 @@ pub trait Bench {
             (may_leave self.new) }
         ensures only_writes { WritesTo stored honest failures failed_at may_leave (λ n. n ≢ name.now)
             self.old self.new result (λ _. ⊤) (λ _ failed. failed name.now) };
+
+    /// Adds so many zeros at the end of the file, which has to be there. By itself it appends them piece by piece.
+    fn append_zeros(&mut self, name: &str, count: u64) -> Result<(), DeviceFault>
+        ensures { HasAppended stored honest failures failed_at may_leave moment left_since name.now
+            (replicate count 0) self.old self.new result }
+    {
+        let zeros = [0; 4096];
+        let mut left = count;
+        while left > 0 {
+            let more = left.min(4096);
+            self.append(name, &zeros[..more as usize])?;
+            left -= more;
+        }
+        Ok(())
+    }
 
     /// Writes the bytes over those from `at` on. They have to lie inside the file.
     fn write_at(&mut self, name: &str, at: u64, bytes: &[u8]) -> Result<(), DeviceFault>

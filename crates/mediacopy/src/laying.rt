@@ -1,29 +1,12 @@
 // Lays media out at their full length.
-ghost use Rattle.std.specs.Prelude.{◌≡◌, ◌≢◌, ◌++◌, ◌≤◌, ◌-◌, List, Some, ⊤, ℕ, IsTrue, OnOk, length};
-ghost use Rattle.sound_terms.specs.Waves.{data_place, zeros};
+ghost use Rattle.std.specs.Prelude.{◌≡◌, ◌≢◌, ◌≤◌, Some, ⊤, IsTrue, OnOk, length};
+ghost use Rattle.sound_terms.specs.Waves.{data_place};
 ghost use Rattle.devices.specs.Frame.{OnlyWrites};
 ghost use Rattle.wavwrite.specs.Info.{Fits};
 ghost use Rattle.mediacopy.specs.Copied.{laid_out};
 
 use devices::{Bench, DeviceFault};
 use wavwrite::SoundInfoRef;
-
-/// Adds so many zeros at the end of a file.
-fn append_zeros<B: Bench>(bench: &mut B, name: &str, count: u64) -> Result<(), DeviceFault>
-    ensures appended { IsTrue (B.honest bench.old) → (file : List ℕ) → B.stored bench.old name.now ≡ Some file
-        → OnOk result (B.stored bench.new name.now ≡ Some (file ++ zeros count)) }
-    ensures only_writes { OnlyWrites B.Bench (λ n. n ≢ name.now) bench.old bench.new result (λ _. ⊤)
-        (λ _ failed. failed name.now) }
-{
-    let block = [0; 65536];
-    let mut left = count;
-    while left > 0 {
-        let more = left.min(65536);
-        bench.append(name, &block[..more as usize])?;
-        left -= more;
-    }
-    Ok(())
-}
 
 /// Makes the file of this header with every sample zero. The header is made in `room`, which is long enough for it, so
 /// this takes no memory.
@@ -44,5 +27,5 @@ pub fn lay_out<B: Bench>(
     bench.create(name)?;
     bench.append(name, head)?;
     let size = info.data_length();
-    append_zeros(bench, name, size + size % 2)
+    bench.append_zeros(name, size + size % 2)
 }

@@ -8,4 +8,3 @@ mod Frames
 mod Parts
 mod Ranges
 mod Steps
-mod Zeros

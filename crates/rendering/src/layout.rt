@@ -12,27 +12,6 @@ use crate::Rendering;
 use devices::{Bench, DeviceFault};
 use markfile::SOUND;
 
-/// Adds so many zeros at the end of the rendered file.
-fn append_zeros<B: Bench>(bench: &mut B, count: u64) -> Result<(), DeviceFault>
-    ensures appended { IsTrue (B.honest bench.old) → (file : List ℕ)
-        → B.stored bench.old (codes "render.wav") ≡ Some file
-        → OnOk result (B.stored bench.new (codes "render.wav") ≡ Some (file ++ zeros count)) }
-    ensures beside { LeavesOthers B.may_leave B.moment B.left_since (codes "render.wav") bench.old bench.new }
-    ensures only_writes { WritesRendering B.Bench bench.old bench.new result (λ _. ⊤) }
-{
-    let block = [0; 65536];
-    let mut left = count;
-    while left > 0 {
-        let more = left.min(65536);
-        match bench.append(SOUND, &block[..more as usize]) {
-            Ok(()) => {}
-            Err(fault) => return Err(fault),
-        }
-        left -= more;
-    }
-    Ok(())
-}
-
 /// Makes the rendered file of these bytes and so many zeros.
 fn begin<B: Bench>(bench: &mut B, head: &[u8], count: u64) -> Result<(), DeviceFault>
     ensures begun { IsTrue (B.honest bench.old)
@@ -48,7 +27,7 @@ fn begin<B: Bench>(bench: &mut B, head: &[u8], count: u64) -> Result<(), DeviceF
         Ok(()) => {}
         Err(fault) => return Err(fault),
     }
-    match append_zeros(bench, count) {
+    match bench.append_zeros(SOUND, count) {
         Ok(()) => return Ok(()),
         Err(fault) => return Err(fault),
     }

@@ -1,13 +1,12 @@
 -- What each call on a bench in memory does to its files.
-use Rattle.std.proofs.Common.{◌≡◌, ◌≢◌, ◌⊎◌, ◌∙◌, ℕ, ◌+◌, ◌≤◌, Bool, true, if◌then◌else◌, Option, Some, None, List, [], ◌++◌, length, take, drop, IsTrue, IsSomeAnd, option_map, refl, sym, ap, subst, inl, inr, arith}
+use Rattle.std.proofs.Common.{◌≡◌, ◌≢◌, ◌∙◌, ℕ, ◌+◌, ◌≤◌, Bool, if◌then◌else◌, Option, Some, None, List, [], ◌++◌, length, take, drop, IsSomeAnd, option_map, refl, sym, ap, subst, inl, inr, arith}
 use Rattle.std.proofs.lemmas.Bool.{le-leb}
 use Rattle.std.proofs.lemmas.Option.{none-some}
 use Rattle.std.proofs.lemmas.List.{append-nil, drop_all, length-take, take_all}
-use Rattle.work_terms.specs.Disk.{Changes, Files, Follows, IsAppended, IsGrown, IsTorn, IsTornBehind, IsWritten, end_of}
+use Rattle.work_terms.specs.Disk.{Changes, Files, Follows, IsAppended, IsGrown, IsTornBehind, IsWritten, end_of}
 use Rattle.shelf.specs.declared.memory.call.Kind.TheVariants.{Append, Write, Sync}
-use Rattle.shelf.specs.Files.{IsMade, IsPut}
-use Rattle.shelf.specs.History.{Note, History, noted, placed, with_bytes, done, replayed, read_of, step, MayLeave}
-use Rattle.shelf.specs.Crashes.{IsChange, HasChanged, HasSynced, changes_noted, does_by, has_changed, has_synced, stays_by}
+use Rattle.shelf.specs.History.{Note, History, noted, placed, with_bytes, done, read_of, step, MayLeave}
+use Rattle.shelf.specs.Crashes.{IsChange, HasSynced, changes_noted, does_by, has_changed, has_synced, stays_by}
 
 -- a file that has a length is there
 pub found : (file : Option (List ℕ)) (at : ℕ) → Some at ≡ option_map (λ bytes. length bytes) file

@@ -1,5 +1,5 @@
 -- A copy of files by name has the same bytes.
-use Rattle.std.proofs.Common.{◌≡◌, ℕ, Bool, List, Option, Some, None, String, option_map, string_bytes, refl, sym, ap, MatchOption, IsSomeAnd}
+use Rattle.std.proofs.Common.{◌≡◌, ℕ, Bool, List, Option, Some, None, String, option_map, string_bytes, ap, MatchOption, IsSomeAnd}
 use Rattle.std.specs.Global as global
 use Rattle.std.specs.BTreeMap.{is_at}
 use Rattle.std.specs.Cmp.Lexicographic.{slice_cmp}
@@ -7,7 +7,6 @@ use Rattle.std.specs.Ordering.{nat_cmp}
 use Rattle.std.specs.Map.{lookup}
 use Rattle.std.specs.List.{AllZip}
 use Rattle.std.proofs.lemmas.Map.Entries.{lookup_clone}
-use Rattle.std.proofs.lemmas.List.Elements.{same_from_all_zip}
 
 -- values that are alike have the same bytes
 alike : (D : global.Vec ℕ → global.Vec ℕ → Type 0) → ((v w : global.Vec ℕ) → D v w → w.items ≡ v.items)

@@ -1,5 +1,5 @@
 -- Calls that are done once more, the oldest first: as they were, and as a crash leaves them.
-use Rattle.std.proofs.Common.{◌≡◌, ◌≢◌, ◌∙◌, ℕ, Bool, true, false, if◌then◌else◌, Option, List, [], ◌∷◌, ◌++◌, length, map, refl, sym, ap, subst, inl, inr, arith}
+use Rattle.std.proofs.Common.{◌≡◌, ◌∙◌, ℕ, true, false, if◌then◌else◌, Option, List, [], ◌∷◌, ◌++◌, length, map, sym, ap, subst, inl, inr, arith}
 use Rattle.std.specs.Str.{bytes_eq}
 use Rattle.std.proofs.lemmas.Bool.{cases_Bool}
 use Rattle.std.proofs.lemmas.List.{append-nil, append_assoc, map-append}

@@ -1,14 +1,14 @@
 -- What holds of files as calls left them, and of what a crash may leave of them.
-use Rattle.std.proofs.Common.{◌≡◌, ◌≢◌, ◌⊎◌, ◌∙◌, ℕ, zero, suc, ◌+◌, ◌-◌, ◌<◌, ◌≤◌, nat_le, Bool, true, false, cond, if◌then◌else◌, ◌==◌, max, Option, Some, None, List, [], ◌∷◌, ◌++◌, length, take, drop, replicate, option_map, refl, sym, ap, subst, inl, inr, arith}
+use Rattle.std.proofs.Common.{◌≡◌, ◌≢◌, ◌⊎◌, ◌∙◌, ℕ, ◌+◌, ◌-◌, ◌≤◌, nat_le, Bool, true, false, cond, if◌then◌else◌, ◌==◌, Option, Some, None, List, [], ◌∷◌, ◌++◌, length, take, drop, replicate, option_map, refl, sym, ap, subst, inl, inr, arith}
 use Rattle.std.specs.Str.{bytes_eq}
 use Rattle.std.proofs.lemmas.Bool.{false_from_ne_true, cases_Bool, leb-true}
 use Rattle.std.proofs.lemmas.Option.{none-some}
 use Rattle.std.proofs.lemmas.Slice.Eq.{bytes_eq-Decides}
 use Rattle.std.proofs.lemmas.List.{append_assoc, drop_at, drop-drop, length-append, length-drop, length-take, length-take-le, length-replicate, take_at}
-use Rattle.work_terms.specs.Disk.{Files, Changes, Elapses, Follows, HasTornEnd, HasTornRange, IsDurable, IsEmptyOrAbsent, IsPending, IsTorn, IsTornBehind, OfFile}
+use Rattle.work_terms.specs.Disk.{Files, Changes, Elapses, Follows, HasTornEnd, HasTornRange, IsDurable, IsEmptyOrAbsent, OfFile}
 use Rattle.shelf.specs.declared.memory.call.Kind.{Kind}
 use Rattle.shelf.specs.declared.memory.call.Kind.TheVariants.{Create, Append, Write, Sync}
-use Rattle.shelf.specs.History.{Note, History, noted, placed, has_place, with_bytes, done_by, done, replayed, read_of, step_by, step, IsPast, HoldsBy, HoldsIf, MayHold, MayLeave, LeftSince, spoilt_by, left_by, left_of, crashed}
+use Rattle.shelf.specs.History.{Note, History, noted, placed, with_bytes, done_by, done, replayed, read_of, step_by, step, HoldsBy, HoldsIf, MayHold, MayLeave, LeftSince, spoilt_by, left_by, crashed}
 
 -- a name is itself
 pub same_name : (name : List ℕ) → bytes_eq name name ≡ true

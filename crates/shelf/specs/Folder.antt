@@ -1,5 +1,5 @@
 -- Stores in a folder as their callers see them.
-use Rattle.std.specs.Prelude.{◌≡◌, ℕ, Bool, true, false, List, [], ◌∷◌, codes}
+use Rattle.std.specs.Prelude.{◌≡◌, ℕ, true, false, List, [], ◌∷◌, codes}
 use Rattle.shelf.specs.declared.folder.open_files.Access.{Access}
 use Rattle.shelf.specs.declared.folder.open_files.Access.TheVariants.{Read, Write}
 use Rattle.shelf.specs.declared.folder.open_files.Overwrite.{Overwrite}

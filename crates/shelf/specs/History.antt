@@ -1,5 +1,5 @@
 -- Files as calls made them, what a crash may leave of them, and one outcome of a crash as a value.
-use Rattle.std.specs.Prelude.{◌≡◌, ◌⊎◌, ℕ, zero, suc, ◌+◌, ◌-◌, ◌≤◌, nat_le, Bool, true, false, ◌==◌, if◌then◌else◌, Option, Some, None, List, [], ◌∷◌, ◌++◌, length, take, drop, map, replicate, option_map, string_bytes}
+use Rattle.std.specs.Prelude.{◌≡◌, ◌⊎◌, ℕ, ◌+◌, ◌-◌, ◌≤◌, nat_le, Bool, true, false, ◌==◌, if◌then◌else◌, Option, Some, None, List, [], ◌∷◌, ◌++◌, length, take, drop, map, replicate, option_map, string_bytes}
 use Rattle.std.specs.Str.{bytes_eq}
 use Rattle.work_terms.specs.Disk.{Files, IsEmptyOrAbsent, IsPending, IsTorn, IsTornBehind}
 use Rattle.shelf.specs.declared.memory.call.Call.{Call}

@@ -1,5 +1,5 @@
 -- Files by name as a disk keeps them: what a call does to what is read, and to what a crash may leave.
-use Rattle.std.specs.Prelude.{◌≡◌, ◌≢◌, ◌⊎◌, ℕ, ◌+◌, ◌^◌, ◌<◌, ◌≤◌, max, Bool, IsTrue, Option, Some, None, List, [], ◌∷◌, ◌++◌, length, take, drop, Contains, Result, IfErr, IsErrAnd}
+use Rattle.std.specs.Prelude.{◌≡◌, ◌≢◌, ◌⊎◌, ℕ, ◌+◌, ◌^◌, ◌<◌, ◌≤◌, max, Bool, IsTrue, Option, Some, None, List, [], ◌∷◌, ◌++◌, length, take, drop, Contains, Result, IfErr, IsErrAnd, OnErr, OnOk, ⊤}
 
 -- the bytes of each name's file, none where there is no such file
 abbrev pub Files : Type 0
@@ -194,3 +194,24 @@ module _ {S : Type 0} (stored : S → Files) (honest : S → Bool) (failures : S
   WritesTo stays old new result is_device names =
       HasWritten stays old new (IfErr result (λ fault. ¬ is_device fault)) (IsErrAnd result is_device)
       (IfErr result (λ fault. is_device fault → names fault (failed_at new)))
+
+-- What is left of an output where a text is added at the end of a file, be it in pieces.
+module _ {B : Type 0} (stored : B → Files) (honest : B → Bool) (failures : B → ℕ) (failed_at : B → List ℕ → Type 0)
+    (may_leave : B → Files → Type 0) (moment : B → ℕ) (left_since : B → ℕ → Files → Type 0) (name text : List ℕ) where
+  -- what a crash might have left before the text came, but for this file: after its bytes stands at most so much as the
+  -- text is long, where the store is honest
+  abbrev pub MayBeTorn : B → Files → Type 0
+  MayBeTorn old c =
+      (d : Files) × may_leave old d
+      × Changes (λ before after. IsTrue (honest old)
+      → IsTornBehind (end_of (stored old name)) (length text) before after) name d c
+
+  pub record HasAppended {X E : Type 0} (old new : B) (result : Result X E) : Type 0 where
+    pub appended : IsTrue (honest old)
+        → OnOk result (OfFile (λ before after. after ≡ before ++ text) (stored old name) (stored new name))
+    pub unfinished : IsTrue (honest old)
+        → OnErr result (IsGrown (length text) (stored old name) (stored new name))
+    pub crash : (c : Files) → may_leave new c → MayBeTorn old c
+    pub moments : LeavesOnly moment left_since old new (MayBeTorn old)
+    pub only_writes : WritesTo stored honest failures failed_at may_leave (λ n. n ≢ name) old new result (λ _. ⊤)
+        (λ _ failed. failed name)

@@ -120,6 +120,11 @@ where
         self.failures.counted(outcome)
     }
 
+    fn append_zeros(&mut self, name: &str, count: u64) -> Result<(), DeviceFault> {
+        let outcome = self.files.append_zeros(name, count);
+        self.failures.counted(outcome)
+    }
+
     fn write_at(&mut self, name: &str, at: u64, bytes: &[u8]) -> Result<(), DeviceFault> {
         let outcome = self.files.write_at(name, at, bytes);
         self.failures.counted(outcome)

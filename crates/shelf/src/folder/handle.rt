@@ -58,13 +58,24 @@ impl<F: OpenFile + FileExt + Drop> Handle<F> {
         ensures end { OnOk result (self.new.length ≡ self.old.length + length bytes.now) }
         ensures same_end { OnErr result (self.new.length ≡ self.old.length) }
     {
+        if is_silent(bytes) {
+            return self.append_zeros(bytes.len() as u64);
+        }
         let end = end_of(self.length, bytes.len())?;
         self.is_synced = false;
-        if is_silent(bytes) {
-            self.file.set_len(end)?;
-        } else {
-            self.file.write_all_at(bytes, self.length)?;
-        }
+        self.file.write_all_at(bytes, self.length)?;
+        self.length = end;
+        Ok(())
+    }
+
+    /// Adds so many zeros at the end of the file, in one call, whatever their number.
+    pub fn append_zeros(&mut self, count: u64) -> io::Result<()>
+        ensures end { OnOk result (self.new.length ≡ self.old.length + count) }
+        ensures same_end { OnErr result (self.new.length ≡ self.old.length) }
+    {
+        let end = end_of(self.length, count as usize)?;
+        self.is_synced = false;
+        self.file.set_len(end)?;
         self.length = end;
         Ok(())
     }

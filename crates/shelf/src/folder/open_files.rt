@@ -137,6 +137,15 @@ where
         self.closed_if_failed(name, outcome)
     }
 
+    /// Adds so many zeros at the end of an output, which has to be there.
+    pub fn append_zeros(&mut self, name: &str, count: u64) -> io::Result<()>
+        ensures no_name { is_file_name name.now ≡ false → IsErr result }
+    {
+        self.begin_writing(name);
+        let outcome = self.handle_there(name)?.append_zeros(count);
+        self.closed_if_failed(name, outcome)
+    }
+
     /// Notes that an output is written to, so what was synced of it is not all of it any more.
     fn begin_writing(&mut self, name: &str) {
         if let Some(output) = self.outputs.get_mut(name) {

@@ -1,5 +1,5 @@
 // Outputs in memory.
-ghost use Rattle.std.specs.Prelude.{◌≡◌, ◌≢◌, ◌+◌, ◌≤◌, ◌↔◌, ℕ, true, None, List, [], IfOk, IsOk, IsErr, IsTrue, IsSomeAnd, OnOk, option_copied, option_map, length, ⊤};
+ghost use Rattle.std.specs.Prelude.{◌≡◌, ◌≢◌, ◌+◌, ◌≤◌, ◌↔◌, ℕ, true, None, List, [], IfOk, IsOk, IsErr, IsTrue, IsSomeAnd, OnOk, option_copied, option_map, length, replicate, ⊤};
 ghost use Rattle.work_terms.specs.Disk.{Changes, Files, HasCause, IsEmptyOrAbsent};
 ghost use Rattle.shelf.specs.Crashes.{IsChange, counts_now, gone_held, only_now, reads_held};
 ghost use Rattle.shelf.specs.History.{LeftSince, MayLeave, Note, crashed, noted, read_of, step};
@@ -231,6 +231,13 @@ impl MemoryBench {
     }
 }
 
+/// So many zeros.
+fn zeros_of(alloc: Global, count: u64) -> Result<Vec<u8>, AllocError>
+    ensures { IfOk result (λ zeros. zeros.items ≡ replicate count 0) }
+{
+    vec![in alloc; 0; count as usize]
+}
+
 impl Bench for MemoryBench {
     ghost stored = { bench_files };
 
@@ -269,6 +276,17 @@ impl Bench for MemoryBench {
             return self.refused();
         };
         match self.change(name, Kind::Append, at, bytes, bytes.len() as u64) {
+            Ok(()) => return Ok(()),
+            Err(fault) => return Err(fault),
+        }
+    }
+
+    /// One call, of which the first zeros stand where it is stopped.
+    fn append_zeros(&mut self, name: &str, count: u64) -> Result<(), DeviceFault> {
+        let Ok(zeros) = zeros_of(self.record.alloc, count) else {
+            return self.refused();
+        };
+        match self.append(name, &zeros) {
             Ok(()) => return Ok(()),
             Err(fault) => return Err(fault),
         }

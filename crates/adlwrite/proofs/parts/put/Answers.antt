@@ -1,6 +1,6 @@
 use Rattle.std.proofs.Common.{List, [], Bor, ℕ, refl}
 use Rattle.adlwrite.specs.Parts.{all_of}
-use Rattle.adlwrite.proofs.Appending.{and_then, nothing, said, stopped}
+use Rattle.devices.specs.AppendLaws.{and_then, nothing, said, stopped}
 use Rattle.adlwrite.proofs.OnePart.{all_but, one_more}
 use Rattle.adlwrite.proofs.parts.put.Goals as goal
 

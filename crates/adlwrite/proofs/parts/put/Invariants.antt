@@ -1,5 +1,5 @@
 use Rattle.std.proofs.Common.{take, Ok}
-use Rattle.adlwrite.specs.Appended.{Appends}
+use Rattle.devices.specs.Frame.{Appends}
 use Rattle.adlwrite.specs.Parts.{all_of}
 use Rattle.adlwrite.proofs.parts.put.Given as goal
 

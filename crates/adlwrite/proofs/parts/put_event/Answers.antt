@@ -1,5 +1,5 @@
 use Rattle.adlwrite.specs.Parts.{event_text}
-use Rattle.adlwrite.proofs.Appending.{and_then, stopped}
+use Rattle.devices.specs.AppendLaws.{and_then, stopped}
 use Rattle.adlwrite.proofs.parts.put_event.Goals as goal
 
 pub returns-in_err-put_entry : goal.returns-in_err-put_entry

@@ -1,4 +1,4 @@
-use Rattle.adlwrite.proofs.Appending.{nothing, said}
+use Rattle.devices.specs.AppendLaws.{nothing, said}
 use Rattle.adlwrite.proofs.PartsText.{no_fade}
 use Rattle.adlwrite.proofs.parts.put_fade.Goals as goal
 

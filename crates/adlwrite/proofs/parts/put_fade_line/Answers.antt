@@ -1,5 +1,5 @@
 use Rattle.adlwrite.specs.Parts.{fade_line}
-use Rattle.adlwrite.proofs.Appending.{and_then, stopped}
+use Rattle.devices.specs.AppendLaws.{and_then, stopped}
 use Rattle.adlwrite.proofs.parts.put_fade_line.Goals as goal
 
 pub returns-in_err-put_text : goal.returns-in_err-put_text

@@ -1,6 +1,6 @@
 use Rattle.std.proofs.Common.{ap, sym}
 use Rattle.adlwrite.specs.Parts.{header_text}
-use Rattle.adlwrite.proofs.Appending.{nothing, said}
+use Rattle.devices.specs.AppendLaws.{nothing, said}
 use Rattle.adlwrite.proofs.parts.put_header.Goals as goal
 
 pub returns-in-None : goal.returns-in-None

@@ -1,6 +1,6 @@
 use Rattle.list_terms.specs.WrittenText.{line}
 use Rattle.adlwrite.specs.Parts.{lines_text}
-use Rattle.adlwrite.proofs.Appending.{and_then, nothing, said, stopped}
+use Rattle.devices.specs.AppendLaws.{and_then, nothing, said, stopped}
 use Rattle.adlwrite.proofs.OnePart.{all_but, one_more}
 use Rattle.adlwrite.proofs.parts.put_lines.Goals as goal
 

@@ -1,5 +1,5 @@
 use Rattle.std.proofs.Common.{◌∙◌}
-use Rattle.adlwrite.proofs.Appending.{said}
+use Rattle.devices.specs.AppendLaws.{said}
 use Rattle.adlwrite.proofs.PartsText.{list_is_its_text}
 use Rattle.adlmodel.specs.Header.{header_view}
 use Rattle.adlwrite.proofs.parts.put_list.Goals as goal

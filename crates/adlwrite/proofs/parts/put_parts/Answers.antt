@@ -1,5 +1,5 @@
 use Rattle.adlwrite.specs.Parts.{list_text}
-use Rattle.adlwrite.proofs.Appending.{and_then, stopped}
+use Rattle.devices.specs.AppendLaws.{and_then, stopped}
 use Rattle.adlwrite.proofs.parts.put_parts.Goals as goal
 
 pub returns-in_err-put_start-clause-appends : goal.returns-in_err-put_start-clause-appends

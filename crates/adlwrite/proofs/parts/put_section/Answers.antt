@@ -1,5 +1,5 @@
 use Rattle.adlwrite.specs.Parts.{section_text}
-use Rattle.adlwrite.proofs.Appending.{and_then, stopped}
+use Rattle.devices.specs.AppendLaws.{and_then, stopped}
 use Rattle.adlwrite.proofs.parts.put_section.Goals as goal
 
 pub returns-in_err-put_opening : goal.returns-in_err-put_opening

@@ -1,5 +1,5 @@
 use Rattle.adlwrite.specs.Parts.{source_text}
-use Rattle.adlwrite.proofs.Appending.{and_then, stopped}
+use Rattle.devices.specs.AppendLaws.{and_then, stopped}
 use Rattle.adlwrite.proofs.parts.put_source.Goals as goal
 
 pub returns-in_err-put_index : goal.returns-in_err-put_index

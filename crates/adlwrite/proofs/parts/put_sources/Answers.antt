@@ -1,5 +1,5 @@
 use Rattle.adlwrite.specs.Parts.{source_text, sources_text}
-use Rattle.adlwrite.proofs.Appending.{and_then, nothing, said, stopped}
+use Rattle.devices.specs.AppendLaws.{and_then, nothing, said, stopped}
 use Rattle.adlwrite.proofs.OnePart.{all_but, one_more}
 use Rattle.adlwrite.proofs.parts.put_sources.Goals as goal
 

@@ -1,5 +1,5 @@
 use Rattle.std.specs.Prelude.{codes}
-use Rattle.adlwrite.proofs.Appending.{at_once}
+use Rattle.devices.specs.AppendLaws.{at_once}
 use Rattle.adlwrite.proofs.parts.put_start.Goals as goal
 
 pub returns-clause-appends : goal.returns-clause-appends

@@ -1,4 +1,4 @@
-use Rattle.adlwrite.proofs.Appending.{at_once}
+use Rattle.devices.specs.AppendLaws.{at_once}
 use Rattle.adlwrite.proofs.parts.put_text.Goals as goal
 
 pub returns : goal.returns

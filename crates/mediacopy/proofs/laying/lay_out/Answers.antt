@@ -1,5 +1,6 @@
-use Rattle.std.proofs.Common.{◌≡◌, ◌+◌, ◌%◌, ◌++◌, [], ℕ, IsTrue, Some, List, OnOk, ap, refl, subst, ◌∙◌}
-use Rattle.sound_terms.specs.Waves.{header_of, zeros}
+use Rattle.std.proofs.Common.{◌≡◌, ◌+◌, ◌%◌, ◌++◌, [], ℕ, IsTrue, Some, List, OnOk, ap, refl, replicate, subst, ◌∙◌}
+use Rattle.sound_terms.specs.Waves.{header_of}
+use Rattle.devices.specs.AppendLaws.{added_to}
 use Rattle.mediacopy.proofs.Zeros.{appended_to, laid}
 use Rattle.mediacopy.proofs.laying.lay_out.Goals as goal
 
@@ -14,6 +15,6 @@ returns-clause-laid g c = λ honest.
     let headed : g.B.Bench.stored c.append.new.self c.args.name.now ≡ Some head =
     appended_to _ _ [] _ head (c.in_ok-append.ensures.appended created_honest).here created c.put_header.ensures in
     subst (λ (bytes : List ℕ). OnOk c.append_zeros.result
-    (g.B.Bench.stored c.append_zeros.new.bench c.args.name.now ≡ Some bytes))
-    (ap (λ (n : ℕ). head ++ zeros (n + n % 2)) c.data_length-size.ensures.value ∙ laid c.args.info.now head refl)
-    (c.append_zeros.ensures.appended headed_honest head headed)
+    (g.B.Bench.stored c.append_zeros.new.self c.args.name.now ≡ Some bytes))
+    (ap (λ (n : ℕ). head ++ replicate (n + n % 2) 0) c.data_length-size.ensures.value ∙ laid c.args.info.now head refl)
+    (added_to c.append_zeros.result _ _ head _ headed (c.append_zeros.ensures.appended headed_honest))

@@ -1,6 +1,17 @@
-use Rattle.std.proofs.Common.{codes}
+use Rattle.std.proofs.Common.{◌≡◌, ◌∙◌, ◌++◌, ℕ, codes, IsTrue, List, [], Ok, Option, Some, ap, sym}
+use Rattle.std.specs.Prelude.{⊤, unwrap_or}
+use Rattle.devices.specs.declared.fault.DeviceFault.{DeviceFault}
+use Rattle.work_terms.specs.Disk.{IsAppended}
+use Rattle.sound_terms.specs.Waves.{zeros}
+use Rattle.devices.specs.AppendLaws.{added_to, leaves_others}
 use Rattle.rendering.proofs.Beside.{and_then, one_call}
 use Rattle.rendering.proofs.layout.begin.Goals as goal
+
+-- an empty file with these bytes
+headed : (old new : Option (List ℕ)) (bytes : List ℕ) → IsAppended bytes old new → old ≡ Some [] → new ≡ Some bytes
+headed old new bytes is there =
+    let empty : is.file ≡ [] = ap (λ (file : Option (List ℕ)). unwrap_or file []) (sym is.there ∙ there) in
+    is.appended ∙ ap (λ (file : List ℕ). Some (file ++ bytes)) empty
 
 pub returns-in-Err-clause-beside : goal.returns-in-Err-clause-beside
 returns-in-Err-clause-beside g c =
@@ -20,23 +31,34 @@ returns-in-Err-append-clause-beside g c =
 pub returns-in-Ok-append_zeros-clause-beside : goal.returns-in-Ok-append_zeros-clause-beside
 returns-in-Ok-append_zeros-clause-beside g c =
     and_then g.B.Bench.may_leave g.B.Bench.moment g.B.Bench.left_since (codes "render.wav") c.args.bench.now
-    c.append.new.self c.append_zeros.new.bench
+    c.append.new.self c.append_zeros.new.self
     (and_then g.B.Bench.may_leave g.B.Bench.moment g.B.Bench.left_since (codes "render.wav") c.args.bench.now
     c.create.new.self c.append.new.self
     (one_call g.B.Bench.may_leave g.B.Bench.moment g.B.Bench.left_since (codes "render.wav") _ c.args.bench.now
     c.create.new.self (g.met.B.Bench.only_now c.args.bench.now) c.in-Ok.ensures.time c.in-Ok.ensures.crash)
     (one_call g.B.Bench.may_leave g.B.Bench.moment g.B.Bench.left_since (codes "render.wav") _ c.create.new.self
     c.append.new.self (g.met.B.Bench.only_now c.create.new.self) c.in-Ok-append.ensures.time
-    c.in-Ok-append.ensures.crash)) c.in-Ok-append_zeros.ensures.beside
+    c.in-Ok-append.ensures.crash)) (leaves_others g.B.Bench (codes "render.wav") _ c.append.new.self c.append_zeros.new.self _ c.in-Ok-append_zeros.ensures)
 
 pub returns-in-Err-append_zeros-clause-beside : goal.returns-in-Err-append_zeros-clause-beside
 returns-in-Err-append_zeros-clause-beside g c =
     and_then g.B.Bench.may_leave g.B.Bench.moment g.B.Bench.left_since (codes "render.wav") c.args.bench.now
-    c.append.new.self c.append_zeros.new.bench
+    c.append.new.self c.append_zeros.new.self
     (and_then g.B.Bench.may_leave g.B.Bench.moment g.B.Bench.left_since (codes "render.wav") c.args.bench.now
     c.create.new.self c.append.new.self
     (one_call g.B.Bench.may_leave g.B.Bench.moment g.B.Bench.left_since (codes "render.wav") _ c.args.bench.now
     c.create.new.self (g.met.B.Bench.only_now c.args.bench.now) c.in-Ok.ensures.time c.in-Ok.ensures.crash)
     (one_call g.B.Bench.may_leave g.B.Bench.moment g.B.Bench.left_since (codes "render.wav") _ c.create.new.self
     c.append.new.self (g.met.B.Bench.only_now c.create.new.self) c.in-Ok-append.ensures.time
-    c.in-Ok-append.ensures.crash)) c.in-Err-append_zeros.ensures.beside
+    c.in-Ok-append.ensures.crash)) (leaves_others g.B.Bench (codes "render.wav") _ c.append.new.self c.append_zeros.new.self _ c.in-Err-append_zeros.ensures)
+
+pub returns-in-Ok-append_zeros-clause-begun : goal.returns-in-Ok-append_zeros-clause-begun
+unfolding zeros
+returns-in-Ok-append_zeros-clause-begun g c = λ honest.
+    let created_honest : IsTrue (g.B.Bench.honest c.create.new.self) =
+    rw c.create.ensures.only_writes.honest_same honest in
+    let headed_honest : IsTrue (g.B.Bench.honest c.append.new.self) =
+    rw c.append.ensures.only_writes.honest_same created_honest in
+    let created = (c.in-Ok.ensures.created honest).here in
+    let there = headed _ _ c.args.head.now (c.in-Ok-append.ensures.appended created_honest).here created in
+    added_to {X = ⊤} {E = DeviceFault} (Ok tt) _ _ c.args.head.now _ there (c.in-Ok-append_zeros.ensures.appended headed_honest)

@@ -2,11 +2,10 @@
 use Rattle.std.proofs.Common.{◌≡◌, ◌≢◌, ◌⊎◌, inl, inr, ℕ, ◌+◌, ◌-◌, ◌≤◌, IsTrue, List, [], ◌++◌, length, take, drop, Option, None, Some, Result, Ok, Err, OnOk, OnErr, refl, sym, ap, subst, ◌∙◌, arith, append_assoc, append-nil}
 use Rattle.std.specs.Prelude.{⊤, IsErrAnd}
 use Rattle.std.proofs.lemmas.List.{take-take, drop-drop, length-append}
-use Rattle.work_terms.specs.Disk.{Changes, Elapses, Files, Follows, HasTornEnd, HasWritten, IsAppended, IsGrown, IsTornBehind, LeavesOnly, OfFile, end_of}
-use Rattle.devices.specs.Frame.{OnlyWrites}
+use Rattle.work_terms.specs.Disk.{Changes, Elapses, Files, Follows, HasTornEnd, HasWritten, IsAppended, IsBeside, IsGrown, IsTornBehind, LeavesOnly, LeavesOthers, OfFile, end_of}
+use Rattle.devices.specs.Frame.{Appends, MayBeTorn, OnlyWrites}
 use Rattle.devices.specs.declared.bench.Bench.{Ghosts}
 use Rattle.devices.specs.declared.fault.DeviceFault.{DeviceFault}
-use Rattle.adlwrite.specs.Appended.{Appends, MayBeTorn}
 
 shorter : (i j : ℕ) (x y : List ℕ) → i ≤ j → take j x ≡ take j y → take i x ≡ take i y
 shorter i j x y few same = sym (take-take i j x few) ∙ ap (take i) same ∙ take-take i j y few
@@ -94,6 +93,14 @@ grown_again front n (Some a) y z (b, is, so) other =
         then ∙ ap (λ t. t ++ more) so ∙ append_assoc a front more,
       ),
     )
+
+-- what stands in a file that is there
+pub added_to : {X E : Type 0} (result : Result X E) (old new : Option (List ℕ)) (front text : List ℕ) → old ≡ Some front
+    → OnOk result (OfFile (λ before after. after ≡ before ++ text) old new) → OnOk result (new ≡ Some (front ++ text))
+added_to (Ok x) old new front text there is =
+    let (file, here, so) = subst (λ f. OfFile (λ before after. after ≡ before ++ text) f new) there is in
+    here ∙ ap Some so
+added_to (Err e) old new front text there is = tt
 
 module _ {B : Type 0} (bench : Ghosts B) (name : List ℕ) where
   wrote_again :
@@ -335,3 +342,21 @@ module _ {B : Type 0} (bench : Ghosts B) (name : List ℕ) where
         → bench.left_since old t c ⊎ MayBeTorn bench name text old c
     before t c (inl since) = inl since
     before t c (inr left) = inr (torn c left)
+
+  -- every other file is left alone
+  pub leaves_others :
+      (text : List ℕ) (old new : B) (result : Result ⊤ DeviceFault) → Appends bench name text old new result
+      → LeavesOthers bench.may_leave bench.moment bench.left_since name old new
+  leaves_others text old new result one = record {
+    now = λ c left. others c (one.crash c left);
+    moments = record {
+      later = one.moments.later;
+      each = λ c since. others c (one.moments.each c since);
+      before = λ t c early since. elim (one.moments.before t c early since) [
+        | inl past ↦ inl past
+        | inr torn ↦ inr (others c torn)
+      ];
+    };
+  } where
+    others : (c : Files) → MayBeTorn bench name text old c → IsBeside (bench.may_leave old) name c
+    others c (d, was, torn) = (d, was, λ n away. torn.others n (λ same. away (0, omega arith, sym same)))
