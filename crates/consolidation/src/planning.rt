@@ -27,7 +27,7 @@ use mediaset::{RunFault, Runs};
 use passes::PassFault;
 use projectcheck::Checked;
 use provenance::{Report, ReportFault, report_of};
-use relink::{RelinkFault, relink};
+use relink::{RelinkFault, relink_homed};
 use sound_terms::{Homes, Run};
 use std::alloc::Global;
 use wavread::Sound;
@@ -80,7 +80,7 @@ fn text_over(
     ensures few_entries { OnOk result (length intervals ≤ 32767) }
     ensures own { IfErr result (IsOfLinking (length intervals)) }
 {
-    let renewed = relink(alloc, &intervals, runs, checked.project())?;
+    let renewed = relink_homed(alloc, &intervals, runs, checked.project())?;
     drop(intervals);
     let Ok(text) = text_of(alloc, &renewed) else {
         return Err(ConsolidationFault::Relink(RelinkFault::Memory));

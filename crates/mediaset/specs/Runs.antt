@@ -23,6 +23,9 @@ pub record HomedRuns : Type 0 where
   pub homes : List Home
   pub runs : List Run
 
+abbrev pub homed : List Home → List Run → HomedRuns
+homed homes runs = record { homes = homes; runs = runs }
+
 -- each can have an index of a list: they are as few as these, apart from each other, and end before the day does
 pub record AreIndexable (kept : HomedRuns) : Type 0 where
   pub homes_ok : AreHomes kept.homes

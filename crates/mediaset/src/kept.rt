@@ -5,7 +5,7 @@ ghost use Rattle.sound_terms.specs.Groups.{pieces_of, reads};
 ghost use Rattle.sound_terms.specs.Homes.{AreHomes, IsInRun, LiesAtHome, kept_of, place_by};
 ghost use Rattle.sound_terms.specs.Kept.{AreRuns};
 ghost use Rattle.sound_terms.specs.declared.piece.Run as run;
-ghost use Rattle.mediaset.specs.Runs.{AreIndexable};
+ghost use Rattle.mediaset.specs.Runs.{AreIndexable, homed};
 
 use crate::RunFault;
 use crate::merging::merge;
@@ -84,6 +84,14 @@ impl Runs {
         Ok(Runs { homes, runs })
     }
 
+    /// These runs of files with these homes.
+    pub fn with(homes: Homes, runs: Vec<Run>) -> Self
+        requires { AreIndexable (homed homes runs.items) }
+        ensures { result ≡ homed homes runs.items }
+    {
+        Runs { homes, runs }
+    }
+
     /// How many runs there are.
     pub fn len(&self) -> usize
         ensures { result ≡ length self.now.runs }
@@ -104,5 +112,13 @@ impl Runs {
         ensures { result.now ≡ self.now.homes }
     {
         &self.homes
+    }
+
+    /// Hands out the runs.
+    pub fn into_vec(self) -> Vec<Run>
+        ensures runs { result.items ≡ self.runs }
+        ensures sound { AreIndexable self }
+    {
+        self.runs
     }
 }

@@ -1,6 +1,7 @@
 //! The list over the media of a consolidation: an index for each run of kept frames, and an entry for each group.
 #![tactic(auto)]
 
+mod checked;
 mod entries;
 mod fault;
 mod indexes;
@@ -8,6 +9,7 @@ mod naming;
 mod relinking;
 mod search;
 
+pub use checked::relink;
 pub use fault::RelinkFault;
 pub use naming::media_name;
-pub use relinking::relink;
+pub use relinking::relink_homed;

@@ -45,9 +45,8 @@ fn linked(
     Ok(renewed)
 }
 
-/// The list over the media of these runs: an index for each run, an entry for each group, under the header of a
-/// project. `TooManyEntries` where there are more than 32,767 groups.
-pub fn relink(
+/// [`crate::relink`] over runs with their homes, which are lent as a consolidation keeps them.
+pub fn relink_homed(
     alloc: Global,
     intervals: &Intervals,
     runs: &Runs,

@@ -7,8 +7,8 @@ use Rattle.interval.specs.AtHome.{IsAtHome}
 use Rattle.consolidation.proofs.Linked.{have_channels}
 use Rattle.consolidation.proofs.planning.text_over.Goals as goal
 
-pub relink-requires-clause-at_home : goal.relink-requires-clause-at_home
-relink-requires-clause-at_home c =
+pub relink_homed-requires-clause-at_home : goal.relink_homed-requires-clause-at_home
+relink_homed-requires-clause-at_home c =
     let binding = c.args.checked.now.bound in
     rw c.requires.homes (All-weaker (IsAtHome (sounds_of binding) (homes_of binding)) (LiesAtHome (homes_of binding))
     (λ p is. is.at_home)

@@ -2,7 +2,7 @@ use Rattle.std.proofs.Common.{List, ◌≤◌, length, arith, subst}
 use Rattle.sound_terms.specs.declared.piece.Piece.{Piece}
 use Rattle.relink.proofs.Placing.{length-placed_of}
 use Rattle.relink.proofs.Whole.{all_used, linkable, no_fault, same_mix}
-use Rattle.relink.proofs.relinking.relink.Goals as goal
+use Rattle.relink.proofs.relinking.relink_homed.Goals as goal
 
 pub linked-requires-clause-few_groups : goal.linked-requires-clause-few_groups
 linked-requires-clause-few_groups c =
