@@ -1,0 +1,21 @@
+-- What each worker holds.
+use Rattle.std.specs.Prelude.{◌≡◌, ℕ, ◌==◌, ◌||◌, Bool, cond, is_some, length}
+use Rattle.std.specs.Ordering.{nat_cmp}
+use Rattle.std.specs.BTreeMap.{get}
+use Rattle.job_terms.specs.Board.{Board}
+use Rattle.job_terms.specs.Workers.{Hand, JobsBy}
+use Rattle.execution.specs.Desks.{FitsHand, HasRoom, held}
+use Rattle.execution.specs.declared.hands.Hands.{Hands}
+
+-- the worker 1 has its place from the start
+abbrev pub hands_in : Hands → ℕ → Hand
+hands_in hands w = cond (w == 1) hands.first.hand (held (get nat_cmp hands.others w))
+
+abbrev pub has_place : Hands → ℕ → Bool
+has_place hands w = (w == 1) || is_some (get nat_cmp hands.others w)
+
+-- a board of these jobs, and workers that hold nothing but their tickets; the worker 1 has room for each job
+pub record IsReady (jobs : JobsBy) (board : Board) (hands : Hands) : Type 0 where
+  pub whole : length board.jobs ≡ jobs.count
+  pub fits : (w : ℕ) → FitsHand jobs (hands_in hands w)
+  pub room : HasRoom jobs hands.first.room

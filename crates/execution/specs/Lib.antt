@@ -1,0 +1,15 @@
+pub mod Alone
+pub mod Boards
+pub mod Desks
+pub mod Ends
+pub mod EventRun
+pub mod Filled
+pub mod Held
+pub mod Laws
+pub mod Marking
+pub mod MarkingLaws
+pub mod Outcome
+pub mod Placed
+pub mod Plan
+pub mod View
+pub mod Worlds

@@ -1,0 +1,249 @@
+// A run of jobs.
+ghost use Rattle.std.specs.Prelude.{◌≡◌, ◌*◌, ℕ, IfErr, IfOk, IsErrOf, IsTrue, OnOk, false, true, length};
+ghost use Rattle.job_terms.specs.Board.{is_finished};
+ghost use Rattle.job_terms.specs.Workers.{Nothing, rounds};
+ghost use Rattle.execution.specs.Alone.{AtRest};
+ghost use Rattle.execution.specs.Ends.{end_of};
+ghost use Rattle.execution.specs.Boards.{board_with, fresh_board};
+ghost use Rattle.execution.specs.View.{hands_at};
+ghost use Rattle.execution.specs.Outcome.{Executed, Resumed};
+ghost use Rattle.execution.specs.EventRun.{Performed, listed, snapshot_of, reported_by};
+ghost use Rattle.execution.specs.Desks.{HasRoom};
+ghost use Rattle.devices.specs.Views.{output_view, source_view};
+ghost use Rattle.execution.specs.declared.fault.RunFault.TheVariants as run_fault;
+ghost use Rattle.workboard.specs.Indexed.{IsOrder};
+
+use crate::course::{execute, resume};
+use crate::hands::Hands;
+use crate::performance::perform;
+use crate::worker::Worker;
+use crate::{JobMaker, RunFault, WorkFault};
+use devices::{Bench, Shelf, Watch};
+use job_terms::{BoardEvent, Progress};
+use std::alloc::Global;
+use std::marker::Model;
+use workboard::{Board, BoardFault};
+
+/// A work, its board, and what its workers hold.
+#[derive(Drop)]
+pub struct Execution<W: JobMaker> {
+    alloc: Global,
+    work: W,
+    board: Board,
+    hands: Hands,
+}
+
+impl<W: JobMaker> Model for Execution<W> {
+    ghost use Rattle.execution.specs.Held.{IsReady};
+    ghost use Rattle.execution.specs.View.{ExecutionView};
+
+    ghost Value = { ExecutionView W };
+
+    ghost view = { λ run. record { work = run.work; board = run.board; first = run.hands.first; others = run.hands.others.entries } };
+
+    ghost invariant = { λ run. IsReady (W.plan run.work).jobs run.board run.hands };
+}
+
+/// The room that a worker needs for the bytes of any job.
+fn most_bytes<W: JobMaker>(work: &W) -> usize
+    ensures { HasRoom (W.plan work.now).jobs result }
+{
+    let mut most: usize = 0;
+    for job in 0..work.count() {
+        most = most.max(work.size(job));
+    }
+    most
+}
+
+/// The worker 1, with room for the bytes of any job.
+fn first_worker<W: JobMaker>(alloc: Global, work: &W) -> Result<Worker, BoardFault>
+    ensures hand { IfOk result (λ worker. worker.hand ≡ Nothing) }
+    ensures room { IfOk result (λ worker. HasRoom (W.plan work.now).jobs worker.room) }
+    ensures only_memory { IfErr result (λ fault. fault ≡ BoardFault.Memory) }
+{
+    match Worker::with_room(alloc, most_bytes(work)) {
+        Ok(worker) => Ok(worker),
+        Err(_) => Err(BoardFault::Memory),
+    }
+}
+
+impl<W: JobMaker + Drop> Execution<W> {
+    /// All jobs are open, to be handed out in this order. It takes all memory that rounds of one worker need.
+    pub fn fresh(alloc: Global, work: W, order: Vec<u32>) -> Result<Self, BoardFault>
+        requires { IsOrder (W.plan work).jobs.count order.items }
+        ensures work { IfOk result (λ run. run.work ≡ work) }
+        ensures board { IfOk result (λ run. run.board ≡ fresh_board (W.plan work).jobs.count order.items) }
+        ensures idle { IfOk result (λ run. (w : ℕ) → hands_at run w ≡ Nothing) }
+        ensures rest { IfOk result (λ run. AtRest run.board) }
+        ensures only_memory { IfErr result (λ fault. fault ≡ BoardFault.Memory) }
+    {
+        let board = Board::new(alloc, work.count(), order)?;
+        let first = first_worker(alloc, &work)?;
+        let hands = Hands::new(alloc, first);
+        Ok(Execution {
+            alloc,
+            work,
+            board,
+            hands,
+        })
+    }
+
+    /// These jobs are done already, the others are open, to be handed out in this order.
+    pub fn with_done(
+        alloc: Global,
+        work: W,
+        order: Vec<u32>,
+        done: &[bool],
+    ) -> Result<Self, BoardFault>
+        requires order { IsOrder (W.plan work).jobs.count order.items }
+        requires done { length done.now ≡ (W.plan work).jobs.count }
+        ensures work { IfOk result (λ run. run.work ≡ work) }
+        ensures board { IfOk result (λ run. run.board ≡ board_with done.now order.items) }
+        ensures idle { IfOk result (λ run. (w : ℕ) → hands_at run w ≡ Nothing) }
+        ensures rest { IfOk result (λ run. AtRest run.board) }
+        ensures only_memory { IfErr result (λ fault. fault ≡ BoardFault.Memory) }
+    {
+        let board = Board::with_done(alloc, work.count(), order, done)?;
+        let first = first_worker(alloc, &work)?;
+        let hands = Hands::new(alloc, first);
+        Ok(Execution {
+            alloc,
+            work,
+            board,
+            hands,
+        })
+    }
+}
+
+impl<W: JobMaker> Execution<W> {
+    /// Does these events of any workers, one after the other.
+    pub fn run_events<S: Shelf, B: Bench, T: Watch>(
+        &mut self,
+        events: &[BoardEvent],
+        shelf: &mut S,
+        bench: &mut B,
+        watch: &mut T,
+    ) -> Result<Progress, RunFault>
+        ensures performed { Performed false events.now
+            (snapshot_of (W.plan self.old.work) self.old.board 0 (source_view S.Shelf shelf.old) (output_view B.Bench bench.old))
+            (hands_at self.old)
+            (λ stale. snapshot_of (W.plan self.new.work) self.new.board stale (source_view S.Shelf shelf.new)
+            (output_view B.Bench bench.new))
+            (hands_at self.new) (reported_by result) (end_of result) }
+    {
+        match perform(
+            self.alloc,
+            &mut self.work,
+            &mut self.board,
+            &mut self.hands,
+            false,
+            events,
+            shelf,
+            bench,
+            watch,
+        ) {
+            Ok(progress) => return Ok(progress),
+            Err(fault) => return Err(fault),
+        }
+    }
+
+    /// Does rounds of the worker 1 until all jobs are done. It takes no memory.
+    pub fn run_rounds<S: Shelf, B: Bench, T: Watch>(
+        &mut self,
+        shelf: &mut S,
+        bench: &mut B,
+        watch: &mut T,
+    ) -> Result<Progress, RunFault>
+        ensures performed { Performed true (rounds (3 * (W.plan self.old.work).jobs.count))
+            (snapshot_of (W.plan self.old.work) self.old.board 0 (source_view S.Shelf shelf.old) (output_view B.Bench bench.old))
+            (hands_at self.old)
+            (λ stale. snapshot_of (W.plan self.new.work) self.new.board stale (source_view S.Shelf shelf.new)
+            (output_view B.Bench bench.new))
+            (hands_at self.new) (reported_by result) (end_of result) }
+        ensures no_memory { IsErrOf result run_fault.Memory → ⊥ }
+        ensures finished { IsTrue (S.honest shelf.old) → IsTrue (B.honest bench.old) → AtRest self.old.board
+            → hands_at self.old 1 ≡ Nothing → OnOk result (is_finished self.new.board ≡ true) }
+    {
+        match perform(
+            self.alloc,
+            &mut self.work,
+            &mut self.board,
+            &mut self.hands,
+            true,
+            &[],
+            shelf,
+            bench,
+            watch,
+        ) {
+            Ok(progress) => return Ok(progress),
+            Err(fault) => return Err(fault),
+        }
+    }
+
+    /// Lays out every output, does these events of any workers, or rounds of the worker 1, and makes all outputs durable
+    /// where all jobs are done.
+    pub fn execute<S: Shelf, B: Bench, T: Watch>(
+        &mut self,
+        in_rounds: bool,
+        events: &[BoardEvent],
+        shelf: &mut S,
+        bench: &mut B,
+        watch: &mut T,
+    ) -> Result<Progress, WorkFault>
+        ensures carried { Executed (listed in_rounds (W.plan self.old.work).jobs.count events.now)
+            (snapshot_of (W.plan self.old.work) self.old.board 0 (source_view S.Shelf shelf.old) (output_view B.Bench bench.old))
+            (hands_at self.old)
+            (snapshot_of (W.plan self.new.work) self.new.board 0 (source_view S.Shelf shelf.new) (output_view B.Bench bench.new))
+            (shelf.new ≡ shelf.old) result }
+        ensures finished { IsTrue (S.honest shelf.old) → IsTrue (B.honest bench.old) → in_rounds ≡ true
+            → AtRest self.old.board → hands_at self.old 1 ≡ Nothing → OnOk result (is_finished self.new.board ≡ true) }
+    {
+        match execute(
+            self.alloc,
+            &mut self.work,
+            &mut self.board,
+            &mut self.hands,
+            in_rounds,
+            events,
+            shelf,
+            bench,
+            watch,
+        ) {
+            Ok(progress) => return Ok(progress),
+            Err(fault) => return Err(fault),
+        }
+    }
+
+    /// The same on outputs as they are, in which what is done already stands.
+    pub fn resume<S: Shelf, B: Bench, T: Watch>(
+        &mut self,
+        in_rounds: bool,
+        events: &[BoardEvent],
+        shelf: &mut S,
+        bench: &mut B,
+        watch: &mut T,
+    ) -> Result<Progress, WorkFault>
+        ensures carried { Resumed (listed in_rounds (W.plan self.old.work).jobs.count events.now)
+            (snapshot_of (W.plan self.old.work) self.old.board 0 (source_view S.Shelf shelf.old) (output_view B.Bench bench.old))
+            (hands_at self.old)
+            (snapshot_of (W.plan self.new.work) self.new.board 0 (source_view S.Shelf shelf.new) (output_view B.Bench bench.new))
+            result }
+        ensures finished { IsTrue (S.honest shelf.old) → IsTrue (B.honest bench.old) → in_rounds ≡ true
+            → AtRest self.old.board → hands_at self.old 1 ≡ Nothing → OnOk result (is_finished self.new.board ≡ true) }
+    {
+        match resume(
+            self.alloc,
+            &mut self.work,
+            &mut self.board,
+            &mut self.hands,
+            in_rounds,
+            events,
+            shelf,
+            bench,
+            watch,
+        ) {
+            Ok(progress) => return Ok(progress),
+            Err(fault) => return Err(fault),
+        }
+    }
+}

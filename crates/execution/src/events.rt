@@ -1,0 +1,233 @@
+// One event.
+ghost use Rattle.std.specs.Prelude.{◌≡◌, ◌≢◌, ◌<◌, ◌≤◌, ◌+◌, ◌^◌, ◌∷◌, [], ℕ, IsErrOf, IsOk, None, OnOk, length};
+ghost use Rattle.job_terms.specs.Workers.{jobs_over};
+ghost use Rattle.execution.specs.Ends.{end_of, ended_of, events_of};
+ghost use Rattle.execution.specs.Held.{IsReady, hands_in};
+ghost use Rattle.execution.specs.EventRun.{ActionStep, IsOthers, EventRun, WorkerStep, event_of, snapshot_of};
+ghost use Rattle.execution.specs.Desks.{FitsHand, FitsRoom};
+ghost use Rattle.devices.specs.Views.{output_view, source_view};
+ghost use Rattle.execution.specs.declared.action.Action.TheVariants as action_kind;
+ghost use Rattle.execution.specs.declared.fault.RunFault.TheVariants as run_fault;
+
+use crate::action::Action;
+use crate::hands::Hands;
+use crate::steps::{deliver, fail, hand_out, lose, make};
+use crate::worker::Worker;
+use crate::{JobFault, JobMaker, RunFault};
+use devices::{Bench, Shelf};
+use job_terms::BoardEvent;
+use std::alloc::{AllocError, Global};
+use workboard::Board;
+
+/// One worker does this.
+fn turn<W: JobMaker, S: Shelf, B: Bench>(
+    maker: &mut W,
+    board: &mut Board,
+    stale: &mut u64,
+    worker: &mut Worker,
+    number: u32,
+    action: Action,
+    shelf: &mut S,
+    bench: &mut B,
+) -> Result<(), JobFault>
+    requires whole { length board.old.jobs ≡ (W.plan maker.old).jobs.count }
+    requires fits { FitsHand (W.plan maker.old).jobs worker.old.hand }
+    requires room { action ≡ action_kind.Work → FitsRoom (W.plan maker.old).jobs worker.old }
+    requires few { stale.old + 1 < 2 ^ 64 }
+    ensures went { WorkerStep (ActionStep (W.plan maker.old).marks (jobs_over (W.plan maker.old).jobs (S.stored shelf.old)) action)
+        (snapshot_of (W.plan maker.old) board.old stale.old (source_view S.Shelf shelf.old) (output_view B.Bench bench.old))
+        worker.old.hand
+        (snapshot_of (W.plan maker.new) board.new stale.new (source_view S.Shelf shelf.new) (output_view B.Bench bench.new))
+        worker.new.hand (ended_of result) }
+    ensures fits { FitsHand (W.plan maker.old).jobs worker.new.hand }
+    ensures same_room { worker.new.room ≡ worker.old.room }
+    ensures counted { stale.new ≤ stale.old + 1 }
+{
+    match action {
+        Action::Give => {
+            hand_out(board, worker, number);
+            return Ok(());
+        }
+        Action::Work => return make(maker, board, worker, shelf),
+        Action::Deliver => return deliver(maker, board, stale, worker, bench),
+        Action::Fault => return fail(board, worker),
+        Action::Lose => {
+            lose(worker);
+            return Ok(());
+        }
+    }
+}
+
+/// Makes room for the bytes of the job that the worker holds.
+fn prepare<W: JobMaker>(maker: &W, worker: &mut Worker) -> Result<(), AllocError>
+    requires { FitsHand (W.plan maker.now).jobs worker.old.hand }
+    ensures same { worker.new.hand ≡ worker.old.hand }
+    ensures room { OnOk result (FitsRoom (W.plan maker.now).jobs worker.new) }
+    ensures enough { FitsRoom (W.plan maker.now).jobs worker.old → (IsOk result) × (worker.new.room ≡ worker.old.room) }
+{
+    let Some(ticket) = worker.ticket else {
+        return Ok(());
+    };
+    if worker.made {
+        return Ok(());
+    }
+    let size = maker.size(ticket.job);
+    if size <= worker.bytes.len() {
+        return Ok(());
+    }
+    match worker.bytes.resize(size, 0) {
+        Ok(()) => return Ok(()),
+        Err(_) => return Err(AllocError),
+    }
+}
+
+/// Makes room where the worker is to make bytes.
+fn get_ready<W: JobMaker>(maker: &W, worker: &mut Worker, action: Action) -> Result<(), AllocError>
+    requires { FitsHand (W.plan maker.now).jobs worker.old.hand }
+    ensures same { worker.new.hand ≡ worker.old.hand }
+    ensures room { OnOk result (action ≡ action_kind.Work → FitsRoom (W.plan maker.now).jobs worker.new) }
+    ensures enough { FitsRoom (W.plan maker.now).jobs worker.old → (IsOk result) × (worker.new.room ≡ worker.old.room) }
+{
+    match action {
+        Action::Work => return prepare(maker, worker),
+        Action::Give | Action::Deliver | Action::Fault | Action::Lose => return Ok(()),
+    }
+}
+
+/// The worker of this number does this. Only a place for a worker, and room for the bytes of a job, take memory; where
+/// there is none nothing happens.
+fn act<W: JobMaker, S: Shelf, B: Bench>(
+    alloc: Global,
+    maker: &mut W,
+    board: &mut Board,
+    stale: &mut u64,
+    hands: &mut Hands,
+    number: u32,
+    action: Action,
+    shelf: &mut S,
+    bench: &mut B,
+) -> Result<(), RunFault>
+    requires ready { IsReady (W.plan maker.old).jobs board.old hands.old }
+    requires few { stale.old + 1 < 2 ^ 64 }
+    ensures ran { EventRun
+        (snapshot_of (W.plan maker.old) board.old stale.old (source_view S.Shelf shelf.old) (output_view B.Bench bench.old))
+        (hands_in hands.old) (events_of result (event_of action number))
+        (snapshot_of (W.plan maker.new) board.new stale.new (source_view S.Shelf shelf.new) (output_view B.Bench bench.new))
+        (hands_in hands.new) (end_of result) }
+    ensures ready { IsReady (W.plan maker.old).jobs board.new hands.new }
+    ensures counted { stale.new ≤ stale.old + 1 }
+    ensures needed { IsErrOf result run_fault.Memory → number ≢ 1 }
+{
+    match hands.make_place(alloc, number) {
+        Ok(()) => {}
+        Err(_) => return Err(RunFault::Memory),
+    }
+    let mut worker = hands.take(alloc, number);
+    match get_ready(maker, &mut worker, action) {
+        Ok(()) => {}
+        Err(_) => {
+            hands.put(number, worker);
+            return Err(RunFault::Memory);
+        }
+    }
+    let outcome = turn(
+        maker,
+        board,
+        stale,
+        &mut worker,
+        number,
+        action,
+        shelf,
+        bench,
+    );
+    hands.put(number, worker);
+    match outcome {
+        Ok(()) => return Ok(()),
+        Err(fault) => return Err(RunFault::from(fault)),
+    }
+}
+
+/// One event.
+pub fn step<W: JobMaker, S: Shelf, B: Bench>(
+    alloc: Global,
+    maker: &mut W,
+    board: &mut Board,
+    stale: &mut u64,
+    hands: &mut Hands,
+    event: BoardEvent,
+    shelf: &mut S,
+    bench: &mut B,
+) -> Result<(), RunFault>
+    requires ready { IsReady (W.plan maker.old).jobs board.old hands.old }
+    requires few { stale.old + 1 < 2 ^ 64 }
+    ensures ran { EventRun
+        (snapshot_of (W.plan maker.old) board.old stale.old (source_view S.Shelf shelf.old) (output_view B.Bench bench.old))
+        (hands_in hands.old) (events_of result event)
+        (snapshot_of (W.plan maker.new) board.new stale.new (source_view S.Shelf shelf.new) (output_view B.Bench bench.new))
+        (hands_in hands.new) (end_of result) }
+    ensures ready { IsReady (W.plan maker.old).jobs board.new hands.new }
+    ensures counted { stale.new ≤ stale.old + 1 }
+    ensures needed { IsErrOf result run_fault.Memory → IsOthers event }
+{
+    match event {
+        BoardEvent::Give(number) => return act(
+            alloc,
+            maker,
+            board,
+            stale,
+            hands,
+            number,
+            Action::Give,
+            shelf,
+            bench,
+        ),
+        BoardEvent::Work(number) => return act(
+            alloc,
+            maker,
+            board,
+            stale,
+            hands,
+            number,
+            Action::Work,
+            shelf,
+            bench,
+        ),
+        BoardEvent::Deliver(number) => return act(
+            alloc,
+            maker,
+            board,
+            stale,
+            hands,
+            number,
+            Action::Deliver,
+            shelf,
+            bench,
+        ),
+        BoardEvent::Fault(number) => return act(
+            alloc,
+            maker,
+            board,
+            stale,
+            hands,
+            number,
+            Action::Fault,
+            shelf,
+            bench,
+        ),
+        BoardEvent::Lose(number) => return act(
+            alloc,
+            maker,
+            board,
+            stale,
+            hands,
+            number,
+            Action::Lose,
+            shelf,
+            bench,
+        ),
+        BoardEvent::Reclaim(job) => {
+            board.reclaim(job);
+            return Ok(());
+        }
+    }
+}

@@ -1,0 +1,96 @@
+// What a work is, to a board.
+ghost use Rattle.std.specs.Prelude.{◌≡◌, ◌<◌, ℕ, ⊤, Bool, false, Option, Some, List, length, IsTrue, IsErrOf, OnOk};
+ghost use Rattle.work_terms.specs.Disk.{Files, IsDurable};
+ghost use Rattle.job_terms.specs.Workers.{jobs_over};
+ghost use Rattle.devices.specs.Frame.{OnlyReads, OnlyWrites};
+ghost use Rattle.execution.specs.Filled.{AreParts};
+ghost use Rattle.execution.specs.Marking.{IsRunningBy, LaysBy, LeavesBy, Marking, Marks, NoneStartedBy};
+ghost use Rattle.execution.specs.Plan.{AreBlank, IsOwn, JobPlan, Stays};
+ghost use Rattle.execution.specs.Worlds.{IsPlaced};
+ghost use Rattle.devices.specs.Views.{CrashesLeave, output_view};
+
+use crate::PlaceFault;
+use devices::{Bench, DeviceFault, Shelf};
+
+/// A work: its jobs, each of which makes the bytes of one place of an output, and what comes before and behind them.
+pub trait JobMaker {
+    /// Its jobs, its marks, and all bytes of its outputs.
+    ghost plan: { Self → JobPlan };
+
+    /// How many jobs there are.
+    fn count(&self) -> u32
+        ensures { result ≡ (plan self.now).jobs.count };
+
+    /// How many bytes the job has.
+    fn size(&self, job: u32) -> usize
+        requires { job < (plan self.now).jobs.count }
+        ensures { result ≡ (plan self.now).jobs.size job };
+
+    /// How many frames the job has: what a watch is reported.
+    fn frames(&self, job: u32) -> u64
+        requires { job < (plan self.now).jobs.count };
+
+    /// Makes the bytes of the job. It takes no memory: only the device of a source can fail it.
+    fn make<S: Shelf>(
+        &mut self,
+        job: u32,
+        shelf: &mut S,
+        bytes: &mut [u8],
+    ) -> Result<(), DeviceFault>
+        requires there { job < (plan self.old).jobs.count }
+        requires room { length bytes.old ≡ (plan self.old).jobs.size job }
+        ensures made { IsTrue (S.honest shelf.old)
+            → OnOk result (bytes.new ≡ (plan self.old).jobs.bytes (S.stored shelf.old) job) }
+        ensures same { plan self.new ≡ plan self.old }
+        ensures only_reads { OnlyReads S.Shelf shelf.old shelf.new result (λ _. ⊤) (λ _ failed. ⊤) };
+
+    /// Writes the bytes of the job at its place, and marks it.
+    fn place<B: Bench>(&mut self, job: u32, bytes: &[u8], bench: &mut B) -> Result<(), PlaceFault>
+        requires there { job < (plan self.old).jobs.count }
+        requires room { length bytes.now ≡ (plan self.old).jobs.size job }
+        ensures placed { IsTrue (B.honest bench.old) → IsPlaced (plan self.old).jobs (plan self.old).marks job bytes.now
+            (B.stored bench.old) (B.stored bench.new) result }
+        ensures same { plan self.new ≡ plan self.old }
+        ensures marks { IsTrue (B.honest bench.old) → (sources : Files) (done : ℕ → Bool)
+            → bytes.now ≡ (plan self.old).jobs.bytes sources job → done job ≡ false
+            → IsRunningBy ((plan self.old).marking sources) done (B.may_leave bench.old)
+            → Marks ((plan self.old).marking sources) done job (output_view B.Bench bench.old) (output_view B.Bench bench.new) result }
+        ensures only_marks { IsErrOf result PlaceFault.Mark → IsTrue (plan self.old).marks }
+        ensures only_writes { OnlyWrites B.Bench (Stays (plan self.old)) bench.old bench.new result (λ _. ⊤)
+            (λ fault failed. fault ≡ PlaceFault.Mark → (sources : Files) (m : Marking)
+            → (plan self.old).marking sources ≡ Some m → failed m.marks) };
+
+    /// Lays out every output at full length, zero in the jobs' places, with fresh marks where the work has some.
+    fn lay_out<B: Bench>(&mut self, bench: &mut B) -> Result<(), DeviceFault>
+        ensures laid { IsTrue (B.honest bench.old) → (sources : Files)
+            → AreParts (jobs_over (plan self.old).jobs sources) ((plan self.old).whole sources)
+            → OnOk result (AreBlank (jobs_over (plan self.old).jobs sources) ((plan self.old).whole sources)
+            (B.stored bench.new)) }
+        ensures same { plan self.new ≡ plan self.old }
+        ensures marks { IsTrue (B.honest bench.old) → (sources : Files)
+            → NoneStartedBy ((plan self.old).marking sources) (B.may_leave bench.old)
+            → (done : ℕ → Bool) → ((k : ℕ) → k < (plan self.old).jobs.count → done k ≡ false)
+            → OnOk result (IsRunningBy ((plan self.old).marking sources) done (B.may_leave bench.new)) }
+        ensures any_moment { IsTrue (B.honest bench.old) → (sources : Files)
+            → NoneStartedBy ((plan self.old).marking sources) (B.may_leave bench.old)
+            → CrashesLeave (LaysBy ((plan self.old).marking sources)) (output_view B.Bench bench.old) (output_view B.Bench bench.new) }
+        ensures only_writes { OnlyWrites B.Bench (Stays (plan self.old)) bench.old bench.new result (λ _. ⊤)
+            (λ _ failed. ⊤) };
+
+    /// Makes all outputs durable, once every job is done. What comes last may write files that are none of the jobs'.
+    fn finish<B: Bench>(&mut self, bench: &mut B) -> Result<(), DeviceFault>
+        ensures stays { IsTrue (B.honest bench.old) → (n : List ℕ) → IsOwn (plan self.old) n
+            → B.stored bench.new n ≡ B.stored bench.old n }
+        ensures durable { IsTrue (B.honest bench.old) → OnOk result ((k : ℕ) → k < (plan self.old).jobs.count
+            → IsDurable ((plan self.old).jobs.name k) (B.stored bench.new) (B.may_leave bench.new)) }
+        ensures same { plan self.new ≡ plan self.old }
+        ensures marks { IsTrue (B.honest bench.old) → (sources : Files) (done : ℕ → Bool)
+            → IsRunningBy ((plan self.old).marking sources) done (B.may_leave bench.old)
+            → IsRunningBy ((plan self.old).marking sources) done (B.may_leave bench.new) }
+        ensures any_moment { IsTrue (B.honest bench.old) → (sources : Files) (done : ℕ → Bool)
+            → IsRunningBy ((plan self.old).marking sources) done (B.may_leave bench.old)
+            → CrashesLeave (LeavesBy ((plan self.old).marking sources) done done) (output_view B.Bench bench.old)
+            (output_view B.Bench bench.new) }
+        ensures only_writes { OnlyWrites B.Bench (Stays (plan self.old)) bench.old bench.new result (λ _. ⊤)
+            (λ _ failed. ⊤) };
+}

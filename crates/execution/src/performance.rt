@@ -1,0 +1,162 @@
+// Events, one after the other.
+ghost use Rattle.std.specs.Prelude.{◌≡◌, ◌<◌, ◌*◌, ◌+◌, ℕ, Bool, false, true, cond, IsErrOf, length, slice_index_or};
+ghost use Rattle.job_terms.specs.declared.BoardEvent.TheVariants as event_kind;
+ghost use Rattle.job_terms.specs.Workers.{rounds};
+ghost use Rattle.execution.specs.Ends.{end_of};
+ghost use Rattle.execution.specs.Boards as spec;
+ghost use Rattle.execution.specs.Held.{IsReady, hands_in};
+ghost use Rattle.execution.specs.EventRun.{IsOthers, Performed, listed, snapshot_of, reported_by};
+ghost use Rattle.devices.specs.Views.{output_view, source_view};
+ghost use Rattle.execution.specs.declared.fault.RunFault.TheVariants as run_fault;
+
+use crate::events::step;
+use crate::hands::Hands;
+use crate::{JobMaker, RunFault};
+use devices::{Bench, Shelf, Watch};
+use job_terms::{BoardEvent, Progress};
+use std::alloc::Global;
+use workboard::Board;
+
+/// How far the jobs of a board are, with so many deliveries under stale tickets.
+fn progress_of(board: &Board, stale: u64) -> Progress
+    ensures reported { result ≡ spec.progress_of board.now stale }
+    ensures all { result.idle + result.out + result.done ≡ length board.now.jobs }
+{
+    let counts = board.counts();
+    Progress {
+        idle: counts.idle,
+        out: counts.out,
+        done: counts.done,
+        stale,
+        finished: board.finished(),
+    }
+}
+
+/// An event of the rounds of worker 1.
+fn round_event(i: u64) -> BoardEvent
+    ensures event { (n : ℕ) → i < 3 * n → result ≡ slice_index_or (rounds n) i (event_kind.Lose 0) }
+    ensures first { IsOthers result → ⊥ }
+{
+    let turn = i % 3;
+    if turn == 0 {
+        return BoardEvent::Give(1);
+    }
+    if turn == 1 {
+        return BoardEvent::Work(1);
+    }
+    BoardEvent::Deliver(1)
+}
+
+/// How many events there are.
+fn how_many(in_rounds: bool, events: &[BoardEvent], count: u32) -> u64
+    ensures { result ≡ length (listed in_rounds count events.now) }
+{
+    if in_rounds {
+        return 9 * count as u64;
+    }
+    events.len() as u64
+}
+
+/// The event at this place.
+fn event_at(in_rounds: bool, events: &[BoardEvent], i: u64, count: u32) -> BoardEvent
+    requires { i < length (listed in_rounds count events.now) }
+    ensures event { result ≡ slice_index_or (listed in_rounds count events.now) i (event_kind.Lose 0) }
+    ensures first { in_rounds ≡ true → IsOthers result → ⊥ }
+{
+    if in_rounds {
+        return round_event(i);
+    }
+    events[i as usize]
+}
+
+/// How many frames are there, of so many in all.
+#[derive(Clone, Copy)]
+struct Frames {
+    done: u64,
+    whole: u64,
+}
+
+/// The frames of all jobs, and of those that are done.
+fn frames_so_far<W: JobMaker>(maker: &W, board: &Board) -> Frames {
+    let mut done: u64 = 0;
+    let mut whole: u64 = 0;
+    for job in 0..maker.count() {
+        let frames = maker.frames(job);
+        whole = whole.saturating_add(frames);
+        if board.is_done(job) {
+            done = done.saturating_add(frames);
+        }
+    }
+    Frames { done, whole }
+}
+
+/// The job that the event delivers, if any.
+fn delivered(hands: &Hands, event: BoardEvent) -> Option<u32> {
+    let BoardEvent::Deliver(number) = event else {
+        return None;
+    };
+    if number == 1 {
+        return hands.first.job();
+    }
+    match hands.others.get(&number) {
+        Some(worker) => worker.job(),
+        None => None,
+    }
+}
+
+/// Tells the watch of this job, if it is done.
+fn tell<W: JobMaker, T: Watch>(
+    maker: &W,
+    board: &Board,
+    job: Option<u32>,
+    frames: &mut Frames,
+    watch: &mut T,
+) {
+    let Some(job) = job else {
+        return;
+    };
+    if job >= maker.count() || !board.is_done(job) {
+        return;
+    }
+    frames.done = frames.done.saturating_add(maker.frames(job));
+    watch.reached(frames.done, frames.whole);
+}
+
+/// Does these events one after the other, or rounds of the worker 1 until all jobs are done.
+pub fn perform<W: JobMaker, S: Shelf, B: Bench, T: Watch>(
+    alloc: Global,
+    maker: &mut W,
+    board: &mut Board,
+    hands: &mut Hands,
+    in_rounds: bool,
+    events: &[BoardEvent],
+    shelf: &mut S,
+    bench: &mut B,
+    watch: &mut T,
+) -> Result<Progress, RunFault>
+    requires { IsReady (W.plan maker.old).jobs board.old hands.old }
+    ensures performed { Performed in_rounds (listed in_rounds (W.plan maker.old).jobs.count events.now)
+        (snapshot_of (W.plan maker.old) board.old 0 (source_view S.Shelf shelf.old) (output_view B.Bench bench.old))
+        (hands_in hands.old)
+        (λ stale. snapshot_of (W.plan maker.new) board.new stale (source_view S.Shelf shelf.new) (output_view B.Bench bench.new))
+        (hands_in hands.new) (reported_by result) (end_of result) }
+    ensures ready { IsReady (W.plan maker.new).jobs board.new hands.new }
+    ensures needed { IsErrOf result run_fault.Memory → in_rounds ≡ false }
+{
+    let count = maker.count();
+    let whole = how_many(in_rounds, events, count);
+    let mut frames = frames_so_far(maker, board);
+    let mut stale: u64 = 0;
+    for i in 0..whole {
+        if in_rounds && board.finished() {
+            return Ok(progress_of(board, stale));
+        }
+        let event = event_at(in_rounds, events, i, count);
+        let job = delivered(hands, event);
+        match step(alloc, maker, board, &mut stale, hands, event, shelf, bench) {
+            Ok(()) => tell(maker, board, job, &mut frames, watch),
+            Err(fault) => return Err(fault),
+        }
+    }
+    Ok(progress_of(board, stale))
+}
