@@ -1,6 +1,7 @@
 -- One run after another.
 use Rattle.std.proofs.Common.{◌≡◌, ◌∙◌, ℕ, ◌<◌, Bool, true, false, cond, IsTrue, Option, Some, None, Err, List, [], ◌∷◌, ◌++◌, length, length-set, take, get_or, ◌+◌, refl, sym, ap, subst, arith}
 use Rattle.std.proofs.lemmas.List.{append-nil, take_more}
+use Rattle.std.specs.Prelude.{IsErrOf}
 use Rattle.work_terms.specs.Disk.{Files}
 use Rattle.job_terms.specs.declared.BoardEvent.{BoardEvent}
 use Rattle.job_terms.specs.Workers.{BoardRun, BoardStep, End, GivenUp, Hand, HandStep, MarkFailed, State, jobs_over, with_hand}
@@ -13,12 +14,11 @@ use Rattle.execution.specs.EventRun.{ActionStep, IsConfined, MarkFails, Performe
 use Rattle.job_terms.specs.declared.BoardEvent.TheVariants as event
 use Rattle.job_terms.specs.Board.{Board, is_out, job_at, reopened}
 use Rattle.job_terms.specs.Workers.{Jobs, World}
-use Rattle.execution.specs.Ends.{end_of, ended_of, events_of, run_of}
+use Rattle.execution.specs.Ends.{NeedsPlace, NeedsRoom, end_of, ended_of, events_of, fault_of}
 use Rattle.execution.specs.declared.fault.JobFault.{JobFault}
 use Rattle.execution.specs.declared.fault.JobFault.TheVariants as job_fault
-use Rattle.execution.specs.declared.fault.RunFault.{RunFault}
-use Rattle.execution.specs.declared.fault.RunFault.TheVariants as run_fault
-use Rattle.job_terms.specs.declared.Progress.{Progress}
+use Rattle.execution.specs.declared.fault.ExecutionFault.{ExecutionFault}
+use Rattle.execution.specs.declared.fault.ExecutionFault.TheVariants as fault
 use Rattle.execution.specs.Worlds.{IsWorld, Leads, state_of}
 use Rattle.devices.specs.Views.{OutputView, Reads, SourceView, Writes}
 use Rattle.execution.proofs.Firsts.{rises-after}
@@ -173,16 +173,17 @@ step-quiet by p p' board board' stale stale' s s' o hand now e plan size reads o
 }
 
 -- how a step of one worker ends is how the run of events does
-pub run-outcome : (a b : Snapshot) (had has : ℕ → Hand) (event : BoardEvent) (fault : JobFault) (reported : RunFault)
-    → reported ≡ run_of fault → EventRun a had (event ∷ []) b has (ended_of {X = Unit {0}} (Err fault))
+pub run-outcome : (a b : Snapshot) (had has : ℕ → Hand) (event : BoardEvent) (job : JobFault) (reported : ExecutionFault)
+    → reported ≡ fault_of job → EventRun a had (event ∷ []) b has (ended_of {X = Unit {0}} (Err job))
     → EventRun a had (events_of {X = Unit {0}} (Err reported) event) b has (end_of {X = Unit {0}} (Err reported))
-run-outcome a b had has event fault reported is h =
-    subst (λ (f : RunFault). EventRun a had (events_of {X = Unit {0}} (Err f) event) b has (end_of {X = Unit {0}} (Err f)))
-    (sym is) (go fault h)
+run-outcome a b had has event job reported is h =
+    subst (λ (f : ExecutionFault). EventRun a had (events_of {X = Unit {0}} (Err f) event) b has
+    (end_of {X = Unit {0}} (Err f))) (sym is) (go job h)
   where
     go : (f : JobFault) → EventRun a had (event ∷ []) b has (ended_of {X = Unit {0}} (Err f))
-        → EventRun a had (events_of {X = Unit {0}} (Err (run_of f)) event) b has (end_of {X = Unit {0}} (Err (run_of f)))
-    go (job_fault.GivenUp job) r = r
+        → EventRun a had (events_of {X = Unit {0}} (Err (fault_of f)) event) b has
+        (end_of {X = Unit {0}} (Err (fault_of f)))
+    go (job_fault.GivenUp k) r = r
     go job_fault.Mark r = r
 
 -- a job is open again
@@ -264,35 +265,59 @@ run-next a b c ha hb hc events i event d lt is g h =
     (run-then a b c ha hb hc (take i events) (event ∷ []) None g h))
 
 -- the event that ended it, or none where no memory was left
-pub performed-ended : (in_rounds : Bool) (events : List BoardEvent) (i stale : ℕ) (event d : BoardEvent) (fault : RunFault)
-    (a b : Snapshot) (c : ℕ → Snapshot) (ha hb hc : ℕ → Hand) → i < length events → event ≡ get_or events i d
+pub performed-ended : (in_rounds : Bool) (events : List BoardEvent) (i stale : ℕ) (this : BoardEvent)
+    (f : ExecutionFault) (a b : Snapshot) (c : ℕ → Snapshot) (ha hb hc : ℕ → Hand) → i < length events
+    → this ≡ get_or events i (event.Lose 0)
     → EventRun a ha (take i events) b hb None
-    → EventRun b hb (events_of {X = Unit {0}} (Err fault) event) (c stale) hc (end_of {X = Unit {0}} (Err fault))
-    → Performed in_rounds events a ha c hc None (end_of {X = Progress} (Err fault))
-performed-ended in_rounds events i stale event d fault a b c ha hb hc lt is g h = go fault h
+    → EventRun b hb (events_of {X = Unit {0}} (Err f) this) (c stale) hc (end_of {X = Unit {0}} (Err f))
+    → (IsErrOf {T = Unit {0}} (Err f) fault.Memory → NeedsPlace this)
+    → (IsErrOf {T = Unit {0}} (Err f) fault.JobMemory → NeedsRoom this)
+    → ((file : ℕ) → IsErrOf {T = Unit {0}} (Err f) (fault.Output file) → ⊥)
+    → Performed in_rounds events a ha c hc (Err f)
+performed-ended in_rounds events i stale this f a b c ha hb hc lt is g h place room none = go f h place room none
   where
-    last : (e : Option End) → EventRun b hb (event ∷ []) (c stale) hc e → Performed in_rounds events a ha c hc None e
-    last e r = record {
-      count = i + 1;
-      few = omega (arith, lt);
-      stale = stale;
-      ran = subst (λ (es : List BoardEvent). EventRun a ha es (c stale) hc e) (sym (take_more events i d lt))
-          (subst (λ (x : BoardEvent). EventRun a ha (take i events ++ x ∷ []) (c stale) hc e) is
-          (run-then a b (c stale) ha hb hc (take i events) (event ∷ []) e g r));
-      progress = tt;
-      all = λ none. cc;
-    }
+    last : (e : Option End) → EventRun b hb (this ∷ []) (c stale) hc e → EventRun a ha (take (i + 1) events) (c stale) hc e
+    last e r = subst (λ (es : List BoardEvent). EventRun a ha es (c stale) hc e)
+        (sym (take_more events i (event.Lose 0) lt))
+        (subst (λ (x : BoardEvent). EventRun a ha (take i events ++ x ∷ []) (c stale) hc e) is
+        (run-then a b (c stale) ha hb hc (take i events) (this ∷ []) e g r))
 
-    go : (f : RunFault) → EventRun b hb (events_of {X = Unit {0}} (Err f) event) (c stale) hc (end_of {X = Unit {0}} (Err f))
-        → Performed in_rounds events a ha c hc None (end_of {X = Progress} (Err f))
-    go (run_fault.GivenUp job) r = last (Some (GivenUp job)) r
-    go run_fault.Mark r = last (Some MarkFailed) r
-    go run_fault.Memory r = record {
+    before : EventRun b hb [] (c stale) hc None → EventRun a ha (take i events) (c stale) hc None
+    before r = subst (λ (es : List BoardEvent). EventRun a ha es (c stale) hc None) (append-nil (take i events))
+        (run-then a b (c stale) ha hb hc (take i events) [] None g r)
+
+    go : (f : ExecutionFault)
+        → EventRun b hb (events_of {X = Unit {0}} (Err f) this) (c stale) hc (end_of {X = Unit {0}} (Err f))
+        → (IsErrOf {T = Unit {0}} (Err f) fault.Memory → NeedsPlace this)
+        → (IsErrOf {T = Unit {0}} (Err f) fault.JobMemory → NeedsRoom this)
+        → ((file : ℕ) → IsErrOf {T = Unit {0}} (Err f) (fault.Output file) → ⊥)
+        → Performed in_rounds events a ha c hc (Err f)
+    go fault.Memory r place room none = record {
       count = i;
       few = omega (arith, lt);
       stale = stale;
-      ran = subst (λ (es : List BoardEvent). EventRun a ha es (c stale) hc None) (append-nil (take i events))
-          (run-then a b (c stale) ha hb hc (take i events) [] None g r);
-      progress = tt;
-      all = λ none. cc;
+      ran = before r;
+      stops = (lt, subst NeedsPlace is (place refl));
     }
+    go fault.JobMemory r place room none = record {
+      count = i;
+      few = omega (arith, lt);
+      stale = stale;
+      ran = before r;
+      stops = (lt, subst NeedsRoom is (room refl));
+    }
+    go (fault.GivenUp job) r place room none = record {
+      count = i + 1;
+      few = omega (arith, lt);
+      stale = stale;
+      ran = last (Some (GivenUp job)) r;
+      stops = tt;
+    }
+    go fault.Mark r place room none = record {
+      count = i + 1;
+      few = omega (arith, lt);
+      stale = stale;
+      ran = last (Some MarkFailed) r;
+      stops = tt;
+    }
+    go (fault.Output file) r place room none = absurd (none file refl)

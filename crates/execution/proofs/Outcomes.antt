@@ -1,49 +1,54 @@
 -- A work that is laid out, done and finished.
-use Rattle.std.proofs.Common.{◌≡◌, ◌⊎◌, ◌∙◌, ℕ, ◌<◌, Bool, true, false, IsTrue, Option, Some, None, Result, Err, List, length, take, refl, sym, ap, subst, inl, inr, arith}
-use Rattle.std.specs.Prelude.{not}
+use Rattle.std.proofs.Common.{◌≡◌, ◌⊎◌, ◌∙◌, ℕ, ◌<◌, ◌≤◌, Bool, true, false, IsTrue, Option, Some, None, Result, Ok, Err, List, length, take, refl, sym, ap, subst, inl, inr, arith}
+use Rattle.std.specs.Prelude.{IfErr, IsOk, OnOk, not}
 use Rattle.work_terms.specs.Disk.{Files}
+use Rattle.devices.specs.Views.{CrashesLeave, OutputView, SourceView, Writes}
+use Rattle.devices.specs.ViewLaws.{crashes_then, crashes_weaker, reads_none, writes_then, writes_wider}
 use Rattle.job_terms.specs.declared.BoardEvent.{BoardEvent}
 use Rattle.job_terms.specs.declared.Progress.{Progress}
 use Rattle.job_terms.specs.Board.{Board, is_finished}
-use Rattle.job_terms.specs.Workers.{BoardRun, End, GivenUp, Hand, MarkFailed, Nothing, jobs_over}
-use Rattle.job_terms.specs.Workers.{Jobs, State, World}
-use Rattle.devices.specs.ViewLaws.{crashes_then, crashes_weaker}
-use Rattle.execution.specs.Outcome.{Outcome, EventsDone, SetsBy, Stopped, work_of}
-use Rattle.execution.specs.Ends.{end_of}
+use Rattle.job_terms.specs.Workers.{BoardRun, End, Hand, Jobs, MarkFailed, Nothing, State, World, jobs_over}
 use Rattle.execution.specs.Boards.{progress_of}
-use Rattle.execution.specs.Marking.{IsRight, LaysBy, LeavesBy, Marking, MarksOn, RunsOn, done_of}
+use Rattle.execution.specs.Ends.{end_of}
+use Rattle.execution.specs.EventRun.{MarkFails, Performed, Snapshot, listed, snapshot_of}
 use Rattle.execution.specs.Filled.{AreApart, AreFilled, AreParts, IsGood}
-use Rattle.execution.specs.Plan.{AreBlank, JobPlan}
-use Rattle.execution.specs.EventRun.{IsConfined, Performed, EventRun, Snapshot, jobs_of, marking_of, snapshot_of, state_at}
+use Rattle.execution.specs.Marking.{IsRight, IsRunningBy, LaysBy, LeavesBy, Marking, MarksOn, NoneStartedBy, done_of}
+use Rattle.execution.specs.Outcome.{EventsDone, Executed, Finished, HasFailed, NotFinished, NotLaidOut, Outcome, OutputFails, Resumed, SetsBy, Stopped, StopsWith}
+use Rattle.execution.specs.Plan.{AreBlank, AreDurable, HoldJobs, HoldLast, IsForeign, IsLast, IsOwn, JobPlan, Stays}
 use Rattle.execution.specs.Worlds.{Leads, state_of}
-use Rattle.devices.specs.Views.{CrashesLeave, OutputView, SourceView}
-use Rattle.execution.specs.declared.fault.RunFault.{RunFault}
-use Rattle.execution.specs.declared.fault.RunFault.TheVariants as run_fault
-use Rattle.execution.specs.declared.fault.WorkFault.{WorkFault}
+use Rattle.execution.specs.declared.fault.ExecutionFault.{ExecutionFault}
+use Rattle.execution.specs.declared.fault.ExecutionFault.TheVariants as fault
+use Rattle.execution.specs.declared.fault.OutputFault.{OutputFault}
 use Rattle.execution.proofs.Fills.{filled-whole}
+use Rattle.execution.proofs.Firsts.{rises-after}
 use Rattle.execution.proofs.Laws.{laws-kept}
 use Rattle.execution.proofs.LeadLaws.{leads-good, leads-keeps}
-use Rattle.execution.proofs.Rests.{finished-done}
 use Rattle.execution.proofs.Marked.{leaves-wider}
+use Rattle.execution.proofs.Rests.{finished-done}
 
 apart : false ≡ true → ⊥
 apart h = cc
 
--- how many deliveries were stale is none of it
-pub confined-stale : (a : Snapshot) (p : JobPlan) (board : Board) (stale other : ℕ) (s : SourceView) (o : OutputView) (e : Option End)
-    → IsConfined a (snapshot_of p board stale s o) e → IsConfined a (snapshot_of p board other s o) None
-confined-stale a p board stale other s o e k = record {
-  plan = k.plan;
-  size = k.size;
-  source = k.source;
-  output = k.output;
-  mark = λ is. absurd (none is);
-}
-  where
-    none : None ≡ Some MarkFailed → ⊥
-    none h = cc
+pub not-true : (b : Bool) → not b ≡ true → b ≡ false
+not-true true e = absurd (apart e)
+not-true false e = refl
 
--- ---- what the events led to
+pub not-false : (b : Bool) → not b ≡ false → b ≡ true
+not-false true e = refl
+not-false false e = absurd (apart (sym e))
+
+-- what is reported of the board
+pub reported-finished : (p : Progress) (board : Board) (stale : ℕ) (b : Bool) → p ≡ progress_of board stale → p.finished ≡ b
+    → is_finished board ≡ b
+reported-finished p board stale b is e = ap (λ (x : Progress). x.finished) (sym is) ∙ e
+
+-- where the jobs aren't finished all events were done
+all-events : (b : Bool) (count n : ℕ) (r : Type 0) → (count ≡ n) ⊎ (r × (b ≡ true)) → b ≡ false → count ≡ n
+all-events b count n r all e = elim all [ inl same ↦ same | inr finished ↦ absurd (apart (sym e ∙ finished.1)) ]
+
+-- hands that hold nothing are right
+idle-right : (jobs : Jobs) (hands : ℕ → Hand) → ((w : ℕ) → hands w ≡ Nothing) → (w : ℕ) → IsRight jobs (hands w)
+idle-right jobs hands idle w = subst (IsRight jobs) (sym (idle w)) tt
 
 -- from hands that hold nothing
 leads-idle : (by : World → World → Type 0) (old new : State) (had has : ℕ → Hand) → ((w : ℕ) → had w ≡ Nothing)
@@ -55,8 +60,239 @@ leads-idle by old new had has idle lead = record {
   });
 }
 
+-- ---- events on outputs as they are
+
+module _ (in_rounds : Bool) (events : List BoardEvent) (p p2 : JobPlan) (board board2 : Board) (s s2 : SourceView)
+    (o o2 : OutputView) (had has : ℕ → Hand) (result : Result Progress ExecutionFault)
+    (h : Performed in_rounds events (snapshot_of p board 0 s o) had (λ stale. snapshot_of p2 board2 stale s2 o2) has result)
+    (size : length board.jobs ≡ p.jobs.count) where
+  pub events-done : IsTrue s.honest → IsTrue o.honest → AreParts (jobs_over p.jobs s.files) (p.whole s.files)
+      → AreApart (jobs_over p.jobs s.files) → ((w : ℕ) → had w ≡ Nothing)
+      → AreFilled (jobs_over p.jobs s.files) (p.whole s.files) (done_of board) o.files
+      → EventsDone (λ laid. laid ≡ o.files) events (snapshot_of p board 0 s o) had board2 o2.files s2.failures
+      o2.failures h.stale h.count (end_of result)
+  events-done honest whole parts separate none filled = record {
+    laid = o.files;
+    begins = refl;
+    few = h.few;
+    hands = has;
+    run = led;
+    filled = (leads-good p.marks jobs (p.whole s.files) (take h.count events) old new has parts idle good).filled;
+    complete = λ finished k lt. filled-whole jobs (jobs.name k) (p.whole s.files (jobs.name k)) (done_of board2)
+        (o2.files (jobs.name k)) (λ j below. finished-done board2 finished j (all j below))
+        ((leads-good p.marks jobs (p.whole s.files) (take h.count events) old new has parts idle good).filled.each k lt);
+    laws = laws-kept p.marks jobs (p.whole s.files) events (take h.count events) old new has parts separate good refl
+        idle;
+  }
+    where
+      jobs : Jobs
+      jobs = jobs_over p.jobs s.files
+
+      old : State
+      old = state_of board o.files 0 s.failures o.failures None
+
+      new : State
+      new = state_of board2 o2.files h.stale s2.failures o2.failures (end_of result)
+
+      led : Leads (λ world next. BoardRun p.marks (jobs_over p.jobs s.files) world (take h.count events) next)
+          (state_of board o.files 0 s.failures o.failures None) had
+          (state_of board2 o2.files h.stale s2.failures o2.failures (end_of result)) has
+      led = h.ran.run honest whole
+
+      idle : Leads (λ world next. BoardRun p.marks (jobs_over p.jobs s.files) world (take h.count events) next)
+          (state_of board o.files 0 s.failures o.failures None) (λ _. Nothing)
+          (state_of board2 o2.files h.stale s2.failures o2.failures (end_of result)) has
+      idle = leads-idle (λ world next. BoardRun p.marks (jobs_over p.jobs s.files) world (take h.count events) next)
+          (state_of board o.files 0 s.failures o.failures None)
+          (state_of board2 o2.files h.stale s2.failures o2.failures (end_of result)) had has none led
+
+      good : IsGood (jobs_over p.jobs s.files) (p.whole s.files)
+          (state_of board o.files 0 s.failures o.failures None)
+      good = record { board = size; filled = filled }
+
+      all : (j : ℕ) → j < p.jobs.count → j < length board2.jobs
+      all j lt = omega (arith, lt, size, h.ran.kept.size)
+
+  -- what the marks are after the events, and were at each moment of them
+  pub events-marked : IsTrue s.honest → IsTrue o.honest → ((w : ℕ) → had w ≡ Nothing)
+      → IsRunningBy (p.marking s.files) (done_of board) o.may_leave
+      → MarksOn (p.marking s.files) (done_of board) o (done_of board2) o2 (end_of result)
+  events-marked honest whole none running =
+      h.ran.marks honest whole (idle-right (jobs_over p.jobs s.files) had none) running
+
+  -- what is done stays done
+  done-stay : IsTrue s.honest → IsTrue o.honest → (k : ℕ) → done_of board k ≡ true → done_of board2 k ≡ true
+  done-stay honest whole = leads-keeps p.marks (jobs_over p.jobs s.files) (take h.count events)
+      (state_of board o.files 0 s.failures o.failures None)
+      (state_of board2 o2.files h.stale s2.failures o2.failures (end_of result)) had has (h.ran.run honest whole)
+
+  has-failed : (r : Result Progress ExecutionFault) → StopsWith events h.count board2 h.stale r
+      → (end_of r ≡ Some MarkFailed → MarkFails p o o2) → HasFailed p o o2 r
+  has-failed (Ok progress) stops mark = tt
+  has-failed (Err fault.Memory) stops mark = tt
+  has-failed (Err fault.JobMemory) stops mark = tt
+  has-failed (Err (fault.GivenUp job)) stops mark = tt
+  has-failed (Err fault.Mark) stops mark = mark refl
+  has-failed (Err (fault.Output file)) stops mark = absurd stops
+
+  -- the events ended, or jobs are left
+  pub stopped : StopsWith events h.count board2 h.stale result
+      → Resumed events (snapshot_of p board 0 s o) had (snapshot_of p2 board2 0 s2 o2) result
+  stopped stops = record {
+    bounded = record {
+      plan = h.ran.kept.plan;
+      size = h.ran.kept.size;
+      source = h.ran.kept.source;
+      output = writes_wider (Stays p) (IsForeign p) {old = o} {new = o2} (λ n f. f.stays) h.ran.kept.output;
+      failed = has-failed result stops h.ran.kept.mark;
+      order = λ honest i last stays before. h.ran.kept.output.others honest (p.output i) stays;
+    };
+    outcome = λ honest whole parts separate resting. Stopped h.stale h.count
+        (events-done honest whole parts separate resting.marked.idle resting.filled) stops h.ran.kept.output
+        (events-marked honest whole resting.marked.idle resting.marked.running).now;
+    moments = λ honest whole marked. (events-marked honest whole marked.idle marked.running).moments;
+  }
+
+-- with jobs left
+pub stopped-early : (in_rounds : Bool) (events : List BoardEvent) (p p2 : JobPlan) (board board2 : Board) (s s2 : SourceView)
+    (o o2 : OutputView) (had has : ℕ → Hand) (progress : Progress)
+    → Performed in_rounds events (snapshot_of p board 0 s o) had (λ stale. snapshot_of p2 board2 stale s2 o2) has
+    (Ok progress)
+    → length board.jobs ≡ p.jobs.count → progress.finished ≡ false
+    → Resumed events (snapshot_of p board 0 s o) had (snapshot_of p2 board2 0 s2 o2) (Ok progress)
+stopped-early in_rounds events p p2 board board2 s s2 o o2 had has progress h size left =
+    stopped in_rounds events p p2 board board2 s s2 o o2 had has (Ok progress) h size
+    (h.stops.0, left_of, all-events (is_finished board2) h.count (length events) (in_rounds ≡ true) h.stops.1 left_of)
+  where
+    left_of : is_finished board2 ≡ false
+    left_of = reported-finished progress board2 h.stale false h.stops.0 left
+
+-- ---- what comes last
+
+-- what `finish` reports
+pub record Finishes (plan : JobPlan) (old new : OutputView) (result : Result (Unit {0}) OutputFault) : Type 0 where
+  pub stays : IsTrue old.honest → (n : List ℕ) → IsOwn plan n → new.files n ≡ old.files n
+  pub last : IsTrue old.honest → (sources : Files) → HoldJobs plan sources old.files
+      → OnOk result (HoldLast plan sources new.files)
+  pub in_order : IsTrue old.honest → IfErr result (λ fault. (i : ℕ) → IsLast plan i → fault.file < i
+      → new.files (plan.output i) ≡ old.files (plan.output i))
+  pub durable : IsTrue old.honest → OnOk result (AreDurable plan new.files new.may_leave)
+  pub marks : IsTrue old.honest → (sources : Files) (done : ℕ → Bool)
+      → IsRunningBy (plan.marking sources) done old.may_leave → IsRunningBy (plan.marking sources) done new.may_leave
+  pub any_moment : IsTrue old.honest → (sources : Files) (done : ℕ → Bool)
+      → IsRunningBy (plan.marking sources) done old.may_leave
+      → CrashesLeave (LeavesBy (plan.marking sources) done done) old new
+  pub output : Writes (IsForeign plan) old new
+  pub quiet : IsOk result → new.failures ≡ old.failures
+  pub failed : IfErr result (λ fault. OutputFails plan fault.file old new)
+
+module _ (in_rounds : Bool) (events : List BoardEvent) (p p2 p3 : JobPlan) (board board2 : Board) (s s2 : SourceView)
+    (o o2 o3 : OutputView) (had has : ℕ → Hand) (progress : Progress)
+    (h : Performed in_rounds events (snapshot_of p board 0 s o) had (λ stale. snapshot_of p2 board2 stale s2 o2) has
+    (Ok progress)) (size : length board.jobs ≡ p.jobs.count) (finished : progress.finished ≡ true) (same : p3 ≡ p2) where
+  all-done : is_finished board2 ≡ true
+  all-done = reported-finished progress board2 h.stale true h.stops.0 finished
+
+  on : IsTrue o.honest → IsTrue o2.honest
+  on whole = subst IsTrue (sym h.ran.kept.output.same_honest) whole
+
+  written : Writes (IsForeign p) o o2
+  written = writes_wider (Stays p) (IsForeign p) {old = o} {new = o2} (λ n f. f.stays) h.ran.kept.output
+
+  did : IsTrue s.honest → IsTrue o.honest → AreParts (jobs_over p.jobs s.files) (p.whole s.files)
+      → AreApart (jobs_over p.jobs s.files) → ((w : ℕ) → had w ≡ Nothing)
+      → AreFilled (jobs_over p.jobs s.files) (p.whole s.files) (done_of board) o.files
+      → EventsDone (λ laid. laid ≡ o.files) events (snapshot_of p board 0 s o) had board2 o2.files s2.failures
+      o2.failures h.stale h.count None
+  did = events-done in_rounds events p p2 board board2 s s2 o o2 had has (Ok progress) h size
+
+  marked : IsTrue s.honest → IsTrue o.honest → ((w : ℕ) → had w ≡ Nothing)
+      → IsRunningBy (p.marking s.files) (done_of board) o.may_leave
+      → MarksOn (p.marking s.files) (done_of board) o (done_of board2) o2 None
+  marked = events-marked in_rounds events p p2 board board2 s s2 o o2 had has (Ok progress) h size
+
+  moments-on : (r : Result (Unit {0}) OutputFault) → Finishes p o2 o3 r → IsTrue s.honest → IsTrue o.honest
+      → ((w : ℕ) → had w ≡ Nothing) → IsRunningBy (p.marking s.files) (done_of board) o.may_leave
+      → CrashesLeave (LeavesBy (p.marking s.files) (done_of board) (done_of board2)) o o3
+  moments-on r fin honest whole none running =
+      crashes_then {P = LeavesBy (p.marking s.files) (done_of board) (done_of board2)} {old = o} {mid = o2} {new = o3}
+      (marked honest whole none running).moments
+      (crashes_weaker (LeavesBy (p.marking s.files) (done_of board2) (done_of board2))
+      (LeavesBy (p.marking s.files) (done_of board) (done_of board2)) {old = o2} {new = o3}
+      (λ c. leaves-wider (p.marking s.files) (done_of board2) (done_of board2) (done_of board) (done_of board2) c
+      (done-stay in_rounds events p p2 board board2 s s2 o o2 had has (Ok progress) h size honest whole) (λ k d. d))
+      (fin.any_moment (on whole) s.files (done_of board2) (marked honest whole none running).now))
+
+  pub finished-all : Finishes p2 o2 o3 (Ok tt)
+      → Resumed events (snapshot_of p board 0 s o) had (snapshot_of p3 board2 0 s2 o3) (Ok progress)
+  finished-all fin2 = record {
+    bounded = record {
+      plan = same ∙ h.ran.kept.plan;
+      size = h.ran.kept.size;
+      source = h.ran.kept.source;
+      output = writes_then {stays = IsForeign p} {old = o} {mid = o2} {new = o3} written fin.output;
+      failed = tt;
+      order = λ honest i last stays before. absurd (apart (sym before ∙ finished));
+    };
+    outcome = λ honest whole parts separate resting. Finished h.stale h.count o2.files
+        (subst (λ (n : ℕ). EventsDone (λ laid. laid ≡ o.files) events (snapshot_of p board 0 s o) had board2 o2.files
+        s2.failures n h.stale h.count None) (sym (fin.quiet refl))
+        (did honest whole parts separate resting.marked.idle resting.filled))
+        all-done (ap {B = Result Progress ExecutionFault} (λ (x : Progress). Ok x) h.stops.0)
+        (fin.stays (on whole))
+        (fin.last (on whole) s.files ((did honest whole parts separate resting.marked.idle resting.filled).complete all-done))
+        (fin.durable (on whole))
+        (fin.marks (on whole) s.files (done_of board2) (marked honest whole resting.marked.idle resting.marked.running).now);
+    moments = λ honest whole running. moments-on (Ok tt) fin honest whole running.idle running.running;
+  }
+    where
+      fin : Finishes p o2 o3 (Ok tt)
+      fin = subst (λ (q : JobPlan). Finishes q o2 o3 (Ok tt)) h.ran.kept.plan fin2
+
+  pub finish-failed : (f : OutputFault) (reported : ExecutionFault) → reported ≡ fault.Output f.file
+      → Finishes p2 o2 o3 (Err f)
+      → Resumed events (snapshot_of p board 0 s o) had (snapshot_of p3 board2 0 s2 o3) (Err reported)
+  finish-failed f reported is fin2 = subst (λ (x : ExecutionFault). Resumed events (snapshot_of p board 0 s o) had
+      (snapshot_of p3 board2 0 s2 o3) (Err x)) (sym is) (record {
+        bounded = record {
+          plan = same ∙ h.ran.kept.plan;
+          size = h.ran.kept.size;
+          source = h.ran.kept.source;
+          output = writes_then {stays = IsForeign p} {old = o} {mid = o2} {new = o3} written fin.output;
+          failed = record {
+            rose = rises-after o.failures o2.failures o3.failures h.ran.kept.output.later fin.failed.rose;
+            failed = fin.failed.failed;
+          };
+          order = λ whole i last stays before. fin.in_order (on whole) i last before
+              ∙ h.ran.kept.output.others whole (p.output i) stays;
+        };
+        outcome = λ honest whole parts separate resting. NotFinished f.file h.stale h.count o2.failures o2.files
+            (did honest whole parts separate resting.marked.idle resting.filled) all-done refl (fin.stays (on whole))
+            fin.failed.rose
+            (fin.marks (on whole) s.files (done_of board2) (marked honest whole resting.marked.idle resting.marked.running).now);
+        moments = λ honest whole running. moments-on (Err f) fin honest whole running.idle running.running;
+      })
+    where
+      fin : Finishes p o2 o3 (Err f)
+      fin = subst (λ (q : JobPlan). Finishes q o2 o3 (Err f)) h.ran.kept.plan fin2
+
+-- ---- outputs that are laid out first
+
+-- what `lay_out` reports
+pub record LaysOut (plan : JobPlan) (old new : OutputView) (result : Result (Unit {0}) OutputFault) : Type 0 where
+  pub laid : IsTrue old.honest → (sources : Files) → AreParts (jobs_over plan.jobs sources) (plan.whole sources)
+      → OnOk result (AreBlank (jobs_over plan.jobs sources) (plan.whole sources) new.files)
+  pub marks : IsTrue old.honest → (sources : Files) → NoneStartedBy (plan.marking sources) old.may_leave
+      → (done : ℕ → Bool) → ((k : ℕ) → k < plan.jobs.count → done k ≡ false)
+      → OnOk result (IsRunningBy (plan.marking sources) done new.may_leave)
+  pub any_moment : IsTrue old.honest → (sources : Files) → NoneStartedBy (plan.marking sources) old.may_leave
+      → CrashesLeave (LaysBy (plan.marking sources)) old new
+  pub output : Writes (Stays plan) old new
+  pub quiet : IsOk result → new.failures ≡ old.failures
+  pub failed : IfErr result (λ fault. OutputFails plan fault.file old new)
+
 -- what is laid out is filled by no job
-pub blank-filled : (jobs : Jobs) (whole : List ℕ → List ℕ) (done : ℕ → Bool) (files : Files)
+blank-filled : (jobs : Jobs) (whole : List ℕ → List ℕ) (done : ℕ → Bool) (files : Files)
     → ((k : ℕ) → k < jobs.count → done k ≡ false) → AreBlank jobs whole files → AreFilled jobs whole done files
 blank-filled jobs whole done files none blank = record {
   each = λ j lt. let b = blank.each j lt in record {
@@ -67,134 +303,144 @@ blank-filled jobs whole done files none blank = record {
   };
 }
 
-pub events-done : (Begins : Files → Type 0) (in_rounds : Bool) (events : List BoardEvent) (p p2 : JobPlan) (board board2 : Board) (s s2 : SourceView)
-    (o o1 o2 : OutputView) (had has : ℕ → Hand) (reported : Option Progress) (e : Option End)
-    → IsTrue s.honest → IsTrue o.honest → o1.honest ≡ o.honest → o1.failures ≡ o.failures
-    → AreParts (jobs_over p.jobs s.files) (p.whole s.files) → AreApart (jobs_over p.jobs s.files)
-    → ((w : ℕ) → had w ≡ Nothing) → length board.jobs ≡ p.jobs.count → Begins o1.files
-    → AreFilled (jobs_over p.jobs s.files) (p.whole s.files) (done_of board) o1.files
-    → (h : Performed in_rounds events (snapshot_of p board 0 s o1) had (λ stale. snapshot_of p2 board2 stale s2 o2) has reported e)
-    → EventsDone Begins events (snapshot_of p board 0 s o) had board2 o2.files s2.failures o2.failures h.stale h.count e
-events-done Begins in_rounds events p p2 board board2 s s2 o o1 o2 had has reported e honest whole same quiet parts separate
-    none size begin filled h = record {
-      laid = o1.files;
-      begins = begin;
-      few = h.few;
-      hands = has;
-      run = led;
-      filled = (leads-good p.marks jobs (p.whole s.files) (take h.count events) old new has parts idle good).filled;
-      complete = λ finished k lt. filled-whole jobs (jobs.name k) (p.whole s.files (jobs.name k)) (done_of board2)
-          (o2.files (jobs.name k)) (λ j below. finished-done board2 finished j (all j below))
-          ((leads-good p.marks jobs (p.whole s.files) (take h.count events) old new has parts idle good).filled.each k lt);
-      laws = laws-kept p.marks jobs (p.whole s.files) events (take h.count events) old new has parts separate good refl
-          idle;
-    }
-  where
-    jobs : Jobs
-    jobs = jobs_over p.jobs s.files
+leaves-sets : (m : Option Marking) (before after : ℕ → Bool) (c : Files) → LeavesBy m before after c
+    → SetsBy m after c
+leaves-sets None before after c l = tt
+leaves-sets (Some m) before after c l = λ marks there started. leaves-wider (Some m) before after (λ _. false)
+    after c (λ k e. absurd (apart e)) (λ k on. on) l
 
-    old : State
-    old = state_of board o1.files 0 s.failures o.failures None
-
-    new : State
-    new = state_of board2 o2.files h.stale s2.failures o2.failures e
-
-    led : Leads (λ world next. BoardRun p.marks (jobs_over p.jobs s.files) world (take h.count events) next)
-        (state_of board o1.files 0 s.failures o.failures None) had
-        (state_of board2 o2.files h.stale s2.failures o2.failures e) has
-    led = subst (λ (n : ℕ). Leads (λ world next. BoardRun p.marks (jobs_over p.jobs s.files) world (take h.count events)
-        next) (state_of board o1.files 0 s.failures n None) had (state_of board2 o2.files h.stale s2.failures o2.failures
-        e) has) quiet (h.ran.run honest (subst IsTrue (sym same) whole))
-
-    idle : Leads (λ world next. BoardRun p.marks (jobs_over p.jobs s.files) world (take h.count events) next)
-        (state_of board o1.files 0 s.failures o.failures None) (λ _. Nothing)
-        (state_of board2 o2.files h.stale s2.failures o2.failures e) has
-    idle = leads-idle (λ world next. BoardRun p.marks (jobs_over p.jobs s.files) world (take h.count events) next)
-        (state_of board o1.files 0 s.failures o.failures None) (state_of board2 o2.files h.stale s2.failures o2.failures e)
-        had has none led
-
-    good : IsGood (jobs_over p.jobs s.files) (p.whole s.files) (state_of board o1.files 0 s.failures o.failures None)
-    good = record {
-      board = size;
-      filled = filled;
-    }
-
-    all : (j : ℕ) → j < p.jobs.count → j < length board2.jobs
-    all j lt = omega (arith, lt, size, h.ran.kept.size)
-
-pub outcome-stopped : (Begins : Files → Type 0) (events : List BoardEvent) (a c : Snapshot) (had : ℕ → Hand) (untouched : Type 0) (fault : RunFault)
-    (reported : WorkFault) (stale count : ℕ) → reported ≡ work_of fault
-    → EventsDone Begins events a had c.board c.output.files c.source.failures c.output.failures stale count (end_of {X = Progress}
-    (Err fault)) → RunsOn (marking_of a) (done_of c.board) c.output.may_leave (end_of {X = Progress} (Err fault))
-    → Outcome Begins events a had c untouched (Err reported)
-outcome-stopped Begins events a c had untouched run_fault.Memory reported stale count is did runs = Stopped stale count None did (inl (ap {B = Result Progress
-    WorkFault} (λ (f : WorkFault). Err f) is)) runs
-outcome-stopped Begins events a c had untouched (run_fault.GivenUp job) reported stale count is did runs = Stopped stale count (Some (GivenUp job)) did
-    (ap {B = Result Progress WorkFault} (λ (f : WorkFault). Err f) is) runs
-outcome-stopped Begins events a c had untouched run_fault.Mark reported stale count is did runs = Stopped stale count (Some MarkFailed) did
-    (ap {B = Result Progress WorkFault} (λ (f : WorkFault). Err f) is) runs
-
--- what is reported of the board
-pub reported-finished : (p : Progress) (board : Board) (stale : ℕ) (b : Bool) → p ≡ progress_of board stale → p.finished ≡ b
-    → is_finished board ≡ b
-reported-finished p board stale b is e = ap (λ (x : Progress). x.finished) (sym is) ∙ e
-
--- ---- marks
-
-pub leaves-sets : (m : Option Marking) (before after later : ℕ → Bool) (c : Files)
-    → ((k : ℕ) → after k ≡ true → later k ≡ true) → LeavesBy m before after c → SetsBy m later c
-leaves-sets None before after later c l h = tt
-leaves-sets (Some m) before after later c l h = λ marks there started. leaves-wider (Some m) before after (λ _. false)
-    later c (λ k e. absurd (apart e)) l h
-
-pub lays-sets : (m : Option Marking) (after : ℕ → Bool) (c : Files) → LaysBy m c → SetsBy m after c
+lays-sets : (m : Option Marking) (after : ℕ → Bool) (c : Files) → LaysBy m c → SetsBy m after c
 lays-sets None after c h = tt
 lays-sets (Some m) after c h = λ marks there started. leaves-wider (Some m) (λ _. false) (λ _. false) (λ _. false) after
     c (λ k on. on) (λ k e. absurd (apart e)) (h marks there started)
 
--- laid out, and then run
-pub moments-run : (m : Option Marking) (before after : ℕ → Bool) (o o1 o2 : OutputView) (e : Option End)
-    → CrashesLeave (LaysBy m) o o1 → MarksOn m before o1 after o2 e → CrashesLeave (SetsBy m after) o o2
-moments-run m before after o o1 o2 e lay run = crashes_then {P = (SetsBy m after)} {old = o} {mid = o1} {new = o2}
-    (crashes_weaker (LaysBy m) (SetsBy m after) {old = o} {new = o1} (λ c. lays-sets m after c) lay)
-    (crashes_weaker (LeavesBy m before after) (SetsBy m after) {old = o1} {new = o2} (λ c. leaves-sets m before after after c (λ k on. on))
-    run.moments)
+-- no output was laid out
+pub not-laid : (events : List BoardEvent) (p p1 : JobPlan) (board : Board) (s : SourceView) (o o1 : OutputView)
+    (had : ℕ → Hand) (untouched : Type 0) (f : OutputFault) (reported : ExecutionFault) → reported ≡ fault.Output f.file
+    → p1 ≡ p → LaysOut p o o1 (Err f)
+    → ((t : ℕ) (c : Files) → t ≤ o1.moment → o1.may_leave c → o1.left_since t c) → untouched
+    → Executed events (snapshot_of p board 0 s o) had (snapshot_of p1 board 0 s o1) untouched (Err reported)
+not-laid events p p1 board s o o1 had untouched f reported is same lay counts un =
+    subst (λ (x : ExecutionFault). Executed events (snapshot_of p board 0 s o) had (snapshot_of p1 board 0 s o1)
+    untouched (Err x)) (sym is) (record {
+      bounded = record {
+        plan = same;
+        size = refl;
+        source = reads_none s;
+        output = writes_wider (Stays p) (IsForeign p) {old = o} {new = o1} (λ n f. f.stays) lay.output;
+        failed = lay.failed;
+        order = λ whole i last stays before. lay.output.others whole (p.output i) stays;
+      };
+      outcome = λ honest whole parts separate fresh. NotLaidOut f.file un refl refl refl lay.output
+          (λ c at. (lay.any_moment whole s.files fresh.unstarted).each c
+          (counts o.moment c (lay.any_moment whole s.files fresh.unstarted).later at));
+      moments = λ honest whole fresh. crashes_weaker (LaysBy (p.marking s.files))
+          (SetsBy (p.marking s.files) (done_of board)) {old = o} {new = o1}
+          (λ c. lays-sets (p.marking s.files) (done_of board) c) (lay.any_moment whole s.files fresh.unstarted);
+    })
 
--- and then finished
-pub moments-finish : (m : Option Marking) (after : ℕ → Bool) (o o2 o3 : OutputView) → CrashesLeave (SetsBy m after) o o2
-    → CrashesLeave (LeavesBy m after after) o2 o3 → CrashesLeave (SetsBy m after) o o3
-moments-finish m after o o2 o3 run finish = crashes_then {P = (SetsBy m after)} {old = o} {mid = o2} {new = o3} run
-    (crashes_weaker (LeavesBy m after after) (SetsBy m after) {old = o2} {new = o3} (λ c. leaves-sets m after after after c (λ k on. on))
-    finish)
+-- the events that follow what was laid out began before it
+module _ (events : List BoardEvent) (p : JobPlan) (board : Board) (s : SourceView) (o o1 : OutputView) (had : ℕ → Hand)
+    (blank : AreBlank (jobs_over p.jobs s.files) (p.whole s.files) o1.files) (quiet : o1.failures ≡ o.failures) where
+  since : (board2 : Board) (files : Files) (a b stale count : ℕ) (e : Option End)
+      → EventsDone (λ laid. laid ≡ o1.files) events (snapshot_of p board 0 s o1) had board2 files a b stale count e
+      → EventsDone (AreBlank (jobs_over p.jobs s.files) (p.whole s.files)) events (snapshot_of p board 0 s o) had board2
+      files a b stale count e
+  since board2 files a b stale count e d = subst (λ (n : ℕ). EventsDone (AreBlank (jobs_over p.jobs s.files)
+      (p.whole s.files)) events (snapshot_of p board 0 s (record o { failures = n })) had board2 files a b stale count e)
+      quiet (record {
+        laid = d.laid;
+        begins = subst (AreBlank (jobs_over p.jobs s.files) (p.whole s.files)) (sym d.begins) blank;
+        few = d.few;
+        hands = d.hands;
+        run = d.run;
+        filled = d.filled;
+        complete = d.complete;
+        laws = d.laws;
+      })
 
--- hands that hold nothing are right
-pub idle-right : (p : JobPlan) (files : Files) (hands : ℕ → Hand) → ((w : ℕ) → hands w ≡ Nothing)
-    → (w : ℕ) → IsRight (jobs_over p.jobs files) (hands w)
-idle-right p files hands idle w = subst (IsRight (jobs_over p.jobs files)) (sym (idle w)) tt
+  outcome-since : (c : Snapshot) (untouched : Type 0) (result : Result Progress ExecutionFault) → Writes (Stays p) o o1
+      → Outcome (λ laid. laid ≡ o1.files) events (snapshot_of p board 0 s o1) had c ⊥ result
+      → Outcome (AreBlank (jobs_over p.jobs s.files) (p.whole s.files)) events (snapshot_of p board 0 s o) had c
+      untouched result
+  outcome-since c untouched result lay (NotLaidOut file un is same quiet writes laid) = absurd un
+  outcome-since c untouched result lay (Stopped stale count did stops writes runs) = Stopped stale count
+      (since c.board c.output.files c.source.failures c.output.failures stale count (end_of result) did) stops
+      (writes_then {stays = Stays p} {old = o} {mid = o1} {new = c.output} lay writes) runs
+  outcome-since c untouched result lay (NotFinished file stale count failures files did all is own rose runs) =
+      NotFinished file stale count failures files
+      (since c.board files c.source.failures failures stale count None did) all is own rose runs
+  outcome-since c untouched result lay (Finished stale count files did all is own last durable runs) =
+      Finished stale count files (since c.board files c.source.failures c.output.failures stale count None did) all is
+      own last durable runs
 
-pub not-true : (b : Bool) → not b ≡ true → b ≡ false
-not-true true e = absurd (apart e)
-not-true false e = refl
+has-failed-since : (p : JobPlan) (o o1 o2 : OutputView) (result : Result Progress ExecutionFault)
+    → Writes (Stays p) o o1 → HasFailed p o1 o2 result → HasFailed p o o2 result
+has-failed-since p o o1 o2 (Ok progress) lay h = tt
+has-failed-since p o o1 o2 (Err fault.Memory) lay h = tt
+has-failed-since p o o1 o2 (Err fault.JobMemory) lay h = tt
+has-failed-since p o o1 o2 (Err (fault.GivenUp job)) lay h = tt
+has-failed-since p o o1 o2 (Err fault.Mark) lay h = record {
+  has_marks = h.has_marks;
+  rose = rises-after o.failures o1.failures o2.failures lay.later h.rose;
+  failed = h.failed;
+}
+has-failed-since p o o1 o2 (Err (fault.Output file)) lay h = record {
+  rose = rises-after o.failures o1.failures o2.failures lay.later h.rose;
+  failed = h.failed;
+}
 
-pub not-false : (b : Bool) → not b ≡ false → b ≡ true
-not-false true e = refl
-not-false false e = absurd (apart (sym e))
+-- laid out, and then done
+pub laid-then : (in_rounds : Bool) (events : List BoardEvent) (p p1 p2 : JobPlan) (board board2 : Board) (s s2 : SourceView)
+    (o o1 o2 : OutputView) (had : ℕ → Hand) (untouched : Type 0) (result : Result Progress ExecutionFault) → p1 ≡ p
+    → LaysOut p o o1 (Ok tt) → length board.jobs ≡ p.jobs.count
+    → Resumed (listed in_rounds p1.jobs.count events) (snapshot_of p1 board 0 s o1) had (snapshot_of p2 board2 0 s2 o2)
+    result
+    → Executed (listed in_rounds p.jobs.count events) (snapshot_of p board 0 s o) had (snapshot_of p2 board2 0 s2 o2)
+    untouched result
+laid-then in_rounds events p p1 p2 board board2 s s2 o o1 o2 had untouched result same lay size rest1 = record {
+  bounded = record {
+    plan = rest.bounded.plan;
+    size = rest.bounded.size;
+    source = rest.bounded.source;
+    output = writes_then {stays = IsForeign p} {old = o} {mid = o1} {new = o2}
+        (writes_wider (Stays p) (IsForeign p) {old = o} {new = o1} (λ n f. f.stays) lay.output) rest.bounded.output;
+    failed = has-failed-since p o o1 o2 result lay.output rest.bounded.failed;
+    order = λ whole i last stays before. rest.bounded.order (on whole) i last stays before
+        ∙ lay.output.others whole (p.output i) stays;
+  };
+  outcome = λ honest whole parts separate fresh.
+      outcome-since (listed in_rounds p.jobs.count events) p board s o o1 had (lay.laid whole s.files parts)
+      (lay.quiet refl) (snapshot_of p2 board2 0 s2 o2) untouched result lay.output
+      (rest.outcome honest (on whole) parts separate (record {
+        filled = blank-filled (jobs_over p.jobs s.files) (p.whole s.files) (done_of board) o1.files
+            (none fresh.none) (lay.laid whole s.files parts);
+        marked = record {
+          idle = fresh.idle;
+          running = lay.marks whole s.files fresh.unstarted (done_of board) (none fresh.none);
+        };
+      }));
+  moments = λ honest whole fresh. crashes_then {P = SetsBy (p.marking s.files) (done_of board2)} {old = o} {mid = o1}
+      {new = o2}
+      (crashes_weaker (LaysBy (p.marking s.files)) (SetsBy (p.marking s.files) (done_of board2)) {old = o} {new = o1}
+      (λ c. lays-sets (p.marking s.files) (done_of board2) c) (lay.any_moment whole s.files fresh.unstarted))
+      (crashes_weaker (LeavesBy (p.marking s.files) (done_of board) (done_of board2))
+      (SetsBy (p.marking s.files) (done_of board2)) {old = o1} {new = o2}
+      (λ c. leaves-sets (p.marking s.files) (done_of board) (done_of board2) c)
+      (rest.moments honest (on whole) (record {
+        idle = fresh.idle;
+        running = lay.marks whole s.files fresh.unstarted (done_of board) (none fresh.none);
+      })));
+}
+  where
+    rest : Resumed (listed in_rounds p.jobs.count events) (snapshot_of p board 0 s o1) had
+        (snapshot_of p2 board2 0 s2 o2) result
+    rest = subst (λ (q : JobPlan). Resumed (listed in_rounds q.jobs.count events) (snapshot_of q board 0 s o1) had
+        (snapshot_of p2 board2 0 s2 o2) result) same rest1
 
--- what is done stays done
-pub done-stay : (p : JobPlan) (events : List BoardEvent) (a b : Snapshot) (had has : ℕ → Hand) (e : Option End)
-    → EventRun a had events b has e → IsTrue a.source.honest → IsTrue a.output.honest
-    → (k : ℕ) → done_of a.board k ≡ true → done_of b.board k ≡ true
-done-stay p events a b had has e r honest whole = leads-keeps a.plan.marks (jobs_of a) events (state_at a None)
-    (state_at b e) had has (r.run honest whole)
+    on : IsTrue o.honest → IsTrue o1.honest
+    on whole = subst IsTrue (sym lay.output.same_honest) whole
 
--- gone on with, and then finished
-pub moments-on : (m : Option Marking) (before after : ℕ → Bool) (o o2 o3 : OutputView)
-    → ((k : ℕ) → before k ≡ true → after k ≡ true) → MarksOn m before o after o2 None
-    → CrashesLeave (LeavesBy m after after) o2 o3 → CrashesLeave (LeavesBy m before after) o o3
-moments-on m before after o o2 o3 stay run finish = crashes_then {P = (LeavesBy m before after)} {old = o} {mid = o2} {new = o3} run.moments
-    (crashes_weaker (LeavesBy m after after) (LeavesBy m before after) {old = o2} {new = o3}
-    (λ c. leaves-wider m after after before after c stay (λ k on. on)) finish)
-
--- where the jobs aren't finished all events were done
-pub all-events : (b : Bool) (count n : ℕ) (r : Type 0) → (count ≡ n) ⊎ (r × (b ≡ true)) → b ≡ false → count ≡ n
-all-events b count n r all e = elim all [ inl same ↦ same | inr finished ↦ absurd (apart (sym e ∙ finished.1)) ]
+    none : ((k : ℕ) → k < length board.jobs → done_of board k ≡ false) → (k : ℕ) → k < p.jobs.count
+        → done_of board k ≡ false
+    none fresh k lt = fresh k (subst (λ (n : ℕ). k < n) (sym size) lt)

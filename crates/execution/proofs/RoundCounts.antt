@@ -1,6 +1,5 @@
 -- Rounds of one worker, from a board at rest: as many as the jobs can take finish them.
-use Rattle.std.proofs.Common.{◌≡◌, ◌∙◌, ◌⊎◌, ℕ, zero, suc, ◌-◌, ◌*◌, ◌<◌, ◌≤◌, Bool, true, false, cond, ◌==◌, MatchBool, is_none, Option, Some, None, List, [], ◌∷◌, length, IsTrue, refl, sym, ap, subst, inl, inr, arith}
-use Rattle.std.specs.Prelude.{IsSome}
+use Rattle.std.proofs.Common.{◌≡◌, ◌∙◌, ◌⊎◌, ℕ, zero, suc, ◌-◌, ◌*◌, ◌<◌, ◌≤◌, Bool, true, false, cond, ◌==◌, MatchBool, is_none, Option, Some, None, Ok, List, [], ◌∷◌, length, IsTrue, refl, sym, ap, subst, inl, inr, arith}
 use Rattle.std.proofs.lemmas.List.{take_all}
 use Rattle.std.proofs.lemmas.List.Sums.{sum_by-cons}
 use Rattle.std.specs.List.{sum_by}
@@ -263,13 +262,13 @@ rounds-finish marks jobs (suc n) old new run none rest empty few =
     ]
 
 -- rounds that reported how far the jobs are have done all of them
-pub performed-finished : (count : ℕ) (a : Snapshot) (c : ℕ → Snapshot) (ha hc : ℕ → Hand) (reported : Option Progress)
-    → Performed true (rounds (3 * count)) a ha c hc reported None → IsSome reported → length a.board.jobs ≡ count
+pub performed-finished : (count : ℕ) (a : Snapshot) (c : ℕ → Snapshot) (ha hc : ℕ → Hand) (progress : Progress)
+    → Performed true (rounds (3 * count)) a ha c hc (Ok progress) → length a.board.jobs ≡ count
     → IsTrue a.source.honest → IsTrue a.output.honest → AtRest a.board → ha 1 ≡ Nothing
     → (s : ℕ) × (is_finished (c s).board ≡ true)
-performed-finished count a c ha hc reported p some size honest whole rest empty = (
+performed-finished count a c ha hc progress p size honest whole rest empty = (
   p.stale,
-  elim (p.all some) [
+  elim p.stops.1 [
     | inr finished ↦ finished.1
     | inl all ↦
         let lead = (p.ran.run honest whole).leads (record { state = state_at a None; hands = ha })

@@ -1,5 +1,5 @@
 -- A run of events: what it leaves of the board, of what workers hold, and of both stores.
-use Rattle.std.specs.Prelude.{◌≡◌, ◌≢◌, ◌⊎◌, ◌≤◌, ◌*◌, ℕ, ⊤, Bool, true, cond, IsTrue, Option, None, Some, IfSome, IsSome, List, length, take, Result, Ok, Err}
+use Rattle.std.specs.Prelude.{◌≡◌, ◌⊎◌, ◌≤◌, ◌*◌, ℕ, Bool, true, cond, IsTrue, Option, None, Some, List, length, take, Result, Ok, Err}
 use Rattle.work_terms.specs.Disk.{Files, Rises}
 use Rattle.job_terms.specs.declared.BoardEvent.{BoardEvent}
 use Rattle.job_terms.specs.declared.Progress.{Progress}
@@ -7,7 +7,8 @@ use Rattle.job_terms.specs.Board.{Board, is_finished}
 use Rattle.job_terms.specs.declared.BoardEvent.TheVariants as event
 use Rattle.job_terms.specs.Workers.{BoardRun, DeliverStep, End, FaultStep, GiveStep, Hand, Jobs, MarkFailed, Nothing, State, WorkStep, jobs_over, rounds}
 use Rattle.execution.specs.Boards.{progress_of}
-use Rattle.execution.specs.declared.fault.RunFault.{RunFault}
+use Rattle.execution.specs.Ends.{StopsBefore, end_of}
+use Rattle.execution.specs.declared.fault.ExecutionFault.{ExecutionFault}
 use Rattle.execution.specs.Marking.{IsRight, IsRunningBy, Marking, MarksOn, done_of}
 use Rattle.execution.specs.Plan.{JobPlan, Stays}
 use Rattle.execution.specs.Worlds.{Leads, state_of}
@@ -86,31 +87,21 @@ pub record EventRun (old : Snapshot) (had : ℕ → Hand) (events : List BoardEv
       → IsRunningBy (marking_of old) (done_of old.board) old.output.may_leave
       → MarksOn (marking_of old) (done_of old.board) old.output (done_of new.board) new.output ended
 
--- an event of another worker than the first, or of none
-abbrev pub IsOthers : BoardEvent → Type 0
-IsOthers (event.Give w) = w ≢ 1
-IsOthers (event.Work w) = w ≢ 1
-IsOthers (event.Deliver w) = w ≢ 1
-IsOthers (event.Fault w) = w ≢ 1
-IsOthers (event.Lose w) = w ≢ 1
-IsOthers (event.Reclaim k) = ⊤
-
 -- the events that are done: these, or as many rounds of the worker 1 as so many jobs can take
 abbrev pub listed : Bool → ℕ → List BoardEvent → List BoardEvent
 listed in_rounds count events = cond in_rounds (rounds (3 * count)) events
 
--- what was reported, if anything was
-abbrev pub reported_by : Result Progress RunFault → Option Progress
-reported_by (Ok progress) = Some progress
-reported_by (Err _) = None
+-- where these end: what is reported is how far the jobs are, and all events were done, or the rounds had done all jobs
+abbrev pub StopsAt : Bool → List BoardEvent → ℕ → Board → ℕ → Result Progress ExecutionFault → Type 0
+StopsAt in_rounds events count board stale (Ok progress) = (progress ≡ progress_of board stale)
+    × ((count ≡ length events) ⊎ ((in_rounds ≡ true) × (is_finished board ≡ true)))
+StopsAt in_rounds events count board stale (Err fault) = StopsBefore events count fault
 
--- the first of these events were done, of which so many were stale deliveries; where something is reported, it is how far the
--- jobs are, and all events were done, or the rounds had done all jobs
+-- the first of these events were done, of which so many were stale deliveries
 pub record Performed (in_rounds : Bool) (events : List BoardEvent) (old : Snapshot) (had : ℕ → Hand) (new : ℕ → Snapshot)
-    (has : ℕ → Hand) (reported : Option Progress) (ended : Option End) : Type 0 where
+    (has : ℕ → Hand) (result : Result Progress ExecutionFault) : Type 0 where
   pub count : ℕ
   pub few : count ≤ length events
   pub stale : ℕ
-  pub ran : EventRun old had (take count events) (new stale) has ended
-  pub progress : IfSome reported (λ p. p ≡ progress_of (new stale).board stale)
-  pub all : IsSome reported → (count ≡ length events) ⊎ ((in_rounds ≡ true) × (is_finished (new stale).board ≡ true))
+  pub ran : EventRun old had (take count events) (new stale) has (end_of result)
+  pub stops : StopsAt in_rounds events count (new stale).board stale result

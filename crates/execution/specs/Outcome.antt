@@ -1,36 +1,57 @@
--- How a work came out: laid out, its events done, and made durable.
-use Rattle.std.specs.Prelude.{◌≡◌, ◌⊎◌, ◌≤◌, ◌<◌, ℕ, ⊤, Bool, true, false, IsTrue, Option, None, Some, List, [], ◌∷◌, length, take, Result, Ok, Err}
-use Rattle.work_terms.specs.Disk.{Files, IsDurable, Rises}
+-- How a whole work came out: its outputs laid out, its events done, and what comes last.
+use Rattle.std.specs.Prelude.{◌≡◌, ◌≤◌, ◌<◌, ℕ, ⊤, Bool, true, false, IsTrue, Option, None, Some, List, [], ◌∷◌, length, take, Result, Ok, Err}
+use Rattle.work_terms.specs.Disk.{Files, Rises}
+use Rattle.devices.specs.Views.{CrashesLeave, OutputView, Reads, Writes}
 use Rattle.job_terms.specs.declared.BoardEvent.{BoardEvent}
 use Rattle.job_terms.specs.declared.Progress.{Progress}
 use Rattle.job_terms.specs.Board.{Board, is_finished}
-use Rattle.job_terms.specs.Workers.{BoardRun, End, GivenUp, Hand, MarkFailed, Nothing}
+use Rattle.job_terms.specs.Workers.{BoardRun, End, Hand, Nothing}
 use Rattle.execution.specs.Boards.{progress_of}
+use Rattle.execution.specs.Ends.{StopsBefore, end_of}
+use Rattle.execution.specs.EventRun.{MarkFails, Snapshot, jobs_of, marking_of}
 use Rattle.execution.specs.Filled.{AreApart, AreFilled, AreParts}
 use Rattle.execution.specs.Laws.{KeepsLaws}
-use Rattle.devices.specs.Views.{CrashesLeave}
 use Rattle.execution.specs.Marking.{IsRunningBy, LaysBy, Leaves, LeavesBy, Marking, NoneStartedBy, RunsOn, done_of}
-use Rattle.execution.specs.Plan.{AreBlank, IsOwn}
-use Rattle.execution.specs.EventRun.{IsConfined, Snapshot, jobs_of, marking_of}
+use Rattle.execution.specs.Plan.{AreBlank, AreDurable, HoldJobs, HoldLast, IsAt, IsForeign, IsLast, IsOwn, JobPlan, Stays}
 use Rattle.execution.specs.Worlds.{Leads, state_of}
-use Rattle.execution.specs.declared.fault.RunFault.{RunFault}
-use Rattle.execution.specs.declared.fault.RunFault.TheVariants as run_fault
-use Rattle.execution.specs.declared.fault.WorkFault.{WorkFault}
-use Rattle.execution.specs.declared.fault.WorkFault.TheVariants as work_fault
+use Rattle.execution.specs.declared.fault.ExecutionFault.{ExecutionFault}
+use Rattle.execution.specs.declared.fault.ExecutionFault.TheVariants as fault
 
 -- all bytes of each output
 abbrev pub whole_of : Snapshot → List ℕ → List ℕ
 whole_of snapshot = snapshot.plan.whole snapshot.source.files
 
--- the same fault, among those of a work: a mark lies in an output
-abbrev pub work_of : RunFault → WorkFault
-work_of run_fault.Memory = work_fault.Memory
-work_of (run_fault.GivenUp job) = work_fault.GivenUp job
-work_of run_fault.Mark = work_fault.Output
+-- the device failed at the output of this number
+pub record OutputFails (plan : JobPlan) (file : ℕ) (old new : OutputView) : Type 0 where
+  pub rose : Rises old.failures new.failures
+  pub failed : IsAt plan file new.failed_at
+
+-- a fault that names a file has its cause: the device failed there
+abbrev pub HasFailed : JobPlan → OutputView → OutputView → Result Progress ExecutionFault → Type 0
+HasFailed plan old new (Err fault.Mark) = MarkFails plan old new
+HasFailed plan old new (Err (fault.Output file)) = OutputFails plan file old new
+HasFailed plan old new _ = ⊤
+
+-- the output of this number wasn't begun: jobs are left, or the call ended before it
+abbrev pub IsBefore : Result Progress ExecutionFault → ℕ → Type 0
+IsBefore (Ok progress) i = progress.finished ≡ false
+IsBefore (Err (fault.Output file)) i = file < i
+IsBefore (Err _) i = ⊤
+
+-- whatever the stores are: the same plan, as many jobs, nothing written but the work's own files, a failure at the file
+-- that is named, and what comes last written in its order, once all jobs are done
+pub record IsBounded (old new : Snapshot) (result : Result Progress ExecutionFault) : Type 0 where
+  pub plan : new.plan ≡ old.plan
+  pub size : length new.board.jobs ≡ length old.board.jobs
+  pub source : Reads old.source new.source
+  pub output : Writes (IsForeign old.plan) old.output new.output
+  pub failed : HasFailed old.plan old.output new.output result
+  pub order : IsTrue old.output.honest → (i : ℕ) → IsLast old.plan i → Stays old.plan (old.plan.output i) → IsBefore result i
+      → new.output.files (old.plan.output i) ≡ old.output.files (old.plan.output i)
 
 -- from files that may begin so, the first of these events led to these files and counts of failures
-pub record EventsDone (Begins : Files → Type 0) (events : List BoardEvent) (old : Snapshot) (had : ℕ → Hand) (board : Board) (files : Files)
-    (shelf_failures bench_failures stale count : ℕ) (ended : Option End) : Type 0 where
+pub record EventsDone (Begins : Files → Type 0) (events : List BoardEvent) (old : Snapshot) (had : ℕ → Hand) (board : Board)
+    (files : Files) (shelf_failures bench_failures stale count : ℕ) (ended : Option End) : Type 0 where
   pub laid : Files
   pub begins : Begins laid
   pub few : count ≤ length events
@@ -40,45 +61,51 @@ pub record EventsDone (Begins : Files → Type 0) (events : List BoardEvent) (ol
       (state_of board files stale shelf_failures bench_failures ended) hands
   -- each byte of an output that no unfinished job has is right, and all are where all jobs are done
   pub filled : AreFilled (jobs_of old) (whole_of old) (done_of board) files
-  pub complete : is_finished board ≡ true → (k : ℕ) → k < old.plan.jobs.count
-      → files (old.plan.jobs.name k) ≡ Some (whole_of old (old.plan.jobs.name k))
+  pub complete : is_finished board ≡ true → HoldJobs old.plan old.source.files files
   pub laws : KeepsLaws old.plan.marks (jobs_of old) events
       (state_of old.board laid 0 old.source.failures old.output.failures None)
       (state_of board files stale shelf_failures bench_failures ended)
 
--- where nothing ended the run all these events were done, and it is reported how far the jobs are
-abbrev pub StopsBy : List BoardEvent → Snapshot → (stale count : ℕ) → Option End → Result Progress WorkFault → Type 0
-StopsBy events new stale count (Some (GivenUp job)) result = result ≡ Err (work_fault.GivenUp job)
-StopsBy events new stale count (Some MarkFailed) result = result ≡ Err work_fault.Output
-StopsBy events new stale count None result = (result ≡ Err work_fault.Memory) ⊎ ((result ≡ Ok
-    (progress_of new.board stale)) × (is_finished new.board ≡ false) × (count ≡ length events))
+-- where nothing ended the run all these events were done, jobs are left, and it is reported how far they are
+abbrev pub StopsWith : List BoardEvent → ℕ → Board → ℕ → Result Progress ExecutionFault → Type 0
+StopsWith events count board stale (Ok progress) =
+    (progress ≡ progress_of board stale) × (is_finished board ≡ false) × (count ≡ length events)
+StopsWith events count board stale (Err fault) = StopsBefore events count fault
 
--- No job was handed out and no source was touched; or the events ended, at a third fault, at a mark, for want of memory, or with jobs left; or all
--- jobs are done, and what comes last failed, or is done.
-pub data Outcome (Begins : Files → Type 0) (events : List BoardEvent) (old : Snapshot) (had : ℕ → Hand) (new : Snapshot) (untouched : Type 0)
-    (result : Result Progress WorkFault) : Type 0 where
-  NotLaidOut : untouched → result ≡ Err work_fault.Output → new.board ≡ old.board → new.source.failures ≡ old.source.failures
-      → Rises old.output.failures new.output.failures
-      → ((c : Files) → new.output.may_leave c → LaysBy (marking_of old) c) → Outcome Begins events old had new untouched result
-  Stopped : (stale count : ℕ) (ended : Option End) → EventsDone Begins events old had new.board new.output.files new.source.failures
-      new.output.failures stale count ended
-      → StopsBy events new stale count ended result
-      → RunsOn (marking_of old) (done_of new.board) new.output.may_leave ended → Outcome Begins events old had new untouched result
-  NotFinished : (stale count failures : ℕ) (files : Files) → EventsDone Begins events old had new.board files new.source.failures
-      failures stale count None → is_finished new.board ≡ true → result ≡ Err work_fault.Output
+-- No job was handed out and no source was touched; or the events ended, at a third fault, at a mark, for want of memory,
+-- or with jobs left; or all jobs are done, and what comes last failed, or is done.
+pub data Outcome (Begins : Files → Type 0) (events : List BoardEvent) (old : Snapshot) (had : ℕ → Hand) (new : Snapshot)
+    (untouched : Type 0) (result : Result Progress ExecutionFault) : Type 0 where
+  NotLaidOut : (file : ℕ) → untouched → result ≡ Err (fault.Output file) → new.board ≡ old.board
+      → new.source.failures ≡ old.source.failures → Writes (Stays old.plan) old.output new.output
+      → ((c : Files) → new.output.may_leave c → LaysBy (marking_of old) c)
+      → Outcome Begins events old had new untouched result
+  Stopped : (stale count : ℕ) → EventsDone Begins events old had new.board new.output.files new.source.failures
+      new.output.failures stale count (end_of result)
+      → StopsWith events count new.board stale result → Writes (Stays old.plan) old.output new.output
+      → RunsOn (marking_of old) (done_of new.board) new.output.may_leave (end_of result)
+      → Outcome Begins events old had new untouched result
+  NotFinished : (file stale count failures : ℕ) (files : Files) → EventsDone Begins events old had new.board files
+      new.source.failures failures stale count None → is_finished new.board ≡ true → result ≡ Err (fault.Output file)
       → ((n : List ℕ) → IsOwn old.plan n → new.output.files n ≡ files n) → Rises failures new.output.failures
-      → IsRunningBy (marking_of old) (done_of new.board) new.output.may_leave → Outcome Begins events old had new untouched result
-  Finished : (stale count : ℕ) (files : Files) → EventsDone Begins events old had new.board files new.source.failures
-      new.output.failures stale count None → is_finished new.board ≡ true → result ≡ Ok (progress_of new.board stale)
+      → IsRunningBy (marking_of old) (done_of new.board) new.output.may_leave
+      → Outcome Begins events old had new untouched result
+  Finished : (stale count : ℕ) (files : Files) → EventsDone Begins events old had new.board files
+      new.source.failures new.output.failures stale count None → is_finished new.board ≡ true
+      → result ≡ Ok (progress_of new.board stale)
       → ((n : List ℕ) → IsOwn old.plan n → new.output.files n ≡ files n)
-      → ((k : ℕ) → k < old.plan.jobs.count → IsDurable (old.plan.jobs.name k) new.output.files new.output.may_leave)
-      → IsRunningBy (marking_of old) (done_of new.board) new.output.may_leave → Outcome Begins events old had new untouched result
+      → HoldLast old.plan old.source.files new.output.files
+      → AreDurable old.plan new.output.files new.output.may_leave
+      → IsRunningBy (marking_of old) (done_of new.board) new.output.may_leave
+      → Outcome Begins events old had new untouched result
 
--- marks that are started: none was set at first, and only those of jobs that are done are
-abbrev pub SetsBy : Option Marking → (ℕ → Bool) → Files → Type 0
-SetsBy None after c = ⊤
-SetsBy (Some m) after c = (marks : List ℕ) → c m.marks ≡ Some marks → take 1 marks ≡ 1 ∷ []
-    → Leaves m (λ _. false) after c
+-- What a whole call leaves: its outcome, where it began so, and what a crash leaves at any moment, where the marks were so.
+pub record IsCall (Begins Leaving : Files → Type 0) (begun marked untouched : Type 0) (events : List BoardEvent)
+    (old : Snapshot) (had : ℕ → Hand) (new : Snapshot) (result : Result Progress ExecutionFault) : Type 0 where
+  pub bounded : IsBounded old new result
+  pub outcome : IsTrue old.source.honest → IsTrue old.output.honest → AreParts (jobs_of old) (whole_of old)
+      → AreApart (jobs_of old) → begun → Outcome Begins events old had new untouched result
+  pub moments : IsTrue old.source.honest → IsTrue old.output.honest → marked → CrashesLeave Leaving old.output new.output
 
 -- no job is done and no worker holds anything; no outcome has marks that are started
 pub record IsFresh (old : Snapshot) (had : ℕ → Hand) : Type 0 where
@@ -86,28 +113,29 @@ pub record IsFresh (old : Snapshot) (had : ℕ → Hand) : Type 0 where
   pub idle : (w : ℕ) → had w ≡ Nothing
   pub unstarted : NoneStartedBy (marking_of old) old.output.may_leave
 
--- what the whole call leaves
-pub record Executed (events : List BoardEvent) (old : Snapshot) (had : ℕ → Hand) (new : Snapshot) (untouched : Type 0)
-    (result : Result Progress WorkFault) : Type 0 where
-  pub kept : IsConfined old new None
-  pub came : IsTrue old.source.honest → IsTrue old.output.honest → AreParts (jobs_of old) (whole_of old)
-      → AreApart (jobs_of old) → IsFresh old had
-      → Outcome (AreBlank (jobs_of old) (whole_of old)) events old had new untouched result
-  pub moments : IsTrue old.source.honest → IsTrue old.output.honest → IsFresh old had
-      → CrashesLeave (SetsBy (marking_of old) (done_of new.board)) old.output new.output
+-- marks that are started: none was set at first, and only those of jobs that are done are
+abbrev pub SetsBy : Option Marking → (ℕ → Bool) → Files → Type 0
+SetsBy None after c = ⊤
+SetsBy (Some m) after c = (marks : List ℕ) → c m.marks ≡ Some marks → take 1 marks ≡ 1 ∷ []
+    → Leaves m (λ _. false) after c
 
--- what is done stands in the outputs, and no worker holds anything; the marks tell what is done
-pub record IsResting (old : Snapshot) (had : ℕ → Hand) : Type 0 where
-  pub filled : AreFilled (jobs_of old) (whole_of old) (done_of old.board) old.output.files
+-- what the whole of a work leaves, from its first write on
+abbrev pub Executed : List BoardEvent → Snapshot → (ℕ → Hand) → Snapshot → Type 0 → Result Progress ExecutionFault
+    → Type 0
+Executed events old had new untouched result = IsCall (AreBlank (jobs_of old) (whole_of old))
+    (SetsBy (marking_of old) (done_of new.board)) (IsFresh old had) (IsFresh old had) untouched events old had new result
+
+-- no worker holds anything, and the marks say what is done
+pub record IsMarked (old : Snapshot) (had : ℕ → Hand) : Type 0 where
   pub idle : (w : ℕ) → had w ≡ Nothing
   pub running : IsRunningBy (marking_of old) (done_of old.board) old.output.may_leave
 
+-- and what is done stands in the outputs
+pub record IsResting (old : Snapshot) (had : ℕ → Hand) : Type 0 where
+  pub filled : AreFilled (jobs_of old) (whole_of old) (done_of old.board) old.output.files
+  pub marked : IsMarked old had
+
 -- what a call leaves that goes on with outputs as they are
-pub record Resumed (events : List BoardEvent) (old : Snapshot) (had : ℕ → Hand) (new : Snapshot)
-    (result : Result Progress WorkFault) : Type 0 where
-  pub kept : IsConfined old new None
-  pub came : IsTrue old.source.honest → IsTrue old.output.honest → AreParts (jobs_of old) (whole_of old)
-      → AreApart (jobs_of old) → IsResting old had
-      → Outcome (λ laid. laid ≡ old.output.files) events old had new ⊥ result
-  pub moments : IsTrue old.source.honest → IsTrue old.output.honest → IsResting old had
-      → CrashesLeave (LeavesBy (marking_of old) (done_of old.board) (done_of new.board)) old.output new.output
+abbrev pub Resumed : List BoardEvent → Snapshot → (ℕ → Hand) → Snapshot → Result Progress ExecutionFault → Type 0
+Resumed events old had new result = IsCall (λ laid. laid ≡ old.output.files)
+    (LeavesBy (marking_of old) (done_of old.board) (done_of new.board)) (IsResting old had) (IsMarked old had) ⊥ events old had new result

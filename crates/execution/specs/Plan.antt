@@ -1,23 +1,38 @@
 -- What a work is to do.
-use Rattle.std.specs.Prelude.{◌≡◌, ◌≢◌, ℕ, ◌+◌, ◌<◌, ◌≤◌, Bool, Contains, Option, Some, List, length, slice_index_or}
-use Rattle.work_terms.specs.Disk.{Files}
+use Rattle.std.specs.Prelude.{◌≡◌, ◌≢◌, ℕ, ◌+◌, ◌<◌, ◌≤◌, Bool, Option, Some, List, length, slice_index_or}
+use Rattle.work_terms.specs.Disk.{Files, IsDurable}
 use Rattle.job_terms.specs.Workers.{Jobs, JobsBy}
 use Rattle.execution.specs.Marking.{Marking}
 
--- its jobs, whether a job that is done gets a mark, the marks by what the sources hold, all bytes of each output, and the
--- files that come last
+-- its jobs, whether a job that is done gets a mark, the marks and all bytes of each output by what the sources hold;
+-- and the names of its outputs by number, of which those from `last` on come last, in this order
 pub record JobPlan : Type 0 where
   pub jobs : JobsBy
   pub marks : Bool
   pub marking : Files → Option Marking
   pub whole : Files → List ℕ → List ℕ
-  pub behind : List (List ℕ)
+  pub output : ℕ → List ℕ
+  pub last : ℕ
+  pub outputs : ℕ
 
--- a file of this name is none that the work writes: no output of a job, not its marks, and none that comes last
+-- the output of this number comes last
+abbrev pub IsLast : JobPlan → ℕ → Type 0
+IsLast plan i = (plan.last ≤ i) × (i < plan.outputs)
+
+-- a file of this name is no output of a job, and not the marks: it stays until what comes last is written
 pub record Stays (plan : JobPlan) (name : List ℕ) : Type 0 where
   pub jobs : (k : ℕ) → k < plan.jobs.count → plan.jobs.name k ≢ name
   pub marks : (sources : Files) (m : Marking) → plan.marking sources ≡ Some m → m.marks ≢ name
-  pub behind : ¬ Contains plan.behind name
+
+-- a file of this name is none that the work writes
+pub record IsForeign (plan : JobPlan) (name : List ℕ) : Type 0 where
+  pub stays : Stays plan name
+  pub last : (i : ℕ) → IsLast plan i → plan.output i ≢ name
+
+-- an output of a job, or the marks
+pub data IsOwn (plan : JobPlan) (name : List ℕ) : Type 0 where
+  OfJob : (k : ℕ) → k < plan.jobs.count → plan.jobs.name k ≡ name → IsOwn plan name
+  OfMarks : (sources : Files) (m : Marking) → plan.marking sources ≡ Some m → m.marks ≡ name → IsOwn plan name
 
 -- the file has its whole length and its bytes outside of the jobs' places, in which it is zero
 pub record IsBlank (jobs : Jobs) (name whole : List ℕ) (file : Option (List ℕ)) : Type 0 where
@@ -29,11 +44,25 @@ pub record IsBlank (jobs : Jobs) (name whole : List ℕ) (file : Option (List �
   pub zero_within : (i k : ℕ) → k < jobs.count → jobs.name k ≡ name → jobs.at k ≤ i
       → i < jobs.at k + length (jobs.bytes k) → slice_index_or bytes i 0 ≡ 0
 
--- each output is laid out
+-- each output of a job is laid out
 pub record AreBlank (jobs : Jobs) (whole : List ℕ → List ℕ) (files : Files) : Type 0 where
   pub each : (k : ℕ) → k < jobs.count → IsBlank jobs (jobs.name k) (whole (jobs.name k)) (files (jobs.name k))
 
--- a file that the work writes: an output of a job, or its marks
-pub data IsOwn (plan : JobPlan) (name : List ℕ) : Type 0 where
-  OfJob : (k : ℕ) → k < plan.jobs.count → plan.jobs.name k ≡ name → IsOwn plan name
-  OfMarks : (sources : Files) (m : Marking) → plan.marking sources ≡ Some m → m.marks ≡ name → IsOwn plan name
+-- each output of a job holds all its bytes
+abbrev pub HoldJobs : JobPlan → Files → Files → Type 0
+HoldJobs plan sources files =
+    (k : ℕ) → k < plan.jobs.count → files (plan.jobs.name k) ≡ Some (plan.whole sources (plan.jobs.name k))
+
+-- and so does each that comes last
+abbrev pub HoldLast : JobPlan → Files → Files → Type 0
+HoldLast plan sources files =
+    (i : ℕ) → IsLast plan i → files (plan.output i) ≡ Some (plan.whole sources (plan.output i))
+
+-- a crash leaves each output of a job, and each that comes last, as it is read
+pub record AreDurable (plan : JobPlan) (files : Files) (may_leave : Files → Type 0) : Type 0 where
+  pub jobs : (k : ℕ) → k < plan.jobs.count → IsDurable (plan.jobs.name k) files may_leave
+  pub last : (i : ℕ) → IsLast plan i → IsDurable (plan.output i) files may_leave
+
+-- the device failed at the output of this number
+abbrev pub IsAt : JobPlan → ℕ → (List ℕ → Type 0) → Type 0
+IsAt plan file failed = (file < plan.outputs) × failed (plan.output file)

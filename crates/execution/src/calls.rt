@@ -1,28 +1,28 @@
-// A run of jobs.
+// The calls of an execution.
 ghost use Rattle.std.specs.Prelude.{◌≡◌, ◌*◌, ℕ, IfErr, IfOk, IsErrOf, IsTrue, OnOk, false, true, length};
 ghost use Rattle.job_terms.specs.Board.{is_finished};
 ghost use Rattle.job_terms.specs.Workers.{Nothing, rounds};
 ghost use Rattle.execution.specs.Alone.{AtRest};
-ghost use Rattle.execution.specs.Ends.{end_of};
+ghost use Rattle.execution.specs.Ends.{IsMemory};
 ghost use Rattle.execution.specs.Boards.{board_with, fresh_board};
 ghost use Rattle.execution.specs.View.{hands_at};
 ghost use Rattle.execution.specs.Outcome.{Executed, Resumed};
-ghost use Rattle.execution.specs.EventRun.{Performed, listed, snapshot_of, reported_by};
+ghost use Rattle.execution.specs.EventRun.{Performed, listed, snapshot_of};
 ghost use Rattle.execution.specs.Desks.{HasRoom};
 ghost use Rattle.devices.specs.Views.{output_view, source_view};
-ghost use Rattle.execution.specs.declared.fault.RunFault.TheVariants as run_fault;
+ghost use Rattle.execution.specs.declared.fault.ExecutionFault.TheVariants as execution_fault;
 ghost use Rattle.workboard.specs.Indexed.{IsOrder};
 
 use crate::course::{execute, resume};
 use crate::hands::Hands;
 use crate::performance::perform;
 use crate::worker::Worker;
-use crate::{JobMaker, RunFault, WorkFault};
+use crate::{ExecutionFault, JobMaker};
 use devices::{Bench, Shelf, Watch};
 use job_terms::{BoardEvent, Progress};
 use std::alloc::Global;
 use std::marker::Model;
-use workboard::{Board, BoardFault};
+use workboard::Board;
 
 /// A work, its board, and what its workers hold.
 #[derive(Drop)]
@@ -56,28 +56,31 @@ fn most_bytes<W: JobMaker>(work: &W) -> usize
 }
 
 /// The worker 1, with room for the bytes of any job.
-fn first_worker<W: JobMaker>(alloc: Global, work: &W) -> Result<Worker, BoardFault>
+fn first_worker<W: JobMaker>(alloc: Global, work: &W) -> Result<Worker, ExecutionFault>
     ensures hand { IfOk result (λ worker. worker.hand ≡ Nothing) }
     ensures room { IfOk result (λ worker. HasRoom (W.plan work.now).jobs worker.room) }
-    ensures only_memory { IfErr result (λ fault. fault ≡ BoardFault.Memory) }
+    ensures only_memory { IfErr result IsMemory }
 {
     match Worker::with_room(alloc, most_bytes(work)) {
         Ok(worker) => Ok(worker),
-        Err(_) => Err(BoardFault::Memory),
+        Err(_) => Err(ExecutionFault::JobMemory),
     }
 }
 
 impl<W: JobMaker + Drop> Execution<W> {
     /// All jobs are open, to be handed out in this order. It takes all memory that rounds of one worker need.
-    pub fn fresh(alloc: Global, work: W, order: Vec<u32>) -> Result<Self, BoardFault>
+    pub fn fresh(alloc: Global, work: W, order: Vec<u32>) -> Result<Self, ExecutionFault>
         requires { IsOrder (W.plan work).jobs.count order.items }
         ensures work { IfOk result (λ run. run.work ≡ work) }
         ensures board { IfOk result (λ run. run.board ≡ fresh_board (W.plan work).jobs.count order.items) }
         ensures idle { IfOk result (λ run. (w : ℕ) → hands_at run w ≡ Nothing) }
         ensures rest { IfOk result (λ run. AtRest run.board) }
-        ensures only_memory { IfErr result (λ fault. fault ≡ BoardFault.Memory) }
+        ensures only_memory { IfErr result IsMemory }
     {
-        let board = Board::new(alloc, work.count(), order)?;
+        let board = match Board::new(alloc, work.count(), order) {
+            Ok(board) => board,
+            Err(_) => return Err(ExecutionFault::Memory),
+        };
         let first = first_worker(alloc, &work)?;
         let hands = Hands::new(alloc, first);
         Ok(Execution {
@@ -94,16 +97,19 @@ impl<W: JobMaker + Drop> Execution<W> {
         work: W,
         order: Vec<u32>,
         done: &[bool],
-    ) -> Result<Self, BoardFault>
+    ) -> Result<Self, ExecutionFault>
         requires order { IsOrder (W.plan work).jobs.count order.items }
         requires done { length done.now ≡ (W.plan work).jobs.count }
         ensures work { IfOk result (λ run. run.work ≡ work) }
         ensures board { IfOk result (λ run. run.board ≡ board_with done.now order.items) }
         ensures idle { IfOk result (λ run. (w : ℕ) → hands_at run w ≡ Nothing) }
         ensures rest { IfOk result (λ run. AtRest run.board) }
-        ensures only_memory { IfErr result (λ fault. fault ≡ BoardFault.Memory) }
+        ensures only_memory { IfErr result IsMemory }
     {
-        let board = Board::with_done(alloc, work.count(), order, done)?;
+        let board = match Board::with_done(alloc, work.count(), order, done) {
+            Ok(board) => board,
+            Err(_) => return Err(ExecutionFault::Memory),
+        };
         let first = first_worker(alloc, &work)?;
         let hands = Hands::new(alloc, first);
         Ok(Execution {
@@ -123,13 +129,13 @@ impl<W: JobMaker> Execution<W> {
         shelf: &mut S,
         bench: &mut B,
         watch: &mut T,
-    ) -> Result<Progress, RunFault>
+    ) -> Result<Progress, ExecutionFault>
         ensures performed { Performed false events.now
             (snapshot_of (W.plan self.old.work) self.old.board 0 (source_view S.Shelf shelf.old) (output_view B.Bench bench.old))
             (hands_at self.old)
             (λ stale. snapshot_of (W.plan self.new.work) self.new.board stale (source_view S.Shelf shelf.new)
             (output_view B.Bench bench.new))
-            (hands_at self.new) (reported_by result) (end_of result) }
+            (hands_at self.new) result }
     {
         match perform(
             self.alloc,
@@ -153,14 +159,15 @@ impl<W: JobMaker> Execution<W> {
         shelf: &mut S,
         bench: &mut B,
         watch: &mut T,
-    ) -> Result<Progress, RunFault>
+    ) -> Result<Progress, ExecutionFault>
         ensures performed { Performed true (rounds (3 * (W.plan self.old.work).jobs.count))
             (snapshot_of (W.plan self.old.work) self.old.board 0 (source_view S.Shelf shelf.old) (output_view B.Bench bench.old))
             (hands_at self.old)
             (λ stale. snapshot_of (W.plan self.new.work) self.new.board stale (source_view S.Shelf shelf.new)
             (output_view B.Bench bench.new))
-            (hands_at self.new) (reported_by result) (end_of result) }
-        ensures no_memory { IsErrOf result run_fault.Memory → ⊥ }
+            (hands_at self.new) result }
+        ensures memory { IsErrOf result execution_fault.Memory → ⊥ }
+        ensures job_memory { IsErrOf result execution_fault.JobMemory → ⊥ }
         ensures finished { IsTrue (S.honest shelf.old) → IsTrue (B.honest bench.old) → AtRest self.old.board
             → hands_at self.old 1 ≡ Nothing → OnOk result (is_finished self.new.board ≡ true) }
     {
@@ -189,14 +196,16 @@ impl<W: JobMaker> Execution<W> {
         shelf: &mut S,
         bench: &mut B,
         watch: &mut T,
-    ) -> Result<Progress, WorkFault>
-        ensures carried { Executed (listed in_rounds (W.plan self.old.work).jobs.count events.now)
+    ) -> Result<Progress, ExecutionFault>
+        ensures executed { Executed (listed in_rounds (W.plan self.old.work).jobs.count events.now)
             (snapshot_of (W.plan self.old.work) self.old.board 0 (source_view S.Shelf shelf.old) (output_view B.Bench bench.old))
             (hands_at self.old)
             (snapshot_of (W.plan self.new.work) self.new.board 0 (source_view S.Shelf shelf.new) (output_view B.Bench bench.new))
             (shelf.new ≡ shelf.old) result }
         ensures finished { IsTrue (S.honest shelf.old) → IsTrue (B.honest bench.old) → in_rounds ≡ true
             → AtRest self.old.board → hands_at self.old 1 ≡ Nothing → OnOk result (is_finished self.new.board ≡ true) }
+        ensures memory { IsErrOf result execution_fault.Memory → in_rounds ≡ false }
+        ensures job_memory { IsErrOf result execution_fault.JobMemory → in_rounds ≡ false }
     {
         match execute(
             self.alloc,
@@ -222,14 +231,16 @@ impl<W: JobMaker> Execution<W> {
         shelf: &mut S,
         bench: &mut B,
         watch: &mut T,
-    ) -> Result<Progress, WorkFault>
-        ensures carried { Resumed (listed in_rounds (W.plan self.old.work).jobs.count events.now)
+    ) -> Result<Progress, ExecutionFault>
+        ensures resumed { Resumed (listed in_rounds (W.plan self.old.work).jobs.count events.now)
             (snapshot_of (W.plan self.old.work) self.old.board 0 (source_view S.Shelf shelf.old) (output_view B.Bench bench.old))
             (hands_at self.old)
             (snapshot_of (W.plan self.new.work) self.new.board 0 (source_view S.Shelf shelf.new) (output_view B.Bench bench.new))
             result }
         ensures finished { IsTrue (S.honest shelf.old) → IsTrue (B.honest bench.old) → in_rounds ≡ true
             → AtRest self.old.board → hands_at self.old 1 ≡ Nothing → OnOk result (is_finished self.new.board ≡ true) }
+        ensures memory { IsErrOf result execution_fault.Memory → in_rounds ≡ false }
+        ensures job_memory { IsErrOf result execution_fault.JobMemory → in_rounds ≡ false }
     {
         match resume(
             self.alloc,

@@ -1,19 +1,20 @@
 // One event.
-ghost use Rattle.std.specs.Prelude.{◌≡◌, ◌≢◌, ◌<◌, ◌≤◌, ◌+◌, ◌^◌, ◌∷◌, [], ℕ, IsErrOf, IsOk, None, OnOk, length};
+ghost use Rattle.std.specs.Prelude.{◌≡◌, ◌≢◌, ◌<◌, ◌≤◌, ◌+◌, ◌^◌, ◌∷◌, [], ℕ, IsErr, IsErrOf, IsOk, None, OnOk, length};
 ghost use Rattle.job_terms.specs.Workers.{jobs_over};
-ghost use Rattle.execution.specs.Ends.{end_of, ended_of, events_of};
+ghost use Rattle.execution.specs.Ends.{NeedsPlace, NeedsRoom, end_of, ended_of, events_of};
 ghost use Rattle.execution.specs.Held.{IsReady, hands_in};
-ghost use Rattle.execution.specs.EventRun.{ActionStep, IsOthers, EventRun, WorkerStep, event_of, snapshot_of};
+ghost use Rattle.execution.specs.EventRun.{ActionStep, EventRun, WorkerStep, event_of, snapshot_of};
 ghost use Rattle.execution.specs.Desks.{FitsHand, FitsRoom};
 ghost use Rattle.devices.specs.Views.{output_view, source_view};
 ghost use Rattle.execution.specs.declared.action.Action.TheVariants as action_kind;
-ghost use Rattle.execution.specs.declared.fault.RunFault.TheVariants as run_fault;
+ghost use Rattle.execution.specs.declared.fault.ExecutionFault.TheVariants as execution_fault;
 
 use crate::action::Action;
+use crate::fault::JobFault;
 use crate::hands::Hands;
 use crate::steps::{deliver, fail, hand_out, lose, make};
 use crate::worker::Worker;
-use crate::{JobFault, JobMaker, RunFault};
+use crate::{ExecutionFault, JobMaker};
 use devices::{Bench, Shelf};
 use job_terms::BoardEvent;
 use std::alloc::{AllocError, Global};
@@ -87,6 +88,7 @@ fn get_ready<W: JobMaker>(maker: &W, worker: &mut Worker, action: Action) -> Res
     ensures same { worker.new.hand ≡ worker.old.hand }
     ensures room { OnOk result (action ≡ action_kind.Work → FitsRoom (W.plan maker.now).jobs worker.new) }
     ensures enough { FitsRoom (W.plan maker.now).jobs worker.old → (IsOk result) × (worker.new.room ≡ worker.old.room) }
+    ensures only { IsErr result → action ≡ action_kind.Work }
 {
     match action {
         Action::Work => return prepare(maker, worker),
@@ -106,7 +108,7 @@ fn act<W: JobMaker, S: Shelf, B: Bench>(
     action: Action,
     shelf: &mut S,
     bench: &mut B,
-) -> Result<(), RunFault>
+) -> Result<(), ExecutionFault>
     requires ready { IsReady (W.plan maker.old).jobs board.old hands.old }
     requires few { stale.old + 1 < 2 ^ 64 }
     ensures ran { EventRun
@@ -116,18 +118,20 @@ fn act<W: JobMaker, S: Shelf, B: Bench>(
         (hands_in hands.new) (end_of result) }
     ensures ready { IsReady (W.plan maker.old).jobs board.new hands.new }
     ensures counted { stale.new ≤ stale.old + 1 }
-    ensures needed { IsErrOf result run_fault.Memory → number ≢ 1 }
+    ensures place { IsErrOf result execution_fault.Memory → number ≢ 1 }
+    ensures room { IsErrOf result execution_fault.JobMemory → (action ≡ action_kind.Work) × (number ≢ 1) }
+    ensures no_output { (file : ℕ) → IsErrOf result (execution_fault.Output file) → ⊥ }
 {
     match hands.make_place(alloc, number) {
         Ok(()) => {}
-        Err(_) => return Err(RunFault::Memory),
+        Err(_) => return Err(ExecutionFault::Memory),
     }
     let mut worker = hands.take(alloc, number);
     match get_ready(maker, &mut worker, action) {
         Ok(()) => {}
         Err(_) => {
             hands.put(number, worker);
-            return Err(RunFault::Memory);
+            return Err(ExecutionFault::JobMemory);
         }
     }
     let outcome = turn(
@@ -143,7 +147,7 @@ fn act<W: JobMaker, S: Shelf, B: Bench>(
     hands.put(number, worker);
     match outcome {
         Ok(()) => return Ok(()),
-        Err(fault) => return Err(RunFault::from(fault)),
+        Err(fault) => return Err(ExecutionFault::from(fault)),
     }
 }
 
@@ -157,7 +161,7 @@ pub fn step<W: JobMaker, S: Shelf, B: Bench>(
     event: BoardEvent,
     shelf: &mut S,
     bench: &mut B,
-) -> Result<(), RunFault>
+) -> Result<(), ExecutionFault>
     requires ready { IsReady (W.plan maker.old).jobs board.old hands.old }
     requires few { stale.old + 1 < 2 ^ 64 }
     ensures ran { EventRun
@@ -167,7 +171,9 @@ pub fn step<W: JobMaker, S: Shelf, B: Bench>(
         (hands_in hands.new) (end_of result) }
     ensures ready { IsReady (W.plan maker.old).jobs board.new hands.new }
     ensures counted { stale.new ≤ stale.old + 1 }
-    ensures needed { IsErrOf result run_fault.Memory → IsOthers event }
+    ensures place { IsErrOf result execution_fault.Memory → NeedsPlace event }
+    ensures room { IsErrOf result execution_fault.JobMemory → NeedsRoom event }
+    ensures no_output { (file : ℕ) → IsErrOf result (execution_fault.Output file) → ⊥ }
 {
     match event {
         BoardEvent::Give(number) => return act(

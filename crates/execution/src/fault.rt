@@ -1,7 +1,7 @@
-// Why a job or a run of jobs fails.
+// Why a job, or a whole work, isn't done.
 ghost use Rattle.std.specs.Prelude.{◌≡◌};
-ghost use Rattle.execution.specs.Ends.{run_of};
-ghost use Rattle.execution.specs.Outcome.{work_of};
+ghost use Rattle.execution.specs.Ends.{fault_of};
+ghost use Rattle.execution.specs.declared.fault.ExecutionFault.TheVariants.{Output};
 
 use thiserror::Error;
 
@@ -16,6 +16,14 @@ pub enum PlaceFault {
     Mark,
 }
 
+/// The device failed at an output, outside of the jobs.
+#[derive(Clone, Copy, Debug, PartialEq, Eq, Error)]
+#[error("output {file} can't be written")]
+pub struct OutputFault {
+    /// The number of the output in its work.
+    pub file: u32,
+}
+
 /// Why a job ends the run.
 #[derive(Clone, Copy, Debug, PartialEq, Eq, Error)]
 pub enum JobFault {
@@ -27,53 +35,41 @@ pub enum JobFault {
     Mark,
 }
 
-/// Why a run of events ends.
+/// Why a work isn't done. What is written of it is unfinished.
 #[derive(Clone, Copy, Debug, PartialEq, Eq, Error)]
-pub enum RunFault {
-    /// 57 or 60
+pub enum ExecutionFault {
+    /// 60: no memory was left for the board, or for what a worker holds.
     #[error("out of memory")]
     Memory,
-    /// 66
+    /// 57 or 60, as the work has it: no memory was left for the bytes of a job.
+    #[error("out of memory")]
+    JobMemory,
+    /// 66: the device failed three times in this job.
     #[error("job {job} failed for the third time")]
     GivenUp { job: u32 },
-    /// 62
+    /// 62: the bytes of a job stand at their place, but the mark that says so wasn't written.
     #[error("a mark wasn't written")]
     Mark,
+    /// 62: the device failed at the output of this number, outside of the jobs.
+    #[error("output {file} can't be written")]
+    Output { file: u32 },
 }
 
-impl From<JobFault> for RunFault {
-    ghost from_gives = { λ fault reported. reported ≡ run_of fault };
+impl From<JobFault> for ExecutionFault {
+    ghost from_gives = { λ job fault. fault ≡ fault_of job };
 
     fn from(fault: JobFault) -> Self {
         match fault {
-            JobFault::GivenUp { job } => RunFault::GivenUp { job },
-            JobFault::Mark => RunFault::Mark,
+            JobFault::GivenUp { job } => ExecutionFault::GivenUp { job },
+            JobFault::Mark => ExecutionFault::Mark,
         }
     }
 }
 
-/// Why a work isn't done.
-#[derive(Clone, Copy, Debug, PartialEq, Eq, Error)]
-pub enum WorkFault {
-    /// 57 or 60
-    #[error("out of memory")]
-    Memory,
-    /// 66
-    #[error("job {job} failed for the third time")]
-    GivenUp { job: u32 },
-    /// 62: outside of the jobs, or a mark.
-    #[error("an output's device failed")]
-    Output,
-}
+impl From<OutputFault> for ExecutionFault {
+    ghost from_gives = { λ output fault. fault ≡ Output output.file };
 
-impl From<RunFault> for WorkFault {
-    ghost from_gives = { λ fault reported. reported ≡ work_of fault };
-
-    fn from(fault: RunFault) -> Self {
-        match fault {
-            RunFault::Memory => WorkFault::Memory,
-            RunFault::GivenUp { job } => WorkFault::GivenUp { job },
-            RunFault::Mark => WorkFault::Output,
-        }
+    fn from(fault: OutputFault) -> Self {
+        ExecutionFault::Output { file: fault.file }
     }
 }

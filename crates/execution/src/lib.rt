@@ -15,7 +15,7 @@ mod steps;
 mod worker;
 
 pub use calls::Execution;
-pub use fault::{JobFault, PlaceFault, RunFault, WorkFault};
+pub use fault::{ExecutionFault, OutputFault, PlaceFault};
 pub use maker::JobMaker;
 pub use order::{in_order_of, in_turn};
 pub use placement::place_marked;

@@ -1,18 +1,18 @@
 // What a work is, to a board.
-ghost use Rattle.std.specs.Prelude.{◌≡◌, ◌<◌, ℕ, ⊤, Bool, false, Option, Some, List, length, IsTrue, IsErrOf, OnOk};
-ghost use Rattle.work_terms.specs.Disk.{Files, IsDurable};
+ghost use Rattle.std.specs.Prelude.{◌≡◌, ◌<◌, ℕ, ⊤, Bool, false, IfErr, List, length, IsTrue, IsErrOf, OnOk, Some};
+ghost use Rattle.work_terms.specs.Disk.{Files};
 ghost use Rattle.job_terms.specs.Workers.{jobs_over};
 ghost use Rattle.devices.specs.Frame.{OnlyReads, OnlyWrites};
+ghost use Rattle.devices.specs.Views.{CrashesLeave, output_view};
 ghost use Rattle.execution.specs.Filled.{AreParts};
 ghost use Rattle.execution.specs.Marking.{IsRunningBy, LaysBy, LeavesBy, Marking, Marks, NoneStartedBy};
-ghost use Rattle.execution.specs.Plan.{AreBlank, IsOwn, JobPlan, Stays};
+ghost use Rattle.execution.specs.Plan.{AreBlank, AreDurable, HoldJobs, HoldLast, IsAt, IsForeign, IsLast, IsOwn, JobPlan, Stays};
 ghost use Rattle.execution.specs.Worlds.{IsPlaced};
-ghost use Rattle.devices.specs.Views.{CrashesLeave, output_view};
 
-use crate::PlaceFault;
+use crate::{OutputFault, PlaceFault};
 use devices::{Bench, DeviceFault, Shelf};
 
-/// A work: its jobs, each of which makes the bytes of one place of an output, and what comes before and behind them.
+/// A work: its jobs, each of which makes the bytes of one place of an output, and what comes before and after them.
 pub trait JobMaker {
     /// Its jobs, its marks, and all bytes of its outputs.
     ghost plan: { Self → JobPlan };
@@ -26,7 +26,7 @@ pub trait JobMaker {
         requires { job < (plan self.now).jobs.count }
         ensures { result ≡ (plan self.now).jobs.size job };
 
-    /// How many frames the job has: what a watch is reported.
+    /// How many frames the job has: what is reported to a watch.
     fn frames(&self, job: u32) -> u64
         requires { job < (plan self.now).jobs.count };
 
@@ -54,14 +54,16 @@ pub trait JobMaker {
         ensures marks { IsTrue (B.honest bench.old) → (sources : Files) (done : ℕ → Bool)
             → bytes.now ≡ (plan self.old).jobs.bytes sources job → done job ≡ false
             → IsRunningBy ((plan self.old).marking sources) done (B.may_leave bench.old)
-            → Marks ((plan self.old).marking sources) done job (output_view B.Bench bench.old) (output_view B.Bench bench.new) result }
+            → Marks ((plan self.old).marking sources) done job (output_view B.Bench bench.old)
+            (output_view B.Bench bench.new) result }
         ensures only_marks { IsErrOf result PlaceFault.Mark → IsTrue (plan self.old).marks }
         ensures only_writes { OnlyWrites B.Bench (Stays (plan self.old)) bench.old bench.new result (λ _. ⊤)
             (λ fault failed. fault ≡ PlaceFault.Mark → (sources : Files) (m : Marking)
             → (plan self.old).marking sources ≡ Some m → failed m.marks) };
 
-    /// Lays out every output at full length, zero in the jobs' places, with fresh marks where the work has some.
-    fn lay_out<B: Bench>(&mut self, bench: &mut B) -> Result<(), DeviceFault>
+    /// Lays out every output of a job at full length, zero in the jobs' places, with fresh marks where the work has
+    /// some. What comes last stays as it is.
+    fn lay_out<B: Bench>(&mut self, bench: &mut B) -> Result<(), OutputFault>
         ensures laid { IsTrue (B.honest bench.old) → (sources : Files)
             → AreParts (jobs_over (plan self.old).jobs sources) ((plan self.old).whole sources)
             → OnOk result (AreBlank (jobs_over (plan self.old).jobs sources) ((plan self.old).whole sources)
@@ -73,16 +75,23 @@ pub trait JobMaker {
             → OnOk result (IsRunningBy ((plan self.old).marking sources) done (B.may_leave bench.new)) }
         ensures any_moment { IsTrue (B.honest bench.old) → (sources : Files)
             → NoneStartedBy ((plan self.old).marking sources) (B.may_leave bench.old)
-            → CrashesLeave (LaysBy ((plan self.old).marking sources)) (output_view B.Bench bench.old) (output_view B.Bench bench.new) }
+            → CrashesLeave (LaysBy ((plan self.old).marking sources)) (output_view B.Bench bench.old)
+            (output_view B.Bench bench.new) }
         ensures only_writes { OnlyWrites B.Bench (Stays (plan self.old)) bench.old bench.new result (λ _. ⊤)
-            (λ _ failed. ⊤) };
+            (λ fault failed. IsAt (plan self.old) fault.file failed) };
 
-    /// Makes all outputs durable, once every job is done. What comes last may write files that are none of the jobs'.
-    fn finish<B: Bench>(&mut self, bench: &mut B) -> Result<(), DeviceFault>
+    /// Makes all outputs durable, once every job is done, and writes those that come last, in their order: where it
+    /// fails at an output, those after it stay as they are.
+    fn finish<B: Bench>(&mut self, bench: &mut B) -> Result<(), OutputFault>
         ensures stays { IsTrue (B.honest bench.old) → (n : List ℕ) → IsOwn (plan self.old) n
             → B.stored bench.new n ≡ B.stored bench.old n }
-        ensures durable { IsTrue (B.honest bench.old) → OnOk result ((k : ℕ) → k < (plan self.old).jobs.count
-            → IsDurable ((plan self.old).jobs.name k) (B.stored bench.new) (B.may_leave bench.new)) }
+        ensures last { IsTrue (B.honest bench.old) → (sources : Files)
+            → HoldJobs (plan self.old) sources (B.stored bench.old)
+            → OnOk result (HoldLast (plan self.old) sources (B.stored bench.new)) }
+        ensures in_order { IsTrue (B.honest bench.old) → IfErr result (λ fault. (i : ℕ) → IsLast (plan self.old) i
+            → fault.file < i → B.stored bench.new ((plan self.old).output i) ≡ B.stored bench.old ((plan self.old).output i)) }
+        ensures durable { IsTrue (B.honest bench.old)
+            → OnOk result (AreDurable (plan self.old) (B.stored bench.new) (B.may_leave bench.new)) }
         ensures same { plan self.new ≡ plan self.old }
         ensures marks { IsTrue (B.honest bench.old) → (sources : Files) (done : ℕ → Bool)
             → IsRunningBy ((plan self.old).marking sources) done (B.may_leave bench.old)
@@ -91,6 +100,6 @@ pub trait JobMaker {
             → IsRunningBy ((plan self.old).marking sources) done (B.may_leave bench.old)
             → CrashesLeave (LeavesBy ((plan self.old).marking sources) done done) (output_view B.Bench bench.old)
             (output_view B.Bench bench.new) }
-        ensures only_writes { OnlyWrites B.Bench (Stays (plan self.old)) bench.old bench.new result (λ _. ⊤)
-            (λ _ failed. ⊤) };
+        ensures only_writes { OnlyWrites B.Bench (IsForeign (plan self.old)) bench.old bench.new result (λ _. ⊤)
+            (λ fault failed. IsAt (plan self.old) fault.file failed) };
 }

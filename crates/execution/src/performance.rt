@@ -2,16 +2,16 @@
 ghost use Rattle.std.specs.Prelude.{◌≡◌, ◌<◌, ◌*◌, ◌+◌, ℕ, Bool, false, true, cond, IsErrOf, length, slice_index_or};
 ghost use Rattle.job_terms.specs.declared.BoardEvent.TheVariants as event_kind;
 ghost use Rattle.job_terms.specs.Workers.{rounds};
-ghost use Rattle.execution.specs.Ends.{end_of};
+ghost use Rattle.execution.specs.Ends.{NeedsPlace, NeedsRoom};
 ghost use Rattle.execution.specs.Boards as spec;
 ghost use Rattle.execution.specs.Held.{IsReady, hands_in};
-ghost use Rattle.execution.specs.EventRun.{IsOthers, Performed, listed, snapshot_of, reported_by};
+ghost use Rattle.execution.specs.EventRun.{Performed, listed, snapshot_of};
 ghost use Rattle.devices.specs.Views.{output_view, source_view};
-ghost use Rattle.execution.specs.declared.fault.RunFault.TheVariants as run_fault;
+ghost use Rattle.execution.specs.declared.fault.ExecutionFault.TheVariants as execution_fault;
 
 use crate::events::step;
 use crate::hands::Hands;
-use crate::{JobMaker, RunFault};
+use crate::{ExecutionFault, JobMaker};
 use devices::{Bench, Shelf, Watch};
 use job_terms::{BoardEvent, Progress};
 use std::alloc::Global;
@@ -35,7 +35,8 @@ fn progress_of(board: &Board, stale: u64) -> Progress
 /// An event of the rounds of worker 1.
 fn round_event(i: u64) -> BoardEvent
     ensures event { (n : ℕ) → i < 3 * n → result ≡ slice_index_or (rounds n) i (event_kind.Lose 0) }
-    ensures first { IsOthers result → ⊥ }
+    ensures no_place { NeedsPlace result → ⊥ }
+    ensures no_room { NeedsRoom result → ⊥ }
 {
     let turn = i % 3;
     if turn == 0 {
@@ -61,7 +62,8 @@ fn how_many(in_rounds: bool, events: &[BoardEvent], count: u32) -> u64
 fn event_at(in_rounds: bool, events: &[BoardEvent], i: u64, count: u32) -> BoardEvent
     requires { i < length (listed in_rounds count events.now) }
     ensures event { result ≡ slice_index_or (listed in_rounds count events.now) i (event_kind.Lose 0) }
-    ensures first { in_rounds ≡ true → IsOthers result → ⊥ }
+    ensures no_place { in_rounds ≡ true → NeedsPlace result → ⊥ }
+    ensures no_room { in_rounds ≡ true → NeedsRoom result → ⊥ }
 {
     if in_rounds {
         return round_event(i);
@@ -133,15 +135,17 @@ pub fn perform<W: JobMaker, S: Shelf, B: Bench, T: Watch>(
     shelf: &mut S,
     bench: &mut B,
     watch: &mut T,
-) -> Result<Progress, RunFault>
+) -> Result<Progress, ExecutionFault>
     requires { IsReady (W.plan maker.old).jobs board.old hands.old }
     ensures performed { Performed in_rounds (listed in_rounds (W.plan maker.old).jobs.count events.now)
         (snapshot_of (W.plan maker.old) board.old 0 (source_view S.Shelf shelf.old) (output_view B.Bench bench.old))
         (hands_in hands.old)
         (λ stale. snapshot_of (W.plan maker.new) board.new stale (source_view S.Shelf shelf.new) (output_view B.Bench bench.new))
-        (hands_in hands.new) (reported_by result) (end_of result) }
+        (hands_in hands.new) result }
     ensures ready { IsReady (W.plan maker.new).jobs board.new hands.new }
-    ensures needed { IsErrOf result run_fault.Memory → in_rounds ≡ false }
+    ensures memory { IsErrOf result execution_fault.Memory → in_rounds ≡ false }
+    ensures job_memory { IsErrOf result execution_fault.JobMemory → in_rounds ≡ false }
+    ensures no_output { (file : ℕ) → IsErrOf result (execution_fault.Output file) → ⊥ }
 {
     let count = maker.count();
     let whole = how_many(in_rounds, events, count);

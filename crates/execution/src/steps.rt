@@ -13,8 +13,9 @@ ghost use Rattle.execution.specs.Worlds.{state_of};
 ghost use Rattle.devices.specs.Views.{Reads, Writes, output_view, source_view};
 ghost use Rattle.execution.specs.declared.fault.JobFault.TheVariants as fault;
 
+use crate::fault::JobFault;
 use crate::worker::Worker;
-use crate::{JobFault, JobMaker, PlaceFault};
+use crate::{JobMaker, PlaceFault};
 use devices::{Bench, DeviceFault, Shelf};
 use job_terms::Ticket;
 use workboard::{Board, BoardFault};

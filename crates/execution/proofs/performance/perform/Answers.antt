@@ -40,7 +40,7 @@ loop-i-preserved g c = record {
 
 pub returns-in-Err-clause-performed : goal.returns-in-Err-clause-performed
 returns-in-Err-clause-performed g c = performed-ended c.args.in_rounds (listed c.args.in_rounds (g.W.JobMaker.plan c.args.maker.now).jobs.count c.args.events.now)
-    c.loop-i.i c.step.new.stale c.event_at-event.result (Lose 0) c.in-Err.fault
+    c.loop-i.i c.step.new.stale c.event_at-event.result c.in-Err.fault
     (snapshot_of (g.W.JobMaker.plan c.args.maker.now) c.args.board.now 0 (source_view g.S.Shelf c.args.shelf.now)
     (output_view g.B.Bench c.args.bench.now))
     (snapshot_of (g.W.JobMaker.plan c.loop-i.maker) c.loop-i.board c.loop-i.stale (source_view g.S.Shelf c.loop-i.shelf)
@@ -53,3 +53,4 @@ returns-in-Err-clause-performed g c = performed-ended c.args.in_rounds (listed c
     (c.event_at-event.ensures.event ∙ ap {B = BoardEvent} (λ (k : ℕ). get_or (listed c.args.in_rounds k
     c.args.events.now) c.loop-i.i (Lose 0)) c.count-count.ensures)
     c.loop-i.invariant.ran c.in-Err.ensures.ran
+    c.in-Err.ensures.place c.in-Err.ensures.room c.in-Err.ensures.no_output

@@ -1,6 +1,4 @@
-use Rattle.std.proofs.Common.{None, Some, Err, false, subst}
-use Rattle.job_terms.specs.declared.Progress.{Progress}
-use Rattle.execution.specs.Ends.{end_of}
+use Rattle.std.proofs.Common.{Ok, Err, false, subst}
 use Rattle.execution.specs.Held.{hands_in}
 use Rattle.execution.specs.EventRun.{Performed, snapshot_of}
 use Rattle.execution.specs.View.{ExecutionView, hands_at}
@@ -12,7 +10,7 @@ returns-in-Ok g c = record {
   performed = subst (λ (r : ExecutionView g.row.W.Denot). Performed false c.args.events.now (snapshot_of (g.W.JobMaker.plan r.work) r.board 0 (source_view g.S.Shelf c.args.shelf.now)
       (output_view g.B.Bench c.args.bench.now)) (hands_at r)
       (λ stale. snapshot_of (g.W.JobMaker.plan c.perform.new.maker) c.perform.new.board stale (source_view g.S.Shelf
-      c.perform.new.shelf) (output_view g.B.Bench c.perform.new.bench)) (hands_in c.perform.new.hands) (Some c.in-Ok.progress) None) c.self.view_is c.in-Ok.ensures.performed;
+      c.perform.new.shelf) (output_view g.B.Bench c.perform.new.bench)) (hands_in c.perform.new.hands) (Ok c.in-Ok.progress)) c.self.view_is c.in-Ok.ensures.performed;
 }
 
 pub returns-in-Err : goal.returns-in-Err
@@ -20,5 +18,5 @@ returns-in-Err g c = record {
   performed = subst (λ (r : ExecutionView g.row.W.Denot). Performed false c.args.events.now (snapshot_of (g.W.JobMaker.plan r.work) r.board 0 (source_view g.S.Shelf c.args.shelf.now)
       (output_view g.B.Bench c.args.bench.now)) (hands_at r)
       (λ stale. snapshot_of (g.W.JobMaker.plan c.perform.new.maker) c.perform.new.board stale (source_view g.S.Shelf
-      c.perform.new.shelf) (output_view g.B.Bench c.perform.new.bench)) (hands_in c.perform.new.hands) None (end_of {X = Progress} (Err c.in-Err.fault))) c.self.view_is c.in-Err.ensures.performed;
+      c.perform.new.shelf) (output_view g.B.Bench c.perform.new.bench)) (hands_in c.perform.new.hands) (Err c.in-Err.fault)) c.self.view_is c.in-Err.ensures.performed;
 }
