@@ -28,9 +28,9 @@ written-before f b at i inside lt =
     let front : length (take at f) ≡ at = omega (arith, length-take {A = ℕ}) in
     get_or_append_left (take at f) (b ++ drop (at + length b) f) 0 i (omega (arith, front)) ∙ get_or-take at f i 0 lt
 
-pub written-behind : (f b : List ℕ) (at i : ℕ) → at + length b ≤ length f → at + length b ≤ i
+pub written-after : (f b : List ℕ) (at i : ℕ) → at + length b ≤ length f → at + length b ≤ i
     → get_or (take at f ++ (b ++ drop (at + length b) f)) i 0 ≡ get_or f i 0
-written-behind f b at i inside from =
+written-after f b at i inside from =
     let front : length (take at f) ≡ at = omega (arith, length-take {A = ℕ}) in
     get_or-append_right (take at f) (b ++ drop (at + length b) f) i 0 (omega (arith, front))
     ∙ ap (λ n. get_or (b ++ drop (at + length b) f) (i - n) 0) front
@@ -70,7 +70,7 @@ filled-written jobs name whole done more k old new part off h w =
       | inr from ↦ elim (cases_lt i (jobs.at k + length (jobs.bytes k))) [
         | inl to ↦ written-in w.file (jobs.bytes k) (jobs.at k) i w.inside from to
             ∙ part.part (i - jobs.at k) (omega arith) ∙ ap (λ n. get_or whole n 0) (omega arith)
-        | inr behind ↦ written-behind w.file (jobs.bytes k) (jobs.at k) i w.inside behind ∙ old_right
+        | inr behind ↦ written-after w.file (jobs.bytes k) (jobs.at k) i w.inside behind ∙ old_right
             (λ from to. omega (arith, to, behind))
       ]
     ]

@@ -53,17 +53,17 @@ places-done jobs whole state parts apart good k lt on =
 
 -- ---- what is done stays done
 
-settled-behind : (marks : Bool) (jobs : Jobs) (whole : List ℕ → List ℕ) (first second : List BoardEvent)
+settled-after : (marks : Bool) (jobs : Jobs) (whole : List ℕ → List ℕ) (first second : List BoardEvent)
     (start mid end : World) → AreParts jobs whole → AreApart jobs → IsSound jobs whole start
     → w.BoardRun marks jobs start first mid → w.BoardRun marks jobs mid second end
     → IsSettled jobs mid.state end.state
-settled-behind marks jobs whole first second start mid end parts apart sound one other =
+settled-after marks jobs whole first second start mid end parts apart sound one other =
     let here = run-sound marks jobs whole parts first start mid one sound in
     let there = run-sound marks jobs whole parts second mid end other here in
     record {
       stays = λ k lt on. run-keeps marks jobs second mid end other k on;
       before = places-done jobs whole mid.state parts apart here.good;
-      behind = places-done jobs whole end.state parts apart there.good;
+      after = places-done jobs whole end.state parts apart there.good;
     }
 
 -- ---- what is given up failed three times
@@ -196,7 +196,7 @@ laws-kept marks jobs whole events first old new has parts apart good none lead =
   done_places = places-done jobs whole new parts apart
       (leads-good marks jobs whole first old new has parts lead good);
   settled = λ fewer more le mid end one other.
-      settled-behind marks jobs whole (take fewer events) (drop fewer (take more events)) (with_no_hands old) mid
+      settled-after marks jobs whole (take fewer events) (drop fewer (take more events)) (with_no_hands old) mid
       end parts apart (record { good = good; hands = λ v. tt }) one other;
   given_up = leads-failed marks jobs first old new has lead none;
 }

@@ -306,13 +306,13 @@ blank-filled jobs whole done files none blank = record {
 leaves-sets : (m : Option Marking) (before after : ℕ → Bool) (c : Files) → LeavesBy m before after c
     → SetsBy m after c
 leaves-sets None before after c l = tt
-leaves-sets (Some m) before after c l = λ marks there started. leaves-wider (Some m) before after (λ _. false)
+leaves-sets (Some m) before after c l = λ started. leaves-wider (Some m) before after (λ _. false)
     after c (λ k e. absurd (apart e)) (λ k on. on) l
 
 lays-sets : (m : Option Marking) (after : ℕ → Bool) (c : Files) → LaysBy m c → SetsBy m after c
 lays-sets None after c h = tt
-lays-sets (Some m) after c h = λ marks there started. leaves-wider (Some m) (λ _. false) (λ _. false) (λ _. false) after
-    c (λ k on. on) (λ k e. absurd (apart e)) (h marks there started)
+lays-sets (Some m) after c h = λ started. leaves-wider (Some m) (λ _. false) (λ _. false) (λ _. false) after
+    c (λ k on. on) (λ k e. absurd (apart e)) (h started)
 
 -- no output was laid out
 pub not-laid : (events : List BoardEvent) (p p1 : JobPlan) (board : Board) (s : SourceView) (o o1 : OutputView)

@@ -144,7 +144,7 @@ marks-torn m at n marks old new front e ours t = let r = torn-file at n marks ol
 module _ (m : Marking) (done : ℕ → Bool) (job at mark_at : ℕ) (name bytes marks_name ones : List ℕ) (s : IsStretchOf m
     job name at bytes marks_name mark_at ones)
     (open_job : done job ≡ false) (o : Files → Type 0) (run : IsRunning m done o) where
-  off : (b : ℕ) → m.from job ≤ b → b < m.behind job → is_marked run.marks b ≡ false
+  off : (b : ℕ) → m.from job ≤ b → b < m.end job → is_marked run.marks b ≡ false
   off b from to = run.tell job b s.there from to ∙ open_job
 
   -- while its bytes are written
@@ -193,13 +193,13 @@ module _ (m : Marking) (done : ℕ → Bool) (job at mark_at : ℕ) (name bytes 
   -- once they are written: right for all marks that agree off the job
   pub sound-written : (stored was : Files) → Changes (IsWritten at bytes) name was stored → (c : Files) → IsTornFrom o
       name at (length bytes) c → c name ≡ stored name
-      → (more : ℕ → Bool) → ((b : ℕ) → (m.from job ≤ b → b < m.behind job → ⊥) → more b ≡ is_marked run.marks b) →
+      → (more : ℕ → Bool) → ((b : ℕ) → (m.from job ≤ b → b < m.end job → ⊥) → more b ≡ is_marked run.marks b) →
       HoldsIn m more (c m.name)
   sound-written stored was wrote c (d, before, step) durable more agree =
       holds-written m (is_marked run.marks) more at bytes (d m.name) (c m.name) (was name) (stored name) s.right
       (λ i out fixed b lt from to. elim (cases_lt b (m.from job)) [
         | inl less ↦ sym (agree b (λ f _. omega (arith, less, f))) ∙ fixed b lt from to
-        | inr above ↦ elim (cases_lt b (m.behind job)) [
+        | inr above ↦ elim (cases_lt b (m.end job)) [
           | inl below ↦ absurd (let own = s.own b above below in out (omega (arith, own.0, from))
               (omega (arith, own.1, to)))
           | inr past ↦ sym (agree b (λ _ t. omega (arith, past, t))) ∙ fixed b lt from to
@@ -212,10 +212,10 @@ module _ (m : Marking) (done : ℕ → Bool) (job at mark_at : ℕ) (name bytes 
   module _ (was mid : Files) (wrote : Changes (IsWritten at bytes) name was mid) (o1 : Files → Type 0)
       (torn : (c : Files) → o1 c → IsTornFrom o name at (length bytes) c) (durable : (c : Files) → o1 c → c name ≡ mid
       name) where
-    outside : (b : ℕ) → (m.from job ≤ b → b < m.behind job → ⊥) → mark_at ≤ 44 + b → 44 + b < mark_at + length ones → ⊥
+    outside : (b : ℕ) → (m.from job ≤ b → b < m.end job → ⊥) → mark_at ≤ 44 + b → 44 + b < mark_at + length ones → ⊥
     outside b out from to = out (omega (arith, from, s.mark_first)) (omega (arith, to, s.mark_last))
 
-    elsewhere : (j b : ℕ) → j < m.jobs → j ≢ job → m.from j ≤ b → b < m.behind j → m.from job ≤ b → b < m.behind job → ⊥
+    elsewhere : (j b : ℕ) → j < m.jobs → j ≢ job → m.from j ≤ b → b < m.end j → m.from job ≤ b → b < m.end job → ⊥
     elsewhere j b lt ne from to f t = elim (s.others j lt ne) [
       | inl before ↦ omega (arith, before, to, f)
       | inr after ↦ omega (arith, after, from, t)
@@ -229,7 +229,7 @@ module _ (m : Marking) (done : ℕ → Bool) (job at mark_at : ℕ) (name bytes 
         step.here)
 
     marks-wave : (c : Files) → IsTornFrom o1 marks_name mark_at (length ones) c → (more : ℕ → Bool)
-        → ((b : ℕ) → (m.from job ≤ b → b < m.behind job → ⊥) → more b ≡ is_marked run.marks b) → HoldsIn m more
+        → ((b : ℕ) → (m.from job ≤ b → b < m.end job → ⊥) → more b ≡ is_marked run.marks b) → HoldsIn m more
         (c m.name)
     marks-wave c (d, before, step) more agree = subst (HoldsIn m more)
         (sym (step.others m.name (λ e. s.apart (e ∙ s.marks_is))))
@@ -237,7 +237,7 @@ module _ (m : Marking) (done : ℕ → Bool) (job at mark_at : ℕ) (name bytes 
 
     -- the marks of other jobs are as they were
     beside-tell : (c : Files) (t : IsTornFrom o1 marks_name mark_at (length ones) c) (j b : ℕ) → j < m.jobs → j ≢ job
-        → m.from j ≤ b → b < m.behind j → is_marked (beside-of c t).now b ≡ done j
+        → m.from j ≤ b → b < m.end j → is_marked (beside-of c t).now b ≡ done j
     beside-tell c t j b lt ne from to = (beside-of c t).beside b (outside b (elsewhere j b lt ne from to)) ∙ run.tell j b lt
         from to
 
@@ -342,7 +342,7 @@ module _ (m : Marking) (done : ℕ → Bool) (job at mark_at : ℕ) (name bytes 
       marks = set-beside.now;
       ours = set-beside.ours;
       tell = λ j b lt from to. elim (eqb_tells j job) [
-        | inl e ↦ set-one b (subst (λ x. m.from x ≤ b) e.1 from) (subst (λ x. b < m.behind x) e.1 to) ∙ sym
+        | inl e ↦ set-one b (subst (λ x. m.from x ≤ b) e.1 from) (subst (λ x. b < m.end x) e.1 to) ∙ sym
             (ap (λ t. cond t true (done j)) e.0)
         | inr e ↦ set-beside.beside b (outside b (elsewhere j b lt e.1 from to)) ∙ run.tell j b lt from to ∙ sym
             (ap (λ t. cond t true (done j)) e.0)
@@ -352,7 +352,7 @@ module _ (m : Marking) (done : ℕ → Bool) (job at mark_at : ℕ) (name bytes 
           (λ b out. set-beside.beside b (outside b out));
     }
       where
-        set-one : (b : ℕ) → m.from job ≤ b → b < m.behind job → is_marked set-beside.now b ≡ true
+        set-one : (b : ℕ) → m.from job ≤ b → b < m.end job → is_marked set-beside.now b ≡ true
         set-one b from to = ap {B = Bool} (λ k. k == 1)
             (ap (λ x. get_or x (44 + b) 0) (sym (some-inj set-marks set-beside.now set-beside.there))
             ∙ written-in run.marks ones mark_at (44 + b) set-inside (omega (arith, s.mark_first, from))

@@ -13,9 +13,9 @@ with_no_hands state = record { state = state; hands = λ _. Nothing }
 pub record IsSettled (jobs : Jobs) (first second : State) : Type 0 where
   pub stays : (k : ℕ) → k < jobs.count → done_of first.board k ≡ true → done_of second.board k ≡ true
   pub before : DonePlaces jobs first
-  pub behind : DonePlaces jobs second
+  pub after : DonePlaces jobs second
 
--- The place of each job that is done at last holds its bytes; what is done behind some of the events stays so behind any
+-- The place of each job that is done at last holds its bytes; what is done after some of the events stays so after any
 -- more of them; and a job that the run gave up has failed three times.
 pub record KeepsLaws (marks : Bool) (jobs : Jobs) (events : List BoardEvent) (start last : State) : Type 0 where
   pub done_places : DonePlaces jobs last

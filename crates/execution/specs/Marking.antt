@@ -1,5 +1,5 @@
 -- Marks: which jobs are done, in a file of their own, and what a crash may leave of the output that they speak of.
-use Rattle.std.specs.Prelude.{◌≡◌, ◌≢◌, ℕ, ◌+◌, ◌<◌, ◌≤◌, Bool, true, false, cond, ◌==◌, Option, None, Some, List, [], ◌∷◌, length, take, slice_index_or, Result, Ok, Err, ⊤}
+use Rattle.std.specs.Prelude.{◌≡◌, ◌≢◌, ℕ, ◌+◌, ◌<◌, ◌≤◌, Bool, true, false, cond, ◌&&◌, ◌==◌, nat_le, Option, None, Some, List, ◌∷◌, length, take, slice_index_or, Result, Ok, Err, ⊤}
 use Rattle.work_terms.specs.Disk.{Files}
 use Rattle.job_terms.specs.Board.{Board, job_at, is_done}
 use Rattle.job_terms.specs.Workers.{End, Jobs, Hand, Nothing, Made}
@@ -18,7 +18,7 @@ pub record Marking : Type 0 where
   pub last : ℕ → ℕ
   pub jobs : ℕ
   pub from : ℕ → ℕ
-  pub behind : ℕ → ℕ
+  pub end : ℕ → ℕ
   pub marks : List ℕ
   pub head : List ℕ
 
@@ -42,12 +42,12 @@ pub record IsMarkFile (m : Marking) (marks : List ℕ) : Type 0 where
   pub front : take 44 marks ≡ 1 ∷ m.head
   pub size : length marks ≡ 44 + m.count
 
--- between two events: nothing is pending in the marks, which tell just the blocks of jobs that are done; what is
+-- between two events: nothing is pending in the marks, which are set for just the blocks of jobs that are done; what is
 -- pending in the output lies in the others
 pub record IsRunning (m : Marking) (done : ℕ → Bool) (outcomes : Files → Type 0) : Type 0 where
   pub marks : List ℕ
   pub ours : IsMarkFile m marks
-  pub tell : (job b : ℕ) → job < m.jobs → m.from job ≤ b → b < m.behind job → is_marked marks b ≡ done job
+  pub tell : (job b : ℕ) → job < m.jobs → m.from job ≤ b → b < m.end job → is_marked marks b ≡ done job
   pub kept : (c : Files) → outcomes c → c m.marks ≡ Some marks
   pub wave : (c : Files) → outcomes c → HoldsIn m (is_marked marks) (c m.name)
 
@@ -69,20 +69,20 @@ pub record Leaves (m : Marking) (before after : ℕ → Bool) (c : Files) : Type
   pub marks : List ℕ
   pub there : c m.marks ≡ Some marks
   pub ours : IsMarkFile m marks
-  pub still : (job b : ℕ) → job < m.jobs → m.from job ≤ b → b < m.behind job → before job ≡ true → is_marked marks b ≡
+  pub still : (job b : ℕ) → job < m.jobs → m.from job ≤ b → b < m.end job → before job ≡ true → is_marked marks b ≡
       true
-  pub only : (job b : ℕ) → job < m.jobs → m.from job ≤ b → b < m.behind job → is_marked marks b ≡ true → after job ≡
+  pub only : (job b : ℕ) → job < m.jobs → m.from job ≤ b → b < m.end job → is_marked marks b ≡ true → after job ≡
       true
   pub wave : HoldsIn m (is_marked marks) (c m.name)
 
--- a mark failed: in each outcome the marks tell just the blocks of jobs that are done, but for this one, which is done
+-- a mark failed: in each outcome the marks are set for just the blocks of jobs that are done, but for this one, which is done
 -- and of which any may be marked; and they are true of the output of every outcome
 pub record IsBroken (m : Marking) (done : ℕ → Bool) (outcomes : Files → Type 0) : Type 0 where
   pub job : ℕ
   pub is_done : done job ≡ true
   pub true_of_all : AreTrueOfAll m outcomes
   pub tell : (c d : Files) (at : outcomes c) (other : outcomes d) (j b : ℕ) → j < m.jobs → j ≢ job → m.from j ≤ b
-      → b < m.behind j → is_marked (true_of_all c d at other).marks b ≡ done j
+      → b < m.end j → is_marked (true_of_all c d at other).marks b ≡ done j
 
 -- a work without marks promises nothing of a crash
 abbrev pub IsRunningBy : Option Marking → (ℕ → Bool) → (Files → Type 0) → Type 0
@@ -145,14 +145,17 @@ pub record Marks {X : Type 0} (m : Option Marking) (done : ℕ → Bool) (job : 
   pub goes_on : GoesOn m done job new.may_leave result
   pub moments : CrashesLeave (LeavesBy m done (done_by done job result)) old new
 
+-- marks are started once their front is whole and the gate open
+abbrev pub is_started : Option (List ℕ) → Bool
+is_started None = false
+is_started (Some marks) = nat_le 44 (length marks) && (slice_index_or marks 0 0 == 1)
+
 -- no outcome has marks that are started
 abbrev pub NoneStartedBy : Option Marking → (Files → Type 0) → Type 0
 NoneStartedBy None outcomes = ⊤
-NoneStartedBy (Some m) outcomes = (c : Files) → outcomes c → (marks : List ℕ) → c m.marks ≡ Some marks
-    → take 1 marks ≡ 1 ∷ [] → ⊥
+NoneStartedBy (Some m) outcomes = (c : Files) → outcomes c → is_started (c m.marks) ≡ false
 
 -- while files are laid out: marks that aren't started, or with none set
 abbrev pub LaysBy : Option Marking → Files → Type 0
 LaysBy None c = ⊤
-LaysBy (Some m) c = (marks : List ℕ) → c m.marks ≡ Some marks → take 1 marks ≡ 1 ∷ []
-    → Leaves m (λ _. false) (λ _. false) c
+LaysBy (Some m) c = is_started (c m.marks) ≡ true → Leaves m (λ _. false) (λ _. false) c

@@ -1,5 +1,5 @@
 -- How a whole work came out: its outputs laid out, its events done, and what comes last.
-use Rattle.std.specs.Prelude.{◌≡◌, ◌≤◌, ◌<◌, ℕ, ⊤, Bool, true, false, IsTrue, Option, None, Some, List, [], ◌∷◌, length, take, Result, Ok, Err}
+use Rattle.std.specs.Prelude.{◌≡◌, ◌≤◌, ◌<◌, ℕ, ⊤, Bool, true, false, IsTrue, Option, None, Some, List, length, take, Result, Ok, Err}
 use Rattle.work_terms.specs.Disk.{Files, Rises}
 use Rattle.devices.specs.Views.{CrashesLeave, OutputView, Reads, Writes}
 use Rattle.job_terms.specs.declared.BoardEvent.{BoardEvent}
@@ -11,7 +11,7 @@ use Rattle.execution.specs.Ends.{StopsBefore, end_of}
 use Rattle.execution.specs.EventRun.{MarkFails, Snapshot, jobs_of, marking_of}
 use Rattle.execution.specs.Filled.{AreApart, AreFilled, AreParts}
 use Rattle.execution.specs.Laws.{KeepsLaws}
-use Rattle.execution.specs.Marking.{IsRunningBy, LaysBy, Leaves, LeavesBy, Marking, NoneStartedBy, RunsOn, done_of}
+use Rattle.execution.specs.Marking.{IsRunningBy, LaysBy, Leaves, LeavesBy, Marking, NoneStartedBy, RunsOn, done_of, is_started}
 use Rattle.execution.specs.Plan.{AreBlank, AreDurable, HoldJobs, HoldLast, IsAt, IsForeign, IsLast, IsOwn, JobPlan, Stays}
 use Rattle.execution.specs.Worlds.{Leads, state_of}
 use Rattle.execution.specs.declared.fault.ExecutionFault.{ExecutionFault}
@@ -116,8 +116,7 @@ pub record IsFresh (old : Snapshot) (had : ℕ → Hand) : Type 0 where
 -- marks that are started: none was set at first, and only those of jobs that are done are
 abbrev pub SetsBy : Option Marking → (ℕ → Bool) → Files → Type 0
 SetsBy None after c = ⊤
-SetsBy (Some m) after c = (marks : List ℕ) → c m.marks ≡ Some marks → take 1 marks ≡ 1 ∷ []
-    → Leaves m (λ _. false) after c
+SetsBy (Some m) after c = is_started (c m.marks) ≡ true → Leaves m (λ _. false) after c
 
 -- what the whole of a work leaves, from its first write on
 abbrev pub Executed : List BoardEvent → Snapshot → (ℕ → Hand) → Snapshot → Type 0 → Result Progress ExecutionFault

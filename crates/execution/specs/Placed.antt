@@ -9,18 +9,18 @@ use Rattle.execution.specs.Marking.{Marking}
 pub record IsStretchOf (m : Marking) (job : ℕ) (name : List ℕ) (at : ℕ) (bytes marks_name : List ℕ) (mark_at : ℕ)
     (ones : List ℕ) : Type 0 where
   pub there : job < m.jobs
-  pub inside : m.behind job ≤ m.count
+  pub inside : m.end job ≤ m.count
   pub name_is : name ≡ m.name
   pub marks_is : marks_name ≡ m.marks
   pub apart : m.name ≢ m.marks
   pub mark_first : mark_at ≡ 44 + m.from job
-  pub mark_last : mark_at + length ones ≡ 44 + m.behind job
+  pub mark_last : mark_at + length ones ≡ 44 + m.end job
   pub set : (i : ℕ) → i < length ones → slice_index_or ones i 0 ≡ 1
   pub right : (i : ℕ) → i < length bytes → slice_index_or bytes i 0 ≡ slice_index_or m.whole (at + i) 0
-  pub own : (b : ℕ) → m.from job ≤ b → b < m.behind job → (at ≤ m.first b) × (m.last b ≤ at + length bytes)
+  pub own : (b : ℕ) → m.from job ≤ b → b < m.end job → (at ≤ m.first b) × (m.last b ≤ at + length bytes)
   pub cover : (i : ℕ) → at ≤ i → i < at + length bytes
-      → (b : ℕ) × (b < m.count) × (m.from job ≤ b) × (b < m.behind job) × (m.first b ≤ i) × (i < m.last b)
-  pub others : (j : ℕ) → j < m.jobs → j ≢ job → (m.behind j ≤ m.from job) ⊎ (m.behind job ≤ m.from j)
+      → (b : ℕ) × (b < m.count) × (m.from job ≤ b) × (b < m.end job) × (m.first b ≤ i) × (i < m.last b)
+  pub others : (j : ℕ) → j < m.jobs → j ≢ job → (m.end j ≤ m.from job) ⊎ (m.end job ≤ m.from j)
 
 -- an outcome of before with one file torn
 abbrev pub IsTornFrom : (Files → Type 0) → List ℕ → (at n : ℕ) → Files → Type 0

@@ -7,7 +7,7 @@ ghost use Rattle.execution.specs.Ends.{IsMemory};
 ghost use Rattle.execution.specs.Boards.{board_with, fresh_board};
 ghost use Rattle.execution.specs.View.{hands_at};
 ghost use Rattle.execution.specs.Outcome.{Executed, Resumed};
-ghost use Rattle.execution.specs.EventRun.{Performed, listed, snapshot_of};
+ghost use Rattle.execution.specs.EventRun.{Performed, snapshot_of};
 ghost use Rattle.execution.specs.Desks.{HasRoom};
 ghost use Rattle.devices.specs.Views.{output_view, source_view};
 ghost use Rattle.execution.specs.declared.fault.ExecutionFault.TheVariants as execution_fault;
@@ -69,7 +69,7 @@ fn first_worker<W: JobMaker>(alloc: Global, work: &W) -> Result<Worker, Executio
 
 impl<W: JobMaker + Drop> Execution<W> {
     /// All jobs are open, to be handed out in this order. It takes all memory that rounds of one worker need.
-    pub fn fresh(alloc: Global, work: W, order: Vec<u32>) -> Result<Self, ExecutionFault>
+    pub fn new(alloc: Global, work: W, order: Vec<u32>) -> Result<Self, ExecutionFault>
         requires { IsOrder (W.plan work).jobs.count order.items }
         ensures work { IfOk result (λ run. run.work ≡ work) }
         ensures board { IfOk result (λ run. run.board ≡ fresh_board (W.plan work).jobs.count order.items) }
@@ -122,22 +122,61 @@ impl<W: JobMaker + Drop> Execution<W> {
 }
 
 impl<W: JobMaker> Execution<W> {
-    /// Does these events of any workers, one after the other.
-    pub fn run_events<S: Shelf, B: Bench, T: Watch>(
+    /// The work.
+    pub fn work(&self) -> &W
+        ensures { result.now ≡ self.now.work }
+    {
+        &self.work
+    }
+
+    /// Lays out every output, does rounds of the worker 1 until all jobs are done, and then what comes last. It takes no
+    /// memory.
+    pub fn execute<S: Shelf, B: Bench, T: Watch>(
+        &mut self,
+        shelf: &mut S,
+        bench: &mut B,
+        watch: &mut T,
+    ) -> Result<Progress, ExecutionFault>
+        ensures executed { Executed (rounds (3 * (W.plan self.old.work).jobs.count)) (snapshot_of (W.plan self.old.work) self.old.board 0 (source_view S.Shelf shelf.old)
+            (output_view B.Bench bench.old)) (hands_at self.old)
+            (snapshot_of (W.plan self.new.work) self.new.board 0 (source_view S.Shelf shelf.new)
+            (output_view B.Bench bench.new)) (shelf.new ≡ shelf.old) result }
+        ensures finished { IsTrue (S.honest shelf.old) → IsTrue (B.honest bench.old) → AtRest self.old.board
+            → hands_at self.old 1 ≡ Nothing → OnOk result (is_finished self.new.board ≡ true) }
+        ensures memory { IsErrOf result execution_fault.Memory → ⊥ }
+        ensures job_memory { IsErrOf result execution_fault.JobMemory → ⊥ }
+    {
+        match execute(
+            self.alloc,
+            &mut self.work,
+            &mut self.board,
+            &mut self.hands,
+            true,
+            &[],
+            shelf,
+            bench,
+            watch,
+        ) {
+            Ok(progress) => return Ok(progress),
+            Err(fault) => return Err(fault),
+        }
+    }
+
+    /// Lays out every output, does these events of any workers, one after the other, and what comes last where all jobs
+    /// are done. `Memory` and `JobMemory` where a worker's place, or room for the bytes of a job, finds none.
+    pub fn execute_events<S: Shelf, B: Bench, T: Watch>(
         &mut self,
         events: &[BoardEvent],
         shelf: &mut S,
         bench: &mut B,
         watch: &mut T,
     ) -> Result<Progress, ExecutionFault>
-        ensures performed { Performed false events.now
-            (snapshot_of (W.plan self.old.work) self.old.board 0 (source_view S.Shelf shelf.old) (output_view B.Bench bench.old))
-            (hands_at self.old)
-            (λ stale. snapshot_of (W.plan self.new.work) self.new.board stale (source_view S.Shelf shelf.new)
-            (output_view B.Bench bench.new))
-            (hands_at self.new) result }
+        ensures executed { Executed events.now (snapshot_of (W.plan self.old.work) self.old.board 0 (source_view S.Shelf shelf.old)
+            (output_view B.Bench bench.old)) (hands_at self.old)
+            (snapshot_of (W.plan self.new.work) self.new.board 0 (source_view S.Shelf shelf.new)
+            (output_view B.Bench bench.new)) (shelf.new ≡ shelf.old) result }
     {
-        match perform(
+        match execute(
             self.alloc,
             &mut self.work,
             &mut self.board,
@@ -153,23 +192,83 @@ impl<W: JobMaker> Execution<W> {
         }
     }
 
-    /// Does rounds of the worker 1 until all jobs are done. It takes no memory.
+    /// Does rounds of the worker 1 on outputs as they are, in which what is done already stands, and then what comes
+    /// last. It takes no memory.
+    pub fn resume<S: Shelf, B: Bench, T: Watch>(
+        &mut self,
+        shelf: &mut S,
+        bench: &mut B,
+        watch: &mut T,
+    ) -> Result<Progress, ExecutionFault>
+        ensures resumed { Resumed (rounds (3 * (W.plan self.old.work).jobs.count)) (snapshot_of (W.plan self.old.work) self.old.board 0 (source_view S.Shelf shelf.old)
+            (output_view B.Bench bench.old)) (hands_at self.old)
+            (snapshot_of (W.plan self.new.work) self.new.board 0 (source_view S.Shelf shelf.new)
+            (output_view B.Bench bench.new)) result }
+        ensures finished { IsTrue (S.honest shelf.old) → IsTrue (B.honest bench.old) → AtRest self.old.board
+            → hands_at self.old 1 ≡ Nothing → OnOk result (is_finished self.new.board ≡ true) }
+        ensures memory { IsErrOf result execution_fault.Memory → ⊥ }
+        ensures job_memory { IsErrOf result execution_fault.JobMemory → ⊥ }
+    {
+        match resume(
+            self.alloc,
+            &mut self.work,
+            &mut self.board,
+            &mut self.hands,
+            true,
+            &[],
+            shelf,
+            bench,
+            watch,
+        ) {
+            Ok(progress) => return Ok(progress),
+            Err(fault) => return Err(fault),
+        }
+    }
+
+    /// Does these events of any workers on outputs as they are, and what comes last where all jobs are done.
+    pub fn resume_events<S: Shelf, B: Bench, T: Watch>(
+        &mut self,
+        events: &[BoardEvent],
+        shelf: &mut S,
+        bench: &mut B,
+        watch: &mut T,
+    ) -> Result<Progress, ExecutionFault>
+        ensures resumed { Resumed events.now (snapshot_of (W.plan self.old.work) self.old.board 0 (source_view S.Shelf shelf.old)
+            (output_view B.Bench bench.old)) (hands_at self.old)
+            (snapshot_of (W.plan self.new.work) self.new.board 0 (source_view S.Shelf shelf.new)
+            (output_view B.Bench bench.new)) result }
+    {
+        match resume(
+            self.alloc,
+            &mut self.work,
+            &mut self.board,
+            &mut self.hands,
+            false,
+            events,
+            shelf,
+            bench,
+            watch,
+        ) {
+            Ok(progress) => return Ok(progress),
+            Err(fault) => return Err(fault),
+        }
+    }
+
+    /// Does rounds of the worker 1 until all jobs are done, and nothing else. It takes no memory.
     pub fn run_rounds<S: Shelf, B: Bench, T: Watch>(
         &mut self,
         shelf: &mut S,
         bench: &mut B,
         watch: &mut T,
     ) -> Result<Progress, ExecutionFault>
-        ensures performed { Performed true (rounds (3 * (W.plan self.old.work).jobs.count))
-            (snapshot_of (W.plan self.old.work) self.old.board 0 (source_view S.Shelf shelf.old) (output_view B.Bench bench.old))
-            (hands_at self.old)
+        ensures performed { Performed true (rounds (3 * (W.plan self.old.work).jobs.count)) (snapshot_of (W.plan self.old.work) self.old.board 0 (source_view S.Shelf shelf.old)
+            (output_view B.Bench bench.old)) (hands_at self.old)
             (λ stale. snapshot_of (W.plan self.new.work) self.new.board stale (source_view S.Shelf shelf.new)
-            (output_view B.Bench bench.new))
-            (hands_at self.new) result }
-        ensures memory { IsErrOf result execution_fault.Memory → ⊥ }
-        ensures job_memory { IsErrOf result execution_fault.JobMemory → ⊥ }
+            (output_view B.Bench bench.new)) (hands_at self.new) result }
         ensures finished { IsTrue (S.honest shelf.old) → IsTrue (B.honest bench.old) → AtRest self.old.board
             → hands_at self.old 1 ≡ Nothing → OnOk result (is_finished self.new.board ≡ true) }
+        ensures memory { IsErrOf result execution_fault.Memory → ⊥ }
+        ensures job_memory { IsErrOf result execution_fault.JobMemory → ⊥ }
     {
         match perform(
             self.alloc,
@@ -187,67 +286,25 @@ impl<W: JobMaker> Execution<W> {
         }
     }
 
-    /// Lays out every output, does these events of any workers, or rounds of the worker 1, and makes all outputs durable
-    /// where all jobs are done.
-    pub fn execute<S: Shelf, B: Bench, T: Watch>(
+    /// Does these events of any workers, one after the other, and nothing else.
+    pub fn run_events<S: Shelf, B: Bench, T: Watch>(
         &mut self,
-        in_rounds: bool,
         events: &[BoardEvent],
         shelf: &mut S,
         bench: &mut B,
         watch: &mut T,
     ) -> Result<Progress, ExecutionFault>
-        ensures executed { Executed (listed in_rounds (W.plan self.old.work).jobs.count events.now)
-            (snapshot_of (W.plan self.old.work) self.old.board 0 (source_view S.Shelf shelf.old) (output_view B.Bench bench.old))
-            (hands_at self.old)
-            (snapshot_of (W.plan self.new.work) self.new.board 0 (source_view S.Shelf shelf.new) (output_view B.Bench bench.new))
-            (shelf.new ≡ shelf.old) result }
-        ensures finished { IsTrue (S.honest shelf.old) → IsTrue (B.honest bench.old) → in_rounds ≡ true
-            → AtRest self.old.board → hands_at self.old 1 ≡ Nothing → OnOk result (is_finished self.new.board ≡ true) }
-        ensures memory { IsErrOf result execution_fault.Memory → in_rounds ≡ false }
-        ensures job_memory { IsErrOf result execution_fault.JobMemory → in_rounds ≡ false }
+        ensures performed { Performed false events.now (snapshot_of (W.plan self.old.work) self.old.board 0 (source_view S.Shelf shelf.old)
+            (output_view B.Bench bench.old)) (hands_at self.old)
+            (λ stale. snapshot_of (W.plan self.new.work) self.new.board stale (source_view S.Shelf shelf.new)
+            (output_view B.Bench bench.new)) (hands_at self.new) result }
     {
-        match execute(
+        match perform(
             self.alloc,
             &mut self.work,
             &mut self.board,
             &mut self.hands,
-            in_rounds,
-            events,
-            shelf,
-            bench,
-            watch,
-        ) {
-            Ok(progress) => return Ok(progress),
-            Err(fault) => return Err(fault),
-        }
-    }
-
-    /// The same on outputs as they are, in which what is done already stands.
-    pub fn resume<S: Shelf, B: Bench, T: Watch>(
-        &mut self,
-        in_rounds: bool,
-        events: &[BoardEvent],
-        shelf: &mut S,
-        bench: &mut B,
-        watch: &mut T,
-    ) -> Result<Progress, ExecutionFault>
-        ensures resumed { Resumed (listed in_rounds (W.plan self.old.work).jobs.count events.now)
-            (snapshot_of (W.plan self.old.work) self.old.board 0 (source_view S.Shelf shelf.old) (output_view B.Bench bench.old))
-            (hands_at self.old)
-            (snapshot_of (W.plan self.new.work) self.new.board 0 (source_view S.Shelf shelf.new) (output_view B.Bench bench.new))
-            result }
-        ensures finished { IsTrue (S.honest shelf.old) → IsTrue (B.honest bench.old) → in_rounds ≡ true
-            → AtRest self.old.board → hands_at self.old 1 ≡ Nothing → OnOk result (is_finished self.new.board ≡ true) }
-        ensures memory { IsErrOf result execution_fault.Memory → in_rounds ≡ false }
-        ensures job_memory { IsErrOf result execution_fault.JobMemory → in_rounds ≡ false }
-    {
-        match resume(
-            self.alloc,
-            &mut self.work,
-            &mut self.board,
-            &mut self.hands,
-            in_rounds,
+            false,
             events,
             shelf,
             bench,
