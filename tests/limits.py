@@ -1,10 +1,12 @@
 """Very long lists and files, and many of them: they are answered, in little time."""
 
 import resource
+import shutil
+import subprocess
 from functools import partial
 
 import model
-from harness import LIST, MEDIA, Mismatch, Scene, Suite, same_outcome, words_of
+from harness import LIST, MEDIA, OUT, TIMEOUT, Mismatch, Scene, Skipped, Suite, same, same_outcome, words_of
 from tables import FIRST_LIST, data_chunk, format_chunk, riff_chunk, riff_file, wave
 
 MIDNIGHT = b"00.00.00.00/0000"
@@ -14,6 +16,10 @@ FILES = 2000
 HANDLES = 20
 CHUNKS = 100_000
 EMPTY_SIZE = 3 * 2 ** 30
+STACK = 256 * 1024
+
+# Where the samples of a written file begin that has ds64 and no CodingHistory.
+HEAD_SIZE = 690
 
 
 def processor_seconds() -> float:
@@ -113,7 +119,52 @@ def long_day(scene: Scene) -> None:
         raise Mismatch("a long day takes long")
 
 
+def small_stack(scene: Scene) -> None:
+    """Each command does its work with a stack of 256 kB, over a source with the longest history that is carried."""
+    history = b"A=PCM,F=48000,W=16,M=mono,T=original\r\n" * 1724
+    sound = riff_file(format_chunk(), riff_chunk(b"bext", bytes(602) + history), data_chunk((1, 2, 3, 4)))
+    scene.put(FIRST_LIST, {"A.wav": sound})
+    limit = partial(resource.setrlimit, resource.RLIMIT_STACK, (STACK, STACK))
+    for command, words, line in (
+        ("check", (), "accepted 1 entries 1 indexes"),
+        ("check", ("--report",), None),
+        ("show", (), None),
+        ("consolidate", (), "written 1 media 1 entries"),
+        ("consolidate", ("--report",), "written 1 media 1 entries"),
+        ("render", (), "rendered 4 frames 1 channels"),
+        ("resume", (), "resumed 4 frames 1 blocks were marked"),
+    ):
+        if command in ("consolidate", "render"):
+            scene.empty_out()
+        out = (OUT,) if command in ("consolidate", "render", "resume") else ()
+        got = scene.run(command, LIST, MEDIA, *out, *words, preexec_fn=limit, env={})
+        if line is None:
+            same("status", got.status, 0)
+        else:
+            same_outcome(got, 0, line)
+
+
+def layout_at_once(scene: Scene) -> None:
+    """A rendering of a day of 64 channels and 32 bits has its length by one call, before its first block fails."""
+    if not shutil.which("strace"):
+        raise Skipped("strace isn't installed (Debian package strace)")
+    scene.put(FIRST_LIST, {"A.wav": wave()})
+    trace = scene.folder / "trace"
+    done = subprocess.run(
+        ["strace", "-y", "-qq", "-o", trace, "-e", "trace=ftruncate,pwrite64", "-e", "inject=pwrite64:error=EIO:when=3+",
+         scene.program, "render", LIST, MEDIA, OUT, "--channels", "64", "--depth", "32", "--from", "00.00.00.00/0000",
+         "--to", "24.00.00.00/0000"], cwd=scene.folder, capture_output=True, timeout=TIMEOUT)
+    grown = [line for line in trace.read_text().splitlines() if line.startswith("ftruncate") and "render.wav" in line]
+    if grown and "EFBIG" in grown[0]:
+        raise Skipped("the file system has no files of a terabyte")
+    same("status", done.returncode, 1)
+    same("calls that set the length", len(grown), 1)
+    same("the length", (scene.folder / OUT / "render.wav").stat().st_size, HEAD_SIZE + 256 * model.DAY)
+
+
 def run(suite: Suite) -> None:
+    suite.case("a stack of 256 kB", small_stack)
+    suite.case("a day is laid out by one call", layout_at_once)
     suite.case("the longest list", longest_list)
     suite.case("2,000 files with few handles", many_files)
     suite.case("50 MB of garbage", garbage)
