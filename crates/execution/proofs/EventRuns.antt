@@ -63,7 +63,8 @@ confined-then a b c e g h = record {
       failed = m.failed;
     }
 
-pub run-none : (a : Snapshot) (had has : ℕ → Hand) → ((c : Files) → a.output.left_since a.output.moment c → a.output.may_leave c)
+pub run-none : (a : Snapshot) (had has : ℕ → Hand) → ((c : Files) → a.output.left_since a.output.moment c →
+    a.output.may_leave c)
     → ((v : ℕ) → has v ≡ had v) → EventRun a had [] a has None
 run-none a had has only same = record {
   kept = confined-none a;
@@ -73,7 +74,8 @@ run-none a had has only same = record {
 }
 
 -- events, and then others
-pub run-then : (a b c : Snapshot) (ha hb hc : ℕ → Hand) (es fs : List BoardEvent) (e : Option End) → EventRun a ha es b hb None
+pub run-then : (a b c : Snapshot) (ha hb hc : ℕ → Hand) (es fs : List BoardEvent)
+    (e : Option End) → EventRun a ha es b hb None
     → EventRun b hb fs c hc e → EventRun a ha (es ++ fs) c hc e
 run-then a b c ha hb hc es fs e g h = record {
   kept = confined-then a b c e g.kept h.kept;
@@ -112,7 +114,8 @@ run-then a b c ha hb hc es fs e g h = record {
         → MarksOn (marking_of a) (done_of a.board) a.output (done_of c.board) c.output e
     both honest whole right one two = record {
       now = two.now;
-      moments = crashes_then {P = (LeavesBy (marking_of a) (done_of a.board) (done_of c.board))} {old = a.output} {mid = b.output} {new = c.output}
+      moments = crashes_then {P = (LeavesBy (marking_of a) (done_of a.board)
+          (done_of c.board))} {old = a.output} {mid = b.output} {new = c.output}
           (crashes_weaker (LeavesBy (marking_of a) (done_of a.board) (done_of b.board)) (LeavesBy (marking_of a)
           (done_of a.board) (done_of c.board)) {old = a.output} {new = b.output}
           (λ f. leaves-wider (marking_of a) (done_of a.board) (done_of b.board) (done_of a.board) (done_of c.board) f
@@ -138,7 +141,8 @@ acts marks sources p Lose number s t had has h = h
 
 pub run-step : (a b : Snapshot) (action : Action) (number : ℕ) (had has : ℕ → Hand) (hand now : Hand) (e : Option End)
     → hand ≡ had number → ((v : ℕ) → has v ≡ with_hand had number now v)
-    → WorkerStep (ActionStep a.plan.marks (jobs_of a) action) a hand b now e → EventRun a had (event_of action number ∷ []) b has e
+    → WorkerStep (ActionStep a.plan.marks (jobs_of a) action) a hand b now e → EventRun a had
+    (event_of action number ∷ []) b has e
 run-step a b action number had has hand now e is after h = record {
   kept = h.kept;
   run = λ honest whole. leads-more a.plan.marks (jobs_of a) [] (event_of action number) (state_at a None)
@@ -152,9 +156,11 @@ run-step a b action number had has hand now e is after h = record {
 
 -- a step that writes nothing
 pub step-quiet : (by : State → Hand → State → Hand → Type 0) (p p' : JobPlan) (board board' : Board) (stale stale' : ℕ)
-    (s s' : SourceView) (o : OutputView) (hand now : Hand) (e : Option End) → p' ≡ p → length board'.jobs ≡ length board.jobs
+    (s s' : SourceView) (o : OutputView) (hand now : Hand) (e : Option End) → p' ≡ p → length board'.jobs ≡ length
+    board.jobs
     → Reads s s' → ((c : Files) → o.left_since o.moment c → o.may_leave c) → (e ≡ Some MarkFailed → ⊥)
-    → (IsTrue s.honest → by (state_at (snapshot_of p board stale s o) None) hand (state_at (snapshot_of p' board' stale' s' o) e)
+    → (IsTrue s.honest → by (state_at (snapshot_of p board stale s o) None) hand (state_at
+    (snapshot_of p' board' stale' s' o) e)
     now)
     → (by (state_at (snapshot_of p board stale s o) None) hand (state_at (snapshot_of p' board' stale' s' o) e) now
     → (k : ℕ) → done_of board' k ≡ done_of board k)
@@ -173,7 +179,8 @@ step-quiet by p p' board board' stale stale' s s' o hand now e plan size reads o
 }
 
 -- how a step of one worker ends is how the run of events does
-pub run-outcome : (a b : Snapshot) (had has : ℕ → Hand) (event : BoardEvent) (job : JobFault) (reported : ExecutionFault)
+pub run-outcome : (a b : Snapshot) (had has : ℕ → Hand) (event : BoardEvent) (job : JobFault)
+    (reported : ExecutionFault)
     → reported ≡ fault_of job → EventRun a had (event ∷ []) b has (ended_of {X = Unit {0}} (Err job))
     → EventRun a had (events_of {X = Unit {0}} (Err reported) event) b has (end_of {X = Unit {0}} (Err reported))
 run-outcome a b had has event job reported is h =
@@ -224,7 +231,8 @@ reclaimed p board board' stale s o had k only is size = record {
     same true = refl
     same false = refl
 
-    step : (world : World) → IsWorld world old had → state_of (cond (is_out (job_at board k).standing) (reopened board k)
+    step : (world : World) → IsWorld world old had → state_of (cond (is_out (job_at board k).standing)
+        (reopened board k)
         board) o.files stale s.failures o.failures None
         ≡ cond (is_out (job_at world.state.board k).standing) (record world.state {
           board = reopened world.state.board
@@ -234,12 +242,14 @@ reclaimed p board board' stale s o had k only is size = record {
         o.files stale s.failures o.failures None ≡ cond (is_out (job_at x.board k).standing)
         (record x { board = reopened x.board k }) x) (sym at.state_is) (same (is_out (job_at board k).standing))
 
-pub run-reclaim : (p : JobPlan) (board board' : Board) (stale : ℕ) (s : SourceView) (o : OutputView) (had : ℕ → Hand) (k : ℕ)
+pub run-reclaim : (p : JobPlan) (board board' : Board) (stale : ℕ) (s : SourceView) (o : OutputView) (had : ℕ → Hand)
+    (k : ℕ)
     (is_event : BoardEvent) → is_event ≡ event.Reclaim k → ((c : Files) → o.left_since o.moment c → o.may_leave c)
     → board' ≡ cond (is_out (job_at board k).standing) (reopened board k) board
     → EventRun (snapshot_of p board stale s o) had (is_event ∷ []) (snapshot_of p board' stale s o) had None
 run-reclaim p board board' stale s o had k is_event same only is =
-    subst (λ (e : BoardEvent). EventRun (snapshot_of p board stale s o) had (e ∷ []) (snapshot_of p board' stale s o) had None)
+    subst (λ (e : BoardEvent). EventRun (snapshot_of p board stale s o) had (e ∷ [])
+    (snapshot_of p board' stale s o) had None)
     (sym same) (reclaimed p board board' stale s o had k only is
     (ap (λ (b : Board). length b.jobs) is ∙ size (is_out (job_at board k).standing)))
   where
@@ -249,7 +259,8 @@ run-reclaim p board board' stale s o had k is_event same only is =
 
 -- what a worker did, by the name of it
 pub step-as : (action kind : Action) (marks : Bool) (jobs : Jobs) (a b : Snapshot) (hand now : Hand) (e : Option End)
-    → action ≡ kind → WorkerStep (ActionStep marks jobs kind) a hand b now e → WorkerStep (ActionStep marks jobs action) a hand b now e
+    → action ≡ kind → WorkerStep (ActionStep marks jobs kind) a hand b now e → WorkerStep
+    (ActionStep marks jobs action) a hand b now e
 step-as action kind marks jobs a b hand now e is h =
     subst (λ (x : Action). WorkerStep (ActionStep marks jobs x) a hand b now e) (sym is) h
 
@@ -276,7 +287,8 @@ pub performed-ended : (in_rounds : Bool) (events : List BoardEvent) (i stale : �
     → Performed in_rounds events a ha c hc (Err f)
 performed-ended in_rounds events i stale this f a b c ha hb hc lt is g h place room none = go f h place room none
   where
-    last : (e : Option End) → EventRun b hb (this ∷ []) (c stale) hc e → EventRun a ha (take (i + 1) events) (c stale) hc e
+    last : (e : Option End) → EventRun b hb (this ∷ []) (c stale) hc e → EventRun a ha (take (i + 1) events)
+        (c stale) hc e
     last e r = subst (λ (es : List BoardEvent). EventRun a ha es (c stale) hc e)
         (sym (take_more events i (event.Lose 0) lt))
         (subst (λ (x : BoardEvent). EventRun a ha (take i events ++ x ∷ []) (c stale) hc e) is

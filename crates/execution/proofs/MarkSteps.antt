@@ -3,11 +3,12 @@ use Rattle.std.proofs.Common.{◌≡◌, ◌∙◌, ℕ, Bool, Option, Some, Non
 use Rattle.work_terms.specs.Disk.{Files}
 use Rattle.job_terms.specs.Workers.{End, MarkFailed}
 use Rattle.devices.specs.ViewLaws.{crashes_none, crashes_weaker}
+use Rattle.execution.specs.MarkingLaws.{running_leaves}
 use Rattle.execution.specs.declared.fault.PlaceFault.{PlaceFault}
 use Rattle.execution.specs.declared.fault.PlaceFault.TheVariants as place
 use Rattle.execution.specs.Marking.{IsRunningBy, LeavesBy, Marking, Marks, MarksOn, with_done}
 use Rattle.devices.specs.Views.{OutputView}
-use Rattle.execution.proofs.Marked.{leaves-wider, running-as, running-leaves, runs-as, runs-ended}
+use Rattle.execution.proofs.Marked.{leaves-wider, running-as, runs-as, runs-ended}
 
 -- nothing was written, and as much is done
 pub marks-quiet : (m : Option Marking) (done now : ℕ → Bool) (o : OutputView) (ended : Option End)
@@ -16,7 +17,7 @@ pub marks-quiet : (m : Option Marking) (done now : ℕ → Bool) (o : OutputView
 marks-quiet m done now o ended only no_mark e run = record {
   now = runs-ended ended m now o.may_leave no_mark (running-as m done now o.may_leave e run);
   moments = crashes_none (LeavesBy m done now) o (λ c l. leaves-wider m done done done now c (λ k on. on)
-      (λ k on. sym (e k) ∙ on) (running-leaves m done o.may_leave c run (only c l)));
+      (λ k on. sym (e k) ∙ on) (running_leaves m done o.may_leave c run (only c l)));
 }
 
 pub marks-placed : (m : Option Marking) (done now : ℕ → Bool) (job : ℕ) (old new : OutputView)

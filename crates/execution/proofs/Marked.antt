@@ -40,18 +40,6 @@ runs-as None m done now o e r = running-as m done now o e r
 runs-as (Some (words.GivenUp job)) m done now o e r = running-as m done now o e r
 runs-as (Some words.MarkFailed) m done now o e r = broken-as m done now o e r
 
-pub running-leaves : (m : Option Marking) (done : ℕ → Bool) (o : Files → Type 0) (c : Files) → IsRunningBy m done o →
-    o c → LeavesBy m done done c
-running-leaves None done o c r h = tt
-running-leaves (Some m) done o c r h = record {
-  marks = r.marks;
-  there = r.kept c h;
-  ours = r.ours;
-  still = λ job b lt from to on. r.tell job b lt from to ∙ on;
-  only = λ job b lt from to on. sym (r.tell job b lt from to) ∙ on;
-  wave = r.wave c h;
-}
-
 -- between moments that are further apart
 pub leaves-wider : (m : Option Marking) (before after earlier later : ℕ → Bool) (c : Files)
     → ((k : ℕ) → earlier k ≡ true → before k ≡ true) → ((k : ℕ) → after k ≡ true → later k ≡ true)

@@ -14,7 +14,7 @@ use Rattle.execution.specs.EventRun.{MarkFails, Performed, Snapshot, listed, sna
 use Rattle.execution.specs.Filled.{AreApart, AreFilled, AreParts, IsGood}
 use Rattle.execution.specs.Marking.{IsRight, IsRunningBy, LaysBy, LeavesBy, Marking, MarksOn, NoneStartedBy, done_of}
 use Rattle.execution.specs.Outcome.{EventsDone, Executed, Finished, HasFailed, NotFinished, NotLaidOut, Outcome, OutputFails, Resumed, SetsBy, Stopped, StopsWith}
-use Rattle.execution.specs.Plan.{AreBlank, AreDurable, HoldJobs, HoldLast, IsForeign, IsLast, IsOwn, JobPlan, Stays}
+use Rattle.execution.specs.Plan.{AreBlank, AreDurable, HoldJobs, HoldLast, IsForeign, IsLast, IsOwn, JobPlan, SourcesFit, Stays}
 use Rattle.execution.specs.Worlds.{Leads, state_of}
 use Rattle.execution.specs.declared.fault.ExecutionFault.{ExecutionFault}
 use Rattle.execution.specs.declared.fault.ExecutionFault.TheVariants as fault
@@ -38,7 +38,8 @@ not-false true e = refl
 not-false false e = absurd (apart (sym e))
 
 -- what is reported of the board
-pub reported-finished : (p : Progress) (board : Board) (stale : ℕ) (b : Bool) → p ≡ progress_of board stale → p.finished ≡ b
+pub reported-finished : (p : Progress) (board : Board) (stale : ℕ)
+    (b : Bool) → p ≡ progress_of board stale → p.finished ≡ b
     → is_finished board ≡ b
 reported-finished p board stale b is e = ap (λ (x : Progress). x.finished) (sym is) ∙ e
 
@@ -64,7 +65,8 @@ leads-idle by old new had has idle lead = record {
 
 module _ (in_rounds : Bool) (events : List BoardEvent) (p p2 : JobPlan) (board board2 : Board) (s s2 : SourceView)
     (o o2 : OutputView) (had has : ℕ → Hand) (result : Result Progress ExecutionFault)
-    (h : Performed in_rounds events (snapshot_of p board 0 s o) had (λ stale. snapshot_of p2 board2 stale s2 o2) has result)
+    (h : Performed in_rounds events (snapshot_of p board 0 s o) had
+    (λ stale. snapshot_of p2 board2 stale s2 o2) has result)
     (size : length board.jobs ≡ p.jobs.count) where
   pub events-done : IsTrue s.honest → IsTrue o.honest → AreParts (jobs_over p.jobs s.files) (p.whole s.files)
       → AreApart (jobs_over p.jobs s.files) → ((w : ℕ) → had w ≡ Nothing)
@@ -80,7 +82,8 @@ module _ (in_rounds : Bool) (events : List BoardEvent) (p p2 : JobPlan) (board b
     filled = (leads-good p.marks jobs (p.whole s.files) (take h.count events) old new has parts idle good).filled;
     complete = λ finished k lt. filled-whole jobs (jobs.name k) (p.whole s.files (jobs.name k)) (done_of board2)
         (o2.files (jobs.name k)) (λ j below. finished-done board2 finished j (all j below))
-        ((leads-good p.marks jobs (p.whole s.files) (take h.count events) old new has parts idle good).filled.each k lt);
+        ((leads-good p.marks jobs (p.whole s.files) (take h.count events) old new has parts idle good).filled.each k
+        lt);
     laws = laws-kept p.marks jobs (p.whole s.files) events (take h.count events) old new has parts separate good refl
         idle;
   }
@@ -147,14 +150,15 @@ module _ (in_rounds : Bool) (events : List BoardEvent) (p p2 : JobPlan) (board b
       failed = has-failed result stops h.ran.kept.mark;
       order = λ honest i last stays before. h.ran.kept.output.others honest (p.output i) stays;
     };
-    outcome = λ honest whole parts separate resting. Stopped h.stale h.count
-        (events-done honest whole parts separate resting.marked.idle resting.filled) stops h.ran.kept.output
+    outcome = λ honest whole fit separate resting. Stopped h.stale h.count
+        (events-done honest whole fit.parts separate resting.marked.idle resting.filled) stops h.ran.kept.output
         (events-marked honest whole resting.marked.idle resting.marked.running).now;
     moments = λ honest whole marked. (events-marked honest whole marked.idle marked.running).moments;
   }
 
 -- with jobs left
-pub stopped-early : (in_rounds : Bool) (events : List BoardEvent) (p p2 : JobPlan) (board board2 : Board) (s s2 : SourceView)
+pub stopped-early : (in_rounds : Bool) (events : List BoardEvent) (p p2 : JobPlan) (board board2 : Board)
+    (s s2 : SourceView)
     (o o2 : OutputView) (had has : ℕ → Hand) (progress : Progress)
     → Performed in_rounds events (snapshot_of p board 0 s o) had (λ stale. snapshot_of p2 board2 stale s2 o2) has
     (Ok progress)
@@ -189,7 +193,8 @@ pub record Finishes (plan : JobPlan) (old new : OutputView) (result : Result (Un
 module _ (in_rounds : Bool) (events : List BoardEvent) (p p2 p3 : JobPlan) (board board2 : Board) (s s2 : SourceView)
     (o o2 o3 : OutputView) (had has : ℕ → Hand) (progress : Progress)
     (h : Performed in_rounds events (snapshot_of p board 0 s o) had (λ stale. snapshot_of p2 board2 stale s2 o2) has
-    (Ok progress)) (size : length board.jobs ≡ p.jobs.count) (finished : progress.finished ≡ true) (same : p3 ≡ p2) where
+    (Ok progress)) (size : length board.jobs ≡ p.jobs.count) (finished : progress.finished ≡ true)
+    (same : p3 ≡ p2) where
   all-done : is_finished board2 ≡ true
   all-done = reported-finished progress board2 h.stale true h.stops.0 finished
 
@@ -234,15 +239,17 @@ module _ (in_rounds : Bool) (events : List BoardEvent) (p p2 p3 : JobPlan) (boar
       failed = tt;
       order = λ honest i last stays before. absurd (apart (sym before ∙ finished));
     };
-    outcome = λ honest whole parts separate resting. Finished h.stale h.count o2.files
+    outcome = λ honest whole fit separate resting. Finished h.stale h.count o2.files
         (subst (λ (n : ℕ). EventsDone (λ laid. laid ≡ o.files) events (snapshot_of p board 0 s o) had board2 o2.files
         s2.failures n h.stale h.count None) (sym (fin.quiet refl))
-        (did honest whole parts separate resting.marked.idle resting.filled))
+        (did honest whole fit.parts separate resting.marked.idle resting.filled))
         all-done (ap {B = Result Progress ExecutionFault} (λ (x : Progress). Ok x) h.stops.0)
         (fin.stays (on whole))
-        (fin.last (on whole) s.files ((did honest whole parts separate resting.marked.idle resting.filled).complete all-done))
+        (fin.last (on whole) s.files ((did honest whole fit.parts separate resting.marked.idle resting.filled).complete
+        all-done))
         (fin.durable (on whole))
-        (fin.marks (on whole) s.files (done_of board2) (marked honest whole resting.marked.idle resting.marked.running).now);
+        (fin.marks (on whole) s.files (done_of board2) (marked honest whole resting.marked.idle
+        resting.marked.running).now);
     moments = λ honest whole running. moments-on (Ok tt) fin honest whole running.idle running.running;
   }
     where
@@ -266,10 +273,11 @@ module _ (in_rounds : Bool) (events : List BoardEvent) (p p2 p3 : JobPlan) (boar
           order = λ whole i last stays before. fin.in_order (on whole) i last before
               ∙ h.ran.kept.output.others whole (p.output i) stays;
         };
-        outcome = λ honest whole parts separate resting. NotFinished f.file h.stale h.count o2.failures o2.files
-            (did honest whole parts separate resting.marked.idle resting.filled) all-done refl (fin.stays (on whole))
+        outcome = λ honest whole fit separate resting. NotFinished f.file h.stale h.count o2.failures o2.files
+            (did honest whole fit.parts separate resting.marked.idle resting.filled) all-done refl (fin.stays (on whole))
             fin.failed.rose
-            (fin.marks (on whole) s.files (done_of board2) (marked honest whole resting.marked.idle resting.marked.running).now);
+            (fin.marks (on whole) s.files (done_of board2) (marked honest whole resting.marked.idle
+            resting.marked.running).now);
         moments = λ honest whole running. moments-on (Err f) fin honest whole running.idle running.running;
       })
     where
@@ -280,7 +288,7 @@ module _ (in_rounds : Bool) (events : List BoardEvent) (p p2 p3 : JobPlan) (boar
 
 -- what `lay_out` reports
 pub record LaysOut (plan : JobPlan) (old new : OutputView) (result : Result (Unit {0}) OutputFault) : Type 0 where
-  pub laid : IsTrue old.honest → (sources : Files) → AreParts (jobs_over plan.jobs sources) (plan.whole sources)
+  pub laid : IsTrue old.honest → (sources : Files) → SourcesFit plan sources
       → OnOk result (AreBlank (jobs_over plan.jobs sources) (plan.whole sources) new.files)
   pub marks : IsTrue old.honest → (sources : Files) → NoneStartedBy (plan.marking sources) old.may_leave
       → (done : ℕ → Bool) → ((k : ℕ) → k < plan.jobs.count → done k ≡ false)
@@ -331,7 +339,7 @@ not-laid events p p1 board s o o1 had untouched f reported is same lay counts un
         failed = lay.failed;
         order = λ whole i last stays before. lay.output.others whole (p.output i) stays;
       };
-      outcome = λ honest whole parts separate fresh. NotLaidOut f.file un refl refl refl lay.output
+      outcome = λ honest whole fit separate fresh. NotLaidOut f.file un refl refl refl lay.output
           (λ c at. (lay.any_moment whole s.files fresh.unstarted).each c
           (counts o.moment c (lay.any_moment whole s.files fresh.unstarted).later at));
       moments = λ honest whole fresh. crashes_weaker (LaysBy (p.marking s.files))
@@ -347,7 +355,8 @@ module _ (events : List BoardEvent) (p : JobPlan) (board : Board) (s : SourceVie
       → EventsDone (AreBlank (jobs_over p.jobs s.files) (p.whole s.files)) events (snapshot_of p board 0 s o) had board2
       files a b stale count e
   since board2 files a b stale count e d = subst (λ (n : ℕ). EventsDone (AreBlank (jobs_over p.jobs s.files)
-      (p.whole s.files)) events (snapshot_of p board 0 s (record o { failures = n })) had board2 files a b stale count e)
+      (p.whole s.files)) events (snapshot_of p board 0 s (record o { failures = n })) had board2 files a b stale
+      count e)
       quiet (record {
         laid = d.laid;
         begins = subst (AreBlank (jobs_over p.jobs s.files) (p.whole s.files)) (sym d.begins) blank;
@@ -391,7 +400,8 @@ has-failed-since p o o1 o2 (Err (fault.Output file)) lay h = record {
 }
 
 -- laid out, and then done
-pub laid-then : (in_rounds : Bool) (events : List BoardEvent) (p p1 p2 : JobPlan) (board board2 : Board) (s s2 : SourceView)
+pub laid-then : (in_rounds : Bool) (events : List BoardEvent) (p p1 p2 : JobPlan) (board board2 : Board)
+    (s s2 : SourceView)
     (o o1 o2 : OutputView) (had : ℕ → Hand) (untouched : Type 0) (result : Result Progress ExecutionFault) → p1 ≡ p
     → LaysOut p o o1 (Ok tt) → length board.jobs ≡ p.jobs.count
     → Resumed (listed in_rounds p1.jobs.count events) (snapshot_of p1 board 0 s o1) had (snapshot_of p2 board2 0 s2 o2)
@@ -409,12 +419,12 @@ laid-then in_rounds events p p1 p2 board board2 s s2 o o1 o2 had untouched resul
     order = λ whole i last stays before. rest.bounded.order (on whole) i last stays before
         ∙ lay.output.others whole (p.output i) stays;
   };
-  outcome = λ honest whole parts separate fresh.
-      outcome-since (listed in_rounds p.jobs.count events) p board s o o1 had (lay.laid whole s.files parts)
+  outcome = λ honest whole fit separate fresh.
+      outcome-since (listed in_rounds p.jobs.count events) p board s o o1 had (lay.laid whole s.files fit)
       (lay.quiet refl) (snapshot_of p2 board2 0 s2 o2) untouched result lay.output
-      (rest.outcome honest (on whole) parts separate (record {
+      (rest.outcome honest (on whole) fit separate (record {
         filled = blank-filled (jobs_over p.jobs s.files) (p.whole s.files) (done_of board) o1.files
-            (none fresh.none) (lay.laid whole s.files parts);
+            (none fresh.none) (lay.laid whole s.files fit);
         marked = record {
           idle = fresh.idle;
           running = lay.marks whole s.files fresh.unstarted (done_of board) (none fresh.none);

@@ -92,17 +92,19 @@ deliver-turned marks jobs old new hand now t bytes (Delivers u b files h cur put
 
     ticket-is : (a b : Ticket) (x y : List ℕ) → Made a x ≡ Made b y → a ≡ b
     ticket-is a b x y e = cc
-deliver-turned marks jobs old new hand now t bytes (CantWrite u b files failures h cur puts r n m) is current open_still = (
-  subst (λ (x : Ticket). Turned old.board x new.board) (ticket-is u t b bytes (sym h ∙ is))
-      (subst (λ (s : State). Turned old.board u s.board) (sym n)
-      (fault-turned (record old { files = files; bench_failures = failures }) u cur
-      (ap (λ (s : State). s.ended) (sym n) ∙ open_still))),
-  m,
-)
+deliver-turned marks jobs old new hand now t bytes (CantWrite u b files failures h cur puts r n m) is current
+    open_still = (
+      subst (λ (x : Ticket). Turned old.board x new.board) (ticket-is u t b bytes (sym h ∙ is))
+          (subst (λ (s : State). Turned old.board u s.board) (sym n)
+          (fault-turned (record old { files = files; bench_failures = failures }) u cur
+          (ap (λ (s : State). s.ended) (sym n) ∙ open_still))),
+      m,
+    )
   where
     ticket-is : (a b : Ticket) (x y : List ℕ) → Made a x ≡ Made b y → a ≡ b
     ticket-is a b x y e = cc
-deliver-turned marks jobs old new hand now t bytes (CantMark u b files failures on h cur puts r n m) is current open_still =
+deliver-turned marks jobs old new hand now t bytes (CantMark u b files failures on h cur puts r n m) is current
+    open_still =
     absurd (ended (sym open_still ∙ ap (λ (s : State). s.ended) n))
   where
     ended : None ≡ Some MarkFailed → ⊥
@@ -112,10 +114,12 @@ deliver-turned marks jobs old new hand now t bytes (IsStale u b h stale n m) is 
   where
     ticket-is : (a b : Ticket) (x y : List ℕ) → Made a x ≡ Made b y → a ≡ b
     ticket-is a b x y e = cc
-deliver-turned marks jobs old new hand now t bytes (HasNoBytes none n m) is current open_still = absurd (none t bytes is)
+deliver-turned marks jobs old new hand now t bytes (HasNoBytes none n m) is current open_still = absurd
+    (none t bytes is)
 
 -- nothing is delivered
-deliver-none : (marks : Bool) (jobs : Jobs) (old new : State) (hand now : Hand) → DeliverStep marks jobs old hand new now
+deliver-none : (marks : Bool) (jobs : Jobs) (old new : State)
+    (hand now : Hand) → DeliverStep marks jobs old hand new now
     → hand ≡ Nothing → (new.board ≡ old.board) × (now ≡ Nothing)
 deliver-none marks jobs old new hand now (Delivers u b files h cur puts n m) is = absurd (made u b (sym h ∙ is))
   where
@@ -218,11 +222,13 @@ run-first marks jobs event events old new run none = go (is_none old.state.ended
 
     go : (b : Bool) → is_none old.state.ended ≡ b → MatchBool b ((mid : World) × BoardStep marks jobs old event mid
         × BoardRun marks jobs mid events new) (new ≡ old)
-        → (old.state.ended ≡ None) × (mid : World) × BoardStep marks jobs old event mid × BoardRun marks jobs mid events new
+        → (old.state.ended ≡ None) × (mid : World) × BoardStep marks jobs old event mid × BoardRun marks jobs mid
+        events new
     go true e r = (there old.state.ended e, r.0, r.1, r.2)
     go false e r = absurd (apart (sym (ap (λ (w : World). is_none w.state.ended) (sym r) ∙ ap is_none none) ∙ e))
 
-run-open : (marks : Bool) (jobs : Jobs) (events : List BoardEvent) (old new : World) → BoardRun marks jobs old events new
+run-open : (marks : Bool) (jobs : Jobs) (events : List BoardEvent)
+    (old new : World) → BoardRun marks jobs old events new
     → new.state.ended ≡ None → old.state.ended ≡ None
 run-open marks jobs [] old new run none = ap (λ (w : World). w.state.ended) (sym run) ∙ none
 run-open marks jobs (event ∷ events) old new run none = (run-first marks jobs event events old new run none).0

@@ -238,10 +238,12 @@ module _ (m : Marking) (done : ℕ → Bool) (job at mark_at : ℕ) (name bytes 
     -- the marks of other jobs are as they were
     beside-tell : (c : Files) (t : IsTornFrom o1 marks_name mark_at (length ones) c) (j b : ℕ) → j < m.jobs → j ≢ job
         → m.from j ≤ b → b < m.end j → is_marked (beside-of c t).now b ≡ done j
-    beside-tell c t j b lt ne from to = (beside-of c t).beside b (outside b (elsewhere j b lt ne from to)) ∙ run.tell j b lt
+    beside-tell c t j b lt ne from to = (beside-of c t).beside b (outside b
+        (elsewhere j b lt ne from to)) ∙ run.tell j b lt
         from to
 
-    pub marks-leaves : (c : Files) → IsTornFrom o1 marks_name mark_at (length ones) c → Leaves m done (with_done done job) c
+    pub marks-leaves : (c : Files) → IsTornFrom o1 marks_name mark_at (length ones) c → Leaves m done
+        (with_done done job) c
     marks-leaves c t = let r = beside-of c t in record {
       marks = r.now;
       there = r.there;

@@ -59,7 +59,9 @@ NeedsRoom _ = ⊥
 
 -- so many of these events were done: after them comes one that may need the memory that there wasn't
 abbrev pub StopsBefore : List BoardEvent → ℕ → ExecutionFault → Type 0
-StopsBefore events count fault.Memory = (count < length events) × NeedsPlace (slice_index_or events count (event.Lose 0))
-StopsBefore events count fault.JobMemory = (count < length events) × NeedsRoom (slice_index_or events count (event.Lose 0))
+StopsBefore events count fault.Memory = (count < length events) × NeedsPlace (slice_index_or events count
+    (event.Lose 0))
+StopsBefore events count fault.JobMemory = (count < length events) × NeedsRoom (slice_index_or events count
+    (event.Lose 0))
 StopsBefore events count (fault.Output file) = ⊥
 StopsBefore events count _ = ⊤

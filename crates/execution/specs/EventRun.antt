@@ -53,7 +53,8 @@ pub record IsConfined (old new : Snapshot) (ended : Option End) : Type 0 where
   pub mark : ended ≡ Some MarkFailed → MarkFails old.plan old.output new.output
 
 -- one worker's step
-pub record WorkerStep (by : State → Hand → State → Hand → Type 0) (old : Snapshot) (hand : Hand) (new : Snapshot) (now : Hand)
+pub record WorkerStep (by : State → Hand → State → Hand → Type 0) (old : Snapshot) (hand : Hand) (new : Snapshot)
+    (now : Hand)
     (ended : Option End) : Type 0 where
   pub kept : IsConfined old new ended
   pub taken : IsTrue old.source.honest → IsTrue old.output.honest → by (state_at old None) hand (state_at new ended)
@@ -98,7 +99,8 @@ StopsAt in_rounds events count board stale (Ok progress) = (progress ≡ progres
 StopsAt in_rounds events count board stale (Err fault) = StopsBefore events count fault
 
 -- the first of these events were done, of which so many were stale deliveries
-pub record Performed (in_rounds : Bool) (events : List BoardEvent) (old : Snapshot) (had : ℕ → Hand) (new : ℕ → Snapshot)
+pub record Performed (in_rounds : Bool) (events : List BoardEvent) (old : Snapshot) (had : ℕ → Hand)
+    (new : ℕ → Snapshot)
     (has : ℕ → Hand) (result : Result Progress ExecutionFault) : Type 0 where
   pub count : ℕ
   pub few : count ≤ length events

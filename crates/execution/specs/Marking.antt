@@ -63,7 +63,8 @@ pub record AreTrueMarks (m : Marking) (c d : Files) : Type 0 where
 abbrev pub AreTrueOfAll : Marking → (Files → Type 0) → Type 0
 AreTrueOfAll m outcomes = (c d : Files) → outcomes c → outcomes d → AreTrueMarks m c d
 
--- at a moment between two: the marks are this run's and true of the output; those of jobs that were done before are set,
+-- at a moment between two: the marks are this run's and true of the output; those of jobs that were done before are
+-- set,
 -- and no other but of jobs that are done after
 pub record Leaves (m : Marking) (before after : ℕ → Bool) (c : Files) : Type 0 where
   pub marks : List ℕ
@@ -75,7 +76,8 @@ pub record Leaves (m : Marking) (before after : ℕ → Bool) (c : Files) : Type
       true
   pub wave : HoldsIn m (is_marked marks) (c m.name)
 
--- a mark failed: in each outcome the marks are set for just the blocks of jobs that are done, but for this one, which is done
+-- a mark failed: in each outcome the marks are set for just the blocks of jobs that are done, but for this one, which
+-- is done
 -- and of which any may be marked; and they are true of the output of every outcome
 pub record IsBroken (m : Marking) (done : ℕ → Bool) (outcomes : Files → Type 0) : Type 0 where
   pub job : ℕ
@@ -140,7 +142,8 @@ done_by done job (Err Write) = done
 done_by done job (Err Mark) = with_done done job
 
 -- and where a job is placed
-pub record Marks {X : Type 0} (m : Option Marking) (done : ℕ → Bool) (job : ℕ) (old new : OutputView) (result : Result X PlaceFault)
+pub record Marks {X : Type 0} (m : Option Marking) (done : ℕ → Bool) (job : ℕ) (old new : OutputView)
+    (result : Result X PlaceFault)
     : Type 0 where
   pub goes_on : GoesOn m done job new.may_leave result
   pub moments : CrashesLeave (LeavesBy m done (done_by done job result)) old new

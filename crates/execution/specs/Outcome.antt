@@ -9,10 +9,10 @@ use Rattle.job_terms.specs.Workers.{BoardRun, End, Hand, Nothing}
 use Rattle.execution.specs.Boards.{progress_of}
 use Rattle.execution.specs.Ends.{StopsBefore, end_of}
 use Rattle.execution.specs.EventRun.{MarkFails, Snapshot, jobs_of, marking_of}
-use Rattle.execution.specs.Filled.{AreApart, AreFilled, AreParts}
+use Rattle.execution.specs.Filled.{AreApart, AreFilled}
 use Rattle.execution.specs.Laws.{KeepsLaws}
 use Rattle.execution.specs.Marking.{IsRunningBy, LaysBy, Leaves, LeavesBy, Marking, NoneStartedBy, RunsOn, done_of, is_started}
-use Rattle.execution.specs.Plan.{AreBlank, AreDurable, HoldJobs, HoldLast, IsAt, IsForeign, IsLast, IsOwn, JobPlan, Stays}
+use Rattle.execution.specs.Plan.{AreBlank, AreDurable, HoldJobs, HoldLast, IsAt, IsForeign, IsLast, IsOwn, JobPlan, SourcesFit, Stays}
 use Rattle.execution.specs.Worlds.{Leads, state_of}
 use Rattle.execution.specs.declared.fault.ExecutionFault.{ExecutionFault}
 use Rattle.execution.specs.declared.fault.ExecutionFault.TheVariants as fault
@@ -46,11 +46,13 @@ pub record IsBounded (old new : Snapshot) (result : Result Progress ExecutionFau
   pub source : Reads old.source new.source
   pub output : Writes (IsForeign old.plan) old.output new.output
   pub failed : HasFailed old.plan old.output new.output result
-  pub order : IsTrue old.output.honest → (i : ℕ) → IsLast old.plan i → Stays old.plan (old.plan.output i) → IsBefore result i
+  pub order : IsTrue old.output.honest → (i : ℕ) → IsLast old.plan i → Stays old.plan
+      (old.plan.output i) → IsBefore result i
       → new.output.files (old.plan.output i) ≡ old.output.files (old.plan.output i)
 
 -- from files that may begin so, the first of these events led to these files and counts of failures
-pub record EventsDone (Begins : Files → Type 0) (events : List BoardEvent) (old : Snapshot) (had : ℕ → Hand) (board : Board)
+pub record EventsDone (Begins : Files → Type 0) (events : List BoardEvent) (old : Snapshot) (had : ℕ → Hand)
+    (board : Board)
     (files : Files) (shelf_failures bench_failures stale count : ℕ) (ended : Option End) : Type 0 where
   pub laid : Files
   pub begins : Begins laid
@@ -72,7 +74,8 @@ StopsWith events count board stale (Ok progress) =
     (progress ≡ progress_of board stale) × (is_finished board ≡ false) × (count ≡ length events)
 StopsWith events count board stale (Err fault) = StopsBefore events count fault
 
--- No job was handed out and no source was touched; or the events ended, at a third fault, at a mark, for want of memory,
+-- No job was handed out and no source was touched; or the events ended, at a third fault, at a mark, for want of
+-- memory,
 -- or with jobs left; or all jobs are done, and what comes last failed, or is done.
 pub data Outcome (Begins : Files → Type 0) (events : List BoardEvent) (old : Snapshot) (had : ℕ → Hand) (new : Snapshot)
     (untouched : Type 0) (result : Result Progress ExecutionFault) : Type 0 where
@@ -99,13 +102,15 @@ pub data Outcome (Begins : Files → Type 0) (events : List BoardEvent) (old : S
       → IsRunningBy (marking_of old) (done_of new.board) new.output.may_leave
       → Outcome Begins events old had new untouched result
 
--- What a whole call leaves: its outcome, where it began so, and what a crash leaves at any moment, where the marks were so.
+-- What a whole call leaves: its outcome, where it began so, and what a crash leaves at any moment, where the marks were
+-- so.
 pub record IsCall (Begins Leaving : Files → Type 0) (begun marked untouched : Type 0) (events : List BoardEvent)
     (old : Snapshot) (had : ℕ → Hand) (new : Snapshot) (result : Result Progress ExecutionFault) : Type 0 where
   pub bounded : IsBounded old new result
-  pub outcome : IsTrue old.source.honest → IsTrue old.output.honest → AreParts (jobs_of old) (whole_of old)
+  pub outcome : IsTrue old.source.honest → IsTrue old.output.honest → SourcesFit old.plan old.source.files
       → AreApart (jobs_of old) → begun → Outcome Begins events old had new untouched result
-  pub moments : IsTrue old.source.honest → IsTrue old.output.honest → marked → CrashesLeave Leaving old.output new.output
+  pub moments : IsTrue old.source.honest → IsTrue old.output.honest → marked → CrashesLeave Leaving old.output
+      new.output
 
 -- no job is done and no worker holds anything; no outcome has marks that are started
 pub record IsFresh (old : Snapshot) (had : ℕ → Hand) : Type 0 where
@@ -122,7 +127,8 @@ SetsBy (Some m) after c = is_started (c m.marks) ≡ true → Leaves m (λ _. fa
 abbrev pub Executed : List BoardEvent → Snapshot → (ℕ → Hand) → Snapshot → Type 0 → Result Progress ExecutionFault
     → Type 0
 Executed events old had new untouched result = IsCall (AreBlank (jobs_of old) (whole_of old))
-    (SetsBy (marking_of old) (done_of new.board)) (IsFresh old had) (IsFresh old had) untouched events old had new result
+    (SetsBy (marking_of old) (done_of new.board)) (IsFresh old had)
+    (IsFresh old had) untouched events old had new result
 
 -- no worker holds anything, and the marks say what is done
 pub record IsMarked (old : Snapshot) (had : ℕ → Hand) : Type 0 where
@@ -137,4 +143,5 @@ pub record IsResting (old : Snapshot) (had : ℕ → Hand) : Type 0 where
 -- what a call leaves that goes on with outputs as they are
 abbrev pub Resumed : List BoardEvent → Snapshot → (ℕ → Hand) → Snapshot → Result Progress ExecutionFault → Type 0
 Resumed events old had new result = IsCall (λ laid. laid ≡ old.output.files)
-    (LeavesBy (marking_of old) (done_of old.board) (done_of new.board)) (IsResting old had) (IsMarked old had) ⊥ events old had new result
+    (LeavesBy (marking_of old) (done_of old.board) (done_of new.board)) (IsResting old had)
+    (IsMarked old had) ⊥ events old had new result

@@ -1,7 +1,8 @@
 -- What a work is to do.
 use Rattle.std.specs.Prelude.{◌≡◌, ◌≢◌, ℕ, ◌+◌, ◌<◌, ◌≤◌, Bool, Option, Some, List, length, slice_index_or}
 use Rattle.work_terms.specs.Disk.{Files, IsDurable}
-use Rattle.job_terms.specs.Workers.{Jobs, JobsBy}
+use Rattle.job_terms.specs.Workers.{Jobs, JobsBy, jobs_over}
+use Rattle.execution.specs.Filled.{AreParts}
 use Rattle.execution.specs.Marking.{Marking}
 
 -- its jobs, whether a job that is done gets a mark, the marks and all bytes of each output by what the sources hold;
@@ -14,6 +15,11 @@ pub record JobPlan : Type 0 where
   pub output : ℕ → List ℕ
   pub last : ℕ
   pub outputs : ℕ
+
+-- the sources hold what the work was planned of: each job's bytes are as many as it has, and a part of its output
+pub record SourcesFit (plan : JobPlan) (sources : Files) : Type 0 where
+  pub sized : (k : ℕ) → k < plan.jobs.count → length (plan.jobs.bytes sources k) ≡ plan.jobs.size k
+  pub parts : AreParts (jobs_over plan.jobs sources) (plan.whole sources)
 
 -- the output of this number comes last
 abbrev pub IsLast : JobPlan → ℕ → Type 0

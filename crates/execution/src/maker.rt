@@ -4,9 +4,8 @@ ghost use Rattle.work_terms.specs.Disk.{Files};
 ghost use Rattle.job_terms.specs.Workers.{jobs_over};
 ghost use Rattle.devices.specs.Frame.{OnlyReads, OnlyWrites};
 ghost use Rattle.devices.specs.Views.{CrashesLeave, output_view};
-ghost use Rattle.execution.specs.Filled.{AreParts};
 ghost use Rattle.execution.specs.Marking.{IsRunningBy, LaysBy, LeavesBy, Marking, Marks, NoneStartedBy};
-ghost use Rattle.execution.specs.Plan.{AreBlank, AreDurable, HoldJobs, HoldLast, IsAt, IsForeign, IsLast, IsOwn, JobPlan, Stays};
+ghost use Rattle.execution.specs.Plan.{AreBlank, AreDurable, HoldJobs, HoldLast, IsAt, IsForeign, IsLast, IsOwn, JobPlan, SourcesFit, Stays};
 ghost use Rattle.execution.specs.Worlds.{IsPlaced};
 
 use crate::{OutputFault, PlaceFault};
@@ -64,8 +63,7 @@ pub trait JobMaker {
     /// Lays out every output of a job at full length, zero in the jobs' places, with fresh marks where the work has
     /// some. What comes last stays as it is.
     fn lay_out<B: Bench>(&mut self, bench: &mut B) -> Result<(), OutputFault>
-        ensures laid { IsTrue (B.honest bench.old) → (sources : Files)
-            → AreParts (jobs_over (plan self.old).jobs sources) ((plan self.old).whole sources)
+        ensures laid { IsTrue (B.honest bench.old) → (sources : Files) → SourcesFit (plan self.old) sources
             → OnOk result (AreBlank (jobs_over (plan self.old).jobs sources) ((plan self.old).whole sources)
             (B.stored bench.new)) }
         ensures same { plan self.new ≡ plan self.old }

@@ -12,11 +12,15 @@ use Rattle.execution.proofs.events.turn.Goals as goal
 pub returns-in-Give-clause-went : goal.returns-in-Give-clause-went
 returns-in-Give-clause-went g c = step-as c.args.action Give _ _ _ _ _ _ _ c.in-Give.is (
     step-quiet GiveStep
-    (g.W.JobMaker.plan c.args.maker.now) (g.W.JobMaker.plan c.args.maker.now) c.args.board.now c.hand_out.new.board c.args.stale.now c.args.stale.now
-    (source_view g.S.Shelf c.args.shelf.now) (source_view g.S.Shelf c.args.shelf.now) (output_view g.B.Bench c.args.bench.now)
+    (g.W.JobMaker.plan c.args.maker.now) (g.W.JobMaker.plan c.args.maker.now) c.args.board.now c.hand_out.new.board
+    c.args.stale.now c.args.stale.now
+    (source_view g.S.Shelf c.args.shelf.now) (source_view g.S.Shelf c.args.shelf.now)
+    (output_view g.B.Bench c.args.bench.now)
     c.args.worker.now.hand c.hand_out.new.worker.hand None
-    refl c.hand_out.ensures.size (reads_none (source_view g.S.Shelf c.args.shelf.now)) (g.met.B.Bench.only_now c.args.bench.now) (λ e. cc)
-    (λ honest. c.hand_out.ensures.step (g.B.Bench.stored c.args.bench.now) c.args.stale.now (g.S.Shelf.failures c.args.shelf.now) (g.B.Bench.failures c.args.bench.now))
+    refl c.hand_out.ensures.size (reads_none (source_view g.S.Shelf c.args.shelf.now))
+    (g.met.B.Bench.only_now c.args.bench.now) (λ e. cc)
+    (λ honest. c.hand_out.ensures.step (g.B.Bench.stored c.args.bench.now) c.args.stale.now
+    (g.S.Shelf.failures c.args.shelf.now) (g.B.Bench.failures c.args.bench.now))
     (give-done _ _ _ _))
 
 pub returns-in-Give-clause-fits : goal.returns-in-Give-clause-fits
@@ -26,10 +30,13 @@ returns-in-Give-clause-fits g c = c.hand_out.ensures.fits (g.W.JobMaker.plan c.a
 pub returns-in-Work-clause-went : goal.returns-in-Work-clause-went
 returns-in-Work-clause-went g c = step-as c.args.action Work _ _ _ _ _ _ _ c.in-Work.is (
     step-quiet (WorkStep (jobs_over (g.W.JobMaker.plan c.args.maker.now).jobs (g.S.Shelf.stored c.args.shelf.now)))
-    (g.W.JobMaker.plan c.args.maker.now) (g.W.JobMaker.plan c.make.new.maker) c.args.board.now c.make.new.board c.args.stale.now c.args.stale.now
-    (source_view g.S.Shelf c.args.shelf.now) (source_view g.S.Shelf c.make.new.shelf) (output_view g.B.Bench c.args.bench.now)
+    (g.W.JobMaker.plan c.args.maker.now) (g.W.JobMaker.plan c.make.new.maker) c.args.board.now c.make.new.board
+    c.args.stale.now c.args.stale.now
+    (source_view g.S.Shelf c.args.shelf.now) (source_view g.S.Shelf c.make.new.shelf)
+    (output_view g.B.Bench c.args.bench.now)
     c.args.worker.now.hand c.make.new.worker.hand (ended_of c.make.result)
-    c.make.ensures.same c.make.ensures.size c.make.ensures.source (g.met.B.Bench.only_now c.args.bench.now) (mark-none c.make.result c.make.ensures.no_mark)
+    c.make.ensures.same c.make.ensures.size c.make.ensures.source (g.met.B.Bench.only_now c.args.bench.now)
+    (mark-none c.make.result c.make.ensures.no_mark)
     (λ honest. c.make.ensures.step honest (g.B.Bench.stored c.args.bench.now) c.args.stale.now
     (g.B.Bench.failures c.args.bench.now))
     (work-done (jobs_over (g.W.JobMaker.plan c.args.maker.now).jobs (g.S.Shelf.stored c.args.shelf.now)) _ _ _ _))
@@ -52,18 +59,24 @@ returns-in-Deliver-clause-went g c = step-as c.args.action Deliver _ _ _ _ _ _ _
 pub returns-in-Fault-clause-went : goal.returns-in-Fault-clause-went
 returns-in-Fault-clause-went g c = step-as c.args.action Fault _ _ _ _ _ _ _ c.in-Fault.is (
     step-quiet FaultStep
-    (g.W.JobMaker.plan c.args.maker.now) (g.W.JobMaker.plan c.args.maker.now) c.args.board.now c.fail.new.board c.args.stale.now c.args.stale.now
-    (source_view g.S.Shelf c.args.shelf.now) (source_view g.S.Shelf c.args.shelf.now) (output_view g.B.Bench c.args.bench.now)
+    (g.W.JobMaker.plan c.args.maker.now) (g.W.JobMaker.plan c.args.maker.now) c.args.board.now c.fail.new.board
+    c.args.stale.now c.args.stale.now
+    (source_view g.S.Shelf c.args.shelf.now) (source_view g.S.Shelf c.args.shelf.now)
+    (output_view g.B.Bench c.args.bench.now)
     c.args.worker.now.hand c.fail.new.worker.hand (ended_of c.fail.result)
-    refl c.fail.ensures.size (reads_none (source_view g.S.Shelf c.args.shelf.now)) (g.met.B.Bench.only_now c.args.bench.now) (mark-none c.fail.result c.fail.ensures.no_mark)
-    (λ honest. c.fail.ensures.step (g.B.Bench.stored c.args.bench.now) c.args.stale.now (g.S.Shelf.failures c.args.shelf.now) (g.B.Bench.failures c.args.bench.now))
+    refl c.fail.ensures.size (reads_none (source_view g.S.Shelf c.args.shelf.now))
+    (g.met.B.Bench.only_now c.args.bench.now) (mark-none c.fail.result c.fail.ensures.no_mark)
+    (λ honest. c.fail.ensures.step (g.B.Bench.stored c.args.bench.now) c.args.stale.now
+    (g.S.Shelf.failures c.args.shelf.now) (g.B.Bench.failures c.args.bench.now))
     (fault-same _ _ c.args.worker.now.hand _))
 
 pub returns-in-Lose-clause-went : goal.returns-in-Lose-clause-went
 returns-in-Lose-clause-went g c = step-as c.args.action Lose _ _ _ _ _ _ _ c.in-Lose.is (
     step-quiet (λ (old : State) (_ : Hand) (new : State) (now : Hand). (new ≡ old) × (now ≡ Nothing))
-    (g.W.JobMaker.plan c.args.maker.now) (g.W.JobMaker.plan c.args.maker.now) c.args.board.now c.args.board.now c.args.stale.now c.args.stale.now
-    (source_view g.S.Shelf c.args.shelf.now) (source_view g.S.Shelf c.args.shelf.now) (output_view g.B.Bench c.args.bench.now)
+    (g.W.JobMaker.plan c.args.maker.now) (g.W.JobMaker.plan c.args.maker.now) c.args.board.now c.args.board.now
+    c.args.stale.now c.args.stale.now
+    (source_view g.S.Shelf c.args.shelf.now) (source_view g.S.Shelf c.args.shelf.now)
+    (output_view g.B.Bench c.args.bench.now)
     c.args.worker.now.hand c.lose.new.worker.hand None
     refl refl (reads_none (source_view g.S.Shelf c.args.shelf.now)) (g.met.B.Bench.only_now c.args.bench.now) (λ e. cc)
     (λ honest. (refl, c.lose.ensures.nothing))

@@ -4,7 +4,8 @@ use Rattle.execution.proofs.Orders.{order-permuted}
 use Rattle.execution.proofs.order.in_order_of.Goals as goal
 
 pub returns-in-Ok-clause-order : goal.returns-in-Ok-clause-order
-returns-in-Ok-clause-order c = order-permuted (length c.args.keys.now) c.in_ok-order.order.items c.sort_by_key.new.self.items
+returns-in-Ok-clause-order c = order-permuted (length c.args.keys.now) c.in_ok-order.order.items
+    c.sort_by_key.new.self.items
     c.sort_by_key.ensures.permutation c.in_ok-order.ensures.order
 
 pub returns-in-Ok-clause-sorted : goal.returns-in-Ok-clause-sorted

@@ -12,7 +12,8 @@ pub loop-i-init : goal.loop-i-init
 loop-i-init g c = record {
   ready = c.requires;
   few = omega arith;
-  ran = run-none (snapshot_of (g.W.JobMaker.plan c.args.maker.now) c.args.board.now 0 (source_view g.S.Shelf c.args.shelf.now)
+  ran = run-none (snapshot_of (g.W.JobMaker.plan c.args.maker.now) c.args.board.now 0
+      (source_view g.S.Shelf c.args.shelf.now)
       (output_view g.B.Bench c.args.bench.now)) (hands_in c.args.hands.now) (hands_in c.args.hands.now)
       (g.met.B.Bench.only_now c.args.bench.now) (λ v. refl);
 }
@@ -22,11 +23,14 @@ loop-i-preserved g c = record {
   ready = subst (λ (p : JobPlan). IsReady p.jobs c.step.new.board c.step.new.hands) c.loop-i.invariant.ran.kept.plan
       c.in-Ok.ensures.ready;
   few = omega (arith, c.in-Ok.ensures.counted, c.loop-i.invariant.few);
-  ran = run-next (snapshot_of (g.W.JobMaker.plan c.args.maker.now) c.args.board.now 0 (source_view g.S.Shelf c.args.shelf.now)
+  ran = run-next (snapshot_of (g.W.JobMaker.plan c.args.maker.now) c.args.board.now 0
+      (source_view g.S.Shelf c.args.shelf.now)
       (output_view g.B.Bench c.args.bench.now))
-      (snapshot_of (g.W.JobMaker.plan c.loop-i.maker) c.loop-i.board c.loop-i.stale (source_view g.S.Shelf c.loop-i.shelf)
+      (snapshot_of (g.W.JobMaker.plan c.loop-i.maker) c.loop-i.board c.loop-i.stale
+      (source_view g.S.Shelf c.loop-i.shelf)
       (output_view g.B.Bench c.loop-i.bench))
-      (snapshot_of (g.W.JobMaker.plan c.step.new.maker) c.step.new.board c.step.new.stale (source_view g.S.Shelf c.step.new.shelf)
+      (snapshot_of (g.W.JobMaker.plan c.step.new.maker) c.step.new.board c.step.new.stale
+      (source_view g.S.Shelf c.step.new.shelf)
       (output_view g.B.Bench c.step.new.bench))
       (hands_in c.args.hands.now) (hands_in c.loop-i.hands) (hands_in c.step.new.hands)
       (listed c.args.in_rounds (g.W.JobMaker.plan c.args.maker.now).jobs.count c.args.events.now)
@@ -39,13 +43,15 @@ loop-i-preserved g c = record {
 }
 
 pub returns-in-Err-clause-performed : goal.returns-in-Err-clause-performed
-returns-in-Err-clause-performed g c = performed-ended c.args.in_rounds (listed c.args.in_rounds (g.W.JobMaker.plan c.args.maker.now).jobs.count c.args.events.now)
+returns-in-Err-clause-performed g c = performed-ended c.args.in_rounds (listed c.args.in_rounds
+    (g.W.JobMaker.plan c.args.maker.now).jobs.count c.args.events.now)
     c.loop-i.i c.step.new.stale c.event_at-event.result c.in-Err.fault
     (snapshot_of (g.W.JobMaker.plan c.args.maker.now) c.args.board.now 0 (source_view g.S.Shelf c.args.shelf.now)
     (output_view g.B.Bench c.args.bench.now))
     (snapshot_of (g.W.JobMaker.plan c.loop-i.maker) c.loop-i.board c.loop-i.stale (source_view g.S.Shelf c.loop-i.shelf)
     (output_view g.B.Bench c.loop-i.bench))
-    (λ stale. snapshot_of (g.W.JobMaker.plan c.step.new.maker) c.step.new.board stale (source_view g.S.Shelf c.step.new.shelf)
+    (λ stale. snapshot_of (g.W.JobMaker.plan c.step.new.maker) c.step.new.board stale
+    (source_view g.S.Shelf c.step.new.shelf)
     (output_view g.B.Bench c.step.new.bench))
     (hands_in c.args.hands.now) (hands_in c.loop-i.hands) (hands_in c.step.new.hands)
     (subst (λ (n : ℕ). c.loop-i.i < n) (c.how_many-whole.ensures ∙ ap (λ (k : ℕ). length (listed c.args.in_rounds k

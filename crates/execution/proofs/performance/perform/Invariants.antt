@@ -11,6 +11,7 @@ invariant-loop-i g l = record {
   ran : EventRun (snapshot_of (g.W.JobMaker.plan l.fn.maker) l.fn.board 0 (source_view g.S.Shelf l.fn.shelf)
       (output_view g.B.Bench l.fn.bench)) (hands_in l.fn.hands)
       (take l.i (listed l.fn.in_rounds (g.W.JobMaker.plan l.fn.maker).jobs.count l.fn.events))
-      (snapshot_of (g.W.JobMaker.plan l.maker) l.board l.stale (source_view g.S.Shelf l.shelf) (output_view g.B.Bench l.bench))
+      (snapshot_of (g.W.JobMaker.plan l.maker) l.board l.stale (source_view g.S.Shelf l.shelf)
+      (output_view g.B.Bench l.bench))
       (hands_in l.hands) None;
 }

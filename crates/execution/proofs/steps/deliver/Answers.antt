@@ -73,21 +73,25 @@ returns-in-Err-Write-clause-step g c honest sources shelf = CantWrite c.in-Some.
     c.worker.inside.bytes.items) (g.B.Bench.stored c.args.bench.now) (g.B.Bench.stored c.place.new.bench)
     c.in-Err-Write.field-0 c.in-Err-Write.field-0-is (ap (λ (x : List ℕ). take c.worker.inside.size x)
     c.deref.ensures.value) (c.in-Err-Write.ensures.placed honest))
-    (raised _ _ _ _ c.in-Err-Write.ensures.only_writes.cause tt) (c.failed.ensures.step (g.B.Bench.stored c.place.new.bench)
+    (raised _ _ _ _ c.in-Err-Write.ensures.only_writes.cause tt) (c.failed.ensures.step
+    (g.B.Bench.stored c.place.new.bench)
     c.args.stale.now shelf (g.B.Bench.failures c.place.new.bench)) refl
 
 pub returns-in_default-clause-marks : goal.returns-in_default-clause-marks
-returns-in_default-clause-marks g c honest sources right run = marks-quiet ((g.W.JobMaker.plan c.args.maker.now).marking sources)
+returns-in_default-clause-marks g c honest sources right run = marks-quiet
+    ((g.W.JobMaker.plan c.args.maker.now).marking sources)
     (done_of c.args.board.now) (done_of c.args.board.now) (output_view g.B.Bench c.args.bench.now) None
     (g.met.B.Bench.only_now c.args.bench.now) (λ e. cc) (λ k. refl) run
 
 pub returns-then-not-worker-clause-marks : goal.returns-then-not-worker-clause-marks
-returns-then-not-worker-clause-marks g c honest sources right run = marks-quiet ((g.W.JobMaker.plan c.args.maker.now).marking sources)
+returns-then-not-worker-clause-marks g c honest sources right run = marks-quiet
+    ((g.W.JobMaker.plan c.args.maker.now).marking sources)
     (done_of c.args.board.now) (done_of c.args.board.now) (output_view g.B.Bench c.args.bench.now) None
     (g.met.B.Bench.only_now c.args.bench.now) (λ e. cc) (λ k. refl) run
 
 pub returns-then-not-is_current-clause-marks : goal.returns-then-not-is_current-clause-marks
-returns-then-not-is_current-clause-marks g c honest sources right run = marks-quiet ((g.W.JobMaker.plan c.args.maker.now).marking sources)
+returns-then-not-is_current-clause-marks g c honest sources right run = marks-quiet
+    ((g.W.JobMaker.plan c.args.maker.now).marking sources)
     (done_of c.args.board.now) (done_of c.args.board.now) (output_view g.B.Bench c.args.bench.now) None
     (g.met.B.Bench.only_now c.args.bench.now) (λ e. cc) (λ k. refl) run
 
@@ -98,7 +102,8 @@ returns-in-Ok-clause-marks g c honest sources right run = marks-placed
     (λ j. done-accepted c.args.board.now c.in-Some.ticket.job (current-there c.args.board.now c.in-Some.ticket
     (sym c.is_current.ensures ∙ c.if-not-is_current.false)) j ∙ ap (λ (b : Board). done_of b j)
     (sym c.accept.ensures.done))
-    (c.in-Ok.ensures.marks honest sources (done_of c.args.board.now) ((ap (λ (x : List ℕ). take c.worker.inside.size x) c.deref.ensures.value) ∙ right-made
+    (c.in-Ok.ensures.marks honest sources (done_of c.args.board.now) ((ap (λ
+    (x : List ℕ). take c.worker.inside.size x) c.deref.ensures.value) ∙ right-made
     (jobs_over (g.W.JobMaker.plan c.args.maker.now).jobs sources) c.args.worker.now.hand c.in-Some.ticket
     (take c.worker.inside.size c.worker.inside.bytes.items) (ap {B = Hand} (λ (d : Desk). d.hand)
     (sym c.worker.view_is) ∙ hand-is c.worker.inside.ticket c.in-Some.ticket c.worker.inside.made true
@@ -116,7 +121,8 @@ returns-in-Err-Write-clause-marks g c honest sources right run = marks-unwritten
     (g.B.Bench.failures c.place.new.bench) None) c.in-Some.ticket (sym c.is_current.ensures ∙
     c.if-not-is_current.false) j))
     (no-mark c.failed.result c.in-Some.ticket.job c.failed.ensures.only)
-    (c.in-Err-Write.ensures.marks honest sources (done_of c.args.board.now) ((ap (λ (x : List ℕ). take c.worker.inside.size x) c.deref.ensures.value) ∙ right-made
+    (c.in-Err-Write.ensures.marks honest sources (done_of c.args.board.now) ((ap (λ
+    (x : List ℕ). take c.worker.inside.size x) c.deref.ensures.value) ∙ right-made
     (jobs_over (g.W.JobMaker.plan c.args.maker.now).jobs sources) c.args.worker.now.hand c.in-Some.ticket
     (take c.worker.inside.size c.worker.inside.bytes.items) (ap {B = Hand} (λ (d : Desk). d.hand)
     (sym c.worker.view_is) ∙ hand-is c.worker.inside.ticket c.in-Some.ticket c.worker.inside.made true
@@ -131,7 +137,8 @@ returns-in-Err-Mark-clause-marks g c honest sources right run = marks-broken
     (λ j. done-accepted c.args.board.now c.in-Some.ticket.job (current-there c.args.board.now c.in-Some.ticket
     (sym c.is_current.ensures ∙ c.if-not-is_current.false)) j ∙ ap (λ (b : Board). done_of b j)
     (sym c.accept-in-Err-Mark.ensures.done))
-    (c.in-Err-Mark.ensures.marks honest sources (done_of c.args.board.now) ((ap (λ (x : List ℕ). take c.worker.inside.size x) c.deref.ensures.value) ∙ right-made
+    (c.in-Err-Mark.ensures.marks honest sources (done_of c.args.board.now) ((ap (λ
+    (x : List ℕ). take c.worker.inside.size x) c.deref.ensures.value) ∙ right-made
     (jobs_over (g.W.JobMaker.plan c.args.maker.now).jobs sources) c.args.worker.now.hand c.in-Some.ticket
     (take c.worker.inside.size c.worker.inside.bytes.items) (ap {B = Hand} (λ (d : Desk). d.hand)
     (sym c.worker.view_is) ∙ hand-is c.worker.inside.ticket c.in-Some.ticket c.worker.inside.made true

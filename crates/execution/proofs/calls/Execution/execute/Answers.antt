@@ -8,18 +8,24 @@ use Rattle.execution.specs.View.{ExecutionView, hands_at}
 use Rattle.execution.proofs.calls.Execution.execute.Goals as goal
 
 pub returns-in-Ok-clause-executed : goal.returns-in-Ok-clause-executed
-returns-in-Ok-clause-executed g c = subst (λ (r : ExecutionView g.row.W.Denot). Executed (rounds (3 * (g.W.JobMaker.plan r.work).jobs.count))
+returns-in-Ok-clause-executed g c = subst (λ (r : ExecutionView g.row.W.Denot). Executed (rounds (3 *
+    (g.W.JobMaker.plan r.work).jobs.count))
     (snapshot_of (g.W.JobMaker.plan r.work) r.board 0 (source_view g.S.Shelf c.args.shelf.now)
     (output_view g.B.Bench c.args.bench.now)) (hands_at r)
-    (snapshot_of (g.W.JobMaker.plan c.execute.new.maker) c.execute.new.board 0 (source_view g.S.Shelf c.execute.new.shelf)
-    (output_view g.B.Bench c.execute.new.bench)) (c.execute.new.shelf ≡ c.args.shelf.now) (Ok c.in-Ok.progress)) c.self.view_is c.in-Ok.ensures.executed
+    (snapshot_of (g.W.JobMaker.plan c.execute.new.maker) c.execute.new.board 0
+    (source_view g.S.Shelf c.execute.new.shelf)
+    (output_view g.B.Bench c.execute.new.bench)) (c.execute.new.shelf ≡ c.args.shelf.now)
+    (Ok c.in-Ok.progress)) c.self.view_is c.in-Ok.ensures.executed
 
 pub returns-in-Err-clause-executed : goal.returns-in-Err-clause-executed
-returns-in-Err-clause-executed g c = subst (λ (r : ExecutionView g.row.W.Denot). Executed (rounds (3 * (g.W.JobMaker.plan r.work).jobs.count))
+returns-in-Err-clause-executed g c = subst (λ (r : ExecutionView g.row.W.Denot). Executed (rounds (3 *
+    (g.W.JobMaker.plan r.work).jobs.count))
     (snapshot_of (g.W.JobMaker.plan r.work) r.board 0 (source_view g.S.Shelf c.args.shelf.now)
     (output_view g.B.Bench c.args.bench.now)) (hands_at r)
-    (snapshot_of (g.W.JobMaker.plan c.execute.new.maker) c.execute.new.board 0 (source_view g.S.Shelf c.execute.new.shelf)
-    (output_view g.B.Bench c.execute.new.bench)) (c.execute.new.shelf ≡ c.args.shelf.now) (Err c.in-Err.fault)) c.self.view_is c.in-Err.ensures.executed
+    (snapshot_of (g.W.JobMaker.plan c.execute.new.maker) c.execute.new.board 0
+    (source_view g.S.Shelf c.execute.new.shelf)
+    (output_view g.B.Bench c.execute.new.bench)) (c.execute.new.shelf ≡ c.args.shelf.now)
+    (Err c.in-Err.fault)) c.self.view_is c.in-Err.ensures.executed
 
 pub returns-in-Ok-clause-finished : goal.returns-in-Ok-clause-finished
 returns-in-Ok-clause-finished g c honest whole rest empty = c.in-Ok.ensures.finished honest whole refl

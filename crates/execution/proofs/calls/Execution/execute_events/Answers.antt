@@ -10,8 +10,10 @@ returns-in-Ok g c = record {
   executed = subst (λ (r : ExecutionView g.row.W.Denot). Executed c.args.events.now
       (snapshot_of (g.W.JobMaker.plan r.work) r.board 0 (source_view g.S.Shelf c.args.shelf.now)
       (output_view g.B.Bench c.args.bench.now)) (hands_at r)
-      (snapshot_of (g.W.JobMaker.plan c.execute.new.maker) c.execute.new.board 0 (source_view g.S.Shelf c.execute.new.shelf)
-      (output_view g.B.Bench c.execute.new.bench)) (c.execute.new.shelf ≡ c.args.shelf.now) (Ok c.in-Ok.progress)) c.self.view_is c.in-Ok.ensures.executed;
+      (snapshot_of (g.W.JobMaker.plan c.execute.new.maker) c.execute.new.board 0
+      (source_view g.S.Shelf c.execute.new.shelf)
+      (output_view g.B.Bench c.execute.new.bench)) (c.execute.new.shelf ≡ c.args.shelf.now)
+      (Ok c.in-Ok.progress)) c.self.view_is c.in-Ok.ensures.executed;
 }
 
 pub returns-in-Err : goal.returns-in-Err
@@ -19,6 +21,8 @@ returns-in-Err g c = record {
   executed = subst (λ (r : ExecutionView g.row.W.Denot). Executed c.args.events.now
       (snapshot_of (g.W.JobMaker.plan r.work) r.board 0 (source_view g.S.Shelf c.args.shelf.now)
       (output_view g.B.Bench c.args.bench.now)) (hands_at r)
-      (snapshot_of (g.W.JobMaker.plan c.execute.new.maker) c.execute.new.board 0 (source_view g.S.Shelf c.execute.new.shelf)
-      (output_view g.B.Bench c.execute.new.bench)) (c.execute.new.shelf ≡ c.args.shelf.now) (Err c.in-Err.fault)) c.self.view_is c.in-Err.ensures.executed;
+      (snapshot_of (g.W.JobMaker.plan c.execute.new.maker) c.execute.new.board 0
+      (source_view g.S.Shelf c.execute.new.shelf)
+      (output_view g.B.Bench c.execute.new.bench)) (c.execute.new.shelf ≡ c.args.shelf.now)
+      (Err c.in-Err.fault)) c.self.view_is c.in-Err.ensures.executed;
 }

@@ -10,7 +10,8 @@ returns-in-Ok g c = record {
   resumed = subst (λ (r : ExecutionView g.row.W.Denot). Resumed c.args.events.now
       (snapshot_of (g.W.JobMaker.plan r.work) r.board 0 (source_view g.S.Shelf c.args.shelf.now)
       (output_view g.B.Bench c.args.bench.now)) (hands_at r)
-      (snapshot_of (g.W.JobMaker.plan c.resume.new.maker) c.resume.new.board 0 (source_view g.S.Shelf c.resume.new.shelf)
+      (snapshot_of (g.W.JobMaker.plan c.resume.new.maker) c.resume.new.board 0
+      (source_view g.S.Shelf c.resume.new.shelf)
       (output_view g.B.Bench c.resume.new.bench)) (Ok c.in-Ok.progress)) c.self.view_is c.in-Ok.ensures.resumed;
 }
 
@@ -19,6 +20,7 @@ returns-in-Err g c = record {
   resumed = subst (λ (r : ExecutionView g.row.W.Denot). Resumed c.args.events.now
       (snapshot_of (g.W.JobMaker.plan r.work) r.board 0 (source_view g.S.Shelf c.args.shelf.now)
       (output_view g.B.Bench c.args.bench.now)) (hands_at r)
-      (snapshot_of (g.W.JobMaker.plan c.resume.new.maker) c.resume.new.board 0 (source_view g.S.Shelf c.resume.new.shelf)
+      (snapshot_of (g.W.JobMaker.plan c.resume.new.maker) c.resume.new.board 0
+      (source_view g.S.Shelf c.resume.new.shelf)
       (output_view g.B.Bench c.resume.new.bench)) (Err c.in-Err.fault)) c.self.view_is c.in-Err.ensures.resumed;
 }

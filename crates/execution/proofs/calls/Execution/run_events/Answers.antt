@@ -7,16 +7,20 @@ use Rattle.execution.proofs.calls.Execution.run_events.Goals as goal
 
 pub returns-in-Ok : goal.returns-in-Ok
 returns-in-Ok g c = record {
-  performed = subst (λ (r : ExecutionView g.row.W.Denot). Performed false c.args.events.now (snapshot_of (g.W.JobMaker.plan r.work) r.board 0 (source_view g.S.Shelf c.args.shelf.now)
+  performed = subst (λ (r : ExecutionView g.row.W.Denot). Performed false c.args.events.now (snapshot_of
+      (g.W.JobMaker.plan r.work) r.board 0 (source_view g.S.Shelf c.args.shelf.now)
       (output_view g.B.Bench c.args.bench.now)) (hands_at r)
       (λ stale. snapshot_of (g.W.JobMaker.plan c.perform.new.maker) c.perform.new.board stale (source_view g.S.Shelf
-      c.perform.new.shelf) (output_view g.B.Bench c.perform.new.bench)) (hands_in c.perform.new.hands) (Ok c.in-Ok.progress)) c.self.view_is c.in-Ok.ensures.performed;
+      c.perform.new.shelf) (output_view g.B.Bench c.perform.new.bench)) (hands_in c.perform.new.hands)
+      (Ok c.in-Ok.progress)) c.self.view_is c.in-Ok.ensures.performed;
 }
 
 pub returns-in-Err : goal.returns-in-Err
 returns-in-Err g c = record {
-  performed = subst (λ (r : ExecutionView g.row.W.Denot). Performed false c.args.events.now (snapshot_of (g.W.JobMaker.plan r.work) r.board 0 (source_view g.S.Shelf c.args.shelf.now)
+  performed = subst (λ (r : ExecutionView g.row.W.Denot). Performed false c.args.events.now (snapshot_of
+      (g.W.JobMaker.plan r.work) r.board 0 (source_view g.S.Shelf c.args.shelf.now)
       (output_view g.B.Bench c.args.bench.now)) (hands_at r)
       (λ stale. snapshot_of (g.W.JobMaker.plan c.perform.new.maker) c.perform.new.board stale (source_view g.S.Shelf
-      c.perform.new.shelf) (output_view g.B.Bench c.perform.new.bench)) (hands_in c.perform.new.hands) (Err c.in-Err.fault)) c.self.view_is c.in-Err.ensures.performed;
+      c.perform.new.shelf) (output_view g.B.Bench c.perform.new.bench)) (hands_in c.perform.new.hands)
+      (Err c.in-Err.fault)) c.self.view_is c.in-Err.ensures.performed;
 }
