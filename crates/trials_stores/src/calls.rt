@@ -10,6 +10,7 @@ use std::process::Abort;
 pub(crate) enum Call {
     Create(&'static str),
     Append(&'static str, &'static [u8]),
+    Zeros(&'static str, u64),
     Write(&'static str, u64, &'static [u8]),
     Sync(&'static str),
 }
@@ -18,6 +19,7 @@ fn make(bench: &mut impl Bench, call: Call) -> Result<(), DeviceFault> {
     match call {
         Call::Create(name) => bench.create(name),
         Call::Append(name, bytes) => bench.append(name, bytes),
+        Call::Zeros(name, count) => bench.append_zeros(name, count),
         Call::Write(name, at, bytes) => bench.write_at(name, at, bytes),
         Call::Sync(name) => bench.sync(name),
     }

@@ -145,7 +145,23 @@ const APPENDED: [Call; 6] = [
 
 const SYNCED: [Call; 2] = [Call::Sync("B.wav"), Call::Append("B.wav", &[8])];
 
-const STOPS: [Stop; 7] = [
+/// Zeros are one call, of which the first ones are written.
+const LAID_OUT: [Call; 3] = [
+    Call::Create("A.wav"),
+    Call::Append("A.wav", &[1]),
+    Call::Zeros("A.wav", 5000),
+];
+
+const STOPS: [Stop; 8] = [
+    Stop {
+        before: &[],
+        at: 2,
+        part: 2,
+        behind: &LAID_OUT,
+        files: (Some(&[1, 0, 0]), None),
+        kept: 1,
+        left: (Some(&[1, 0, 0]), None),
+    },
     Stop {
         before: &[],
         at: 3,

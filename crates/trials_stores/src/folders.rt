@@ -72,6 +72,7 @@ fn a_folder_shelf_reads_plain_files_inside_it(rt: HostRuntime) -> Result<(), Fai
 fn all_fail(bench: &mut impl Bench, name: &str) -> bool {
     bench.create(name).is_err()
         & bench.append(name, &[1]).is_err()
+        & bench.append_zeros(name, 1).is_err()
         & bench.write_at(name, 0, &[]).is_err()
         & bench.sync(name).is_err()
         & (bench.length(name) == Err(ShelfFault::Device))
@@ -88,18 +89,20 @@ fn writes_none(bench: &mut impl Bench) -> bool {
 }
 
 /// Calls that go well in an empty folder.
-const WRITTEN: [Call; 6] = [
+const WRITTEN: [Call; 7] = [
     Call::Create("B.wav"),
     Call::Append("B.wav", &[1, 2, 3]),
-    Call::Append("B.wav", &[0, 0]),
+    Call::Append("B.wav", &[0]),
+    Call::Zeros("B.wav", 1),
     Call::Append("B.wav", &[4]),
     Call::Write("B.wav", 1, &[20, 30]),
     Call::Sync("B.wav"),
 ];
 
 /// Calls on a file that isn't there, and outside one that is.
-const OUTSIDE: [Call; 4] = [
+const OUTSIDE: [Call; 5] = [
     Call::Append("C.wav", &[]),
+    Call::Zeros("C.wav", 1),
     Call::Sync("C.wav"),
     Call::Write("B.wav", 5, &[7, 8]),
     Call::Write("B.wav", u64::MAX, &[7, 8]),
@@ -109,10 +112,10 @@ const OUTSIDE: [Call; 4] = [
 fn a_folder_bench_writes_inside_its_files(rt: HostRuntime) -> Result<(), Fail> {
     fresh_folder(&rt, "folder_bench")?;
     let mut bench = FolderBench::new(rt.alloc(), &rt, "folder_bench", Overwrite::Never)?;
-    assert_eq!(rt; made(&mut bench, &WRITTEN), 6);
+    assert_eq!(rt; made(&mut bench, &WRITTEN), 7);
     assert_eq!(rt; made(&mut bench, &OUTSIDE), 0);
     assert_eq!(rt; bench.length("C.wav"), Err(ShelfFault::NotFound));
-    assert_eq!(rt; bench.failures(), 4);
+    assert_eq!(rt; bench.failures(), 5);
     assert!(rt; fs::read(&rt, "folder_bench/B.wav")?.as_slice() == [1, 20, 30, 0, 0, 4].as_slice());
     fs::remove_dir_all(&rt, "folder_bench")?;
     Ok(())
@@ -123,7 +126,7 @@ fn a_folder_bench_writes_nowhere_else(rt: HostRuntime) -> Result<(), Fail> {
     filled_folder(&rt, "folder_names")?;
     let mut bench = FolderBench::new(rt.alloc(), &rt, "folder_names", Overwrite::Never)?;
     assert!(rt; writes_none(&mut bench));
-    assert_eq!(rt; bench.failures(), 9 * 6);
+    assert_eq!(rt; bench.failures(), 9 * 7);
     fs::remove_dir_all(&rt, "folder_names")?;
     Ok(())
 }

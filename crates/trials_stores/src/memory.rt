@@ -93,16 +93,18 @@ fn a_head_longer_than_its_file_is_the_file(rt: HostRuntime) -> Result<(), Fail> 
 }
 
 /// Calls that add to a file and write over it.
-const WRITTEN: [Call; 2] = [
+const WRITTEN: [Call; 3] = [
     Call::Append("A.wav", &[4, 5]),
+    Call::Zeros("A.wav", 2),
     Call::Write("A.wav", 1, &[20, 30]),
 ];
 
 /// Calls on a file that isn't there, or outside one that is.
-const OUTSIDE: [Call; 4] = [
+const OUTSIDE: [Call; 5] = [
     Call::Append("B.wav", &[1]),
+    Call::Zeros("B.wav", 1),
     Call::Write("B.wav", 0, &[]),
-    Call::Write("A.wav", 4, &[7, 8]),
+    Call::Write("A.wav", 6, &[7, 8]),
     Call::Sync("B.wav"),
 ];
 
@@ -124,8 +126,8 @@ fn a_bench_keeps_what_is_written_inside_its_files(rt: HostRuntime) -> Result<(),
         made(&mut bench, &OUTSIDE),
         bench.failures(),
     );
-    assert_eq!(rt; counts, (2, 0, 4));
-    assert!(rt; bench.bytes("A.wav") == Some([1, 20, 30, 4, 5].as_slice()));
+    assert_eq!(rt; counts, (3, 0, 5));
+    assert!(rt; bench.bytes("A.wav") == Some([1, 20, 30, 4, 5, 0, 0].as_slice()));
     assert!(rt; bench.bytes("B.wav").is_none());
     Ok(())
 }
