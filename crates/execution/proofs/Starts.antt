@@ -49,7 +49,15 @@ order-fresh count few = record {
     at : (p : ℕ) → p < count → get_or (range_with_len 0 count) p 0 ≡ p
     at p lt = get_or-range_with_len 0 count p 0 lt ∙ omega arith
 
--- outputs that are filled by no job are filled as far as these are done
+-- just the jobs are done that were given as done
+pub done-with : (done : List Bool) (order : List ℕ) (k : ℕ) → k < length done
+    → done_of (board_with done order) k ≡ get_or done k false
+done-with done order k lt = ap (λ (job : Job). is_done job.standing)
+    (get_or-map (λ d. cond d done_job fresh_job) done k false no_job lt) ∙ go (get_or done k false)
+  where
+    go : (d : Bool) → is_done (cond d done_job fresh_job).standing ≡ d
+    go true = refl
+    go false = refl
 
 -- jobs of which some are done are at rest
 pub rest-with : (done : List Bool) (order : List ℕ) → AtRest (board_with done order)

@@ -1,10 +1,11 @@
 // The calls of an execution.
-ghost use Rattle.std.specs.Prelude.{◌≡◌, ◌*◌, ℕ, IfErr, IfOk, IsErrOf, IsTrue, OnOk, false, true, length};
+ghost use Rattle.std.specs.Prelude.{◌≡◌, ◌*◌, ℕ, IfErr, IfOk, IsErrOf, IsTrue, OnOk, false, true, length, ◌<◌, slice_index_or};
 ghost use Rattle.job_terms.specs.Board.{is_finished};
 ghost use Rattle.job_terms.specs.Workers.{Nothing, rounds};
 ghost use Rattle.execution.specs.Alone.{AtRest};
 ghost use Rattle.execution.specs.Ends.{IsMemory};
 ghost use Rattle.execution.specs.Boards.{board_with, fresh_board};
+ghost use Rattle.execution.specs.Marking.{done_of};
 ghost use Rattle.execution.specs.View.{hands_at};
 ghost use Rattle.execution.specs.Outcome.{Executed, Resumed};
 ghost use Rattle.execution.specs.EventRun.{Performed, snapshot_of};
@@ -73,6 +74,7 @@ impl<W: JobMaker + Drop> Execution<W> {
         requires { IsOrder (W.plan work).jobs.count order.items }
         ensures work { IfOk result (λ run. run.work ≡ work) }
         ensures board { IfOk result (λ run. run.board ≡ fresh_board (W.plan work).jobs.count order.items) }
+        ensures open { IfOk result (λ run. (k : ℕ) → k < (W.plan work).jobs.count → done_of run.board k ≡ false) }
         ensures idle { IfOk result (λ run. (w : ℕ) → hands_at run w ≡ Nothing) }
         ensures rest { IfOk result (λ run. AtRest run.board) }
         ensures only_memory { IfErr result IsMemory }
@@ -102,6 +104,8 @@ impl<W: JobMaker + Drop> Execution<W> {
         requires done { length done.now ≡ (W.plan work).jobs.count }
         ensures work { IfOk result (λ run. run.work ≡ work) }
         ensures board { IfOk result (λ run. run.board ≡ board_with done.now order.items) }
+        ensures done { IfOk result (λ run. (k : ℕ) → k < length done.now
+            → done_of run.board k ≡ slice_index_or done.now k false) }
         ensures idle { IfOk result (λ run. (w : ℕ) → hands_at run w ≡ Nothing) }
         ensures rest { IfOk result (λ run. AtRest run.board) }
         ensures only_memory { IfErr result IsMemory }
