@@ -1,0 +1,2 @@
+mod Dones
+mod Outs

@@ -1,0 +1,21 @@
+-- 64 bytes that are 7, and a list over them.
+use Rattle.std.specs.Prelude.{false, None, [], ◌∷◌, ◌==◌, bytes_eq, codes, cond, replicate}
+use Rattle.execution.specs.Plan.{JobPlan}
+
+-- each job writes one byte of "out"; then "list" comes last
+abbrev pub plan_of : JobPlan
+plan_of = record {
+  jobs = record {
+    count = 64;
+    name = λ _. codes "out";
+    at = λ k. k;
+    size = λ _. 1;
+    bytes = λ _ _. 7 ∷ [];
+  };
+  marks = false;
+  marking = λ _. None;
+  whole = λ _ name. cond (bytes_eq (codes "list") name) (1 ∷ []) (replicate 64 7);
+  output = λ i. cond (i == 0) (codes "out") (codes "list");
+  last = 1;
+  outputs = 2;
+}
