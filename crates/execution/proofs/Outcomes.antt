@@ -1,6 +1,6 @@
 -- A work that is laid out, done and finished.
-use Rattle.std.proofs.Common.{◌≡◌, ◌⊎◌, ◌∙◌, ℕ, ◌<◌, ◌≤◌, Bool, true, false, IsTrue, Option, Some, None, Result, Ok, Err, List, length, take, refl, sym, ap, subst, inl, inr, arith}
-use Rattle.std.specs.Prelude.{IfErr, IsOk, OnOk, not}
+use Rattle.std.proofs.Common.{◌≡◌, ◌⊎◌, ◌∙◌, ℕ, ◌<◌, Bool, true, false, IsTrue, Option, Some, None, Result, Ok, Err, List, length, take, refl, sym, ap, subst, inl, inr, arith}
+use Rattle.std.specs.Prelude.{IfErr, IsOk, OnErr, OnOk, not}
 use Rattle.work_terms.specs.Disk.{Files}
 use Rattle.devices.specs.Views.{CrashesLeave, OutputView, SourceView, Writes}
 use Rattle.devices.specs.ViewLaws.{crashes_then, crashes_weaker, reads_none, writes_then, writes_wider}
@@ -12,7 +12,7 @@ use Rattle.execution.specs.Boards.{progress_of}
 use Rattle.execution.specs.Ends.{end_of}
 use Rattle.execution.specs.EventRun.{MarkFails, Performed, Snapshot, listed, snapshot_of}
 use Rattle.execution.specs.Filled.{AreApart, AreFilled, AreParts, IsGood}
-use Rattle.execution.specs.Marking.{IsRight, IsRunningBy, LaysBy, LeavesBy, Marking, MarksOn, NoneStartedBy, done_of}
+use Rattle.execution.specs.Marking.{AreLeftBy, IsRight, IsRunningBy, LaysBy, LeavesBy, Marking, MarksOn, NoneStartedBy, done_of}
 use Rattle.execution.specs.Outcome.{EventsDone, Executed, Finished, HasFailed, NotFinished, NotLaidOut, Outcome, OutputFails, Resumed, SetsBy, Stopped, StopsWith}
 use Rattle.execution.specs.Plan.{AreBlank, AreDurable, HoldJobs, HoldLast, IsForeign, IsLast, IsOwn, JobPlan, SourcesFit, Stays}
 use Rattle.execution.specs.Worlds.{Leads, state_of}
@@ -274,7 +274,8 @@ module _ (in_rounds : Bool) (events : List BoardEvent) (p p2 p3 : JobPlan) (boar
               ∙ h.ran.kept.output.others whole (p.output i) stays;
         };
         outcome = λ honest whole fit separate resting. NotFinished f.file h.stale h.count o2.failures o2.files
-            (did honest whole fit.parts separate resting.marked.idle resting.filled) all-done refl (fin.stays (on whole))
+            (did honest whole fit.parts separate resting.marked.idle resting.filled) all-done refl (fin.stays
+            (on whole))
             fin.failed.rose
             (fin.marks (on whole) s.files (done_of board2) (marked honest whole resting.marked.idle
             resting.marked.running).now);
@@ -295,6 +296,8 @@ pub record LaysOut (plan : JobPlan) (old new : OutputView) (result : Result (Uni
       → OnOk result (IsRunningBy (plan.marking sources) done new.may_leave)
   pub any_moment : IsTrue old.honest → (sources : Files) → NoneStartedBy (plan.marking sources) old.may_leave
       → CrashesLeave (LaysBy (plan.marking sources)) old new
+  pub left : IsTrue old.honest → (sources : Files) → NoneStartedBy (plan.marking sources) old.may_leave
+      → OnErr result (AreLeftBy (plan.marking sources) new.may_leave)
   pub output : Writes (Stays plan) old new
   pub quiet : IsOk result → new.failures ≡ old.failures
   pub failed : IfErr result (λ fault. OutputFails plan fault.file old new)
@@ -325,10 +328,9 @@ lays-sets (Some m) after c h = λ started. leaves-wider (Some m) (λ _. false) (
 -- no output was laid out
 pub not-laid : (events : List BoardEvent) (p p1 : JobPlan) (board : Board) (s : SourceView) (o o1 : OutputView)
     (had : ℕ → Hand) (untouched : Type 0) (f : OutputFault) (reported : ExecutionFault) → reported ≡ fault.Output f.file
-    → p1 ≡ p → LaysOut p o o1 (Err f)
-    → ((t : ℕ) (c : Files) → t ≤ o1.moment → o1.may_leave c → o1.left_since t c) → untouched
+    → p1 ≡ p → LaysOut p o o1 (Err f) → untouched
     → Executed events (snapshot_of p board 0 s o) had (snapshot_of p1 board 0 s o1) untouched (Err reported)
-not-laid events p p1 board s o o1 had untouched f reported is same lay counts un =
+not-laid events p p1 board s o o1 had untouched f reported is same lay un =
     subst (λ (x : ExecutionFault). Executed events (snapshot_of p board 0 s o) had (snapshot_of p1 board 0 s o1)
     untouched (Err x)) (sym is) (record {
       bounded = record {
@@ -340,8 +342,7 @@ not-laid events p p1 board s o o1 had untouched f reported is same lay counts un
         order = λ whole i last stays before. lay.output.others whole (p.output i) stays;
       };
       outcome = λ honest whole fit separate fresh. NotLaidOut f.file un refl refl refl lay.output
-          (λ c at. (lay.any_moment whole s.files fresh.unstarted).each c
-          (counts o.moment c (lay.any_moment whole s.files fresh.unstarted).later at));
+          (lay.left whole s.files fresh.unstarted);
       moments = λ honest whole fresh. crashes_weaker (LaysBy (p.marking s.files))
           (SetsBy (p.marking s.files) (done_of board)) {old = o} {new = o1}
           (λ c. lays-sets (p.marking s.files) (done_of board) c) (lay.any_moment whole s.files fresh.unstarted);

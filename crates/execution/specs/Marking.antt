@@ -162,3 +162,9 @@ NoneStartedBy (Some m) outcomes = (c : Files) → outcomes c → is_started (c m
 abbrev pub LaysBy : Option Marking → Files → Type 0
 LaysBy None c = ⊤
 LaysBy (Some m) c = is_started (c m.marks) ≡ true → Leaves m (λ _. false) (λ _. false) c
+
+-- where they couldn't be: marks that are started in one outcome are true of the output of each
+abbrev pub AreLeftBy : Option Marking → (Files → Type 0) → Type 0
+AreLeftBy None outcomes = ⊤
+AreLeftBy (Some m) outcomes =
+    (c d : Files) → outcomes c → outcomes d → is_started (c m.marks) ≡ true → AreTrueMarks m c d

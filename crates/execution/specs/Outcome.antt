@@ -11,7 +11,7 @@ use Rattle.execution.specs.Ends.{StopsBefore, end_of}
 use Rattle.execution.specs.EventRun.{MarkFails, Snapshot, jobs_of, marking_of}
 use Rattle.execution.specs.Filled.{AreApart, AreFilled}
 use Rattle.execution.specs.Laws.{KeepsLaws}
-use Rattle.execution.specs.Marking.{IsRunningBy, LaysBy, Leaves, LeavesBy, Marking, NoneStartedBy, RunsOn, done_of, is_started}
+use Rattle.execution.specs.Marking.{AreLeftBy, IsRunningBy, Leaves, LeavesBy, Marking, NoneStartedBy, RunsOn, done_of, is_started}
 use Rattle.execution.specs.Plan.{AreBlank, AreDurable, HoldJobs, HoldLast, IsAt, IsForeign, IsLast, IsOwn, JobPlan, SourcesFit, Stays}
 use Rattle.execution.specs.Worlds.{Leads, state_of}
 use Rattle.execution.specs.declared.fault.ExecutionFault.{ExecutionFault}
@@ -81,7 +81,7 @@ pub data Outcome (Begins : Files → Type 0) (events : List BoardEvent) (old : S
     (untouched : Type 0) (result : Result Progress ExecutionFault) : Type 0 where
   NotLaidOut : (file : ℕ) → untouched → result ≡ Err (fault.Output file) → new.board ≡ old.board
       → new.source.failures ≡ old.source.failures → Writes (Stays old.plan) old.output new.output
-      → ((c : Files) → new.output.may_leave c → LaysBy (marking_of old) c)
+      → AreLeftBy (marking_of old) new.output.may_leave
       → Outcome Begins events old had new untouched result
   Stopped : (stale count : ℕ) → EventsDone Begins events old had new.board new.output.files new.source.failures
       new.output.failures stale count (end_of result)

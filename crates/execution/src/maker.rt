@@ -1,10 +1,10 @@
 // What a work is, to a board.
-ghost use Rattle.std.specs.Prelude.{◌≡◌, ◌<◌, ℕ, ⊤, Bool, false, IfErr, List, length, IsTrue, IsErrOf, OnOk, Some};
+ghost use Rattle.std.specs.Prelude.{◌≡◌, ◌<◌, ℕ, ⊤, Bool, false, IfErr, List, length, IsTrue, IsErrOf, OnErr, OnOk, Some};
 ghost use Rattle.work_terms.specs.Disk.{Files};
 ghost use Rattle.job_terms.specs.Workers.{jobs_over};
 ghost use Rattle.devices.specs.Frame.{OnlyReads, OnlyWrites};
 ghost use Rattle.devices.specs.Views.{CrashesLeave, output_view};
-ghost use Rattle.execution.specs.Marking.{IsRunningBy, LaysBy, LeavesBy, Marking, Marks, NoneStartedBy};
+ghost use Rattle.execution.specs.Marking.{AreLeftBy, IsRunningBy, LaysBy, LeavesBy, Marking, Marks, NoneStartedBy};
 ghost use Rattle.execution.specs.Plan.{AreBlank, AreDurable, HoldJobs, HoldLast, IsAt, IsForeign, IsLast, IsOwn, JobPlan, SourcesFit, Stays};
 ghost use Rattle.execution.specs.Worlds.{IsPlaced};
 
@@ -75,6 +75,9 @@ pub trait JobMaker {
             → NoneStartedBy ((plan self.old).marking sources) (B.may_leave bench.old)
             → CrashesLeave (LaysBy ((plan self.old).marking sources)) (output_view B.Bench bench.old)
             (output_view B.Bench bench.new) }
+        ensures left { IsTrue (B.honest bench.old) → (sources : Files)
+            → NoneStartedBy ((plan self.old).marking sources) (B.may_leave bench.old)
+            → OnErr result (AreLeftBy ((plan self.old).marking sources) (B.may_leave bench.new)) }
         ensures only_writes { OnlyWrites B.Bench (Stays (plan self.old)) bench.old bench.new result (λ _. ⊤)
             (λ fault failed. IsAt (plan self.old) fault.file failed) };
 

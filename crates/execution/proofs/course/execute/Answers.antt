@@ -10,13 +10,14 @@ returns-in-Err-clause-executed g c = not-laid _ _ _ _ _ _ _ _ _ c.in-Err.fault c
       laid = c.in-Err.ensures.laid;
       marks = c.in-Err.ensures.marks;
       any_moment = c.in-Err.ensures.any_moment;
+      left = c.in-Err.ensures.left;
       output = writes_of g.B.Bench {old = c.args.bench.now} {new = c.lay_out.new.bench} c.in-Err.ensures.only_writes;
       quiet = λ ok. cc;
       failed = record {
         rose = raised _ _ _ _ c.in-Err.ensures.only_writes.cause tt;
         failed = c.in-Err.ensures.only_writes.failed_there tt;
       };
-    }) (g.met.B.Bench.counts_now c.lay_out.new.bench) refl
+    }) refl
 
 pub returns-in-Ok-resume-clause-executed : goal.returns-in-Ok-resume-clause-executed
 returns-in-Ok-resume-clause-executed g c = laid-then c.args.in_rounds c.args.events.now _ _ _ _ _ _ _ _ _ _ _ _ _
@@ -24,6 +25,7 @@ returns-in-Ok-resume-clause-executed g c = laid-then c.args.in_rounds c.args.eve
       laid = c.in-Ok.ensures.laid;
       marks = c.in-Ok.ensures.marks;
       any_moment = c.in-Ok.ensures.any_moment;
+      left = c.in-Ok.ensures.left;
       output = writes_of g.B.Bench {old = c.args.bench.now} {new = c.lay_out.new.bench} c.in-Ok.ensures.only_writes;
       quiet = λ _. c.in-Ok.ensures.only_writes.cause.left tt;
       failed = tt;
@@ -35,6 +37,7 @@ returns-in-Err-resume-clause-executed g c = laid-then c.args.in_rounds c.args.ev
       laid = c.in-Ok.ensures.laid;
       marks = c.in-Ok.ensures.marks;
       any_moment = c.in-Ok.ensures.any_moment;
+      left = c.in-Ok.ensures.left;
       output = writes_of g.B.Bench {old = c.args.bench.now} {new = c.lay_out.new.bench} c.in-Ok.ensures.only_writes;
       quiet = λ _. c.in-Ok.ensures.only_writes.cause.left tt;
       failed = tt;
