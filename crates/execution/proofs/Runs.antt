@@ -1,12 +1,8 @@
 -- Runs, one event longer.
-use Rattle.std.proofs.Common.{◌≡◌, ◌≢◌, ◌∙◌, ℕ, Bool, true, false, cond, MatchBool, is_none, None, List, [], ◌∷◌, ◌++◌, ◌==◌, ◌+◌, ◌<◌, ◌≤◌, length, take, get_or, refl, sym, ap, subst, inl, inr}
+use Rattle.std.proofs.Common.{◌≡◌, ◌≢◌, ◌∙◌, ℕ, Bool, true, false, cond, MatchBool, is_none, None, List, [], ◌∷◌, ◌++◌, ◌==◌, refl, sym, ap, subst, inl, inr}
 use Rattle.std.proofs.lemmas.Bool.Decides.{eqb_tells}
-use Rattle.std.proofs.lemmas.List.{take_more}
-use Rattle.work_terms.specs.Disk.{Files}
 use Rattle.job_terms.specs.declared.BoardEvent.{BoardEvent}
-use Rattle.job_terms.specs.Workers.{Jobs, JobsBy, jobs_over, Hand, Nothing, Holds, Made, State, World, BoardStep, BoardRun, HandStep, with_hand}
-use Rattle.std.specs.Prelude.{IfSome}
-use Rattle.execution.specs.Desks.{Desk, FitsHand, FitsRoom, HasRoom, job_of}
+use Rattle.job_terms.specs.Workers.{Jobs, Hand, State, World, BoardStep, BoardRun, HandStep, with_hand}
 use Rattle.execution.specs.Worlds.{Leads}
 
 apart : true ≡ false → ⊥
@@ -77,56 +73,7 @@ hand-after old taken new number now others put v = put v ∙ elim (eqb_tells v n
   | inr e ↦ ap (λ (h : Hand). cond (v == number) now h) (others v e.1)
 ]
 
-pub fits-after : (work : JobsBy) (old new : ℕ → Hand) (number : ℕ) (now : Hand) → ((v : ℕ) → new v ≡ with_hand old
-    number now v)
-    → FitsHand work now → ((v : ℕ) → FitsHand work (old v)) → (v : ℕ) → FitsHand work (new v)
-fits-after work old new number now after fits all v = subst (FitsHand work) (sym (after v)) (go (v == number))
-  where
-    go : (b : Bool) → FitsHand work (cond b now (old v))
-    go true = fits
-    go false = all v
-
--- the worker's hand is left empty
-pub hand-taken : (old taken : ℕ → Hand) (number : ℕ) → ((v : ℕ) → v ≢ number → taken v ≡ old v) → taken number ≡ Nothing
-    → (v : ℕ) → taken v ≡ with_hand old number Nothing v
-hand-taken old taken number others none v = elim (eqb_tells v number) [
-  | inl e ↦ ap taken e.1 ∙ none ∙ sym (ap (λ b. cond b Nothing (old v)) e.0)
-  | inr e ↦ others v e.1 ∙ sym (ap (λ b. cond b Nothing (old v)) e.0)
-]
-
-pub leads-next : (marks : Bool) (jobs : Jobs) (events : List BoardEvent) (i : ℕ) (d : BoardEvent) (old mid new : State)
-    (had held has : ℕ → Hand) → i < length events → mid.ended ≡ None
-    → Leads (λ world next. BoardRun marks jobs world (take i events) next) old had mid held
-    → Leads (λ world next. BoardStep marks jobs world (get_or events i d) next) mid held new has
-    → Leads (λ world next. BoardRun marks jobs world (take (i + 1) events) next) old had new has
-leads-next marks jobs events i d old mid new had held has lt none run step =
-    subst (λ (es : List BoardEvent). Leads (λ world next. BoardRun marks jobs world es next) old had new has)
-    (sym (take_more events i d lt)) (leads-more marks jobs (take i events) (get_or events i d) old mid new had held
-    has none run step)
-
-pub leads-as : (marks marks' : Bool) (work work' : JobsBy) (stored stored' : Files) (event : BoardEvent)
-    (old new : State) (had has : ℕ → Hand)
-    → marks ≡ marks' → work ≡ work' → stored ≡ stored'
-    → Leads (λ world next. BoardStep marks (jobs_over work stored) world event next) old had new has
-    → Leads (λ world next. BoardStep marks' (jobs_over work' stored') world event next) old had new has
-leads-as marks marks' work work' stored stored' event old new had has m w s h =
-    subst (λ (b : Bool). Leads (λ world next. BoardStep b (jobs_over work' stored') world event next) old had new has) m
-    (subst (λ (v : JobsBy). Leads (λ world next. BoardStep marks (jobs_over v stored') world event next) old had new
-    has) w
-    (subst (λ (f : Files). Leads (λ world next. BoardStep marks (jobs_over work f) world event next) old had new has)
-    s h))
-
 -- ---- what fits a worker
-
-pub fits-room : (work : JobsBy) (desk : Desk) (room : ℕ) → FitsHand work desk.hand → HasRoom work room → desk.room ≡
-    room → FitsRoom work desk
-fits-room work desk room fits has same ticket holds = subst (λ (n : ℕ). work.size ticket.job ≤ n) (sym same)
-    (has ticket.job (subst (FitsHand work) holds fits))
-
-pub fits-job : (work : JobsBy) (hand : Hand) → FitsHand work hand → IfSome (job_of hand) (λ k. k < work.count)
-fits-job work Nothing fits = tt
-fits-job work (Holds ticket) fits = fits
-fits-job work (Made ticket bytes) fits = fits.0
 
 -- a worker that was taken out and put back as it was
 pub hand-back : (old new : ℕ → Hand) (number : ℕ) (now : Hand) → ((v : ℕ) → new v ≡ with_hand old number now v)

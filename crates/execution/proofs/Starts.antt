@@ -1,10 +1,10 @@
 -- Where no job is done yet.
-use Rattle.std.proofs.Common.{◌≡◌, ◌∙◌, ◌^◌, ◌+◌, ◌++◌, [], ◌∷◌, ℕ, ◌<◌, Bool, true, false, cond, List, length, map, replicate, get_or, refl, sym, ap, subst, arith}
+use Rattle.std.proofs.Common.{◌≡◌, ◌∙◌, ◌^◌, ◌+◌, ◌++◌, [], ◌∷◌, ℕ, ◌<◌, Bool, true, false, cond, List, length, map, get_or, refl, sym, ap, subst, arith}
 use Rattle.std.specs.List.{range_with_len}
 use Rattle.std.proofs.lemmas.List.{get_or-map, get_or-replicate, length-map, length-replicate, map-id}
 use Rattle.std.proofs.lemmas.List.FromFn.{get_or-range_with_len, length-range_with_len, map-range_with_len_more}
 use Rattle.job_terms.specs.declared.Job.{Job}
-use Rattle.job_terms.specs.Board.{Board, fresh_job, done_job, is_done, job_at, no_job}
+use Rattle.job_terms.specs.Board.{fresh_job, done_job, is_done, job_at, no_job}
 use Rattle.execution.specs.Alone.{AtRest, Finished, IsAtRest, Waits}
 use Rattle.execution.specs.Boards.{board_with, fresh_board}
 use Rattle.execution.specs.Marking.{done_of}
@@ -23,10 +23,6 @@ rest-fresh count order = record {
         count fresh_job,
   )))) (Waits refl refl (omega arith));
 }
-
-pub rest-of : (count : ℕ) (board : Board) → board.jobs ≡ replicate count fresh_job → AtRest board
-rest-of count board fresh = subst (λ (js : List Job). AtRest (record { jobs = js; order = board.order })) (sym fresh)
-    (rest-fresh count board.order)
 
 pub none-done : (count : ℕ) (order : List ℕ) (k : ℕ) → k < count → done_of (fresh_board count order) k ≡ false
 none-done count order k lt = ap (λ (job : Job). is_done job.standing) (open-fresh count order k lt)
