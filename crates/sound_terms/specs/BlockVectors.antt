@@ -2,10 +2,10 @@
 use Rattle.std.specs.Prelude.{◌≡◌, refl, ℕ, pos, negsuc, neg_ℤ, List, [], ◌∷◌}
 use Rattle.sound_terms.specs.declared.Depth.TheVariants.{Sixteen}
 use Rattle.sound_terms.specs.declared.block.Stretch.{Stretch}
-use Rattle.sound_terms.specs.declared.block.Instruction.TheVariants.{Start, Add, Emit}
+use Rattle.sound_terms.specs.declared.block.Instruction.TheVariants.{Start, Flat, Rise, Emit}
 use Rattle.sound_terms.specs.declared.piece.Piece.{Piece}
 use Rattle.sound_terms.specs.declared.piece.Shape.{Shape}
-use Rattle.sound_terms.specs.declared.piece.Shape.TheVariants.{Flat, Rise, Fall}
+use Rattle.sound_terms.specs.declared.piece.Shape.TheVariants as shape
 use Rattle.sound_terms.specs.Mix.{Reading, full_scale}
 use Rattle.sound_terms.specs.Render.{Range}
 use Rattle.sound_terms.specs.Blocks.{BlockState, block_count, block_frames, executed_all, program_of}
@@ -30,10 +30,10 @@ abbrev minus_one : Reading
 minus_one file channel frame = full_scale 16 (neg_ℤ (pos 1))
 
 abbrev rise : List Piece
-rise = piece 0 3 0 (Rise 0 3) ∷ []
+rise = piece 0 3 0 (shape.Rise 0 3) ∷ []
 
 pub a_rise_is_added : program_of rise (range 0 3) 0
-    ≡ Start 3 ∷ Add (stretch 0 3 0) (Rise 0 3) ∷ Emit Sixteen ∷ []
+    ≡ Start 3 ∷ Rise (stretch 0 3 0) 0 3 ∷ Emit Sixteen ∷ []
 a_rise_is_added = refl
 
 pub a_rise_is_rounded_once : (executed_all minus_one 1 (program_of rise (range 0 3) 0) silence).out
@@ -42,7 +42,7 @@ a_rise_is_rounded_once = refl
 
 -- a piece over the end of the first block
 abbrev over_the_end : List Piece
-over_the_end = piece 4094 4 7 (Rise 0 4) ∷ []
+over_the_end = piece 4094 4 7 (shape.Rise 0 4) ∷ []
 
 pub two_blocks : block_count (range 0 4100) ≡ 2
 two_blocks = refl
@@ -51,19 +51,19 @@ pub the_last_is_shorter : block_frames (range 0 4100) 1 ≡ 4
 the_last_is_shorter = refl
 
 pub cut_by_the_block : program_of over_the_end (range 0 4100) 0
-    ≡ Start 4096 ∷ Add (stretch 4094 2 7) (Rise 0 4) ∷ Emit Sixteen ∷ []
+    ≡ Start 4096 ∷ Rise (stretch 4094 2 7) 0 4 ∷ Emit Sixteen ∷ []
 cut_by_the_block = refl
 
 pub goes_on_in_the_next : program_of over_the_end (range 0 4100) 1
-    ≡ Start 4 ∷ Add (stretch 0 2 9) (Rise 2 4) ∷ Emit Sixteen ∷ []
+    ≡ Start 4 ∷ Rise (stretch 0 2 9) 2 4 ∷ Emit Sixteen ∷ []
 goes_on_in_the_next = refl
 
 -- one piece over the end of another, and a fall on a channel that isn't rendered
 abbrev layers : List Piece
-layers = piece 0 2 0 Flat ∷ piece 1 2 5 Flat ∷ record (piece 0 3 0 (Fall 0 3)) { dest = 2 } ∷ []
+layers = piece 0 2 0 shape.Flat ∷ piece 1 2 5 shape.Flat ∷ record (piece 0 3 0 (shape.Fall 0 3)) { dest = 2 } ∷ []
 
 pub layers_in_turn : program_of layers (range 0 3) 0
-    ≡ Start 3 ∷ Add (stretch 0 2 0) Flat ∷ Add (stretch 1 2 5) Flat ∷ Emit Sixteen ∷ []
+    ≡ Start 3 ∷ Flat (stretch 0 2 0) ∷ Flat (stretch 1 2 5) ∷ Emit Sixteen ∷ []
 layers_in_turn = refl
 
 pub layers_are_summed : (executed_all minus_one 1 (program_of layers (range 0 3) 0) silence).out

@@ -1,14 +1,15 @@
 -- A block of a rendering: what its instructions do, and the instructions that render pieces.
-use Rattle.std.specs.Prelude.{◌≡◌, ℕ, zero, suc, ◌+◌, ◌-◌, ◌*◌, ◌/◌, ◌^◌, ◌<◌, ◌≤◌, ◌&&◌, nat_lt, nat_le, min, max, Bool, ⊤, ℤ, pos, neg_ℤ, ◌+ℤ◌, ◌≤ℤ◌, List, [], ◌∷◌, ◌++◌, All, if◌then◌else◌}
+use Rattle.std.specs.Prelude.{◌≡◌, ℕ, zero, suc, ◌+◌, ◌-◌, ◌*◌, ◌/◌, ◌^◌, ◌<◌, ◌≤◌, ◌&&◌, nat_lt, nat_le, min, max, Bool, ℤ, pos, neg_ℤ, ◌+ℤ◌, ◌≤ℤ◌, List, [], ◌∷◌, ◌++◌, All, Option, None, Some, IfSome, IsSomeAnd, if◌then◌else◌}
 use Rattle.std.specs.Int.{saturate_to_bits}
 use Rattle.std.specs.List.{flat_map}
 use Rattle.sampletime.specs.TimeCode.{day}
 use Rattle.sound_terms.specs.declared.Depth.{Depth}
 use Rattle.sound_terms.specs.declared.block.Stretch.{Stretch}
 use Rattle.sound_terms.specs.declared.block.Instruction.{Instruction}
-use Rattle.sound_terms.specs.declared.block.Instruction.TheVariants.{Start, Add, Emit}
+use Rattle.sound_terms.specs.declared.block.Instruction.TheVariants.{Start, Flat, Rise, Fall, Emit}
 use Rattle.sound_terms.specs.declared.piece.Piece.{Piece}
 use Rattle.sound_terms.specs.declared.piece.Shape.{Shape}
+use Rattle.sound_terms.specs.declared.piece.Shape.TheVariants as shape
 use Rattle.sound_terms.specs.Depth.{bits_of}
 use Rattle.sound_terms.specs.Mix.{Reading, share_of, quantized}
 use Rattle.sound_terms.specs.Groups.{IsRamp, fraction_of}
@@ -58,7 +59,11 @@ block_samples depth sums channels i (suc n) =
 -- what an instruction does to a block of so many channels
 abbrev pub executed : Reading → ℕ → Instruction → BlockState → BlockState
 executed reading channels (Start frames) old = record old { frames = frames; sums = λ i channel. pos 0 }
-executed reading channels (Add stretch shape) old = record old { sums = sums_with reading stretch shape old.sums }
+executed reading channels (Flat stretch) old = record old { sums = sums_with reading stretch shape.Flat old.sums }
+executed reading channels (Rise stretch offset den) old =
+    record old { sums = sums_with reading stretch (shape.Rise offset den) old.sums }
+executed reading channels (Fall stretch offset den) old =
+    record old { sums = sums_with reading stretch (shape.Fall offset den) old.sums }
 executed reading channels (Emit depth) old =
     record old { out = block_samples (bits_of depth) old.sums channels 0 old.frames }
 
@@ -67,7 +72,26 @@ executed_all reading channels [] state = state
 executed_all reading channels (instruction ∷ program) state =
     executed_all reading channels program (executed reading channels instruction state)
 
+-- a program, and how many instructions it has room for
+pub record Programmed : Type 0 where
+  pub room : ℕ
+  pub lines : List Instruction
+
 -- ---- the instructions of pieces
+
+-- the instruction that adds a stretch under a shape
+abbrev pub adding : Stretch → Shape → Instruction
+adding stretch shape.Flat = Flat stretch
+adding stretch (shape.Rise offset den) = Rise stretch offset den
+adding stretch (shape.Fall offset den) = Fall stretch offset den
+
+-- the stretch that an instruction adds, and its shape; none where it adds nothing
+abbrev pub addition_of : Instruction → Option (Stretch × Shape)
+addition_of (Start frames) = None
+addition_of (Flat stretch) = Some (stretch, shape.Flat)
+addition_of (Rise stretch offset den) = Some (stretch, shape.Rise offset den)
+addition_of (Fall stretch offset den) = Some (stretch, shape.Fall offset den)
+addition_of (Emit depth) = None
 
 -- the frames of a block; the last one may have fewer
 abbrev pub block_length : ℕ
@@ -101,7 +125,7 @@ lines_of from n channels p =
     let first = max from p.start in
     let last = min (from + n) (p.start + p.length) in
     if nat_lt first last && nat_le p.dest channels
-    then Add (stretch_in from first last channels p) (shape_behind (first - p.start) p.shape) ∷ []
+    then adding (stretch_in from first last channels p) (shape_behind (first - p.start) p.shape) ∷ []
     else []
 
 -- block k of a range, over pieces
@@ -129,30 +153,21 @@ pub record FitsBlock (frames channels : ℕ) (s : Stretch) : Type 0 where
   pub dest_inside : s.dest + s.width ≤ channels + 1
   pub source_in_day : s.frame + s.length ≤ day
 
+-- the instruction adds a stretch that does so, under a shape that is a ramp as long
 abbrev pub IsFormed : (frames channels : ℕ) → Instruction → Type 0
-IsFormed frames channels (Start n) = ⊤
-IsFormed frames channels (Add stretch shape) = FitsBlock frames channels stretch × IsRamp shape stretch.length
-IsFormed frames channels (Emit depth) = ⊤
-
--- the instruction adds a stretch
-abbrev pub AddsOne : Instruction → Type 0
-AddsOne (Start n) = ⊥
-AddsOne (Add stretch shape) = ⊤
-AddsOne (Emit depth) = ⊥
+IsFormed frames channels instruction = IsSomeAnd (addition_of instruction)
+    (λ added. FitsBlock frames channels added.0 × IsRamp added.1 added.0.length)
 
 -- a block begins with its frames and ends when it hands them out; between, stretches that lie inside it are added
 pub record IsBlockProgram (frames channels : ℕ) (depth : Depth) (program : List Instruction) : Type 0 where
   pub lines : List Instruction
   pub whole : program ≡ Start frames ∷ (lines ++ Emit depth ∷ [])
   pub formed : All (IsFormed frames channels) lines
-  pub added : All AddsOne lines
 
 -- what the instruction adds are frames and channels of an opened file
 abbrev pub LiesInFiles : List SoundFacts → Instruction → Type 0
-LiesInFiles sounds (Start n) = ⊤
-LiesInFiles sounds (Add stretch shape) =
-    LiesInFile sounds stretch.file stretch.first stretch.width stretch.frame stretch.length
-LiesInFiles sounds (Emit depth) = ⊤
+LiesInFiles sounds instruction = IfSome (addition_of instruction)
+    (λ added. LiesInFile sounds added.0.file added.0.first added.0.width added.0.frame added.0.length)
 
 -- no sample that the stretch plays lies outside full scale
 abbrev pub IsFull : Reading → Stretch → Type 0
@@ -162,6 +177,4 @@ IsFull reading s = (j i : ℕ) → j < s.width → i < s.length
 
 -- nor one that the instruction plays
 abbrev pub PlaysFull : Reading → Instruction → Type 0
-PlaysFull reading (Start n) = ⊤
-PlaysFull reading (Add stretch shape) = IsFull reading stretch
-PlaysFull reading (Emit depth) = ⊤
+PlaysFull reading instruction = IfSome (addition_of instruction) (λ added. IsFull reading added.0)

@@ -9,7 +9,7 @@ mod block;
 mod homes;
 mod piece;
 
-pub use block::{Instruction, Stretch};
+pub use block::{Instruction, Program, Stretch};
 pub use homes::Homes;
 pub use piece::{Home, Piece, Placed, Run, Shape};
 use sampletime::SampleTime;
