@@ -6,7 +6,7 @@ use Rattle.std.proofs.lemmas.Bool.Decides.{nat_tests}
 use Rattle.std.proofs.lemmas.List.Elements.{All-append, All-cons, All-nil}
 use Rattle.facts.specs.Lists.{all_of_parts}
 use Rattle.sound_terms.specs.declared.block.Instruction.{Instruction}
-use Rattle.sound_terms.specs.declared.block.Instruction.TheVariants.{Start, Add, Emit}
+use Rattle.sound_terms.specs.declared.block.Instruction.TheVariants.{Start, Emit}
 use Rattle.sound_terms.specs.declared.piece.Piece.{Piece}
 use Rattle.sound_terms.specs.Sounds.{SoundFacts}
 use Rattle.sound_terms.specs.Media.{IsPieceOf}
@@ -14,13 +14,14 @@ use Rattle.sound_terms.specs.Render.{Range}
 use Rattle.sound_terms.specs.Groups.{IsPiece}
 use Rattle.sound_terms.specs.GroupLaws.{ramp_within}
 use Rattle.sound_terms.specs.Passes.{shape_behind}
-use Rattle.sound_terms.specs.Blocks.{AddsOne, IsBlockProgram, IsFormed, LiesInFiles, block_frames, block_start, lines_of, program_of, stretch_in}
+use Rattle.sound_terms.specs.BlockLaws.{addition_of-adding}
+use Rattle.sound_terms.specs.Blocks.{IsBlockProgram, IsFormed, LiesInFiles, adding, block_frames, block_start, lines_of, program_of, stretch_in}
 
 module _ (from n channels : ℕ) where
   -- a line of a piece is the one of its stretch
   by_stretch : (P : Instruction → Type 0) (p : Piece)
       → (max from p.start < min (from + n) (p.start + p.length) → p.dest ≤ channels
-      → P (Add (stretch_in from (max from p.start) (min (from + n) (p.start + p.length)) channels p)
+      → P (adding (stretch_in from (max from p.start) (min (from + n) (p.start + p.length)) channels p)
       (shape_behind (max from p.start - p.start) p.shape)))
       → All P (lines_of from n channels p)
   by_stretch P p holds =
@@ -35,7 +36,7 @@ module _ (from n channels : ℕ) where
             rw (e, f) (All-cons P _ [] (holds (grind (arith, nat_tests)) (grind (arith, nat_tests))) (All-nil P))
 
   line_formed : (p : Piece) → IsPiece p → All (IsFormed n channels) (lines_of from n channels p)
-  line_formed p ok = by_stretch (IsFormed n channels) p (λ some there. (
+  line_formed p ok = by_stretch (IsFormed n channels) p (λ some there. rw (addition_of-adding _ _) (
     record {
       some = omega arith;
       inside = omega arith;
@@ -49,17 +50,19 @@ module _ (from n channels : ℕ) where
     ramp_within p.shape _ _ p.length (omega arith) ok.ramp,
   ))
 
-  pub line_adds : (p : Piece) → IsPiece p → All AddsOne (lines_of from n channels p)
-  line_adds p ok = by_stretch AddsOne p (λ some there. tt)
-
   line_inside : (sounds : List SoundFacts) (p : Piece) → IsPieceOf sounds p
       → All (LiesInFiles sounds) (lines_of from n channels p)
-  line_inside sounds p is = by_stretch (LiesInFiles sounds) p (λ some there. record {
+  line_inside sounds p is = by_stretch (LiesInFiles sounds) p (λ some there. rw (addition_of-adding _ _) (record {
     facts = is.facts;
     there = is.there;
     channels = omega (arith, is.channels);
     frames = omega (arith, is.frames);
-  })
+  }))
+
+pub lines_formed : (from n channels : ℕ) (pieces : List Piece) → All IsPiece pieces
+    → All (IsFormed n channels) (flat_map (lines_of from n channels) pieces)
+lines_formed from n channels pieces all =
+    all_of_parts IsPiece (IsFormed n channels) (lines_of from n channels) (line_formed from n channels) pieces all
 
 pub program_formed : (pieces : List Piece) (range : Range) (k : ℕ) → All IsPiece pieces
     → IsBlockProgram (block_frames range k) range.channels range.depth (program_of pieces range k)
@@ -69,10 +72,7 @@ program_formed pieces range k all =
     record {
       lines = flat_map (lines_of from n range.channels) pieces;
       whole = refl;
-      formed = all_of_parts IsPiece (IsFormed n range.channels) (lines_of from n range.channels)
-          (line_formed from n range.channels) pieces all;
-      added = all_of_parts IsPiece AddsOne (lines_of from n range.channels) (line_adds from n range.channels)
-          pieces all;
+      formed = lines_formed from n range.channels pieces all;
     }
 
 pub program_inside : (sounds : List SoundFacts) (pieces : List Piece) (range : Range) (k : ℕ)

@@ -5,19 +5,19 @@ use Rattle.std.specs.List.{flat_map}
 use Rattle.std.proofs.lemmas.Bool.Decides.{nat_tests}
 use Rattle.std.proofs.lemmas.Int.{ints}
 use Rattle.std.proofs.lemmas.List.Elements.{All-head, All-tail}
-use Rattle.facts.specs.Lists.{all_behind, all_front, all_of_parts}
+use Rattle.facts.specs.Lists.{all_behind, all_front}
 use Rattle.facts.specs.Tests.{otherwise}
-use Rattle.sound_terms.specs.declared.block.Instruction.TheVariants.{Start, Add, Emit}
+use Rattle.sound_terms.specs.declared.block.Instruction.TheVariants.{Start, Emit}
 use Rattle.sound_terms.specs.declared.piece.Piece.{Piece}
 use Rattle.sound_terms.specs.Depth.{bits_of}
 use Rattle.sound_terms.specs.Mix.{Reading, share_of}
 use Rattle.sound_terms.specs.Groups.{IsBounded, IsPiece, fraction_of, holding, is_under, part_of, sum_of}
 use Rattle.sound_terms.specs.Passes.{shape_behind}
 use Rattle.sound_terms.specs.Render.{Range}
-use Rattle.sound_terms.specs.BlockLaws.{executed_all-append, frames_kept}
+use Rattle.sound_terms.specs.BlockLaws.{addition_of-adding, executed-adding, executed_all-append, frames_kept}
 use Rattle.sound_terms.specs.GroupLaws.{fraction_behind}
-use Rattle.sound_terms.specs.Blocks.{AddsOne, BlockState, block_frames, block_samples, block_start, executed_all, frame_samples, held, is_on, lines_of, mixed_block, program_of, share_at, stretch_in, PlaysFull}
-use Rattle.renderplan.proofs.Formed.{line_adds}
+use Rattle.sound_terms.specs.Blocks.{BlockState, adding, block_frames, block_samples, block_start, executed_all, frame_samples, held, is_on, lines_of, mixed_block, program_of, share_at, stretch_in, PlaysFull}
+use Rattle.renderplan.proofs.Formed.{lines_formed}
 use Rattle.renderplan.proofs.Shares.{IsWithin, held_few, holds, part_within, within_add}
 
 -- the same sums are handed out alike
@@ -98,10 +98,10 @@ module _ (reading : Reading) (from n channels : ℕ) where
               ≡ (if is_under p c (from + i) then held (s.sums i c +ℤ share_in reading p c (from + i)) else s.sums i c)
           by_place true under =
               let on = same_under p i c below inside there ∙ under in
-              rw (e, f, on, under, same_share p i c (grind (arith, nat_tests))) refl
+              rw (e, f) (rw (executed-adding reading channels _ _ s) (rw (on, under, same_share p i c (grind (arith, nat_tests))) refl))
           by_place false under =
               let on = same_under p i c below inside there ∙ under in
-              rw (e, f, on, under) refl
+              rw (e, f) (rw (executed-adding reading channels _ _ s) (rw (on, under) refl))
 
   -- what the piece plays there is full scale where all that its line plays is
   full_under : (p : Piece) (i c : ℕ) → i < n → c ≤ channels → All (PlaysFull reading) (lines_of from n channels p)
@@ -112,8 +112,9 @@ module _ (reading : Reading) (from n channels : ℕ) where
       let last = min (from + n) (p.start + p.length) in
       let some : nat_lt first last ≡ true = grind (arith, nat_tests) in
       let there : nat_le p.dest channels ≡ true = grind (arith, nat_tests) in
-      let line = Add (stretch_in from first last channels p) (shape_behind (first - p.start) p.shape) in
-      let plays = All-head (PlaysFull reading) line [] (rw (some, there) at full) in
+      let line = adding (stretch_in from first last channels p) (shape_behind (first - p.start) p.shape) in
+      let plays = rw (addition_of-adding (stretch_in from first last channels p) (shape_behind (first - p.start) p.shape))
+      at (All-head (PlaysFull reading) line [] (rw (some, there) at full)) in
       let frames : p.frame + (first - p.start) + (i - (first - from)) ≡ p.frame + (from + i - p.start) =
       grind (arith, nat_tests) in
       let both = plays (c - p.dest) (i - (first - from)) (grind (arith, nat_tests)) (grind (arith, nat_tests)) in
@@ -169,8 +170,7 @@ program_sums reading pieces range k start plays all bounded =
     let added : BlockState = executed_all reading range.channels lines begun in
     let split = executed_all-append reading range.channels lines (Emit range.depth ∷ []) begun in
     let frames : added.frames ≡ n =
-    frames_kept reading range.channels lines begun
-    (all_of_parts IsPiece AddsOne (lines_of from n range.channels) (line_adds from n range.channels) pieces all) in
+    frames_kept reading n range.channels lines begun (lines_formed from n range.channels pieces all) in
     let full : All (PlaysFull reading) lines =
     all_front (PlaysFull reading) lines (Emit range.depth ∷ [])
     (All-tail (PlaysFull reading) (Start n) (lines ++ Emit range.depth ∷ []) plays) in

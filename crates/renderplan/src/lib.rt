@@ -10,4 +10,4 @@ mod source;
 
 pub use fault::PlanFault;
 pub use plan::Plan;
-pub use sound_terms::{Depth, Instruction, Shape, Stretch};
+pub use sound_terms::{Depth, Instruction, Program, Shape, Stretch};

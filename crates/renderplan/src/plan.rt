@@ -1,5 +1,5 @@
 // The plan of a rendering.
-ghost use Rattle.std.specs.Prelude.{◌≡◌, ◌+◌, ◌<◌, ◌≤◌, ◌↔◌, List, length, take, IfOk, IfSome, IsErrOf, None};
+ghost use Rattle.std.specs.Prelude.{◌≡◌, ◌+◌, ◌<◌, ◌≤◌, ◌↔◌, List, length, IfErr, IfOk, IfSome, IsErrOf, None};
 ghost use Rattle.std.specs.List.{All};
 ghost use Rattle.sampletime.specs.TimeCode.{day};
 ghost use Rattle.sound_terms.specs.Sounds.{SoundFacts};
@@ -12,12 +12,12 @@ ghost use Rattle.renderplan.specs.Planned.{IsPlan};
 ghost use Rattle.renderplan.specs.Sources as sources;
 
 use crate::PlanFault;
-use crate::lines::{Window, put, put_lines};
+use crate::lines::{Window, push_lines};
 use crate::reach::{Reach, reaches_of};
 use crate::source::first_source;
 use groups::Intervals;
 use sampletime::SampleTime;
-use sound_terms::{Depth, Format, Instruction, Piece};
+use sound_terms::{Depth, Format, Instruction, Piece, Program};
 use std::alloc::{AllocError, Global};
 use std::marker::Model;
 
@@ -166,41 +166,58 @@ impl Plan {
         first_source(self.pieces.as_slice(), self.reaches.as_slice(), window)
     }
 
-    /// Writes the instructions of block k; gives how many.
-    fn write_block(&self, k: u64, program: &mut [Instruction]) -> usize
+    /// Writes the instructions of block k over those of a program that has room for them.
+    fn write_block(&self, k: u64, program: &mut Program)
         requires there { k < block_count self.now.range }
-        requires room { length program.old ≡ length self.now.pieces + 2 }
-        ensures program { take result program.new ≡ program_of self.now.pieces self.now.range k }
-        ensures few { result ≤ length program.new }
+        requires room { length self.now.pieces + 2 ≤ program.old.room }
+        ensures program { program.new
+            ≡ record program.old { lines = program_of self.now.pieces self.now.range k } }
         ensures planned { IsPlan self.now }
     {
         let window = self.window_of(k);
-        let start = Instruction::Start {
-            frames: window.frames,
-        };
         let pieces = self.pieces.as_slice();
         let reaches = self.reaches.as_slice();
-        let first = put(program, 0, start);
-        let end = put_lines(pieces, reaches, window, program, first);
-        put(program, end, Instruction::Emit { depth: self.depth })
+        program.clear();
+        program.push(Instruction::Start {
+            frames: window.frames,
+        });
+        push_lines(pieces, reaches, window, program);
+        program.push(Instruction::Emit { depth: self.depth });
     }
 
-    /// Writes the program of block k, counted from 0, over the first instructions; gives how many it has. It hands out
-    /// the block's samples, frame by frame.
-    pub fn block(&self, k: u64, program: &mut [Instruction]) -> usize
+    /// Writes the program of block k, counted from 0, over another that has room for it. It hands out the block's
+    /// samples, frame by frame. It takes no memory.
+    pub fn fill(&self, k: u64, program: &mut Program)
         requires there { k < block_count self.now.range }
-        requires room { length program.old ≡ length self.now.pieces + 2 }
-        ensures few { result ≤ length program.new }
-        ensures program { take result program.new ≡ program_of self.now.pieces self.now.range k }
-        ensures sums { (reading : Reading) → All (PlaysFull reading) (take result program.new)
-            → (start : BlockState)
-            → (executed_all reading self.now.range.channels (take result program.new) start).out
+        requires room { length self.now.pieces + 2 ≤ program.old.room }
+        ensures program { program.new
+            ≡ record program.old { lines = program_of self.now.pieces self.now.range k } }
+        ensures sums { (reading : Reading) → All (PlaysFull reading) program.new.lines → (start : BlockState)
+            → (executed_all reading self.now.range.channels program.new.lines start).out
             ≡ mixed_block self.now.range (sum_of reading self.now.pieces) k }
         ensures formed { IsBlockProgram (block_frames self.now.range k) self.now.range.channels self.now.range.depth
-            (take result program.new) }
+            program.new.lines }
         ensures inside { (sounds : List SoundFacts) → All (IsPieceOf sounds) self.now.pieces
-            → All (LiesInFiles sounds) (take result program.new) }
+            → All (LiesInFiles sounds) program.new.lines }
     {
-        self.write_block(k, program)
+        self.write_block(k, program);
+    }
+
+    /// The program of block k, counted from 0.
+    pub fn block(&self, alloc: Global, k: u64) -> Result<Program, PlanFault>
+        requires { k < block_count self.now.range }
+        ensures program { IfOk result (λ program. program.lines ≡ program_of self.now.pieces self.now.range k) }
+        ensures sums { IfOk result (λ program. (reading : Reading) → All (PlaysFull reading) program.lines
+            → (start : BlockState) → (executed_all reading self.now.range.channels program.lines start).out
+            ≡ mixed_block self.now.range (sum_of reading self.now.pieces) k) }
+        ensures formed { IfOk result (λ program. IsBlockProgram (block_frames self.now.range k) self.now.range.channels
+            self.now.range.depth program.lines) }
+        ensures inside { IfOk result (λ program. (sounds : List SoundFacts) → All (IsPieceOf sounds) self.now.pieces
+            → All (LiesInFiles sounds) program.lines) }
+        ensures only_memory { IfErr result (λ fault. fault ≡ PlanFault.Memory) }
+    {
+        let mut program = Program::with_room(alloc, self.most_instructions())?;
+        self.fill(k, &mut program);
+        Ok(program)
     }
 }

@@ -1,4 +1,4 @@
-use Rattle.std.proofs.Common.{◌≡◌, ℕ, ◌+◌, ◌-◌, ◌++◌, List, take, drop, length, get_or, arith, sym, ap, ◌∙◌, subst}
+use Rattle.std.proofs.Common.{◌≡◌, ℕ, ◌+◌, ◌-◌, ◌++◌, List, drop, length, get_or, arith, sym, ap, ◌∙◌, subst}
 use Rattle.std.specs.List.{flat_map}
 use Rattle.std.proofs.lemmas.List.{drop-drop}
 use Rattle.sound_terms.specs.declared.block.Instruction.{Instruction}
@@ -8,7 +8,7 @@ use Rattle.renderplan.specs.declared.reach.Reach.{Reach}
 use Rattle.renderplan.specs.Reaches.{IsReach}
 use Rattle.renderplan.proofs.Reaching.{length-last}
 use Rattle.renderplan.proofs.Passing.{passed_over}
-use Rattle.renderplan.proofs.lines.put_lines.Goals as goal
+use Rattle.renderplan.proofs.lines.push_lines.Goals as goal
 
 pub loop-next-preserved-then-is_outside : goal.loop-next-preserved-then-is_outside
 loop-next-preserved-then-is_outside c =
@@ -26,10 +26,11 @@ loop-next-preserved-then-is_outside c =
     let same : length (drop next pieces) ≡ k + 1 = ap (λ n. length (drop n pieces)) (sym place) ∙ left in
     let test = rw c.from.ensures at (sym c.is_outside.ensures ∙ c.if-is_outside.true) in
     let passed = passed_over window.from window.frames window.channels (drop next pieces) reach is test in
-    let before : List Instruction = take c.loop-next.count c.loop-next.program in
+    let before : List Instruction = c.loop-next.program.lines in
     record {
       within = omega (arith, there, same);
       few = omega (arith, c.loop-next.invariant.few);
+      room = c.loop-next.invariant.room;
       written = ap (λ rest. before ++ flat_map lines rest) (sym (drop-drop reach.count next pieces))
           ∙ ap (λ rest. before ++ rest) (sym passed) ∙ c.loop-next.invariant.written;
     }
