@@ -3,8 +3,7 @@ use Rattle.std.specs.Prelude.{◌≡◌, ℕ, List, [], ◌∷◌, Some, slice_g
 use Rattle.sound_terms.specs.declared.Depth.{Depth}
 use Rattle.sound_terms.specs.declared.block.Stretch.{Stretch}
 use Rattle.sound_terms.specs.declared.block.Instruction.{Instruction}
-use Rattle.sound_terms.specs.declared.block.Instruction.TheVariants.{Add}
-use Rattle.sound_terms.specs.declared.piece.Shape.TheVariants.{Flat}
+use Rattle.sound_terms.specs.declared.block.Instruction.TheVariants.{Flat}
 use Rattle.sound_terms.specs.Sounds.{SoundFacts}
 
 -- so many frames of a file, from this one on, on as many channels from the first on
@@ -22,7 +21,7 @@ filling file frame frames channels = record {
 -- nothing but this stretch is added, without a fade: so many frames, with all channels of a file of this depth
 pub record FillsAlone (sounds : List SoundFacts) (frames channels : ℕ) (depth : Depth) (lines : List Instruction)
     (stretch : Stretch) : Type 0 where
-  pub alone : lines ≡ Add stretch Flat ∷ []
+  pub alone : lines ≡ Flat stretch ∷ []
   pub whole : stretch ≡ filling stretch.file stretch.frame frames channels
   pub facts : SoundFacts
   pub there : slice_get sounds stretch.file ≡ Some facts

@@ -2,22 +2,18 @@
 ghost use Rattle.std.specs.Prelude.{◌≡◌, ◌≤◌, IfSome};
 ghost use Rattle.std.specs.List.{All};
 ghost use Rattle.sound_terms.specs.Blocks.{LiesInFiles};
-ghost use Rattle.sound_terms.specs.declared.block.Instruction.TheVariants.{Add};
-ghost use Rattle.sound_terms.specs.declared.piece.Shape.TheVariants.{Flat};
+ghost use Rattle.sound_terms.specs.declared.block.Instruction.TheVariants.{Flat};
 ghost use Rattle.blockmachine.specs.Alone.{FillsAlone};
 
-use sound_terms::{Depth, Instruction, Shape, Stretch};
+use sound_terms::{Depth, Instruction, Stretch};
 use wavread::Sound;
 
 /// The stretch that an instruction adds without a fade.
 fn flat_stretch(line: &Instruction) -> Option<Stretch>
-    ensures { IfSome result (λ stretch. line.now ≡ Add stretch Flat) }
+    ensures { IfSome result (λ stretch. line.now ≡ Flat stretch) }
 {
     match line {
-        Instruction::Add {
-            stretch,
-            shape: Shape::Flat,
-        } => Some(*stretch),
+        Instruction::Flat { stretch } => Some(*stretch),
         _ => None,
     }
 }

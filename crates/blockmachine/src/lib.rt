@@ -17,4 +17,4 @@ mod sums;
 
 pub use fault::MachineFault;
 pub use machine::Machine;
-pub use sound_terms::{Depth, Instruction, Shape, Stretch};
+pub use sound_terms::{Depth, Instruction, Program, Stretch};

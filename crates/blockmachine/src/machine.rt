@@ -6,7 +6,7 @@ ghost use Rattle.sound_terms.specs.declared.block.Instruction as word;
 ghost use Rattle.sound_terms.specs.declared.block.Instruction.TheVariants as instruction;
 ghost use Rattle.sound_terms.specs.Depth.{bits_of};
 ghost use Rattle.pcm.specs.Samples.{FitsDepth};
-ghost use Rattle.sound_terms.specs.Blocks.{BlockState, IsBlockProgram, IsFormed, AddsOne, LiesInFiles, PlaysFull, executed, executed_all};
+ghost use Rattle.sound_terms.specs.Blocks.{BlockState, IsBlockProgram, IsFormed, LiesInFiles, PlaysFull, executed, executed_all};
 ghost use Rattle.sound_terms.specs.Sounds.{reading_by};
 ghost use Rattle.sound_terms.specs.Waves.{sample_bytes};
 ghost use Rattle.devices.specs.Frame.{OnlyReads};
@@ -21,7 +21,7 @@ use crate::stretches::{add_stretch, read_stored};
 use crate::sums::Sums;
 use devices::Shelf;
 use pcm::pack;
-use sound_terms::{Depth, Instruction};
+use sound_terms::{Depth, Instruction, Program, Shape};
 use std::alloc::Global;
 use std::marker::Model;
 use wavread::Sound;
@@ -51,7 +51,6 @@ fn add_line<S: Shelf>(
     sums: &mut Sums,
 ) -> Result<(), MachineFault>
     requires formed { IsFormed 4096 sums.old.channels line.now }
-    requires added { AddsOne line.now }
     requires inside { LiesInFiles sounds.now line.now }
     requires held { Holds (S.honest shelf.old) (S.stored shelf.old) sounds.now buffer.old.held buffer.old.bytes.items }
     ensures held { OnOk result (Holds (S.honest shelf.new) (S.stored shelf.new) sounds.now buffer.new.held
@@ -67,8 +66,30 @@ fn add_line<S: Shelf>(
         (λ fault failed. FailsAt sounds.now fault failed) }
 {
     match line {
-        Instruction::Add { stretch, shape } => {
-            add_stretch(stretch, *shape, sounds, shelf, buffer, sums)
+        Instruction::Flat { stretch } => {
+            add_stretch(stretch, Shape::Flat, sounds, shelf, buffer, sums)
+        }
+        Instruction::Rise {
+            stretch,
+            offset,
+            den,
+        } => {
+            let shape = Shape::Rise {
+                offset: *offset,
+                den: *den,
+            };
+            add_stretch(stretch, shape, sounds, shelf, buffer, sums)
+        }
+        Instruction::Fall {
+            stretch,
+            offset,
+            den,
+        } => {
+            let shape = Shape::Fall {
+                offset: *offset,
+                den: *den,
+            };
+            add_stretch(stretch, shape, sounds, shelf, buffer, sums)
         }
         Instruction::Start { .. } | Instruction::Emit { .. } => Ok(()),
     }
@@ -83,7 +104,6 @@ fn add_all<S: Shelf>(
     sums: &mut Sums,
 ) -> Result<(), MachineFault>
     requires formed { All (IsFormed 4096 sums.old.channels) lines.now }
-    requires added { All AddsOne lines.now }
     requires inside { All (LiesInFiles sounds.now) lines.now }
     requires held { Holds (S.honest shelf.old) (S.stored shelf.old) sounds.now buffer.old.held buffer.old.bytes.items }
     ensures held { OnOk result (Holds (S.honest shelf.new) (S.stored shelf.new) sounds.now buffer.new.held
@@ -137,7 +157,6 @@ impl Machine {
         out: &mut [i32],
     ) -> Result<(), MachineFault>
         requires formed { All (IsFormed self.old.frames self.old.channels) lines.now }
-        requires added { All AddsOne lines.now }
         requires inside { All (LiesInFiles sounds.now) lines.now }
         requires whole { (frames : ℕ) × (frames ≤ self.old.frames) × (length out.old ≡ frames * self.old.channels) }
         ensures ran { IsTrue (S.honest shelf.old)
@@ -165,30 +184,31 @@ impl Machine {
     /// ready as before.
     pub fn run<S: Shelf>(
         &mut self,
-        program: &[Instruction],
+        program: &Program,
         sounds: &[Sound],
         shelf: &mut S,
         out: &mut [i32],
     ) -> Result<(), MachineFault>
         requires fits { (frames : ℕ) × (depth : declared.Depth) × (frames ≤ self.old.frames)
-            × IsBlockProgram frames self.old.channels depth program.now
+            × IsBlockProgram frames self.old.channels depth program.now.lines
             × (length out.old ≡ frames * self.old.channels) }
-        requires inside { All (LiesInFiles sounds.now) program.now }
+        requires inside { All (LiesInFiles sounds.now) program.now.lines }
         ensures ran { IsTrue (S.honest shelf.old) → OnOk result ((start : BlockState)
             → out.new ≡ (executed_all (reading_by (S.stored shelf.old) sounds.now)
-            self.old.channels program.now start).out) }
+            self.old.channels program.now.lines start).out) }
         ensures fit { OnOk result ((frames : ℕ) (depth : declared.Depth)
-            → IsBlockProgram frames self.old.channels depth program.now
+            → IsBlockProgram frames self.old.channels depth program.now.lines
             → All (FitsDepth (bits_of depth)) out.new) }
         ensures full { IsTrue (S.honest shelf.old)
-            → OnOk result (All (PlaysFull (reading_by (S.stored shelf.old) sounds.now)) program.now) }
+            → OnOk result (All (PlaysFull (reading_by (S.stored shelf.old) sounds.now)) program.now.lines) }
         ensures ready { self.new ≡ self.old }
         ensures source { IfErr result IsSource }
         ensures only_reads { OnlyReads S.Shelf shelf.old shelf.new result (λ fault. IsSource fault)
             (λ fault failed. FailsAt sounds.now fault failed) }
     {
-        if let Some(depth) = depth_of(program) {
-            let lines = &program[1..program.len() - 1];
+        let instructions = program.as_slice();
+        if let Some(depth) = depth_of(instructions) {
+            let lines = &instructions[1..instructions.len() - 1];
             self.run_lines(lines, depth, sounds, shelf, out)?;
         }
         Ok(())
@@ -200,7 +220,7 @@ impl Machine {
     /// machine as ready as before.
     pub fn run_packed<S: Shelf>(
         &mut self,
-        program: &[Instruction],
+        program: &Program,
         depth: Depth,
         sounds: &[Sound],
         shelf: &mut S,
@@ -208,22 +228,23 @@ impl Machine {
         bytes: &mut [u8],
     ) -> Result<(), MachineFault>
         requires fits { (frames : ℕ) × (frames ≤ self.old.frames)
-            × IsBlockProgram frames self.old.channels depth program.now
+            × IsBlockProgram frames self.old.channels depth program.now.lines
             × (length samples.old ≡ frames * self.old.channels) }
         requires room { length bytes.old ≡ length samples.old * (bits_of depth / 8) }
-        requires inside { All (LiesInFiles sounds.now) program.now }
+        requires inside { All (LiesInFiles sounds.now) program.now.lines }
         ensures ran { IsTrue (S.honest shelf.old) → OnOk result ((start : BlockState)
             → bytes.new ≡ flat_map (sample_bytes (bits_of depth)) (executed_all (reading_by (S.stored shelf.old) sounds.now)
-            self.old.channels program.now start).out) }
+            self.old.channels program.now.lines start).out) }
         ensures full { IsTrue (S.honest shelf.old)
-            → OnOk result (All (PlaysFull (reading_by (S.stored shelf.old) sounds.now)) program.now) }
+            → OnOk result (All (PlaysFull (reading_by (S.stored shelf.old) sounds.now)) program.now.lines) }
         ensures ready { self.new ≡ self.old }
         ensures source { IfErr result IsSource }
         ensures only_reads { OnlyReads S.Shelf shelf.old shelf.new result (λ fault. IsSource fault)
             (λ fault failed. FailsAt sounds.now fault failed) }
     {
         let channels = self.sums.channels() as usize;
-        let lines = &program[1..program.len() - 1];
+        let instructions = program.as_slice();
+        let lines = &instructions[1..instructions.len() - 1];
         let frames = samples.len() / channels;
         if let Some(stretch) = fills_alone(lines, frames, channels, depth, sounds) {
             return read_stored(&stretch, sounds, shelf, bytes);

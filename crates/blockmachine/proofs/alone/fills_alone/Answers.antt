@@ -5,8 +5,7 @@ use Rattle.std.proofs.lemmas.Option.{slice_get_read, slice_get_within}
 use Rattle.std.proofs.lemmas.List.Elements.{All-head}
 use Rattle.sound_terms.specs.declared.block.Stretch.{Stretch}
 use Rattle.sound_terms.specs.declared.block.Instruction.{Instruction}
-use Rattle.sound_terms.specs.declared.block.Instruction.TheVariants.{Start, Add}
-use Rattle.sound_terms.specs.declared.piece.Shape.TheVariants.{Flat}
+use Rattle.sound_terms.specs.declared.block.Instruction.TheVariants.{Start, Flat}
 use Rattle.sound_terms.specs.Blocks.{LiesInFiles}
 use Rattle.sound_terms.specs.Media.{LiesInFile}
 use Rattle.blockmachine.specs.Alone.{filling}
@@ -35,18 +34,18 @@ returns c =
     let dest : stretch.dest ≡ 1 = grind (arith, nat_tests) in
     let wide : stretch.width ≡ c.args.channels = grind (arith, nat_tests) in
     let sound = c.index-sounds-stretch.result in
-    let lines : c.args.lines.now ≡ Add stretch Flat ∷ [] =
-    alone c.args.lines.now (Add stretch Flat) (omega (arith, c.in-len1.len_at_least, c.in-len1.len_below))
+    let lines : c.args.lines.now ≡ Flat stretch ∷ [] =
+    alone c.args.lines.now (Flat stretch) (omega (arith, c.in-len1.len_at_least, c.in-len1.len_below))
     c.in_ok-stretch.ensures in
     let lies : LiesInFile c.args.sounds.now stretch.file stretch.first stretch.width stretch.frame stretch.length =
-    All-head (LiesInFiles c.args.sounds.now) (Add stretch Flat) [] (rw lines at c.requires.inside) in
+    All-head (LiesInFiles c.args.sounds.now) (Flat stretch) [] (rw lines at c.requires.inside) in
     let found : slice_get c.args.sounds.now stretch.file ≡ Some sound =
     slice_get_read c.args.sounds.now (length c.args.sounds.now) stretch.file sound refl
     (slice_get_within c.args.sounds.now stretch.file lies.facts lies.there) c.index-sounds-stretch.is in
     let parts : stretch ≡ filling stretch.file stretch.frame c.args.frames c.args.channels =
     by_parts stretch 0 c.args.frames 1 1 c.args.channels at long first dest wide in
     record {
-      alone = lines ∙ ap (λ (s : Stretch). Add s Flat ∷ []) parts;
+      alone = lines ∙ ap (λ (s : Stretch). Flat s ∷ []) parts;
       whole = refl;
       facts = sound;
       there = found;

@@ -5,7 +5,7 @@ use Rattle.sound_terms.specs.declared.block.Instruction.{Instruction}
 use Rattle.sound_terms.specs.declared.block.Instruction.TheVariants.{Start, Emit}
 use Rattle.sound_terms.specs.declared.Depth.{Depth}
 use Rattle.sound_terms.specs.Depth.{bits_of}
-use Rattle.sound_terms.specs.Blocks.{AddsOne, IsFormed, LiesInFiles}
+use Rattle.sound_terms.specs.Blocks.{IsFormed, LiesInFiles}
 use Rattle.pcm.specs.Samples.{FitsDepth}
 use Rattle.blockmachine.proofs.Ran.{between_ends, formed_longer}
 use Rattle.blockmachine.proofs.machine.Machine.run.Goals as goal
@@ -14,7 +14,9 @@ pub run_lines-requires-clause-formed : goal.run_lines-requires-clause-formed
 run_lines-requires-clause-formed g c =
     let fits = c.requires.fits in
     let block = fits.3 in
-    let between = between_ends c.args.program.now block.lines (Start fits.0) (Emit fits.1) block.whole in
+    let between =
+    between_ends c.as_slice-instructions.result.now block.lines (Start fits.0) (Emit fits.1)
+    (c.as_slice-instructions.ensures ∙ block.whole) in
     let most = c.args.self.now.frames in
     let n = c.args.self.now.channels in
     let longer =
@@ -22,17 +24,12 @@ run_lines-requires-clause-formed g c =
     block.lines block.formed in
     subst (λ (l : List Instruction). All (IsFormed most n) l) (sym between) longer
 
-pub run_lines-requires-clause-added : goal.run_lines-requires-clause-added
-run_lines-requires-clause-added g c =
-    let block = c.requires.fits.3 in
-    let between =
-    between_ends c.args.program.now block.lines (Start c.requires.fits.0) (Emit c.requires.fits.1) block.whole in
-    subst (λ (l : List Instruction). All AddsOne l) (sym between) block.added
-
 pub run_lines-requires-clause-inside : goal.run_lines-requires-clause-inside
 run_lines-requires-clause-inside g c =
-    let program = c.args.program.now in
-    let all = All-drop (LiesInFiles c.args.sounds.now) 1 program c.requires.inside in
+    let program = c.as_slice-instructions.result.now in
+    let all =
+    All-drop (LiesInFiles c.args.sounds.now) 1 program
+    (subst (All (LiesInFiles c.args.sounds.now)) (sym c.as_slice-instructions.ensures) c.requires.inside) in
     All-take (LiesInFiles c.args.sounds.now) (length program - 1 - 1) (drop 1 program) all
 
 pub run_lines-requires-clause-whole : goal.run_lines-requires-clause-whole
@@ -40,22 +37,22 @@ run_lines-requires-clause-whole g c = (c.requires.fits.0, c.requires.fits.2, c.r
 
 pub returns-in_ok-run_lines-clause-fit : goal.returns-in_ok-run_lines-clause-fit
 returns-in_ok-run_lines-clause-fit g c = λ frames depth block.
-    let told = c.depth_of.ensures frames depth block.lines block.whole in
+    let told = c.depth_of.ensures frames depth block.lines (c.as_slice-instructions.ensures ∙ block.whole) in
     let same : c.in-Some.depth ≡ depth = same_Some c.in-Some.depth depth (sym c.in-Some.is ∙ told) in
     subst (λ (d : Depth). All (FitsDepth (bits_of d)) c.run_lines.new.out) same c.in_ok-run_lines.ensures.fit
 
 pub returns-in_default-clause-ran : goal.returns-in_default-clause-ran
 returns-in_default-clause-ran g c =
     let fits = c.requires.fits in
-    let told = c.depth_of.ensures fits.0 fits.1 fits.3.lines fits.3.whole in
+    let told = c.depth_of.ensures fits.0 fits.1 fits.3.lines (c.as_slice-instructions.ensures ∙ fits.3.whole) in
     absurd (c.in_default.not-Some fits.1 told)
 
 pub returns-in_default-clause-fit : goal.returns-in_default-clause-fit
 returns-in_default-clause-fit g c = λ frames depth block.
-    absurd (c.in_default.not-Some depth (c.depth_of.ensures frames depth block.lines block.whole))
+    absurd (c.in_default.not-Some depth (c.depth_of.ensures frames depth block.lines (c.as_slice-instructions.ensures ∙ block.whole)))
 
 pub returns-in_default-clause-full : goal.returns-in_default-clause-full
 returns-in_default-clause-full g c =
     let fits = c.requires.fits in
-    let told = c.depth_of.ensures fits.0 fits.1 fits.3.lines fits.3.whole in
+    let told = c.depth_of.ensures fits.0 fits.1 fits.3.lines (c.as_slice-instructions.ensures ∙ fits.3.whole) in
     absurd (c.in_default.not-Some fits.1 told)

@@ -26,7 +26,7 @@ returns-clause-ran g c = λ honest frames start long.
     let sums = c.in_ok-add_all.ensures.added honest channels begun c.clear.ensures.zero in
     let told : c.add_all.new.sums.channels ≡ channels =
     c.add_all.ensures.same_channels ∙ c.clear.ensures.same_channels ∙ ap (λ (e : Extent). e.channels) c.self.view_is in
-    let kept = frames_kept reading channels lines begun c.requires.added in
+    let kept = frames_kept reading c.args.self.now.frames channels lines begun c.requires.formed in
     c.emit.ensures added.sums sums frames (long ∙ ap (λ n. frames * n) (sym told))
     ∙ same_channels c.args.depth c.add_all.new.sums.channels channels added.sums frames told
     ∙ ap (block_samples (bits_of c.args.depth) added.sums channels 0) (sym kept)

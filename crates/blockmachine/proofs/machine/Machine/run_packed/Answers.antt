@@ -5,8 +5,7 @@ use Rattle.std.proofs.Math.Nat.{mul-div_left}
 use Rattle.std.proofs.lemmas.Option.{same_Some}
 use Rattle.sound_terms.specs.declared.block.Stretch.{Stretch}
 use Rattle.sound_terms.specs.declared.block.Instruction.{Instruction}
-use Rattle.sound_terms.specs.declared.block.Instruction.TheVariants.{Start, Add, Emit}
-use Rattle.sound_terms.specs.declared.piece.Shape.TheVariants.{Flat}
+use Rattle.sound_terms.specs.declared.block.Instruction.TheVariants.{Start, Flat, Emit}
 use Rattle.sound_terms.specs.Depth.{bits_of}
 use Rattle.sound_terms.specs.Mix.{Reading}
 use Rattle.sound_terms.specs.Blocks.{executed_all}
@@ -78,9 +77,10 @@ returns-in-Some-clause-ran g c = λ honest. on_ok c.read_stored.result (c.read_s
     hands_itself_out reading c.in-Some.stretch.file c.in-Some.stretch.frame frames n depth out
     (subst (λ (s : Stretch). Plays reading s n bits out) stretch played) (all_fit depth (frames * n) bytes small)
     (length-samples_in bits (frames * n) bytes) in
-    let lines : Add (filling c.in-Some.stretch.file c.in-Some.stretch.frame frames n) Flat ∷ [] ≡ block.lines =
-    sym (fills.alone ∙ ap (λ (s : Stretch). Add s Flat ∷ []) stretch)
-    ∙ between_ends c.args.program.now block.lines (Start frames) (Emit depth) block.whole in
+    let lines : Flat (filling c.in-Some.stretch.file c.in-Some.stretch.frame frames n) ∷ [] ≡ block.lines =
+    sym (fills.alone ∙ ap (λ (s : Stretch). Flat s ∷ []) stretch)
+    ∙ between_ends c.as_slice-instructions.result.now block.lines (Start frames) (Emit depth)
+    (c.as_slice-instructions.ensures ∙ block.whole) in
     sym (bytes_again depth (frames * n) bytes small room) ∙ ap (flat_map (sample_bytes bits)) (handed
     ∙ ap (λ (l : List Instruction). (executed_all reading n (Start frames ∷ (l ++ Emit depth ∷ [])) start).out) lines
     ∙ ap (λ (p : List Instruction). (executed_all reading n p start).out) (sym block.whole)))
