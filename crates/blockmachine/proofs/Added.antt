@@ -16,7 +16,7 @@ use Rattle.sound_terms.specs.Mix.{Reading, full_scale, share_of}
 use Rattle.sound_terms.specs.Groups.{IsRamp, fraction_of}
 use Rattle.sound_terms.specs.Blocks.{FitsBlock, held, share_at, sums_with}
 use Rattle.blockmachine.specs.Playing.{Plays}
-use Rattle.blockmachine.specs.Sums.{AreSums, HasAdded, HasAddedTo}
+use Rattle.blockmachine.specs.Sums.{AreSums, HasAdded, HasAddedTo, block_of}
 use Rattle.blockmachine.proofs.Places.{get_or-part, kept_elsewhere, written_here}
 
 -- a stretch of no sample adds nothing
@@ -75,15 +75,15 @@ abbrev pub IsRun : (frames width source channels long : ℕ) → Type 0
 IsRun frames width source channels long =
     ((frames ≡ 1) × (long ≡ width)) ⊎ ((width ≡ channels) × (source ≡ channels) × (long ≡ frames * channels))
 
-pub run_fits : (stretch : Stretch) (source channels done count long : ℕ) → FitsBlock 4096 channels stretch
+pub run_fits : (stretch : Stretch) (source most channels done count long : ℕ) → FitsBlock most channels stretch
     → IsRun count stretch.width source channels long → done + count ≤ stretch.length
-    → (stretch.at + done) * channels + (stretch.dest - 1) + long ≤ 4096 * channels
-run_fits stretch source channels done count long inside (inl one) short =
-    let row : (stretch.at + done + 1) * channels ≤ 4096 * channels =
+    → (stretch.at + done) * channels + (stretch.dest - 1) + long ≤ most * channels
+run_fits stretch source most channels done count long inside (inl one) short =
+    let row : (stretch.at + done + 1) * channels ≤ most * channels =
     mul-le-mul_right channels (omega (arith, short, one.0, inside.inside)) in
     omega (arith, row, one.1, inside.dest_inside, inside.dest_from_one)
-run_fits stretch source channels done count long inside (inr all) short =
-    let row : (stretch.at + done + count) * channels ≤ 4096 * channels =
+run_fits stretch source most channels done count long inside (inr all) short =
+    let row : (stretch.at + done + count) * channels ≤ most * channels =
     mul-le-mul_right channels (omega (arith, short, inside.inside)) in
     let parts = add-mul (stretch.at + done) count channels in
     omega (arith, row, parts, all.0, all.2, inside.dest_inside, inside.dest_from_one)
@@ -94,8 +94,8 @@ ramp_shorter Flat n m le ramp = tt
 ramp_shorter (Rise offset den) n m le ramp = (omega (arith, le, ramp.0), ramp.1)
 ramp_shorter (Fall offset den) n m le ramp = (omega (arith, le, ramp.0), ramp.1)
 
-module _ (reading : Reading) (stretch : Stretch) (shape : Shape) (before : ℕ → ℕ → ℤ) (source channels depth : ℕ)
-    (frames : List ℤ) (inside : FitsBlock 4096 channels stretch) (first : stretch.first + stretch.width ≤ source + 1)
+module _ (reading : Reading) (stretch : Stretch) (shape : Shape) (before : ℕ → ℕ → ℤ) (source most channels depth : ℕ)
+    (frames : List ℤ) (inside : FitsBlock most channels stretch) (first : stretch.first + stretch.width ≤ source + 1)
     (plays : Plays reading stretch source depth frames)
   where
     abbrev sums_to : ℕ → ℕ → ℕ → ℤ
@@ -221,18 +221,18 @@ module _ (reading : Reading) (stretch : Stretch) (shape : Shape) (before : ℕ �
     -- the sums of so many frames more were written
     pub run_more : (done count long : ℕ) (fraction : ℕ × ℕ) (samples old new : List ℤ)
         → IsRun count stretch.width source channels long → done + count ≤ stretch.length
-        → length old ≡ 4096 * channels → length new ≡ long
+        → length old ≡ most * channels → length new ≡ long
         → ((k : ℕ) → k < long
         → get_or samples k (pos 0) ≡ get_or frames (done * source + (stretch.first - 1) + k) (pos 0))
         → ((i : ℕ) → done ≤ i → i < done + count → fraction_of shape i ≡ fraction)
-        → AreSums (record { channels = channels; values = old }) (sums_to done)
+        → AreSums (block_of most channels old) (sums_to done)
         → HasAdded fraction depth samples (take long (drop (begin done) old)) new
-        → AreSums (record { channels = channels; values = put_mid (begin done) long old new }) (sums_to (done + count))
+        → AreSums (block_of most channels (put_mid (begin done) long old new)) (sums_to (done + count))
     run_more done count long fraction samples old new run short room whole taken constant are has i c near low high =
         by_place (is_here (cases_lt i (stretch.at + done)) (cases_lt i (stretch.at + (done + count)))
         (cases_lt c stretch.dest) (cases_lt c (stretch.dest + stretch.width))) where
           fit : begin done + long ≤ length old
-          fit = omega (arith, run_fits stretch source channels done count long inside run short, room)
+          fit = omega (arith, run_fits stretch source most channels done count long inside run short, room)
 
           is_here : (i < stretch.at + done) ⊎ (stretch.at + done ≤ i)
               → (i < stretch.at + (done + count)) ⊎ (stretch.at + (done + count) ≤ i)

@@ -16,7 +16,7 @@ use Rattle.sound_terms.specs.Groups.{IsRamp, fraction_of}
 use Rattle.sound_terms.specs.Blocks.{FitsBlock, IsFull, held, is_on, share_at, sums_with}
 use Rattle.pcm.specs.Samples.{FitsDepth}
 use Rattle.blockmachine.specs.Playing.{Plays}
-use Rattle.blockmachine.specs.Sums.{AreFew, BlockSums, Counts, HasPlayed, IsWithin, few_additions}
+use Rattle.blockmachine.specs.Sums.{AreFew, BlockSums, Counts, HasPlayed, IsWithin, block_of, few_additions}
 use Rattle.blockmachine.proofs.Bounds.{held_grow, share_within, within_add, within_more}
 use Rattle.blockmachine.proofs.Full.{full_frames}
 
@@ -46,13 +46,13 @@ added_within : (m : ℕ) (on : Bool) (x y : ℤ) → IsWithin m y → (on ≡ tr
 added_within m true x y within share = held_grow (m + 1) (y +ℤ x) (within_add m 1 y x within (share refl))
 added_within m false x y within share = within_more m (m + 1) y (omega arith) within
 
-module _ (stretch : Stretch) (shape : Shape) (source channels : ℕ) (depth : Depth) (frames old new : List ℤ)
-    (inside : FitsBlock 4096 channels stretch) (ramp : IsRamp shape stretch.length)
+module _ (stretch : Stretch) (shape : Shape) (source most_frames channels : ℕ) (depth : Depth) (frames old new : List ℤ)
+    (inside : FitsBlock most_frames channels stretch) (ramp : IsRamp shape stretch.length)
     (fit : All (FitsDepth (bits_of depth)) frames) (whole : length frames ≡ stretch.length * source)
-    (last : stretch.first + stretch.width ≤ source + 1) (room : length new ≡ 4096 * channels)
+    (last : stretch.first + stretch.width ≤ source + 1) (room : length new ≡ most_frames * channels)
     (same : length old ≡ length new)
-    (played : HasPlayed stretch shape source (bits_of depth) frames (record { channels = channels; values = old })
-    (record { channels = channels; values = new }))
+    (played : HasPlayed stretch shape source (bits_of depth) frames (block_of most_frames channels old)
+    (block_of most_frames channels new))
   where
     -- what has these frames
     abbrev reading : Reading
@@ -73,7 +73,7 @@ module _ (stretch : Stretch) (shape : Shape) (source channels : ℕ) (depth : De
     abbrev before : ℕ → ℕ → ℤ
     before i c = get_or old (i * channels + (c - 1)) (pos 0)
 
-    after : (i c : ℕ) → i < 4096 → 1 ≤ c → c ≤ channels
+    after : (i c : ℕ) → i < most_frames → 1 ≤ c → c ≤ channels
         → get_or new (i * channels + (c - 1)) (pos 0) ≡ sums_with reading stretch shape before i c
     after = played reading plays before (λ i c near low high. refl)
 
@@ -94,10 +94,10 @@ module _ (stretch : Stretch) (shape : Shape) (source channels : ℕ) (depth : De
     place : (k : ℕ) → 1 ≤ channels → k / channels * channels + (k % channels + 1 - 1) ≡ k
     place k some = omega (arith, div-add-mod k channels)
 
-    frame_of : (k : ℕ) → 1 ≤ channels → k < 4096 * channels → k / channels < 4096
+    frame_of : (k : ℕ) → 1 ≤ channels → k < most_frames * channels → k / channels < most_frames
     frame_of k some below = (div-lt_iff_lt-mul some).1 below
 
-    grown_at : (m k : ℕ) → k < 4096 * channels → IsWithin m (get_or old k (pos 0))
+    grown_at : (m k : ℕ) → k < most_frames * channels → IsWithin m (get_or old k (pos 0))
         → IsWithin (m + 1) (get_or new k (pos 0))
     grown_at m k below within =
         let some : 1 ≤ channels = omega (arith, inside.wide, inside.dest_inside, inside.dest_from_one) in
@@ -110,7 +110,7 @@ module _ (stretch : Stretch) (shape : Shape) (source channels : ℕ) (depth : De
         (added_within m (is_on stretch i c) (share_at reading stretch shape i c) (before i c)
         (subst (λ (n : ℕ). IsWithin m (get_or old n (pos 0))) (sym at) within) (share i c)))
 
-    kept_at : (k : ℕ) → k < 4096 * channels
+    kept_at : (k : ℕ) → k < most_frames * channels
         → (k < stretch.at * channels) ⊎ ((stretch.at + stretch.length) * channels ≤ k)
         → get_or new k (pos 0) ≡ get_or old k (pos 0)
     kept_at k below other =
@@ -140,12 +140,12 @@ module _ (stretch : Stretch) (shape : Shape) (source channels : ℕ) (depth : De
         → AreFew more ((stretch.at + stretch.length) * channels) new
     more_few most from more few (inl raised) = (
       λ k d below.
-          let near : k < 4096 * channels = omega (arith, below, room) in
+          let near : k < most_frames * channels = omega (arith, below, room) in
           subst (IsWithin more) (sym (get_or_default new k d (pos 0) below))
           (subst (λ (m : ℕ). IsWithin m (get_or new k (pos 0))) (sym raised)
           (grown_at most k near (few.0 k (pos 0) (omega (arith, below, same))))),
       λ k later below.
-          let near : k < 4096 * channels = omega (arith, below, room) in
+          let near : k < most_frames * channels = omega (arith, below, room) in
           let one : most ≡ more - 1 = omega (arith, raised) in
           subst (IsWithin (more - 1)) (sym (kept_at k near (inr later)))
           (subst (λ (m : ℕ). IsWithin m (get_or old k (pos 0))) one (few.0 k (pos 0) (omega (arith, below, same)))),
@@ -158,12 +158,12 @@ module _ (stretch : Stretch) (shape : Shape) (source channels : ℕ) (depth : De
       all k d below = by_place (cases_lt k (stretch.at * channels)) where
         by_place : (k < stretch.at * channels) ⊎ (stretch.at * channels ≤ k) → IsWithin more (get_or new k d)
         by_place (inl front) =
-            let near : k < 4096 * channels = omega (arith, below, room) in
+            let near : k < most_frames * channels = omega (arith, below, room) in
             subst (IsWithin more) (sym (get_or_default new k d (pos 0) below ∙ kept_at k near (inl front)))
             (subst (λ (m : ℕ). IsWithin m (get_or old k (pos 0))) (sym part.0)
             (few.0 k (pos 0) (omega (arith, below, same))))
         by_place (inr later) =
-            let near : k < 4096 * channels = omega (arith, below, room) in
+            let near : k < most_frames * channels = omega (arith, below, room) in
             let one : most - 1 + 1 ≡ more = omega (arith, part.0, part.1) in
             subst (IsWithin more) (sym (get_or_default new k d (pos 0) below))
             (subst (λ (m : ℕ). IsWithin m (get_or new k (pos 0))) one
@@ -172,7 +172,7 @@ module _ (stretch : Stretch) (shape : Shape) (source channels : ℕ) (depth : De
       rest : (k : ℕ) → (stretch.at + stretch.length) * channels ≤ k → k < length new
           → IsWithin (more - 1) (get_or new k (pos 0))
       rest k later below =
-          let near : k < 4096 * channels = omega (arith, below, room) in
+          let near : k < most_frames * channels = omega (arith, below, room) in
           let parts = add-mul stretch.at stretch.length channels in
           subst (IsWithin (more - 1)) (sym (kept_at k near (inr later)))
           (subst (λ (m : ℕ). IsWithin (m - 1) (get_or old k (pos 0))) (sym part.0)

@@ -1,27 +1,25 @@
 -- A layer of a block: one run of the sums that are kept at a depth.
-use Rattle.std.proofs.Common.{◌≡◌, ◌<◌, ◌≤◌, ℕ, List, ◌+◌, ◌-◌, ◌*◌, inr, All, drop, get_or, length, take, arith, sym, ap, ◌∙◌, subst, length-take, length-drop}
+use Rattle.std.proofs.Common.{◌≡◌, ◌<◌, ◌≤◌, ℕ, List, ◌+◌, ◌-◌, ◌*◌, inr, All, true, drop, get_or, length, take, arith, refl, sym, ap, ◌∙◌, subst, length-take, length-drop}
 use Rattle.std.specs.Prelude.{ℤ, pos}
 use Rattle.std.proofs.lemmas.List.{length-map}
 use borrow.Rule.Slice.PartMut.{put_mid}
 use Rattle.sound_terms.specs.declared.block.Stretch.{Stretch}
 use Rattle.sound_terms.specs.declared.piece.Shape.{Shape}
-use Rattle.sound_terms.specs.declared.piece.Shape.TheVariants.{Flat}
 use Rattle.sound_terms.specs.Mix.{full_scale}
 use Rattle.sound_terms.specs.Groups.{fraction_of}
 use Rattle.sound_terms.specs.Blocks.{FitsBlock, sums_with}
-use Rattle.blockmachine.specs.Sums.{AreSums, HasAdded, HasPlayed, IsWithin, widened}
+use Rattle.blockmachine.specs.Sums.{AreSums, HasAdded, HasPlayed, IsLayer, IsWithin, TakeStretch, block_of, widened}
 use Rattle.blockmachine.proofs.Added.{IsRun, no_sample, run_fits, run_more}
 use Rattle.blockmachine.proofs.AtDepth.{widened-part, widened-put}
 use Rattle.blockmachine.proofs.Places.{get_or-part}
 
--- a stretch without a fade, of all channels of its file on all there are
-abbrev pub IsLayer : Stretch → Shape → (source channels : ℕ) → Type 0
-IsLayer stretch shape source channels = (shape ≡ Flat) × (stretch.width ≡ channels) × (source ≡ channels)
-
-module _ (stretch : Stretch) (shape : Shape) (source channels depth : ℕ) (old : List ℤ)
-    (inside : FitsBlock 4096 channels stretch) (layer : IsLayer stretch shape source channels)
-    (room : length old ≡ 4096 * channels)
+module _ (stretch : Stretch) (shape : Shape) (source most channels bits depth : ℕ) (old : List ℤ)
+    (layer : IsLayer stretch shape source channels bits depth)
+    (takes : TakeStretch most channels 254 true stretch old (widened depth old))
   where
+    abbrev inside : FitsBlock most channels stretch
+    inside = takes.inside
+
     -- where its run of sums begins, and how long it is
     abbrev from : ℕ
     from = stretch.at * channels
@@ -36,53 +34,49 @@ module _ (stretch : Stretch) (shape : Shape) (source channels depth : ℕ) (old 
     count = omega arith
 
     piece : IsRun stretch.length stretch.width source channels long
-    piece = inr (layer.1, layer.2, count)
+    piece = inr (layer.wide, layer.alike, count)
 
     begin : (stretch.at + 0) * channels + (stretch.dest - 1) ≡ from
-    begin = omega (arith, layer.1, inside.dest_inside, inside.dest_from_one)
+    begin = omega (arith, layer.wide, inside.dest_inside, inside.dest_from_one)
 
     pub run_inside : from + stretch.length * channels ≤ length old
     run_inside =
-        let fits = run_fits stretch source channels 0 stretch.length long inside piece (omega arith) in
-        omega (arith, fits, begin, room, count)
+        let fits = run_fits stretch source most channels 0 stretch.length long inside piece (omega arith) in
+        omega (arith, fits, begin, takes.whole, count)
 
     pub length-run : length run ≡ stretch.length * channels
     length-run = omega (arith, length-take long (drop from old), length-drop from old, run_inside, count)
 
-    pub small_run : All (IsWithin 254) (widened depth old) → All (IsWithin 254) (widened depth run)
-    small_run small =
+    pub small_run : All (IsWithin 254) (widened depth run)
+    small_run =
         subst (All (IsWithin 254)) (sym (widened-part depth from long old)) (λ j d below.
         let near : j < long = omega (arith, length-take long (drop from (widened depth old)), below) in
         subst (IsWithin 254) (sym (get_or-part from long j (widened depth old) d near))
-        (small (from + j) d (omega (arith, run_inside, count, near, length-map old (full_scale depth)))))
+        (takes.small refl (from + j) d (omega (arith, run_inside, count, near, length-map old (full_scale depth)))))
 
-    pub layer_played : (bits : ℕ) (samples new : List ℤ) → stretch.first + stretch.width ≤ source + 1
+    pub layer_played : (samples new : List ℤ) → stretch.first + stretch.width ≤ source + 1
         → length new ≡ length run → HasAdded (1, 1) bits samples (widened depth run) (widened depth new)
-        → HasPlayed stretch shape source bits samples (record { channels = channels; values = widened depth old })
-        (record { channels = channels; values = widened depth (put_mid from long old new) })
-    layer_played bits samples new first same has = λ reading plays before are.
-        let flat : (i : ℕ) → fraction_of shape i ≡ (1, 1) = λ i. ap (λ (s : Shape). fraction_of s i) layer.0 in
+        → HasPlayed stretch shape source bits samples (block_of most channels (widened depth old))
+        (block_of most channels (widened depth (put_mid from long old new)))
+    layer_played samples new first same has = λ reading plays before are.
+        let flat : (i : ℕ) → fraction_of shape i ≡ (1, 1) = λ i. ap (λ (s : Shape). fraction_of s i) layer.flat in
         let none : 0 * source ≡ 0 = omega arith in
-        let start : 0 * source + (stretch.first - 1) ≡ 0 = omega (arith, none, layer.1, layer.2, first) in
+        let start : 0 * source + (stretch.first - 1) ≡ 0 = omega (arith, none, layer.wide, layer.alike, first) in
         let part : HasAdded (1, 1) bits samples (take long (drop from (widened depth old))) (widened depth new) =
         subst (λ (l : List ℤ). HasAdded (1, 1) bits samples l (widened depth new)) (widened-part depth from long old) has in
         let added : HasAdded (1, 1) bits samples
         (take long (drop ((stretch.at + 0) * channels + (stretch.dest - 1)) (widened depth old))) (widened depth new) =
         subst (λ (n : ℕ). HasAdded (1, 1) bits samples (take long (drop n (widened depth old))) (widened depth new))
         (sym begin) part in
-        subst (λ (l : List ℤ). AreSums (record { channels = channels; values = l })
+        subst (λ (l : List ℤ). AreSums (block_of most channels l)
         (sums_with reading stretch shape before)) (sym (widened-put depth from long old new))
-        (subst (λ (n : ℕ). AreSums (record {
-          channels = channels;
-          values = put_mid n long (widened depth old) (widened depth new);
-        }) (sums_with reading stretch shape before)) begin
-        (subst (λ (n : ℕ). AreSums (record {
-          channels = channels;
-          values = put_mid ((stretch.at + 0) * channels + (stretch.dest - 1)) long (widened depth old) (widened depth new);
-        }) (sums_with reading (record stretch { length = n }) shape before))
-        (omega arith) (run_more reading stretch shape before source channels bits samples inside first plays
+        (subst (λ (n : ℕ). AreSums (block_of most channels
+        (put_mid n long (widened depth old) (widened depth new))) (sums_with reading stretch shape before)) begin
+        (subst (λ (n : ℕ). AreSums (block_of most channels
+        (put_mid ((stretch.at + 0) * channels + (stretch.dest - 1)) long (widened depth old) (widened depth new))) (sums_with reading (record stretch { length = n }) shape before))
+        (omega arith) (run_more reading stretch shape before source most channels bits samples inside first plays
         0 stretch.length long (1, 1) samples (widened depth old) (widened depth new)
-        piece (omega arith) (length-map old (full_scale depth) ∙ room)
+        piece (omega arith) (length-map old (full_scale depth) ∙ takes.whole)
         (length-map new (full_scale depth) ∙ same ∙ length-run ∙ sym count)
         (λ n below. ap (λ m. get_or samples m (pos 0)) (omega (arith, start)))
         (λ i low high. flat i)

@@ -4,7 +4,10 @@ use Rattle.std.proofs.lemmas.List.{take_at}
 use Rattle.sound_terms.specs.declared.block.Instruction.{Instruction}
 use Rattle.sound_terms.specs.declared.block.Instruction.TheVariants.{Start, Flat, Rise, Fall, Emit}
 use Rattle.sound_terms.specs.declared.block.Stretch.{Stretch}
-use Rattle.sound_terms.specs.Blocks.{FitsBlock, IsFormed}
+use Rattle.sound_terms.specs.Blocks.{FitsBlock, IsFormed, LiesInFiles}
+use Rattle.sound_terms.specs.Sounds.{SoundFacts}
+use Rattle.blockmachine.specs.Lines.{CanAdd}
+use Rattle.blockmachine.specs.Sums.{Extent}
 
 -- what stands between the first instruction and the last one
 pub between_ends : (program lines : List Instruction) (first last : Instruction)
@@ -35,3 +38,20 @@ formed_longer n m channels le (Flat s) formed = (fits_longer n m channels le s f
 formed_longer n m channels le (Rise s offset den) formed = (fits_longer n m channels le s formed.0, formed.1)
 formed_longer n m channels le (Fall s offset den) formed = (fits_longer n m channels le s formed.0, formed.1)
 formed_longer n m channels le (Emit depth) formed = formed
+
+-- what is added is formed, and what is formed and lies in opened files is added
+pub added_formed : (sounds : List SoundFacts) (extent : Extent) (line : Instruction) → CanAdd sounds extent line
+    → IsFormed extent.frames extent.channels line
+added_formed sounds extent (Start frames) can = can
+added_formed sounds extent (Flat s) can = (can.inside, can.ramp)
+added_formed sounds extent (Rise s offset den) can = (can.inside, can.ramp)
+added_formed sounds extent (Fall s offset den) can = (can.inside, can.ramp)
+added_formed sounds extent (Emit depth) can = can
+
+pub can_add : (sounds : List SoundFacts) (extent : Extent) (line : Instruction)
+    → IsFormed extent.frames extent.channels line → LiesInFiles sounds line → CanAdd sounds extent line
+can_add sounds extent (Start frames) formed lies = formed
+can_add sounds extent (Flat s) formed lies = record { inside = formed.0; lies = lies; ramp = formed.1 }
+can_add sounds extent (Rise s offset den) formed lies = record { inside = formed.0; lies = lies; ramp = formed.1 }
+can_add sounds extent (Fall s offset den) formed lies = record { inside = formed.0; lies = lies; ramp = formed.1 }
+can_add sounds extent (Emit depth) formed lies = formed

@@ -1,6 +1,7 @@
 pub mod Alone
 pub mod Fault
 pub mod Holding
+pub mod Lines
 pub mod Playing
 pub mod Slopes
 pub mod Sums

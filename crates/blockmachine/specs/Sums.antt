@@ -1,9 +1,10 @@
 -- The sums of a block as a machine keeps them: frame after frame.
-use Rattle.std.specs.Prelude.{◌≡◌, ◌⊎◌, ℕ, ◌+◌, ◌-◌, ◌*◌, ◌^◌, ◌<◌, ◌≤◌, Bool, ℤ, pos, neg_ℤ, ◌+ℤ◌, ◌≤ℤ◌, List, All, length, map, slice_index_or, if◌then◌else◌}
+use Rattle.std.specs.Prelude.{◌≡◌, ◌⊎◌, ℕ, ◌+◌, ◌-◌, ◌*◌, ◌^◌, ◌<◌, ◌≤◌, Bool, ℤ, pos, neg_ℤ, ◌+ℤ◌, ◌≤ℤ◌, List, All, IsTrue, length, map, slice_index_or, if◌then◌else◌}
 use Rattle.sound_terms.specs.declared.block.Stretch.{Stretch}
 use Rattle.sound_terms.specs.declared.piece.Shape.{Shape}
+use Rattle.sound_terms.specs.declared.piece.Shape.TheVariants.{Flat}
 use Rattle.sound_terms.specs.Mix.{Reading, full_scale, share_of}
-use Rattle.sound_terms.specs.Blocks.{block_length, held, sums_with}
+use Rattle.sound_terms.specs.Blocks.{FitsBlock, held, sums_with}
 use Rattle.blockmachine.specs.Playing.{Plays}
 
 -- what a machine has room for
@@ -13,13 +14,17 @@ pub record Extent : Type 0 where
 
 -- a sum for each sample of a block and channel: of the first sample on every channel, then of the second
 pub record BlockSums : Type 0 where
-  pub channels : ℕ
+  pub extent : Extent
   pub values : List ℤ
+
+-- these sums, of so many frames and channels
+abbrev pub block_of : (frames channels : ℕ) → List ℤ → BlockSums
+block_of frames channels values = record { extent = record { frames = frames; channels = channels }; values = values }
 
 -- these are the sums by sample and channel
 abbrev pub AreSums : BlockSums → (ℕ → ℕ → ℤ) → Type 0
-AreSums kept sums = (i channel : ℕ) → i < block_length → 1 ≤ channel → channel ≤ kept.channels
-    → slice_index_or kept.values (i * kept.channels + (channel - 1)) (pos 0) ≡ sums i channel
+AreSums kept sums = (i channel : ℕ) → i < kept.extent.frames → 1 ≤ channel → channel ≤ kept.extent.channels
+    → slice_index_or kept.values (i * kept.extent.channels + (channel - 1)) (pos 0) ≡ sums i channel
 
 -- sums that are kept at a depth, at full scale
 abbrev pub widened : (depth : ℕ) → List ℤ → List ℤ
@@ -45,6 +50,26 @@ Counts most fewer_from at more = (more ≡ most + 1) ⊎ ((more ≡ most) × (1 
 -- the most additions that are added plainly: none of them can leave 64 bits
 abbrev pub few_additions : ℕ
 few_additions = 32767
+
+-- so many samples are added to as many sums; where these are small none is, at full scale, larger than so many samples
+pub record TakeSamples (samples most : ℕ) (is_small : Bool) (kept full : List ℤ) : Type 0 where
+  pub each : samples ≡ length kept
+  pub small : IsTrue is_small → All (IsWithin most) full
+
+-- a stretch is added to the sums of so many frames and channels, and lies inside them; the same of small ones
+pub record TakeStretch (frames channels most : ℕ) (is_small : Bool) (stretch : Stretch) (kept full : List ℤ)
+    : Type 0 where
+  pub whole : length kept ≡ frames * channels
+  pub inside : FitsBlock frames channels stretch
+  pub small : IsTrue is_small → All (IsWithin most) full
+
+-- a stretch without a fade, of all channels of its file on all there are, at no more than a depth of 24 bits at most
+pub record IsLayer (stretch : Stretch) (shape : Shape) (source channels bits depth : ℕ) : Type 0 where
+  pub flat : shape ≡ Flat
+  pub wide : stretch.width ≡ channels
+  pub alike : source ≡ channels
+  pub no_deeper : bits ≤ depth
+  pub shallow : depth ≤ 24
 
 -- each of the first n sums had its sample added, so much of it, and the others are as they were
 abbrev pub HasAddedTo : ℕ → (fraction : ℕ × ℕ) → (depth : ℕ) → (samples old new : List ℤ) → Type 0

@@ -1,14 +1,12 @@
 // Frames of a stretch, added to sums.
-ghost use Rattle.std.specs.Prelude.{IsTrue, ◌≡◌, ◌∷◌, [], ◌+◌, ◌*◌, ◌^◌, ◌<◌, ◌≤◌, ℕ, ℤ, pos, neg_ℤ, ◌+ℤ◌, ◌≤ℤ◌, length, slice_index_or};
-ghost use Rattle.std.specs.List.{All};
+ghost use Rattle.std.specs.Prelude.{IsTrue, true, ◌≡◌, ◌∷◌, [], ◌^◌, ◌<◌, ◌≤◌, pos, neg_ℤ, ◌+ℤ◌, ◌≤ℤ◌, length, slice_index_or};
 ghost use Rattle.sound_terms.specs.declared.piece.Shape.TheVariants as shape;
 ghost use Rattle.sound_terms.specs.Depth.{bits_of};
 ghost use Rattle.sound_terms.specs.Mix.{full_scale};
-ghost use Rattle.sound_terms.specs.Blocks.{FitsBlock, held};
-ghost use Rattle.pcm.specs.Samples.{FitsDepth};
-ghost use Rattle.blockmachine.specs.Sums.{HasAdded, HasAddedTo, HasPlayed, IsWithin};
+ghost use Rattle.sound_terms.specs.Blocks.{held};
+ghost use Rattle.blockmachine.specs.Sums.{HasAdded, HasAddedTo, HasPlayed, IsWithin, TakeSamples, TakeStretch, block_of};
 
-use crate::frames::Played;
+use crate::frames::{Frames, Lanes, Played, Row};
 use crate::scale::Scale;
 use crate::slope::Slope;
 use sound_terms::{Depth, Shape};
@@ -31,13 +29,12 @@ fn added(sum: i64, share: i64, is_small: bool) -> i64
 
 /// Sample k of these at full scale.
 #[inline(always)]
-fn full_sample(samples: &[i32], k: usize, scale: Scale) -> i64
-    requires inside { k < length samples.now }
-    requires fit { All (FitsDepth (bits_of scale.depth)) samples.now }
-    ensures value { result ≡ full_scale (bits_of scale.depth) (slice_index_or samples.now k (pos 0)) }
+fn full_sample(row: &Row, k: usize) -> i64
+    requires { k < length row.now.samples.now }
+    ensures value { result ≡ full_scale (bits_of row.now.scale.depth) (slice_index_or row.now.samples.now k (pos 0)) }
     ensures within { (neg_ℤ (pos (2 ^ 47)) ≤ℤ result) × (result ≤ℤ pos (2 ^ 47)) }
 {
-    scale.widen(samples[k])
+    row.scale.widen(row.samples[k])
 }
 
 /// Two small sums, each with a sample more.
@@ -54,17 +51,15 @@ fn two_added(first: i64, second: i64, low: i64, high: i64) -> [i64; 2]
 
 /// Adds samples to small sums two at a time, as long as two are left; gives how many it added.
 #[inline(always)]
-fn add_lanes(samples: &[i32], scale: Scale, sums: &mut [i64]) -> usize
-    requires each { length samples.now ≡ length sums.old }
-    requires fit { All (FitsDepth (bits_of scale.depth)) samples.now }
-    requires small { All (IsWithin 32766) sums.old }
+fn add_lanes(row: &Row, sums: &mut [i64]) -> usize
+    requires { TakeSamples (length row.now.samples.now) 32766 true sums.old sums.old }
     ensures some { result ≤ length sums.new }
-    ensures added { HasAddedTo result (1, 1) (bits_of scale.depth) samples.now sums.old sums.new }
+    ensures added { HasAddedTo result (1, 1) (bits_of row.now.scale.depth) row.now.samples.now sums.old sums.new }
 {
     let mut done = 0;
     while sums.len() - done >= 2 {
-        let low = full_sample(samples, done, scale);
-        let high = full_sample(samples, done + 1, scale);
+        let low = full_sample(row, done);
+        let high = full_sample(row, done + 1);
         let [first, second] = two_added(sums[done], sums[done + 1], low, high);
         sums[done] = first;
         sums[done + 1] = second;
@@ -75,33 +70,25 @@ fn add_lanes(samples: &[i32], scale: Scale, sums: &mut [i64]) -> usize
 
 /// Adds samples to as many sums: small ones in lanes as far as that goes, and then one by one.
 #[inline(always)]
-fn add_flat(samples: &[i32], scale: Scale, is_small: bool, sums: &mut [i64])
-    requires each { length samples.now ≡ length sums.old }
-    requires fit { All (FitsDepth (bits_of scale.depth)) samples.now }
-    requires small { IsTrue is_small → All (IsWithin 32766) sums.old }
-    ensures { HasAdded (1, 1) (bits_of scale.depth) samples.now sums.old sums.new }
+fn add_flat(row: &Row, is_small: bool, sums: &mut [i64])
+    requires { TakeSamples (length row.now.samples.now) 32766 is_small sums.old sums.old }
+    ensures { HasAdded (1, 1) (bits_of row.now.scale.depth) row.now.samples.now sums.old sums.new }
 {
-    let done = if is_small {
-        add_lanes(samples, scale, sums)
-    } else {
-        0
-    };
+    let done = if is_small { add_lanes(row, sums) } else { 0 };
     for i in done..sums.len() {
-        let sample = full_sample(samples, i, scale);
+        let sample = full_sample(row, i);
         sums[i] = added(sums[i], sample, is_small);
     }
 }
 
 /// Adds the shares of samples to as many sums.
 #[inline(always)]
-fn add_shares(gain: Gain, samples: &[i32], scale: Scale, is_small: bool, sums: &mut [i64])
-    requires each { length samples.now ≡ length sums.old }
-    requires fit { All (FitsDepth (bits_of scale.depth)) samples.now }
-    requires small { IsTrue is_small → All (IsWithin 32766) sums.old }
-    ensures { HasAdded (gain.num, gain.den) (bits_of scale.depth) samples.now sums.old sums.new }
+fn add_shares(gain: Gain, row: &Row, is_small: bool, sums: &mut [i64])
+    requires { TakeSamples (length row.now.samples.now) 32766 is_small sums.old sums.old }
+    ensures { HasAdded (gain.num, gain.den) (bits_of row.now.scale.depth) row.now.samples.now sums.old sums.new }
 {
     for (i, sum) in sums.iter_mut().enumerate() {
-        let sample = full_sample(samples, i, scale);
+        let sample = full_sample(row, i);
         let share = gain.share(sample);
         *sum = added(*sum, share, is_small);
     }
@@ -109,24 +96,15 @@ fn add_shares(gain: Gain, samples: &[i32], scale: Scale, is_small: bool, sums: &
 
 /// Adds the samples of a frame as they are, or the shares of them.
 #[inline(always)]
-fn add_row(
-    gain: Gain,
-    samples: &[i32],
-    scale: Scale,
-    is_flat: bool,
-    is_small: bool,
-    sums: &mut [i64],
-)
+fn add_row(gain: Gain, row: &Row, is_flat: bool, is_small: bool, sums: &mut [i64])
     requires flat { IsTrue is_flat → (gain.num ≡ 1) × (gain.den ≡ 1) }
-    requires each { length samples.now ≡ length sums.old }
-    requires fit { All (FitsDepth (bits_of scale.depth)) samples.now }
-    requires small { IsTrue is_small → All (IsWithin 32766) sums.old }
-    ensures { HasAdded (gain.num, gain.den) (bits_of scale.depth) samples.now sums.old sums.new }
+    requires takes { TakeSamples (length row.now.samples.now) 32766 is_small sums.old sums.old }
+    ensures { HasAdded (gain.num, gain.den) (bits_of row.now.scale.depth) row.now.samples.now sums.old sums.new }
 {
     if is_flat {
-        add_flat(samples, scale, is_small, sums)
+        add_flat(row, is_small, sums)
     } else {
-        add_shares(gain, samples, scale, is_small, sums)
+        add_shares(gain, row, is_small, sums)
     }
 }
 
@@ -134,40 +112,31 @@ fn add_row(
 #[inline(always)]
 fn add_rows(
     played: &Played,
-    scale: Scale,
     width: usize,
-    channels: usize,
+    lanes: Lanes,
     is_flat: bool,
     is_small: bool,
     sums: &mut [i64],
 )
     requires flat { IsTrue is_flat → played.now.shape ≡ shape.Flat }
-    requires depth { scale.depth ≡ played.now.frames.depth }
     requires width { width ≡ played.now.stretch.width }
-    requires inside { FitsBlock 4096 channels played.now.stretch }
-    requires room { length sums.old ≡ 4096 * channels }
-    requires small { IsTrue is_small → All (IsWithin 32766) sums.old }
-    ensures { HasPlayed played.now.stretch played.now.shape played.now.frames.channels (bits_of scale.depth)
-        played.now.frames.samples.now (record { channels = channels; values = sums.old })
-        (record { channels = channels; values = sums.new }) }
+    requires takes { TakeStretch lanes.frames lanes.channels 32766 is_small played.now.stretch sums.old sums.old }
+    ensures { HasPlayed played.now.stretch played.now.shape played.now.frames.channels
+        (bits_of played.now.frames.depth) played.now.frames.samples.now (block_of lanes.frames lanes.channels sums.old)
+        (block_of lanes.frames lanes.channels sums.new) }
 {
     let stretch = played.stretch;
     let all = played.frames.samples;
     let source = played.frames.channels;
+    let scale = Scale::of(played.frames.depth);
     let mut slope = Slope::of(played.shape);
     for i in 0..stretch.length {
         let from = i as usize * source + (stretch.first as usize - 1);
-        let to = (stretch.at as usize + i as usize) * channels + (stretch.dest as usize - 1);
+        let to = (stretch.at as usize + i as usize) * lanes.channels + (stretch.dest as usize - 1);
         let samples = &all[from..from + width];
         let gain = slope.gain();
-        add_row(
-            gain,
-            samples,
-            scale,
-            is_flat,
-            is_small,
-            &mut sums[to..to + width],
-        );
+        let row = Row { samples, scale };
+        add_row(gain, &row, is_flat, is_small, &mut sums[to..to + width]);
         slope = slope.next();
     }
 }
@@ -183,91 +152,88 @@ pub fn is_run(played: &Played, channels: usize) -> bool
 
 /// Adds a stretch frame by frame to small sums. One or two channels have loops of their own.
 #[inline(always)]
-fn add_by_width(played: &Played, scale: Scale, channels: usize, is_flat: bool, sums: &mut [i64])
+fn add_by_width(played: &Played, lanes: Lanes, is_flat: bool, sums: &mut [i64])
     requires flat { IsTrue is_flat → played.now.shape ≡ shape.Flat }
-    requires depth { scale.depth ≡ played.now.frames.depth }
-    requires inside { FitsBlock 4096 channels played.now.stretch }
-    requires room { length sums.old ≡ 4096 * channels }
-    requires small { All (IsWithin 32766) sums.old }
-    ensures { HasPlayed played.now.stretch played.now.shape played.now.frames.channels (bits_of scale.depth)
-        played.now.frames.samples.now (record { channels = channels; values = sums.old })
-        (record { channels = channels; values = sums.new }) }
+    requires takes { TakeStretch lanes.frames lanes.channels 32766 true played.now.stretch sums.old sums.old }
+    ensures { HasPlayed played.now.stretch played.now.shape played.now.frames.channels
+        (bits_of played.now.frames.depth) played.now.frames.samples.now (block_of lanes.frames lanes.channels sums.old)
+        (block_of lanes.frames lanes.channels sums.new) }
 {
     match played.stretch.width {
-        1 => add_rows(played, scale, 1, channels, is_flat, true, sums),
-        2 => add_rows(played, scale, 2, channels, is_flat, true, sums),
-        width => add_rows(played, scale, width as usize, channels, is_flat, true, sums),
+        1 => add_rows(played, 1, lanes, is_flat, true, sums),
+        2 => add_rows(played, 2, lanes, is_flat, true, sums),
+        width => add_rows(played, width as usize, lanes, is_flat, true, sums),
     }
 }
 
 /// Adds samples to as many small sums. Each depth has loops of its own.
 #[inline(always)]
-fn add_run(samples: &[i32], depth: Depth, sums: &mut [i64])
-    requires each { length samples.now ≡ length sums.old }
-    requires fit { All (FitsDepth (bits_of depth)) samples.now }
-    requires small { All (IsWithin 32766) sums.old }
-    ensures { HasAdded (1, 1) (bits_of depth) samples.now sums.old sums.new }
+fn add_run(frames: &Frames, sums: &mut [i64])
+    requires { TakeSamples (length frames.now.samples.now) 32766 true sums.old sums.old }
+    ensures { HasAdded (1, 1) (bits_of frames.now.depth) frames.now.samples.now sums.old sums.new }
 {
-    match depth {
-        Depth::Sixteen => add_flat(samples, Scale::of(Depth::Sixteen), true, sums),
-        Depth::TwentyFour => add_flat(samples, Scale::of(Depth::TwentyFour), true, sums),
-        Depth::ThirtyTwo => add_flat(samples, Scale::of(Depth::ThirtyTwo), true, sums),
+    let samples = frames.samples;
+    match frames.depth {
+        Depth::Sixteen => {
+            let scale = Scale::of(Depth::Sixteen);
+            add_flat(&Row { samples, scale }, true, sums)
+        }
+        Depth::TwentyFour => {
+            let scale = Scale::of(Depth::TwentyFour);
+            add_flat(&Row { samples, scale }, true, sums)
+        }
+        Depth::ThirtyTwo => {
+            let scale = Scale::of(Depth::ThirtyTwo);
+            add_flat(&Row { samples, scale }, true, sums)
+        }
     }
 }
 
 /// Adds a stretch frame by frame to small sums. Each kind of shape has loops of its own.
 #[inline(always)]
-fn add_by_shape(played: &Played, channels: usize, sums: &mut [i64])
-    requires inside { FitsBlock 4096 channels played.now.stretch }
-    requires room { length sums.old ≡ 4096 * channels }
-    requires small { All (IsWithin 32766) sums.old }
+fn add_by_shape(played: &Played, lanes: Lanes, sums: &mut [i64])
+    requires { TakeStretch lanes.frames lanes.channels 32766 true played.now.stretch sums.old sums.old }
     ensures { HasPlayed played.now.stretch played.now.shape played.now.frames.channels
-        (bits_of played.now.frames.depth) played.now.frames.samples.now (record { channels = channels; values = sums.old })
-        (record { channels = channels; values = sums.new }) }
+        (bits_of played.now.frames.depth) played.now.frames.samples.now (block_of lanes.frames lanes.channels sums.old)
+        (block_of lanes.frames lanes.channels sums.new) }
 {
-    let scale = Scale::of(played.frames.depth);
     match played.shape {
-        Shape::Flat => add_by_width(played, scale, channels, true, sums),
-        Shape::Rise { .. } => add_by_width(played, scale, channels, false, sums),
-        Shape::Fall { .. } => add_by_width(played, scale, channels, false, sums),
+        Shape::Flat => add_by_width(played, lanes, true, sums),
+        Shape::Rise { .. } => add_by_width(played, lanes, false, sums),
+        Shape::Fall { .. } => add_by_width(played, lanes, false, sums),
     }
 }
 
 /// Adds a stretch to small sums: as one run where it is one.
 #[inline(always)]
-fn add_small(played: &Played, channels: usize, sums: &mut [i64])
-    requires inside { FitsBlock 4096 channels played.now.stretch }
-    requires room { length sums.old ≡ 4096 * channels }
-    requires small { All (IsWithin 32766) sums.old }
+fn add_small(played: &Played, lanes: Lanes, sums: &mut [i64])
+    requires { TakeStretch lanes.frames lanes.channels 32766 true played.now.stretch sums.old sums.old }
     ensures { HasPlayed played.now.stretch played.now.shape played.now.frames.channels
-        (bits_of played.now.frames.depth) played.now.frames.samples.now (record { channels = channels; values = sums.old })
-        (record { channels = channels; values = sums.new }) }
+        (bits_of played.now.frames.depth) played.now.frames.samples.now (block_of lanes.frames lanes.channels sums.old)
+        (block_of lanes.frames lanes.channels sums.new) }
 {
-    let depth = played.frames.depth;
+    let channels = lanes.channels;
     if is_run(played, channels) {
         let from = played.stretch.at as usize * channels;
         let count = played.stretch.length as usize * channels;
         let run = &mut sums[from..from + count];
-        add_run(played.frames.samples, depth, run)
+        add_run(&played.frames, run)
     } else {
-        add_by_shape(played, channels, sums)
+        add_by_shape(played, lanes, sums)
     }
 }
 
-/// Adds what a stretch plays to the sums of a block of so many channels. Only to small ones is it done in a quick way.
-pub fn add_played(played: &Played, channels: usize, is_small: bool, sums: &mut [i64])
-    requires inside { FitsBlock 4096 channels played.now.stretch }
-    requires room { length sums.old ≡ 4096 * channels }
-    requires small { IsTrue is_small → All (IsWithin 32766) sums.old }
+/// Adds what a stretch plays to the sums of a block. Only to small ones is it done in a quick way.
+pub fn add_played(played: &Played, lanes: Lanes, is_small: bool, sums: &mut [i64])
+    requires { TakeStretch lanes.frames lanes.channels 32766 is_small played.now.stretch sums.old sums.old }
     ensures { HasPlayed played.now.stretch played.now.shape played.now.frames.channels
-        (bits_of played.now.frames.depth) played.now.frames.samples.now (record { channels = channels; values = sums.old })
-        (record { channels = channels; values = sums.new }) }
+        (bits_of played.now.frames.depth) played.now.frames.samples.now (block_of lanes.frames lanes.channels sums.old)
+        (block_of lanes.frames lanes.channels sums.new) }
 {
     if is_small {
-        add_small(played, channels, sums)
+        add_small(played, lanes, sums)
     } else {
         let width = played.stretch.width as usize;
-        let scale = Scale::of(played.frames.depth);
-        add_rows(played, scale, width, channels, false, false, sums)
+        add_rows(played, width, lanes, false, false, sums)
     }
 }

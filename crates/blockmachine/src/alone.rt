@@ -1,10 +1,11 @@
 // Blocks that one file fills as it is.
-ghost use Rattle.std.specs.Prelude.{◌≡◌, ◌≤◌, IfSome};
+ghost use Rattle.std.specs.Prelude.{◌≡◌, IfSome};
 ghost use Rattle.std.specs.List.{All};
 ghost use Rattle.sound_terms.specs.Blocks.{LiesInFiles};
 ghost use Rattle.sound_terms.specs.declared.block.Instruction.TheVariants.{Flat};
 ghost use Rattle.blockmachine.specs.Alone.{FillsAlone};
 
+use crate::frames::Lanes;
 use sound_terms::{Depth, Instruction, Stretch};
 use wavread::Sound;
 
@@ -18,19 +19,16 @@ fn flat_stretch(line: &Instruction) -> Option<Stretch>
     }
 }
 
-/// The flat stretch that alone fills a block of so many frames, with all channels of a file of this depth. `None` where
+/// The flat stretch that alone fills a block of these frames, with all channels of a file of this depth. `None` where
 /// more is to be done than to hand its frames out.
 pub fn fills_alone(
     lines: &[Instruction],
-    frames: usize,
-    channels: usize,
+    lanes: Lanes,
     depth: Depth,
     sounds: &[Sound],
 ) -> Option<Stretch>
-    requires few_frames { frames ≤ 4096 }
-    requires few_channels { channels ≤ 64 }
-    requires inside { All (LiesInFiles sounds.now) lines.now }
-    ensures { IfSome result (FillsAlone sounds.now frames channels depth lines.now) }
+    requires { All (LiesInFiles sounds.now) lines.now }
+    ensures { IfSome result (FillsAlone sounds.now lanes.frames lanes.channels depth lines.now) }
 {
     let [line] = lines else {
         return None;
@@ -38,17 +36,17 @@ pub fn fills_alone(
     let stretch = flat_stretch(line)?;
     let filling = Stretch {
         at: 0,
-        length: frames as u32,
+        length: lanes.frames as u32,
         first: 1,
         dest: 1,
-        width: channels as u8,
+        width: lanes.channels as u8,
         ..stretch
     };
     let sound = &sounds[stretch.file as usize];
     if stretch != filling {
         return None;
     }
-    if sound.channels() as usize != channels || sound.depth() != depth {
+    if sound.channels() as usize != lanes.channels || sound.depth() != depth {
         return None;
     }
     Some(filling)

@@ -6,7 +6,26 @@ ghost use Rattle.sound_terms.specs.Groups.{IsRamp};
 ghost use Rattle.pcm.specs.Samples.{FitsDepth};
 ghost use Rattle.blockmachine.specs.Playing.{IsRamp-prop};
 
+use crate::scale::Scale;
 use sound_terms::{Depth, Shape, Stretch};
+
+/// How the sums of a block lie one behind the other: those of its first frame, channel by channel, then of the second.
+#[derive(Clone, Copy, Drop)]
+pub struct Lanes {
+    pub frames: usize,
+    pub channels: usize,
+    ghost few_frames: { frames ≤ 4096 },
+    ghost some_channels: { 1 ≤ channels },
+    ghost few_channels: { channels ≤ 64 },
+}
+
+/// Samples, one behind the other, with what takes them to full scale.
+#[derive(Clone, Copy)]
+pub struct Row<'a> {
+    pub samples: &'a [i32],
+    pub scale: Scale,
+    ghost fit: { All (FitsDepth (bits_of scale.depth)) samples.now },
+}
 
 /// Frames of a file: the samples of each of its channels in turn.
 #[derive(Clone, Copy)]

@@ -1,15 +1,14 @@
 // Sums at the depth of their block, of samples that are no deeper and that nothing fades: 32 bits have room for them.
-ghost use Rattle.std.specs.Prelude.{IsTrue, ◌≡◌, ◌*◌, ◌/◌, ◌<◌, ◌≤◌, ℕ, pos, ◌+ℤ◌, length, slice_index_or};
+ghost use Rattle.std.specs.Prelude.{IsTrue, true, ◌≡◌, ◌*◌, ◌/◌, ◌<◌, ◌≤◌, ℕ, pos, ◌+ℤ◌, length, slice_index_or};
 ghost use Rattle.std.specs.List.{All};
-ghost use Rattle.sound_terms.specs.declared.piece.Shape.TheVariants as shape;
 ghost use Rattle.sound_terms.specs.Depth.{bits_of};
 ghost use Rattle.sound_terms.specs.Mix.{full_scale, quantized};
-ghost use Rattle.sound_terms.specs.Blocks.{FitsBlock, held};
+ghost use Rattle.sound_terms.specs.Blocks.{held};
 ghost use Rattle.pcm.specs.Samples.{FitsDepth, samples_in};
-ghost use Rattle.blockmachine.specs.Sums.{HasAdded, HasPlayed, IsWithin, kept_sums, widened};
+ghost use Rattle.blockmachine.specs.Sums.{HasAdded, HasPlayed, IsLayer, IsWithin, TakeSamples, TakeStretch, block_of, kept_sums, widened};
 
 use crate::addition::is_run;
-use crate::frames::{Played, Stored};
+use crate::frames::{Frames, Lanes, Played, Stored};
 use crate::output::emit;
 use pcm::add_unpacked;
 use sound_terms::{Depth, Shape};
@@ -18,28 +17,33 @@ use soundlaw::finish;
 /// So many samples of 24 bits have a sum in 32 bits.
 pub const FEW_LAYERS: u32 = 255;
 
+/// Samples that are taken to the depth of a block, which is no less than their own, and is 16 or 24 bits.
+#[derive(Clone, Copy)]
+struct Layer<'a> {
+    frames: Frames<'a>,
+    depth: Depth,
+    ghost no_deeper: { bits_of frames.depth ≤ bits_of depth },
+    ghost shallow: { bits_of depth ≤ 24 },
+}
+
 /// Whether a stretch plays all channels of its file on all channels there are, as they are, at no more than this depth,
 /// which is 16 or 24 bits.
 pub fn is_layer(played: &Played, channels: usize, depth: Depth) -> bool
-    ensures run { IsTrue result → (played.now.shape ≡ shape.Flat) × (played.now.stretch.width ≡ channels)
-        × (played.now.frames.channels ≡ channels) }
-    ensures no_deeper { IsTrue result → bits_of played.now.frames.depth ≤ bits_of depth }
-    ensures shallow { IsTrue result → bits_of depth ≤ 24 }
+    ensures { IsTrue result → IsLayer played.now.stretch played.now.shape played.now.frames.channels channels
+        (bits_of played.now.frames.depth) (bits_of depth) }
 {
     let source = played.frames.depth;
     is_run(played, channels) && source.bits() <= depth.bits() && depth.bits() <= 24
 }
 
-/// A sample at a depth that is no less than its own.
+/// A sample of these at the depth of the block.
 #[inline(always)]
-fn at_depth(sample: i32, source: Depth, depth: Depth) -> i32
-    requires fit { FitsDepth (bits_of source) sample }
-    requires no_deeper { bits_of source ≤ bits_of depth }
-    requires shallow { bits_of depth ≤ 24 }
-    ensures value { full_scale (bits_of depth) result ≡ full_scale (bits_of source) sample }
-    ensures fit { FitsDepth (bits_of depth) result }
+fn at_depth(layer: &Layer, sample: i32) -> i32
+    requires { FitsDepth (bits_of layer.now.frames.depth) sample }
+    ensures value { full_scale (bits_of layer.now.depth) result ≡ full_scale (bits_of layer.now.frames.depth) sample }
+    ensures fit { FitsDepth (bits_of layer.now.depth) result }
 {
-    if source.bits() == depth.bits() {
+    if layer.frames.depth.bits() == layer.depth.bits() {
         sample
     } else {
         sample * 256
@@ -48,60 +52,55 @@ fn at_depth(sample: i32, source: Depth, depth: Depth) -> i32
 
 /// A sum of few samples, and a sample more.
 #[inline(always)]
-fn layered(sum: i32, sample: i32, source: Depth, depth: Depth) -> i32
-    requires small { IsWithin 254 (full_scale (bits_of depth) sum) }
-    requires fit { FitsDepth (bits_of source) sample }
-    requires no_deeper { bits_of source ≤ bits_of depth }
-    requires shallow { bits_of depth ≤ 24 }
-    ensures { full_scale (bits_of depth) result
-        ≡ held (full_scale (bits_of depth) sum +ℤ full_scale (bits_of source) sample) }
+fn layered(layer: &Layer, sum: i32, sample: i32) -> i32
+    requires small { IsWithin 254 (full_scale (bits_of layer.now.depth) sum) }
+    requires fit { FitsDepth (bits_of layer.now.frames.depth) sample }
+    ensures { full_scale (bits_of layer.now.depth) result
+        ≡ held (full_scale (bits_of layer.now.depth) sum +ℤ full_scale (bits_of layer.now.frames.depth) sample) }
 {
-    sum + at_depth(sample, source, depth)
+    sum + at_depth(layer, sample)
 }
 
 /// Adds samples to as many sums.
 #[inline(always)]
-fn add_samples(samples: &[i32], source: Depth, depth: Depth, sums: &mut [i32])
-    requires each { length samples.now ≡ length sums.old }
-    requires fit { All (FitsDepth (bits_of source)) samples.now }
-    requires no_deeper { bits_of source ≤ bits_of depth }
-    requires shallow { bits_of depth ≤ 24 }
-    requires small { All (IsWithin 254) (widened (bits_of depth) sums.old) }
-    ensures { HasAdded (1, 1) (bits_of source) samples.now (widened (bits_of depth) sums.old)
-        (widened (bits_of depth) sums.new) }
+fn add_samples(layer: &Layer, sums: &mut [i32])
+    requires { TakeSamples (length layer.now.frames.samples.now) 254 true sums.old
+        (widened (bits_of layer.now.depth) sums.old) }
+    ensures { HasAdded (1, 1) (bits_of layer.now.frames.depth) layer.now.frames.samples.now
+        (widened (bits_of layer.now.depth) sums.old) (widened (bits_of layer.now.depth) sums.new) }
 {
     for (i, sum) in sums.iter_mut().enumerate() {
-        *sum = layered(*sum, samples[i], source, depth);
+        *sum = layered(layer, *sum, layer.frames.samples[i]);
     }
 }
 
 /// Adds what a stretch plays, a layer of the block, to sums of few samples.
-pub fn add_layer(played: &Played, channels: usize, depth: Depth, sums: &mut [i32])
-    requires run { (played.now.shape ≡ shape.Flat) × (played.now.stretch.width ≡ channels)
-        × (played.now.frames.channels ≡ channels) }
-    requires no_deeper { bits_of played.now.frames.depth ≤ bits_of depth }
-    requires shallow { bits_of depth ≤ 24 }
-    requires inside { FitsBlock 4096 channels played.now.stretch }
-    requires room { length sums.old ≡ 4096 * channels }
-    requires small { All (IsWithin 254) (widened (bits_of depth) sums.old) }
+pub fn add_layer(played: &Played, lanes: Lanes, depth: Depth, sums: &mut [i32])
+    requires layer { IsLayer played.now.stretch played.now.shape played.now.frames.channels lanes.channels
+        (bits_of played.now.frames.depth) (bits_of depth) }
+    requires takes { TakeStretch lanes.frames lanes.channels 254 true played.now.stretch sums.old
+        (widened (bits_of depth) sums.old) }
     ensures { HasPlayed played.now.stretch played.now.shape played.now.frames.channels
         (bits_of played.now.frames.depth) played.now.frames.samples.now
-        (record { channels = channels; values = widened (bits_of depth) sums.old })
-        (record { channels = channels; values = widened (bits_of depth) sums.new }) }
+        (block_of lanes.frames lanes.channels (widened (bits_of depth) sums.old))
+        (block_of lanes.frames lanes.channels (widened (bits_of depth) sums.new)) }
 {
-    let from = played.stretch.at as usize * channels;
-    let count = played.stretch.length as usize * channels;
+    let from = played.stretch.at as usize * lanes.channels;
+    let count = played.stretch.length as usize * lanes.channels;
     let run = &mut sums[from..from + count];
-    add_samples(played.frames.samples, played.frames.depth, depth, run);
+    let layer = Layer {
+        frames: played.frames,
+        depth,
+    };
+    add_samples(&layer, run);
 }
 
 /// Whether a stretch plays all channels of its file on all channels there are, as they are, at this very depth, which is
 /// 16 or 24 bits.
 pub fn is_stored_layer(stored: &Stored, channels: usize, depth: Depth) -> bool
-    ensures run { IsTrue result → (stored.now.shape ≡ shape.Flat) × (stored.now.stretch.width ≡ channels)
-        × (stored.now.channels ≡ channels) }
+    ensures layer { IsTrue result → IsLayer stored.now.stretch stored.now.shape stored.now.channels channels
+        (bits_of stored.now.depth) (bits_of stored.now.depth) }
     ensures same_depth { IsTrue result → stored.now.depth ≡ depth }
-    ensures shallow { IsTrue result → bits_of depth ≤ 24 }
 {
     let width = stored.stretch.width as usize;
     let is_run = stored.shape == Shape::Flat && width == channels && stored.channels == channels;
@@ -122,22 +121,20 @@ fn add_stored(bytes: &[u8], depth: Depth, sums: &mut [i32])
 }
 
 /// Adds what a stretch plays, a layer of the block at its depth, to sums of few samples.
-pub fn add_stored_layer(stored: &Stored, channels: usize, sums: &mut [i32])
-    requires run { (stored.now.shape ≡ shape.Flat) × (stored.now.stretch.width ≡ channels)
-        × (stored.now.channels ≡ channels) }
-    requires shallow { bits_of stored.now.depth ≤ 24 }
-    requires inside { FitsBlock 4096 channels stored.now.stretch }
-    requires room { length sums.old ≡ 4096 * channels }
-    requires small { All (IsWithin 254) (widened (bits_of stored.now.depth) sums.old) }
+pub fn add_stored_layer(stored: &Stored, lanes: Lanes, sums: &mut [i32])
+    requires layer { IsLayer stored.now.stretch stored.now.shape stored.now.channels lanes.channels
+        (bits_of stored.now.depth) (bits_of stored.now.depth) }
+    requires takes { TakeStretch lanes.frames lanes.channels 254 true stored.now.stretch sums.old
+        (widened (bits_of stored.now.depth) sums.old) }
     ensures fit { All (FitsDepth (bits_of stored.now.depth))
         (samples_in (bits_of stored.now.depth) (stored.now.stretch.length * stored.now.channels) stored.now.bytes.now) }
     ensures played { HasPlayed stored.now.stretch stored.now.shape stored.now.channels (bits_of stored.now.depth)
         (samples_in (bits_of stored.now.depth) (stored.now.stretch.length * stored.now.channels) stored.now.bytes.now)
-        (record { channels = channels; values = widened (bits_of stored.now.depth) sums.old })
-        (record { channels = channels; values = widened (bits_of stored.now.depth) sums.new }) }
+        (block_of lanes.frames lanes.channels (widened (bits_of stored.now.depth) sums.old))
+        (block_of lanes.frames lanes.channels (widened (bits_of stored.now.depth) sums.new)) }
 {
-    let from = stored.stretch.at as usize * channels;
-    let count = stored.stretch.length as usize * channels;
+    let from = stored.stretch.at as usize * lanes.channels;
+    let count = stored.stretch.length as usize * lanes.channels;
     let run = &mut sums[from..from + count];
     add_stored(stored.bytes, stored.depth, run);
 }

@@ -6,17 +6,19 @@ ghost use Rattle.sound_terms.specs.declared.block.Instruction as word;
 ghost use Rattle.sound_terms.specs.declared.block.Instruction.TheVariants as instruction;
 ghost use Rattle.sound_terms.specs.Depth.{bits_of};
 ghost use Rattle.pcm.specs.Samples.{FitsDepth};
-ghost use Rattle.sound_terms.specs.Blocks.{BlockState, IsBlockProgram, IsFormed, LiesInFiles, PlaysFull, executed, executed_all};
+ghost use Rattle.sound_terms.specs.Blocks.{BlockState, IsBlockProgram, LiesInFiles, PlaysFull, executed, executed_all};
 ghost use Rattle.sound_terms.specs.Sounds.{reading_by};
 ghost use Rattle.sound_terms.specs.Waves.{sample_bytes};
 ghost use Rattle.devices.specs.Frame.{OnlyReads};
 ghost use Rattle.blockmachine.specs.Fault.{FailsAt, IsSource};
 ghost use Rattle.blockmachine.specs.Holding.{Holds};
+ghost use Rattle.blockmachine.specs.Lines.{CanAdd};
 ghost use Rattle.blockmachine.specs.Sums.{AreSums};
 
 use crate::MachineFault;
 use crate::alone::fills_alone;
 use crate::buffer::Buffer;
+use crate::frames::Lanes;
 use crate::stretches::{add_stretch, read_stored};
 use crate::sums::Sums;
 use devices::Shelf;
@@ -26,8 +28,8 @@ use std::alloc::Global;
 use std::marker::Model;
 use wavread::Sound;
 
-/// Room for the sums of a block of up to 4096 frames, and for what is read of a file at once. A clause sees how many
-/// frames and channels it has room for.
+/// Room for the sums of a block, and for what is read of a file at once. A clause sees how many frames and channels it
+/// has room for.
 #[derive(Drop)]
 pub struct Machine {
     sums: Sums,
@@ -39,7 +41,7 @@ impl Model for Machine {
 
     ghost Value = { Extent };
 
-    ghost view = { λ machine. record { frames = 4096; channels = machine.sums.channels } };
+    ghost view = { λ machine. machine.sums.extent };
 }
 
 /// Adds what an instruction plays.
@@ -50,8 +52,7 @@ fn add_line<S: Shelf>(
     buffer: &mut Buffer,
     sums: &mut Sums,
 ) -> Result<(), MachineFault>
-    requires formed { IsFormed 4096 sums.old.channels line.now }
-    requires inside { LiesInFiles sounds.now line.now }
+    requires line { CanAdd sounds.now sums.old.extent line.now }
     requires held { Holds (S.honest shelf.old) (S.stored shelf.old) sounds.now buffer.old.held buffer.old.bytes.items }
     ensures held { OnOk result (Holds (S.honest shelf.new) (S.stored shelf.new) sounds.now buffer.new.held
         buffer.new.bytes.items) }
@@ -60,7 +61,7 @@ fn add_line<S: Shelf>(
         → AreSums sums.new (executed (reading_by (S.stored shelf.old) sounds.now) channels line.now before).sums) }
     ensures full { IsTrue (S.honest shelf.old)
         → OnOk result (PlaysFull (reading_by (S.stored shelf.old) sounds.now) line.now) }
-    ensures same_channels { sums.new.channels ≡ sums.old.channels }
+    ensures same_extent { sums.new.extent ≡ sums.old.extent }
     ensures source { IfErr result IsSource }
     ensures only_reads { OnlyReads S.Shelf shelf.old shelf.new result (λ fault. IsSource fault)
         (λ fault failed. FailsAt sounds.now fault failed) }
@@ -103,8 +104,7 @@ fn add_all<S: Shelf>(
     buffer: &mut Buffer,
     sums: &mut Sums,
 ) -> Result<(), MachineFault>
-    requires formed { All (IsFormed 4096 sums.old.channels) lines.now }
-    requires inside { All (LiesInFiles sounds.now) lines.now }
+    requires lines { All (CanAdd sounds.now sums.old.extent) lines.now }
     requires held { Holds (S.honest shelf.old) (S.stored shelf.old) sounds.now buffer.old.held buffer.old.bytes.items }
     ensures held { OnOk result (Holds (S.honest shelf.new) (S.stored shelf.new) sounds.now buffer.new.held
         buffer.new.bytes.items) }
@@ -113,7 +113,7 @@ fn add_all<S: Shelf>(
         → AreSums sums.new (executed_all (reading_by (S.stored shelf.old) sounds.now) channels lines.now before).sums) }
     ensures full { IsTrue (S.honest shelf.old)
         → OnOk result (All (PlaysFull (reading_by (S.stored shelf.old) sounds.now)) lines.now) }
-    ensures same_channels { sums.new.channels ≡ sums.old.channels }
+    ensures same_extent { sums.new.extent ≡ sums.old.extent }
     ensures source { IfErr result IsSource }
     ensures only_reads { OnlyReads S.Shelf shelf.old shelf.new result (λ fault. IsSource fault)
         (λ fault failed. FailsAt sounds.now fault failed) }
@@ -136,13 +136,14 @@ fn depth_of(program: &[Instruction]) -> Option<Depth>
 }
 
 impl Machine {
-    /// A machine for blocks of up to 4096 frames of so many channels, 1 to 64.
-    pub fn new(alloc: Global, channels: u8) -> Result<Self, MachineFault>
-        requires { (1 ≤ channels) × (channels ≤ 64) }
-        ensures made { IfOk result (λ machine. machine ≡ record { frames = 4096; channels = channels }) }
+    /// A machine for blocks of up to so many frames, themselves up to 4096, of so many channels, 1 to 64.
+    pub fn new(alloc: Global, frames: u32, channels: u8) -> Result<Self, MachineFault>
+        requires frames { frames ≤ 4096 }
+        requires channels { (1 ≤ channels) × (channels ≤ 64) }
+        ensures made { IfOk result (λ machine. machine ≡ record { frames = frames; channels = channels }) }
         ensures only_memory { IfErr result (λ fault. fault ≡ MachineFault.Memory) }
     {
-        let sums = Sums::new(alloc, channels)?;
+        let sums = Sums::new(alloc, frames, channels)?;
         let buffer = Buffer::new(alloc)?;
         Ok(Machine { sums, buffer })
     }
@@ -156,8 +157,7 @@ impl Machine {
         shelf: &mut S,
         out: &mut [i32],
     ) -> Result<(), MachineFault>
-        requires formed { All (IsFormed self.old.frames self.old.channels) lines.now }
-        requires inside { All (LiesInFiles sounds.now) lines.now }
+        requires lines { All (CanAdd sounds.now self.old) lines.now }
         requires whole { (frames : ℕ) × (frames ≤ self.old.frames) × (length out.old ≡ frames * self.old.channels) }
         ensures ran { IsTrue (S.honest shelf.old)
             → OnOk result ((frames : ℕ) (start : BlockState) → length out.old ≡ frames * self.old.channels
@@ -242,11 +242,14 @@ impl Machine {
         ensures only_reads { OnlyReads S.Shelf shelf.old shelf.new result (λ fault. IsSource fault)
             (λ fault failed. FailsAt sounds.now fault failed) }
     {
-        let channels = self.sums.channels() as usize;
+        let lanes = self.sums.lanes();
         let instructions = program.as_slice();
         let lines = &instructions[1..instructions.len() - 1];
-        let frames = samples.len() / channels;
-        if let Some(stretch) = fills_alone(lines, frames, channels, depth, sounds) {
+        let filled = Lanes {
+            frames: samples.len() / lanes.channels,
+            channels: lanes.channels,
+        };
+        if let Some(stretch) = fills_alone(lines, filled, depth, sounds) {
             return read_stored(&stretch, sounds, shelf, bytes);
         }
         self.run(program, sounds, shelf, samples)?;

@@ -3,12 +3,12 @@ ghost use Rattle.std.specs.Prelude.{◌≡◌, ◌+◌, ◌*◌, ◌/◌, ◌^�
 ghost use Rattle.sound_terms.specs.Depth.{bits_of};
 ghost use Rattle.sound_terms.specs.Sounds.{SoundFacts, reading_by};
 ghost use Rattle.sound_terms.specs.Media.{LiesInFile, frame_length};
-ghost use Rattle.sound_terms.specs.Groups.{IsRamp};
-ghost use Rattle.sound_terms.specs.Blocks.{FitsBlock, IsFull, sums_with};
+ghost use Rattle.sound_terms.specs.Blocks.{IsFull, sums_with};
 ghost use Rattle.devices.specs.Frame.{OnlyReads};
 ghost use Rattle.blockmachine.specs.Fault.{FailsAt, IsSource};
 ghost use Rattle.pcm.specs.Samples.{samples_in};
 ghost use Rattle.blockmachine.specs.Holding.{Holds};
+ghost use Rattle.blockmachine.specs.Lines.{CanPlay};
 ghost use Rattle.blockmachine.specs.Playing.{Plays};
 ghost use Rattle.blockmachine.specs.Sums.{AreSums};
 
@@ -103,19 +103,17 @@ fn add_part<S: Shelf>(
     held: &mut Option<Held>,
     sums: &mut Sums,
 ) -> Result<(), MachineFault>
-    requires inside { FitsBlock 4096 sums.old.channels part.now }
-    requires lies { LiesInFile sounds.now part.now.file part.now.first part.now.width part.now.frame part.now.length }
+    requires plays { CanPlay sounds.now sums.old.extent part.now shape }
     requires few { (facts : SoundFacts) → slice_get sounds.now part.now.file ≡ Some facts
         → part.now.length * facts.channels ≤ length samples.old }
     requires room { length samples.old * 4 ≤ length bytes.old }
-    requires ramp { IsRamp shape part.now.length }
     requires held { Holds (S.honest shelf.old) (S.stored shelf.old) sounds.now held.old bytes.old }
     ensures held { OnOk result (Holds (S.honest shelf.new) (S.stored shelf.new) sounds.now held.new bytes.new) }
     ensures added { IsTrue (S.honest shelf.old) → OnOk result ((before : ℕ → ℕ → ℤ) → AreSums sums.old before
         → AreSums sums.new (sums_with (reading_by (S.stored shelf.old) sounds.now) part.now shape before)) }
     ensures full { IsTrue (S.honest shelf.old)
         → OnOk result (IsFull (reading_by (S.stored shelf.old) sounds.now) part.now) }
-    ensures same_channels { sums.new.channels ≡ sums.old.channels }
+    ensures same_extent { sums.new.extent ≡ sums.old.extent }
     ensures source { IfErr result IsSource }
     ensures only_reads { OnlyReads S.Shelf shelf.old shelf.new result (λ fault. IsSource fault)
         (λ fault failed. FailsAt sounds.now fault failed) }
@@ -163,10 +161,7 @@ pub fn add_stretch<S: Shelf>(
     buffer: &mut Buffer,
     sums: &mut Sums,
 ) -> Result<(), MachineFault>
-    requires inside { FitsBlock 4096 sums.old.channels stretch.now }
-    requires lies { LiesInFile sounds.now stretch.now.file stretch.now.first stretch.now.width stretch.now.frame
-        stretch.now.length }
-    requires ramp { IsRamp shape stretch.now.length }
+    requires plays { CanPlay sounds.now sums.old.extent stretch.now shape }
     requires held { Holds (S.honest shelf.old) (S.stored shelf.old) sounds.now buffer.old.held buffer.old.bytes.items }
     ensures held { OnOk result (Holds (S.honest shelf.new) (S.stored shelf.new) sounds.now buffer.new.held
         buffer.new.bytes.items) }
@@ -174,11 +169,12 @@ pub fn add_stretch<S: Shelf>(
         → AreSums sums.new (sums_with (reading_by (S.stored shelf.old) sounds.now) stretch.now shape before)) }
     ensures full { IsTrue (S.honest shelf.old)
         → OnOk result (IsFull (reading_by (S.stored shelf.old) sounds.now) stretch.now) }
-    ensures same_channels { sums.new.channels ≡ sums.old.channels }
+    ensures same_extent { sums.new.extent ≡ sums.old.extent }
     ensures source { IfErr result IsSource }
     ensures only_reads { OnlyReads S.Shelf shelf.old shelf.new result (λ fault. IsSource fault)
         (λ fault failed. FailsAt sounds.now fault failed) }
 {
+    let _lanes = sums.lanes();
     let most = SAMPLES as u32 / sounds[stretch.file as usize].channels() as u32;
     let mut done = 0;
     while done < stretch.length {

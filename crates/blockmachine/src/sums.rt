@@ -7,7 +7,7 @@ ghost use Rattle.blockmachine.specs.Sums.{AreSums, BlockSums, HasPlayed};
 
 use crate::addition;
 use crate::additions::Additions;
-use crate::frames::{Frames, Played, Stored};
+use crate::frames::{Frames, Lanes, Played, Stored};
 use crate::layers::{
     self, FEW_LAYERS, add_layer, add_stored_layer, emit_kept, is_layer, is_stored_layer,
     widen_layers,
@@ -17,9 +17,6 @@ use sound_terms::Depth;
 use std::alloc::{AllocError, Global};
 use std::marker::Model;
 
-/// The frames of a block; the last one may have fewer.
-const BLOCK_LENGTH: usize = 4096;
-
 /// So many samples can't take a sum out of 64 bits.
 const FEW: u32 = 32_767;
 
@@ -28,7 +25,7 @@ const FEW: u32 = 32_767;
 /// the first stretch that is faded, deeper, or on some of the channels alone.
 #[derive(Drop)]
 pub struct Sums {
-    channels: u8,
+    lanes: Lanes,
     at_depth: bool,
     depth: Depth,
     layers: Vec<i32>,
@@ -39,33 +36,36 @@ pub struct Sums {
 impl Model for Sums {
     ghost use Rattle.std.specs.Prelude.{◌≡◌, ◌*◌, ◌<◌, ◌≤◌, length};
     ghost use Rattle.sound_terms.specs.Depth.{bits_of};
-    ghost use Rattle.blockmachine.specs.Sums.{AreFew, BlockSums, few_additions, kept_sums};
+    ghost use Rattle.blockmachine.specs.Sums.{AreFew, BlockSums, block_of, few_additions, kept_sums};
 
     ghost Value = { BlockSums };
 
-    ghost view = { λ s. record {
-      channels = s.channels;
-      values = kept_sums s.at_depth (bits_of s.depth) s.layers.items s.values.items;
-    } };
+    ghost view = { λ s. block_of s.lanes.frames s.lanes.channels
+        (kept_sums s.at_depth (bits_of s.depth) s.layers.items s.values.items) };
 
-    ghost invariant = { λ s. (length s.values.items ≡ 4096 * s.channels) × (length s.layers.items ≡ 4096 * s.channels)
-        × (1 ≤ s.channels) × (s.channels ≤ 64) × (s.additions.most < few_additions
-        → AreFew s.additions.most (s.additions.fewer_from * s.channels)
+    ghost invariant = { λ s. (length s.values.items ≡ s.lanes.frames * s.lanes.channels)
+        × (length s.layers.items ≡ s.lanes.frames * s.lanes.channels) × (s.additions.most < few_additions
+        → AreFew s.additions.most (s.additions.fewer_from * s.lanes.channels)
         (kept_sums s.at_depth (bits_of s.depth) s.layers.items s.values.items)) };
 }
 
 impl Sums {
-    /// Sums for a block of so many channels, 1 to 64.
-    pub fn new(alloc: Global, channels: u8) -> Result<Self, AllocError>
-        requires { (1 ≤ channels) × (channels ≤ 64) }
-        ensures { IfOk result (λ sums. sums.channels ≡ channels) }
+    /// Sums for a block of so many frames, 4096 at most, and channels, 1 to 64.
+    pub fn new(alloc: Global, frames: u32, channels: u8) -> Result<Self, AllocError>
+        requires frames { frames ≤ 4096 }
+        requires channels { (1 ≤ channels) × (channels ≤ 64) }
+        ensures { IfOk result (λ sums. sums.extent ≡ record { frames = frames; channels = channels }) }
     {
+        let lanes = Lanes {
+            frames: frames as usize,
+            channels: channels as usize,
+        };
         let mut layers = Vec::new(alloc);
-        layers.resize(BLOCK_LENGTH * channels as usize, 0)?;
+        layers.resize(lanes.frames * lanes.channels, 0)?;
         let mut values = Vec::new(alloc);
-        values.resize(BLOCK_LENGTH * channels as usize, 0)?;
+        values.resize(lanes.frames * lanes.channels, 0)?;
         Ok(Sums {
-            channels,
+            lanes,
             at_depth: false,
             depth: Depth::TwentyFour,
             layers,
@@ -77,18 +77,18 @@ impl Sums {
         })
     }
 
-    /// The channels.
-    pub fn channels(&self) -> u8
-        ensures channels { result ≡ self.now.channels }
-        ensures within { (1 ≤ result) × (result ≤ 64) }
+    /// How they lie one behind the other.
+    pub fn lanes(&self) -> Lanes
+        ensures frames { result.frames ≡ self.now.extent.frames }
+        ensures channels { result.channels ≡ self.now.extent.channels }
     {
-        self.channels
+        self.lanes
     }
 
     /// Every sum is zero, in a block of this depth.
     pub fn clear(&mut self, depth: Depth)
         ensures zero { AreSums self.new (λ _ _. pos 0) }
-        ensures same_channels { self.new.channels ≡ self.old.channels }
+        ensures same_extent { self.new.extent ≡ self.old.extent }
     {
         layers::set_to_zero(self.layers.as_mut_slice());
         self.at_depth = true;
@@ -101,17 +101,17 @@ impl Sums {
 
     /// Adds what a stretch plays. `samples` has room for its frames.
     pub fn add(&mut self, stored: &Stored, samples: &mut [i32])
-        requires inside { FitsBlock 4096 self.old.channels stored.now.stretch }
+        requires inside { FitsBlock self.old.extent.frames self.old.extent.channels stored.now.stretch }
         requires room { stored.now.stretch.length * stored.now.channels ≤ length samples.old }
         ensures played { HasPlayed stored.now.stretch stored.now.shape stored.now.channels (bits_of stored.now.depth)
             (samples_in (bits_of stored.now.depth) (stored.now.stretch.length * stored.now.channels) stored.now.bytes.now)
             self.old self.new }
-        ensures same_channels { self.new.channels ≡ self.old.channels }
+        ensures same_extent { self.new.extent ≡ self.old.extent }
     {
-        let channels = self.channels as usize;
+        let lanes = self.lanes;
         let few = self.at_depth && self.additions.most < FEW_LAYERS;
-        if few && is_stored_layer(stored, channels, self.depth) {
-            add_stored_layer(stored, channels, self.layers.as_mut_slice());
+        if few && is_stored_layer(stored, lanes.channels, self.depth) {
+            add_stored_layer(stored, lanes, self.layers.as_mut_slice());
             self.additions = self.additions.with(&stored.stretch);
         } else {
             self.add_unpacked(stored, samples);
@@ -120,12 +120,12 @@ impl Sums {
 
     /// The same, of samples that are unpacked first.
     fn add_unpacked(&mut self, stored: &Stored, samples: &mut [i32])
-        requires inside { FitsBlock 4096 self.old.channels stored.now.stretch }
+        requires inside { FitsBlock self.old.extent.frames self.old.extent.channels stored.now.stretch }
         requires room { stored.now.stretch.length * stored.now.channels ≤ length samples.old }
         ensures played { HasPlayed stored.now.stretch stored.now.shape stored.now.channels (bits_of stored.now.depth)
             (samples_in (bits_of stored.now.depth) (stored.now.stretch.length * stored.now.channels) stored.now.bytes.now)
             self.old self.new }
-        ensures same_channels { self.new.channels ≡ self.old.channels }
+        ensures same_extent { self.new.extent ≡ self.old.extent }
     {
         let samples = &mut samples[..stored.stretch.length as usize * stored.channels];
         unpack(stored.depth, stored.bytes, samples);
@@ -143,15 +143,15 @@ impl Sums {
 
     /// Adds what a stretch plays, frames that were unpacked.
     fn add_played(&mut self, played: &Played)
-        requires { FitsBlock 4096 self.old.channels played.now.stretch }
+        requires { FitsBlock self.old.extent.frames self.old.extent.channels played.now.stretch }
         ensures played { HasPlayed played.now.stretch played.now.shape played.now.frames.channels
             (bits_of played.now.frames.depth) played.now.frames.samples.now self.old self.new }
-        ensures same_channels { self.new.channels ≡ self.old.channels }
+        ensures same_extent { self.new.extent ≡ self.old.extent }
     {
-        let channels = self.channels as usize;
+        let lanes = self.lanes;
         let few = self.at_depth && self.additions.most < FEW_LAYERS;
-        if few && is_layer(played, channels, self.depth) {
-            add_layer(played, channels, self.depth, self.layers.as_mut_slice());
+        if few && is_layer(played, lanes.channels, self.depth) {
+            add_layer(played, lanes, self.depth, self.layers.as_mut_slice());
             self.additions = self.additions.with(&played.stretch);
         } else {
             self.add_at_full_scale(played);
@@ -160,10 +160,10 @@ impl Sums {
 
     /// The same at full scale.
     fn add_at_full_scale(&mut self, played: &Played)
-        requires { FitsBlock 4096 self.old.channels played.now.stretch }
+        requires { FitsBlock self.old.extent.frames self.old.extent.channels played.now.stretch }
         ensures played { HasPlayed played.now.stretch played.now.shape played.now.frames.channels
             (bits_of played.now.frames.depth) played.now.frames.samples.now self.old self.new }
-        ensures same_channels { self.new.channels ≡ self.old.channels }
+        ensures same_extent { self.new.extent ≡ self.old.extent }
     {
         let layers = self.layers.as_slice();
         widen_layers(
@@ -175,16 +175,18 @@ impl Sums {
         );
         self.at_depth = false;
         let is_small = self.additions.most < FEW;
-        let channels = self.channels as usize;
-        addition::add_played(played, channels, is_small, self.values.as_mut_slice());
+        let lanes = self.lanes;
+        addition::add_played(played, lanes, is_small, self.values.as_mut_slice());
         self.additions = self.additions.with(&played.stretch);
     }
 
     /// Hands out the first frames, as many as there is room for, at this depth.
     pub fn emit(&self, depth: Depth, out: &mut [i32])
-        requires { (frames : ℕ) × (frames ≤ 4096) × (length out.old ≡ frames * self.now.channels) }
-        ensures { (all : ℕ → ℕ → ℤ) → AreSums self.now all → (frames : ℕ) → length out.old ≡ frames * self.now.channels
-            → out.new ≡ block_samples (bits_of depth) all self.now.channels 0 frames }
+        requires { (frames : ℕ) × (frames ≤ self.now.extent.frames)
+            × (length out.old ≡ frames * self.now.extent.channels) }
+        ensures { (all : ℕ → ℕ → ℤ) → AreSums self.now all → (frames : ℕ)
+            → length out.old ≡ frames * self.now.extent.channels
+            → out.new ≡ block_samples (bits_of depth) all self.now.extent.channels 0 frames }
     {
         let layers = self.layers.as_slice();
         let values = self.values.as_slice();

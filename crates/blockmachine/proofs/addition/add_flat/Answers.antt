@@ -21,7 +21,7 @@ loop-i-preserved c =
     at c.added.ensures in
     let value = to_z-of_z w64 c.added.result fits ∙ sum
     ∙ ap (λ z. held (get_or sums n (pos 0) +ℤ z)) (c.full_sample-sample.ensures.value ∙ sym (flat_share _)) in
-    added_more n (1, 1) (bits_of c.args.scale.depth) c.args.samples.now c.args.sums.now sums _ inside c.loop-i.invariant value
+    added_more n (1, 1) (bits_of c.args.row.now.scale.depth) c.args.row.now.samples.now c.args.sums.now sums _ inside c.loop-i.invariant value
 
 pub added-requires-clause-small : goal.added-requires-clause-small
 added-requires-clause-small c = λ yes.

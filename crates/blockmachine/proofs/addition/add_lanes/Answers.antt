@@ -1,4 +1,4 @@
-use Rattle.std.proofs.Common.{◌≡◌, ◌<◌, ◌+◌, ℕ, List, length, get_or, set, arith, rules, sym, ap, ◌∙◌, subst}
+use Rattle.std.proofs.Common.{◌≡◌, ◌<◌, ◌+◌, ℕ, List, length, get_or, set, arith, refl, rules, sym, ap, ◌∙◌, subst}
 use Rattle.std.specs.Prelude.{ℤ, pos, ◌+ℤ◌}
 use Rattle.std.proofs.lemmas.Int.{to_z-of_z}
 use Rattle.std.proofs.lemmas.List.{get_or-set_other}
@@ -15,8 +15,8 @@ pub loop-sums-preserved : goal.loop-sums-preserved
 loop-sums-preserved c =
     let n = c.loop-sums.done in
     let sums = c.loop-sums.sums in
-    let bits = bits_of c.args.scale.depth in
-    let samples = c.args.samples.now in
+    let bits = bits_of c.args.row.now.scale.depth in
+    let samples = c.args.row.now.samples.now in
     let all = c.two_added.result in
     let near : n + 1 < length sums = omega arith in
     let low_fits : SFits w64 c.full_sample-low.result = search rules in
@@ -58,7 +58,7 @@ two_added-requires-clause-first c =
     let fits : SFits w64 (get_or sums n (pos 0)) = search rules in
     let same : get_or sums n (pos 0) ≡ get_or c.args.sums.now n (pos 0) =
     c.loop-sums.invariant.added.1 n (omega arith) in
-    rw (to_z-of_z w64 (get_or sums n (pos 0)) fits, same) (c.requires.small n (pos 0) (omega arith))
+    rw (to_z-of_z w64 (get_or sums n (pos 0)) fits, same) (c.requires.small refl n (pos 0) (omega arith))
 
 pub two_added-requires-clause-second : goal.two_added-requires-clause-second
 two_added-requires-clause-second c =
@@ -67,7 +67,7 @@ two_added-requires-clause-second c =
     let fits : SFits w64 (get_or sums (n + 1) (pos 0)) = search rules in
     let same : get_or sums (n + 1) (pos 0) ≡ get_or c.args.sums.now (n + 1) (pos 0) =
     c.loop-sums.invariant.added.1 (n + 1) (omega arith) in
-    rw (to_z-of_z w64 (get_or sums (n + 1) (pos 0)) fits, same) (c.requires.small (n + 1) (pos 0) (omega arith))
+    rw (to_z-of_z w64 (get_or sums (n + 1) (pos 0)) fits, same) (c.requires.small refl (n + 1) (pos 0) (omega arith))
 
 pub two_added-requires-clause-low : goal.two_added-requires-clause-low
 two_added-requires-clause-low c =

@@ -6,7 +6,7 @@ use Rattle.blockmachine.proofs.addition.add_lanes.Given as goal
 abbrev pub invariant-loop-sums : goal.invariant-loop-sums
 invariant-loop-sums l = record {
   within : l.done ≤ length l.sums;
-  added : HasAddedTo l.done (1, 1) (bits_of l.scale.depth) l.samples l.fn.sums l.sums;
+  added : HasAddedTo l.done (1, 1) (bits_of l.row.scale.depth) l.row.samples.now l.fn.sums l.sums;
 }
 
 abbrev pub decreases-loop-sums : goal.decreases-loop-sums

@@ -2,9 +2,10 @@ use Rattle.std.proofs.Common.{◌≡◌, ◌<◌, ◌≤◌, ℕ, ◌+◌, ◌-�
 use Rattle.std.specs.Prelude.{ℤ, pos}
 use Rattle.sound_terms.specs.declared.piece.Shape.{Shape}
 use Rattle.sound_terms.specs.Depth.{bits_of}
+use Rattle.sound_terms.specs.declared.Depth.{Depth}
 use Rattle.sound_terms.specs.Groups.{fraction_of}
 use Rattle.sound_terms.specs.Blocks.{sums_with}
-use Rattle.blockmachine.specs.Sums.{AreSums, IsWithin}
+use Rattle.blockmachine.specs.Sums.{AreSums, HasAdded, IsWithin, block_of}
 use Rattle.blockmachine.proofs.Added.{IsRun, no_sample, run_fits, run_more, ramp_shorter}
 use Rattle.blockmachine.proofs.Slopes.{slope_fraction, slope_less, slope_next, slope_room}
 use Rattle.blockmachine.proofs.Places.{get_or-part, kept_elsewhere}
@@ -16,8 +17,8 @@ loop-i-preserved c =
     let played = c.args.played.now in
     let stretch = played.stretch in
     let source = played.frames.channels in
-    let channels = c.args.channels in
-    let inside = c.requires.inside in
+    let channels = c.args.lanes.channels in
+    let inside = c.requires.takes.inside in
     let i = c.loop-i.i in
     let old = c.loop-i.sums in
     let new = c.add_row.new.sums in
@@ -29,11 +30,11 @@ loop-i-preserved c =
     let long : k ≡ stretch.width = omega (arith, c.requires.width) in
     let wide : m ≡ k = omega arith in
     let same = c.loop-i.invariant.same_length in
-    let room : length old ≡ 4096 * channels = same ∙ c.requires.room in
+    let room : length old ≡ c.args.lanes.frames * channels = same ∙ c.requires.takes.whole in
     let piece : IsRun 1 stretch.width source channels k = inl (refl, long) in
     let short : i + 1 ≤ stretch.length = omega arith in
     let fit : a + k ≤ length old =
-    omega (arith, run_fits stretch source channels i 1 k inside piece short, room) in
+    omega (arith, run_fits stretch source c.args.lanes.frames channels i 1 k inside piece short, room) in
     let whole : length new ≡ k = c.add_row.auto.sums ∙ omega (arith, length-take {A = ℤ}, length-drop {A = ℤ}, fit) in
     let slope = c.loop-i.slope in
     let rise = slope.rise in
@@ -47,12 +48,14 @@ loop-i-preserved c =
           next.falls next.num next.den next.by;
       same_length = length-put_mid a k old new fit whole ∙ same;
       played = λ reading plays before are.
-          run_more reading stretch played.shape before source channels (bits_of c.args.scale.depth)
+          run_more reading stretch played.shape before source c.args.lanes.frames channels (bits_of played.frames.depth)
           played.frames.samples.now inside played.source plays i 1 k (gain.num, gain.den) samples old new piece short
           room whole (λ n below. get_or-part f m n played.frames.samples.now (pos 0) (omega (arith, wide, below)))
           (λ j low high. let here : j ≡ i = omega arith in
           ap (λ n. fraction_of played.shape n) here ∙ fraction)
-          (c.loop-i.invariant.played reading plays before are) c.add_row.ensures;
+          (c.loop-i.invariant.played reading plays before are)
+          (subst (λ (d : Depth). HasAdded (gain.num, gain.den) (bits_of d) samples (take k (drop a old)) new)
+          c.of-scale.ensures c.add_row.ensures);
       behind = λ n d later.
           let row : (stretch.at + (i + 1)) * channels ≤ n = later in
           let next : (stretch.at + i + 1) * channels ≤ n = omega arith in
@@ -74,7 +77,7 @@ loop-i-init c = record {
 pub of-slope-requires : goal.of-slope-requires
 of-slope-requires c =
     let played = c.args.played.now in
-    ramp_shorter played.shape played.stretch.length 1 c.requires.inside.some played.ramp
+    ramp_shorter played.shape played.stretch.length 1 c.requires.takes.inside.some played.ramp
 
 pub gain-gain-requires : goal.gain-gain-requires
 gain-gain-requires c =
@@ -92,11 +95,11 @@ next-slope-requires c =
     slope_room played.shape i c.loop-i.slope.falls rise.num rise.den rise.by c.loop-i.invariant.slope
     (ramp_shorter played.shape played.stretch.length (i + 1) (omega arith) played.ramp)
 
-pub add_row-requires-clause-small : goal.add_row-requires-clause-small
-add_row-requires-clause-small c = λ yes j d below.
+pub add_row-requires-clause-takes : goal.add_row-requires-clause-takes
+add_row-requires-clause-takes c =
     let stretch = c.args.played.now.stretch in
-    let channels = c.args.channels in
-    let inside = c.requires.inside in
+    let channels = c.args.lanes.channels in
+    let inside = c.requires.takes.inside in
     let i = c.loop-i.i in
     let old = c.loop-i.sums in
     let a = (stretch.at + i) * channels + (stretch.dest - 1) in
@@ -107,33 +110,37 @@ add_row-requires-clause-small c = λ yes j d below.
     let fit : a + k ≤ length old =
     omega (
       arith,
-      run_fits stretch c.args.played.now.frames.channels channels i 1 k inside piece (omega arith),
+      run_fits stretch c.args.played.now.frames.channels c.args.lanes.frames channels i 1 k inside piece (omega arith),
       same,
-      c.requires.room,
+      c.requires.takes.whole,
     ) in
-    let near : j < k = omega (arith, below, length-take k (drop a old)) in
-    subst (IsWithin 32766) (sym (get_or-part a k j old d near ∙ c.loop-i.invariant.behind (a + j) d (omega arith)))
-    (c.requires.small yes (a + j) d (omega (arith, same, fit, near)))
+    record {
+      each = search rules;
+      small = λ yes j d below.
+          let near : j < k = omega (arith, below, length-take k (drop a old)) in
+          subst (IsWithin 32766) (sym (get_or-part a k j old d near ∙ c.loop-i.invariant.behind (a + j) d (omega arith)))
+          (c.requires.takes.small yes (a + j) d (omega (arith, same, fit, near)));
+    }
 
 pub slice_bounds-add_row-end : goal.slice_bounds-add_row-end
 slice_bounds-add_row-end c =
     let stretch = c.args.played.now.stretch in
-    let channels = c.args.channels in
-    let inside = c.requires.inside in
+    let channels = c.args.lanes.channels in
+    let inside = c.requires.takes.inside in
     let a = (stretch.at + c.loop-i.i) * channels + (stretch.dest - 1) in
     let piece : IsRun 1 stretch.width c.args.played.now.frames.channels channels c.args.width =
     inl (refl, c.requires.width) in
-    let fits = run_fits stretch c.args.played.now.frames.channels channels c.loop-i.i 1 c.args.width inside piece
+    let fits = run_fits stretch c.args.played.now.frames.channels c.args.lanes.frames channels c.loop-i.i 1 c.args.width inside piece
     (omega arith) in
     let fit : a + c.args.width ≤ length c.loop-i.sums =
-    omega (arith, fits, c.loop-i.invariant.same_length, c.requires.room) in
+    omega (arith, fits, c.loop-i.invariant.same_length, c.requires.takes.whole) in
     search (rules, fit)
 
 pub returns : goal.returns
 returns c = λ reading plays before are.
     let played = c.args.played.now in
     let end : c.loop-i.i ≡ played.stretch.length = omega arith in
-    subst (λ (n : ℕ). AreSums (record { channels = c.args.channels; values = c.loop-i.sums })
+    subst (λ (n : ℕ). AreSums (block_of c.args.lanes.frames c.args.lanes.channels c.loop-i.sums)
     (sums_with reading (record played.stretch { length = n }) played.shape before)) end
     (c.loop-i.invariant.played reading plays before are)
 

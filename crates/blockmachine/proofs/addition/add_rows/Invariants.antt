@@ -5,7 +5,7 @@ use Rattle.sound_terms.specs.Mix.{Reading}
 use Rattle.sound_terms.specs.Blocks.{sums_with}
 use Rattle.blockmachine.specs.Playing.{Plays}
 use Rattle.blockmachine.specs.Slopes.{IsAt}
-use Rattle.blockmachine.specs.Sums.{AreSums}
+use Rattle.blockmachine.specs.Sums.{AreSums, block_of}
 use Rattle.blockmachine.proofs.addition.add_rows.Given as goal
 
 abbrev pub invariant-loop-i : goal.invariant-loop-i
@@ -13,9 +13,9 @@ invariant-loop-i l = record {
   slope : IsAt l.played.shape l.i l.slope.falls l.slope.rise.num l.slope.rise.den l.slope.rise.by;
   same_length : length l.sums ≡ length l.fn.sums;
   played : (reading : Reading)
-      → Plays reading l.played.stretch l.played.frames.channels (bits_of l.scale.depth) l.played.frames.samples.now
-      → (before : ℕ → ℕ → ℤ) → AreSums (record { channels = l.channels; values = l.fn.sums }) before
-      → AreSums (record { channels = l.channels; values = l.sums })
+      → Plays reading l.played.stretch l.played.frames.channels (bits_of l.played.frames.depth) l.played.frames.samples.now
+      → (before : ℕ → ℕ → ℤ) → AreSums (block_of l.lanes.frames l.lanes.channels l.fn.sums) before
+      → AreSums (block_of l.lanes.frames l.lanes.channels l.sums)
       (sums_with reading (record l.played.stretch { length = l.i }) l.played.shape before);
-  behind : (n : ℕ) (d : ℤ) → (l.played.stretch.at + l.i) * l.channels ≤ n → get_or l.sums n d ≡ get_or l.fn.sums n d;
+  behind : (n : ℕ) (d : ℤ) → (l.played.stretch.at + l.i) * l.lanes.channels ≤ n → get_or l.sums n d ≡ get_or l.fn.sums n d;
 }

@@ -29,26 +29,26 @@ returns c =
     let stretch = c.in_ok-stretch.stretch in
     let same = c.if-ne.ensures in
     let at : stretch.at ≡ 0 = grind (arith, nat_tests) in
-    let long : stretch.length ≡ c.args.frames = grind (arith, nat_tests) in
+    let long : stretch.length ≡ c.args.lanes.frames = grind (arith, nat_tests) in
     let first : stretch.first ≡ 1 = grind (arith, nat_tests) in
     let dest : stretch.dest ≡ 1 = grind (arith, nat_tests) in
-    let wide : stretch.width ≡ c.args.channels = grind (arith, nat_tests) in
+    let wide : stretch.width ≡ c.args.lanes.channels = grind (arith, nat_tests) in
     let sound = c.index-sounds-stretch.result in
     let lines : c.args.lines.now ≡ Flat stretch ∷ [] =
     alone c.args.lines.now (Flat stretch) (omega (arith, c.in-len1.len_at_least, c.in-len1.len_below))
     c.in_ok-stretch.ensures in
     let lies : LiesInFile c.args.sounds.now stretch.file stretch.first stretch.width stretch.frame stretch.length =
-    All-head (LiesInFiles c.args.sounds.now) (Flat stretch) [] (rw lines at c.requires.inside) in
+    All-head (LiesInFiles c.args.sounds.now) (Flat stretch) [] (rw lines at c.requires) in
     let found : slice_get c.args.sounds.now stretch.file ≡ Some sound =
     slice_get_read c.args.sounds.now (length c.args.sounds.now) stretch.file sound refl
     (slice_get_within c.args.sounds.now stretch.file lies.facts lies.there) c.index-sounds-stretch.is in
-    let parts : stretch ≡ filling stretch.file stretch.frame c.args.frames c.args.channels =
-    by_parts stretch 0 c.args.frames 1 1 c.args.channels at long first dest wide in
+    let parts : stretch ≡ filling stretch.file stretch.frame c.args.lanes.frames c.args.lanes.channels =
+    by_parts stretch 0 c.args.lanes.frames 1 1 c.args.lanes.channels at long first dest wide in
     record {
       alone = lines ∙ ap (λ (s : Stretch). Flat s ∷ []) parts;
       whole = refl;
       facts = sound;
       there = found;
-      channels_alike = sym c.channels.ensures.channels ∙ c.if-channels.false;
+      channels_alike = sym c.channels.ensures.channels ∙ c.if-channels-lanes.false;
       depth_alike = grind arith;
     }

@@ -6,19 +6,23 @@ use Rattle.blockmachine.proofs.layers.add_layer.Goals as goal
 pub slice_bounds-run-end : goal.slice_bounds-run-end
 slice_bounds-run-end c =
     let played = c.args.played.now in
-    let fit = run_inside played.stretch played.shape played.frames.channels c.args.channels (bits_of c.args.depth)
-    c.args.sums.now c.requires.inside c.requires.run c.requires.room in
+    let fit = run_inside played.stretch played.shape played.frames.channels c.args.lanes.frames c.args.lanes.channels
+    (bits_of played.frames.depth) (bits_of c.args.depth) c.args.sums.now c.requires.layer c.requires.takes in
     search (rules, fit)
 
-pub add_samples-requires-clause-small : goal.add_samples-requires-clause-small
-add_samples-requires-clause-small c =
+pub add_samples-requires : goal.add_samples-requires
+add_samples-requires c =
     let played = c.args.played.now in
-    small_run played.stretch played.shape played.frames.channels c.args.channels (bits_of c.args.depth)
-    c.args.sums.now c.requires.inside c.requires.run c.requires.room c.requires.small
+    record {
+      each = search rules;
+      small = λ yes. small_run played.stretch played.shape played.frames.channels c.args.lanes.frames
+          c.args.lanes.channels (bits_of played.frames.depth) (bits_of c.args.depth) c.args.sums.now
+          c.requires.layer c.requires.takes;
+    }
 
 pub returns : goal.returns
 returns c =
     let played = c.args.played.now in
-    layer_played played.stretch played.shape played.frames.channels c.args.channels (bits_of c.args.depth)
-    c.args.sums.now c.requires.inside c.requires.run c.requires.room (bits_of played.frames.depth)
+    layer_played played.stretch played.shape played.frames.channels c.args.lanes.frames c.args.lanes.channels
+    (bits_of played.frames.depth) (bits_of c.args.depth) c.args.sums.now c.requires.layer c.requires.takes
     played.frames.samples.now c.add_samples.new.sums played.source c.add_samples.auto.sums c.add_samples.ensures

@@ -16,9 +16,9 @@ pub loop-i-preserved : goal.loop-i-preserved
 loop-i-preserved c =
     let n = c.loop-i.i in
     let sums = c.loop-i.sums in
-    let samples = c.args.samples.now in
-    let depth = bits_of c.args.depth in
-    let source = bits_of c.args.source in
+    let samples = c.args.layer.now.frames.samples.now in
+    let depth = bits_of c.args.layer.now.depth in
+    let source = bits_of c.args.layer.now.frames.depth in
     let inside : n < length sums = omega arith in
     let sum_fits : SFits w32 (get_or sums n (pos 0)) = search rules in
     let sample_fits : SFits w32 (get_or samples n (pos 0)) = search rules in
@@ -42,10 +42,10 @@ layered-requires-clause-small c =
     let n = c.loop-i.i in
     let sums = c.loop-i.sums in
     let old = c.args.sums.now in
-    let depth = bits_of c.args.depth in
+    let depth = bits_of c.args.layer.now.depth in
     let inside : n < length sums = omega arith in
     let within : n < length old = omega arith in
     let sum_fits : SFits w32 (get_or sums n (pos 0)) = search rules in
     let same = sym (c.loop-i.invariant.1 n (omega arith)) ∙ get_or-widened depth sums n inside in
     rw (to_z-of_z w32 (get_or sums n (pos 0)) sum_fits)
-    (subst (IsWithin 254) same (c.requires.small n (pos 0) (rw (length-map old (full_scale depth)) within)))
+    (subst (IsWithin 254) same (c.requires.small refl n (pos 0) (rw (length-map old (full_scale depth)) within)))

@@ -14,8 +14,8 @@ returns c =
     let sum = c.args.sum in
     let sample = c.at_depth.result in
     let fits : SFits w32 sample = search rules in
-    let whole = layer_fits c.args.depth sum sample c.requires.shallow c.requires.small c.at_depth.ensures.fit in
+    let whole = layer_fits c.args.layer.now.depth sum sample c.args.layer.now.shallow c.requires.small c.at_depth.ensures.fit in
     let value = rw (to_z-of_z w32 c.args.sample c.ranges.sample) at c.at_depth.ensures.value in
     rw (to_z-of_z w32 sum c.ranges.sum, to_z-of_z w32 sample fits, to_z-of_z w32 (sum +ℤ sample) whole)
-    (layer_sum c.args.depth sum sample c.requires.small c.at_depth.ensures.fit
-    ∙ ap (λ z. held (full_scale (bits_of c.args.depth) sum +ℤ z)) value)
+    (layer_sum c.args.layer.now.depth sum sample c.requires.small c.at_depth.ensures.fit
+    ∙ ap (λ z. held (full_scale (bits_of c.args.layer.now.depth) sum +ℤ z)) value)

@@ -15,7 +15,7 @@ pub loop-line-preserved : goal.loop-line-preserved
 loop-line-preserved g c =
     let quiet = c.loop-line.invariant.quiet in
     record {
-      same_channels = search rules;
+      same_extent = search rules;
       held = c.in_ok-add_line.ensures.held;
       quiet = search rules;
       added = λ honest channels before are.

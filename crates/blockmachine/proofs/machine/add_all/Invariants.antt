@@ -8,7 +8,7 @@ use Rattle.blockmachine.proofs.machine.add_all.Given as goal
 
 abbrev pub invariant-loop-line : goal.invariant-loop-line
 invariant-loop-line g l = record {
-  same_channels : l.sums.channels ≡ l.fn.sums.channels;
+  same_extent : l.sums.extent ≡ l.fn.sums.extent;
   held : Holds (g.S.Shelf.honest l.shelf) (g.S.Shelf.stored l.shelf) l.sounds l.buffer.held l.buffer.bytes.items;
   quiet : IsQuiet g.S.Shelf l.fn.shelf l.shelf;
   added : IsTrue (g.S.Shelf.honest l.fn.shelf) → (channels : ℕ) (before : BlockState) → AreSums l.fn.sums before.sums

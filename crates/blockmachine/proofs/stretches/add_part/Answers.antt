@@ -39,7 +39,7 @@ returns-clause-added g c = λ honest before are.
     let sound = c.index-sounds-part.result in
     let part = c.args.part.now in
     let sounds = c.args.sounds.now in
-    let lies = c.requires.lies in
+    let lies = c.requires.plays.lies in
     let found : slice_get sounds part.file ≡ Some sound =
     slice_get_read sounds (length sounds) part.file sound refl
     (slice_get_within sounds part.file lies.facts lies.there) c.index-sounds-part.is in
@@ -72,7 +72,7 @@ returns-clause-added g c = λ honest before are.
     subst (λ (f : SoundFacts). part.first + part.width ≤ f.channels + 1) same lies.channels in
     let inside : part.frame + part.length ≤ sound.frames =
     subst (λ (f : SoundFacts). part.frame + part.length ≤ f.frames) same lies.frames in
-    let first = c.requires.inside.source_from_one in
+    let first = c.requires.plays.inside.source_from_one in
     let plays = held_plays files sounds sound part bytes found range whole first last inside in
     let told : Plays reading part sound.channels (bits_of c.depth-depth.result)
     (samples_in (bits_of c.depth-depth.result) (part.length * sound.channels) bytes) =
@@ -87,7 +87,7 @@ returns-clause-full g c = λ honest.
     let sound = c.index-sounds-part.result in
     let part = c.args.part.now in
     let sounds = c.args.sounds.now in
-    let lies = c.requires.lies in
+    let lies = c.requires.plays.lies in
     let found : slice_get sounds part.file ≡ Some sound =
     slice_get_read sounds (length sounds) part.file sound refl
     (slice_get_within sounds part.file lies.facts lies.there) c.index-sounds-part.is in
@@ -120,7 +120,7 @@ returns-clause-full g c = λ honest.
     subst (λ (f : SoundFacts). part.first + part.width ≤ f.channels + 1) same lies.channels in
     let inside : part.frame + part.length ≤ sound.frames =
     subst (λ (f : SoundFacts). part.frame + part.length ≤ f.frames) same lies.frames in
-    let first = c.requires.inside.source_from_one in
+    let first = c.requires.plays.inside.source_from_one in
     held_full files sounds sound part bytes found range whole first last inside
     (small_front (part.length * c.channels-channels.result * c.from.result) all
     (λ k. search rules))
@@ -130,7 +130,7 @@ slice_bounds-stored-end g c =
     let sound = c.index-sounds-part.result in
     let part = c.args.part.now in
     let sounds = c.args.sounds.now in
-    let lies = c.requires.lies in
+    let lies = c.requires.plays.lies in
     let found : slice_get sounds part.file ≡ Some sound =
     slice_get_read sounds (length sounds) part.file sound refl
     (slice_get_within sounds part.file lies.facts lies.there) c.index-sounds-part.is in
@@ -154,7 +154,7 @@ add-requires-clause-room g c =
     let sound = c.index-sounds-part.result in
     let part = c.args.part.now in
     let sounds = c.args.sounds.now in
-    let lies = c.requires.lies in
+    let lies = c.requires.plays.lies in
     let found : slice_get sounds part.file ≡ Some sound =
     slice_get_read sounds (length sounds) part.file sound refl
     (slice_get_within sounds part.file lies.facts lies.there) c.index-sounds-part.is in

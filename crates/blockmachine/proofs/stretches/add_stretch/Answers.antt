@@ -1,11 +1,13 @@
-use Rattle.std.proofs.Common.{◌≡◌, ℕ, List, ◌++◌, IsTrue, drop, length, rules, sym, take, ◌∙◌, subst}
+use Rattle.std.proofs.Common.{◌≡◌, ℕ, ◌*◌, ◌/◌, ◌≤◌, List, ◌++◌, IsTrue, Some, arith, drop, length, refl, rules, sym, take, ap, ◌∙◌, subst}
+use Rattle.std.proofs.Math.Nat.{div-add-mod, mul-le-mul_right}
 use Rattle.std.proofs.lemmas.List.{take_at}
-use Rattle.std.specs.Prelude.{ℤ}
+use Rattle.std.proofs.lemmas.Option.{same_Some, slice_get_read, slice_get_within}
+use Rattle.std.specs.Prelude.{ℤ, slice_get}
 use Rattle.sound_terms.specs.declared.block.Stretch.{Stretch}
 use Rattle.sound_terms.specs.Mix.{Reading}
 use Rattle.sound_terms.specs.Passes.{shape_behind}
 use Rattle.sound_terms.specs.Blocks.{sums_with, IsFull}
-use Rattle.sound_terms.specs.Sounds.{reading_by}
+use Rattle.sound_terms.specs.Sounds.{SoundFacts, reading_by}
 use Rattle.work_terms.specs.Disk.{Files}
 use Rattle.blockmachine.specs.Holding.{Holds}
 use Rattle.blockmachine.specs.Sums.{AreSums}
@@ -22,7 +24,7 @@ loop-done-preserved g c =
     let quiet = c.loop-done.invariant.quiet in
     record {
       within = search rules;
-      same_channels = search rules;
+      same_extent = search rules;
       held =
           let new = c.add_part.new.bytes in
           let items = c.loop-done.buffer.bytes.items in
@@ -60,3 +62,26 @@ loop-done-preserved g c =
           (subst (λ (p : Stretch). IsFull (reading_by (g.S.Shelf.stored c.args.shelf.now) c.args.sounds.now) p)
           c.part_of-part.ensures same);
     }
+
+pub add_part-requires-clause-few : goal.add_part-requires-clause-few
+add_part-requires-clause-few g c = λ facts there.
+    let sounds = c.args.sounds.now in
+    let stretch = c.args.stretch.now in
+    let lies = c.requires.plays.lies in
+    let sound = c.index-sounds-stretch.result in
+    let n = c.channels.result in
+    let count = c.min-count.result in
+    let found : slice_get sounds stretch.file ≡ Some sound =
+    slice_get_read sounds (length sounds) stretch.file sound refl
+    (slice_get_within sounds stretch.file lies.facts lies.there) c.index-sounds-stretch.is in
+    let file : c.part_of-part.result.file ≡ stretch.file = ap (λ (s : Stretch). s.file) c.part_of-part.ensures in
+    let long : c.part_of-part.result.length ≡ count = ap (λ (s : Stretch). s.length) c.part_of-part.ensures in
+    let same : sound ≡ facts = same_Some sound facts (sym found ∙ ap (slice_get sounds) (sym file) ∙ there) in
+    let wide : facts.channels ≡ n =
+    ap (λ (f : SoundFacts). f.channels) (sym same) ∙ sym c.channels.ensures.channels in
+    let few : count ≤ 16384 / n = omega (arith, c.min-count.ensures) in
+    let row : count * n ≤ 16384 / n * n = mul-le-mul_right n few in
+    let most = div-add-mod 16384 n in
+    let room : length c.as_mut_slice-samples.result.now ≡ 16384 =
+    ap (λ (l : List ℤ). length l) c.as_mut_slice-samples.ensures.value ∙ c.loop-done.buffer.samples_room in
+    rw (long, wide) (omega (arith, row, most, room))

@@ -10,7 +10,7 @@ use Rattle.blockmachine.proofs.stretches.add_stretch.Given as goal
 abbrev pub invariant-loop-done : goal.invariant-loop-done
 invariant-loop-done g l = record {
   within : l.done ≤ l.stretch.length;
-  same_channels : l.sums.channels ≡ l.fn.sums.channels;
+  same_extent : l.sums.extent ≡ l.fn.sums.extent;
   held : Holds (g.S.Shelf.honest l.shelf) (g.S.Shelf.stored l.shelf) l.sounds l.buffer.held l.buffer.bytes.items;
   quiet : IsQuiet g.S.Shelf l.fn.shelf l.shelf;
   added : IsTrue (g.S.Shelf.honest l.fn.shelf) → (before : ℕ → ℕ → ℤ) → AreSums l.fn.sums before

@@ -1,4 +1,4 @@
-use Rattle.std.proofs.Common.{◌≡◌, ◌-◌, List, All, length, drop, sym, ◌∙◌, subst}
+use Rattle.std.proofs.Common.{◌≡◌, ◌-◌, List, All, length, drop, take, sym, ◌∙◌, subst}
 use Rattle.std.proofs.lemmas.Option.{same_Some}
 use Rattle.std.proofs.lemmas.List.Elements.{All-drop, All-take, All-weaker}
 use Rattle.sound_terms.specs.declared.block.Instruction.{Instruction}
@@ -7,30 +7,31 @@ use Rattle.sound_terms.specs.declared.Depth.{Depth}
 use Rattle.sound_terms.specs.Depth.{bits_of}
 use Rattle.sound_terms.specs.Blocks.{IsFormed, LiesInFiles}
 use Rattle.pcm.specs.Samples.{FitsDepth}
-use Rattle.blockmachine.proofs.Ran.{between_ends, formed_longer}
+use Rattle.blockmachine.proofs.Ran.{between_ends, can_add, formed_longer}
 use Rattle.blockmachine.proofs.machine.Machine.run.Goals as goal
 
-pub run_lines-requires-clause-formed : goal.run_lines-requires-clause-formed
-run_lines-requires-clause-formed g c =
+pub run_lines-requires-clause-lines : goal.run_lines-requires-clause-lines
+run_lines-requires-clause-lines g c =
+    let sounds = c.args.sounds.now in
     let fits = c.requires.fits in
     let block = fits.3 in
+    let program = c.as_slice-instructions.result.now in
     let between =
-    between_ends c.as_slice-instructions.result.now block.lines (Start fits.0) (Emit fits.1)
-    (c.as_slice-instructions.ensures ∙ block.whole) in
+    between_ends program block.lines (Start fits.0) (Emit fits.1) (c.as_slice-instructions.ensures ∙ block.whole) in
     let most = c.args.self.now.frames in
     let n = c.args.self.now.channels in
     let longer =
     All-weaker (IsFormed fits.0 n) (IsFormed most n) (λ line formed. formed_longer fits.0 most n fits.2 line formed)
     block.lines block.formed in
-    subst (λ (l : List Instruction). All (IsFormed most n) l) (sym between) longer
-
-pub run_lines-requires-clause-inside : goal.run_lines-requires-clause-inside
-run_lines-requires-clause-inside g c =
-    let program = c.as_slice-instructions.result.now in
+    let lines = take (length program - 1 - 1) (drop 1 program) in
+    let formed : All (IsFormed most n) lines =
+    subst (λ (l : List Instruction). All (IsFormed most n) l) (sym between) longer in
     let all =
-    All-drop (LiesInFiles c.args.sounds.now) 1 program
-    (subst (All (LiesInFiles c.args.sounds.now)) (sym c.as_slice-instructions.ensures) c.requires.inside) in
-    All-take (LiesInFiles c.args.sounds.now) (length program - 1 - 1) (drop 1 program) all
+    All-drop (LiesInFiles sounds) 1 program
+    (subst (All (LiesInFiles sounds)) (sym c.as_slice-instructions.ensures) c.requires.inside) in
+    let lies : All (LiesInFiles sounds) lines =
+    All-take (LiesInFiles sounds) (length program - 1 - 1) (drop 1 program) all in
+    λ k d below. can_add sounds c.args.self.now _ (formed k d below) (lies k d below)
 
 pub run_lines-requires-clause-whole : goal.run_lines-requires-clause-whole
 run_lines-requires-clause-whole g c = (c.requires.fits.0, c.requires.fits.2, c.requires.fits.4)

@@ -1,14 +1,17 @@
 use Rattle.std.proofs.Common.{◌≡◌, ℕ, ◌+◌, ◌-◌, ◌*◌, [], ◌∷◌, length, refl, sym, ap, ◌∙◌}
+use Rattle.std.proofs.lemmas.List.Elements.{All-weaker}
 use Rattle.std.specs.Prelude.{ℤ, pos, slice_index_or}
 use Rattle.sound_terms.specs.declared.block.Instruction.TheVariants.{Emit}
 use Rattle.sound_terms.specs.declared.Depth.{Depth}
 use Rattle.sound_terms.specs.Depth.{bits_of}
 use Rattle.sound_terms.specs.Mix.{Reading}
-use Rattle.sound_terms.specs.Blocks.{BlockState, block_samples, executed_all}
+use Rattle.sound_terms.specs.Blocks.{BlockState, IsFormed, block_samples, executed_all}
 use Rattle.sound_terms.specs.BlockLaws.{executed_all-append, frames_kept}
 use Rattle.sound_terms.specs.Sounds.{reading_by}
+use Rattle.blockmachine.specs.Lines.{CanAdd}
 use Rattle.blockmachine.specs.Sums.{Extent}
 use Rattle.blockmachine.proofs.Fits.{fits_block}
+use Rattle.blockmachine.proofs.Ran.{added_formed}
 use Rattle.blockmachine.proofs.machine.Machine.run_lines.Goals as goal
 
 -- what was handed out, by the channels of the sums
@@ -24,11 +27,13 @@ returns-clause-ran g c = λ honest frames start long.
     let begun : BlockState = record start { frames = frames; sums = λ i channel. pos 0 } in
     let added : BlockState = executed_all reading channels lines begun in
     let sums = c.in_ok-add_all.ensures.added honest channels begun c.clear.ensures.zero in
-    let told : c.add_all.new.sums.channels ≡ channels =
-    c.add_all.ensures.same_channels ∙ c.clear.ensures.same_channels ∙ ap (λ (e : Extent). e.channels) c.self.view_is in
-    let kept = frames_kept reading c.args.self.now.frames channels lines begun c.requires.formed in
+    let told : c.add_all.new.sums.extent.channels ≡ channels =
+    ap (λ (e : Extent). e.channels) (c.add_all.ensures.same_extent ∙ c.clear.ensures.same_extent ∙ c.self.view_is) in
+    let kept = frames_kept reading c.args.self.now.frames channels lines begun
+    (All-weaker (CanAdd c.args.sounds.now c.args.self.now) (IsFormed c.args.self.now.frames channels)
+    (added_formed c.args.sounds.now c.args.self.now) lines c.requires.lines) in
     c.emit.ensures added.sums sums frames (long ∙ ap (λ n. frames * n) (sym told))
-    ∙ same_channels c.args.depth c.add_all.new.sums.channels channels added.sums frames told
+    ∙ same_channels c.args.depth c.add_all.new.sums.extent.channels channels added.sums frames told
     ∙ ap (block_samples (bits_of c.args.depth) added.sums channels 0) (sym kept)
     ∙ sym (ap (λ (state : BlockState). state.out)
     (executed_all-append reading channels lines (Emit c.args.depth ∷ []) begun))
@@ -36,10 +41,10 @@ returns-clause-ran g c = λ honest frames start long.
 pub returns-clause-fit : goal.returns-clause-fit
 returns-clause-fit g c =
     let sums = c.add_all.new.sums in
-    let channels = sums.channels in
+    let channels = sums.extent.channels in
     let all : ℕ → ℕ → ℤ = λ i channel. slice_index_or sums.values (i * channels + (channel - 1)) (pos 0) in
     let told : channels ≡ c.args.self.now.channels =
-    c.add_all.ensures.same_channels ∙ c.clear.ensures.same_channels ∙ ap (λ (e : Extent). e.channels) c.self.view_is in
+    ap (λ (e : Extent). e.channels) (c.add_all.ensures.same_extent ∙ c.clear.ensures.same_extent ∙ c.self.view_is) in
     let long : length c.args.out.now ≡ c.requires.whole.0 * channels =
     c.requires.whole.2 ∙ ap (λ n. c.requires.whole.0 * n) (sym told) in
     rw (c.emit.ensures all (λ i channel room first there. refl) c.requires.whole.0 long)

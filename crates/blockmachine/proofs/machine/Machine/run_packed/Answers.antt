@@ -33,13 +33,13 @@ pub read_stored-requires-clause-whole : goal.read_stored-requires-clause-whole
 read_stored-requires-clause-whole g c = λ facts there.
     let fills = c.in-Some.ensures in
     let same = same_Some fills.facts facts (sym fills.there ∙ there) in
-    let channels = c.channels-channels.result in
+    let channels = c.lanes-lanes.result.channels in
     let frames = c.requires.fits.0 in
     let told : channels ≡ c.args.self.now.channels =
-    c.channels-channels.ensures.channels ∙ ap (λ (e : Extent). e.channels) c.self.view_is in
+    c.lanes-lanes.ensures.channels ∙ ap (λ (e : Extent). e.channels) c.self.view_is in
     let count =
     count_of (length c.args.samples.now) frames c.args.self.now.channels channels c.requires.fits.3 told
-    c.channels-channels.ensures.within.0 in
+    c.lanes-lanes.result.some_channels in
     let long : c.in-Some.stretch.length ≡ frames = ap (λ (s : Stretch). s.length) fills.whole ∙ count in
     let wide : facts.channels ≡ c.args.self.now.channels = rw same at (fills.channels_alike ∙ told) in
     let deep : bits_of facts.depth ≡ bits_of c.args.depth =
@@ -53,14 +53,14 @@ returns-in-Some-clause-ran g c = λ honest. on_ok c.read_stored.result (c.read_s
     let depth = c.args.depth in
     let bits = bits_of depth in
     let bytes = c.read_stored.new.bytes in
-    let channels = c.channels-channels.result in
+    let channels = c.lanes-lanes.result.channels in
     let n = c.args.self.now.channels in
     let frames = c.requires.fits.0 in
     let reading : Reading = reading_by (g.S.Shelf.stored c.args.shelf.now) c.args.sounds.now in
-    let told : channels ≡ n = c.channels-channels.ensures.channels ∙ ap (λ (e : Extent). e.channels) c.self.view_is in
+    let told : channels ≡ n = c.lanes-lanes.ensures.channels ∙ ap (λ (e : Extent). e.channels) c.self.view_is in
     let count =
     count_of (length c.args.samples.now) frames n channels c.requires.fits.3 told
-    c.channels-channels.ensures.within.0 in
+    c.lanes-lanes.result.some_channels in
     let stretch : c.in-Some.stretch ≡ filling c.in-Some.stretch.file c.in-Some.stretch.frame frames n =
     fills.whole
     ∙ ap (λ m. filling c.in-Some.stretch.file c.in-Some.stretch.frame m channels) count

@@ -7,7 +7,7 @@ use Rattle.sound_terms.specs.Mix.{full_scale}
 use Rattle.sound_terms.specs.Blocks.{FitsBlock}
 use Rattle.pcm.specs.Laws.{length-samples_in}
 use Rattle.pcm.specs.Samples.{samples_in}
-use Rattle.blockmachine.specs.Sums.{AreFew, BlockSums, HasPlayed, kept_sums, widened}
+use Rattle.blockmachine.specs.Sums.{AreFew, BlockSums, HasPlayed, block_of, kept_sums, widened}
 use Rattle.blockmachine.proofs.Counted.{few_after, played_as, written}
 use Rattle.blockmachine.proofs.sums.Sums.add.Goals as goal
 
@@ -21,39 +21,36 @@ invariant_of-self c =
     let new = c.add_stored_layer.new.sums in
     let rest = drop (length new) inside.layers.items in
     let long : length new ≡ n = search rules in
-    let whole : n ≡ 4096 * inside.channels = search rules in
+    let whole : n ≡ inside.lanes.frames * inside.lanes.channels = search rules in
     let deep : inside.at_depth ≡ true = search rules in
     let same : stored.depth ≡ inside.depth = (c.is_stored_layer.ensures.same_depth (search rules)) in
     let layer : HasPlayed stored.stretch stored.shape stored.channels (bits_of stored.depth)
     (samples_in (bits_of stored.depth) (stored.stretch.length * stored.channels) stored.bytes.now)
-    (record { channels = inside.channels; values = widened bits old })
-    (record { channels = inside.channels; values = widened bits new }) =
+    (block_of inside.lanes.frames inside.lanes.channels (widened bits old))
+    (block_of inside.lanes.frames inside.lanes.channels (widened bits new)) =
     subst (λ (d : Depth). HasPlayed stored.stretch stored.shape stored.channels (bits_of stored.depth)
     (samples_in (bits_of stored.depth) (stored.stretch.length * stored.channels) stored.bytes.now)
-    (record { channels = inside.channels; values = widened (bits_of d) old })
-    (record { channels = inside.channels; values = widened (bits_of d) new })) same c.add_stored_layer.ensures.played in
-    let channels : inside.channels ≡ c.args.self.now.channels = ap (λ (s : BlockSums). s.channels) c.self.view_is in
-    let fits : FitsBlock 4096 inside.channels stored.stretch =
-    subst (λ (m : ℕ). FitsBlock 4096 m stored.stretch) (sym channels) c.requires.inside in
+    (block_of inside.lanes.frames inside.lanes.channels (widened (bits_of d) old))
+    (block_of inside.lanes.frames inside.lanes.channels (widened (bits_of d) new))) same c.add_stored_layer.ensures.played in
+    let fits : FitsBlock inside.lanes.frames inside.lanes.channels stored.stretch =
+    subst (λ (s : BlockSums). FitsBlock s.extent.frames s.extent.channels stored.stretch) (sym c.self.view_is) c.requires.inside in
     let over = written n new rest long in
     let counted = c.with-self-inside.ensures in
-    let from = inside.additions.fewer_from * inside.channels in
+    let from = inside.additions.fewer_from * inside.lanes.channels in
     let before : inside.additions.most < 32767 → AreFew inside.additions.most from (widened bits old) = λ few.
     subst (λ (l : List ℤ). AreFew inside.additions.most from (widened bits l)) (sym c.as_mut_slice.ensures.value)
     (subst (λ b. AreFew inside.additions.most from (kept_sums b bits inside.layers.items inside.values.items)) deep
-    (c.self.invariant.4 few)) in (
+    (c.self.invariant.2 few)) in (
       c.self.invariant.0,
       ap (λ (l : List ℤ). length l) over ∙ long ∙ whole,
-      c.self.invariant.2,
-      c.self.invariant.3,
       λ few.
-          subst (λ b. AreFew c.with-self-inside.result.most (c.with-self-inside.result.fewer_from * inside.channels)
+          subst (λ b. AreFew c.with-self-inside.result.most (c.with-self-inside.result.fewer_from * inside.lanes.channels)
           (kept_sums b bits (take n (new ++ rest)) inside.values.items)) (sym deep)
           (subst (λ (l : List ℤ). AreFew c.with-self-inside.result.most
-          (c.with-self-inside.result.fewer_from * inside.channels) (widened bits l)) (sym over)
-          (subst (λ (m : ℕ). AreFew c.with-self-inside.result.most (m * inside.channels) (widened bits new))
+          (c.with-self-inside.result.fewer_from * inside.lanes.channels) (widened bits l)) (sym over)
+          (subst (λ (m : ℕ). AreFew c.with-self-inside.result.most (m * inside.lanes.channels) (widened bits new))
           (sym counted.from)
-          (few_after stored.stretch stored.shape stored.channels inside.channels stored.depth
+          (few_after stored.stretch stored.shape stored.channels inside.lanes.frames inside.lanes.channels stored.depth
           (samples_in (bits_of stored.depth) (stored.stretch.length * stored.channels) stored.bytes.now)
           (widened bits old) (widened bits new) fits stored.ramp
           c.add_stored_layer.ensures.fit
@@ -76,7 +73,7 @@ returns-then-is_stored_layer-clause-played c =
     let long : length new ≡ n = search rules in
     let deep : inside.at_depth ≡ true = search rules in
     let same : stored.depth ≡ inside.depth = c.is_stored_layer.ensures.same_depth (search rules) in
-    let sums : List ℤ → BlockSums = λ l. record { channels = inside.channels; values = l } in
+    let sums : List ℤ → BlockSums = λ l. block_of inside.lanes.frames inside.lanes.channels l in
     let kept : List ℤ → List ℤ = λ l. kept_sums inside.at_depth bits l inside.values.items in
     let is : (l : List ℤ) → widened (bits_of stored.depth) l ≡ kept l = λ l.
     ap (λ (d : Depth). widened (bits_of d) l) same ∙ sym (ap (λ b. kept_sums b bits l inside.values.items) deep) in

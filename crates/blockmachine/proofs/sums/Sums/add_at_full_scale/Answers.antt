@@ -2,7 +2,7 @@ use Rattle.std.proofs.Common.{◌≡◌, ◌<◌, ◌*◌, ℕ, List, ◌++◌, 
 use Rattle.std.specs.Prelude.{ℤ}
 use Rattle.sound_terms.specs.Depth.{bits_of}
 use Rattle.sound_terms.specs.Blocks.{FitsBlock}
-use Rattle.blockmachine.specs.Sums.{AreFew, BlockSums, kept_sums}
+use Rattle.blockmachine.specs.Sums.{AreFew, BlockSums, block_of, kept_sums}
 use Rattle.blockmachine.proofs.Counted.{few_after, played_as, written}
 use Rattle.blockmachine.proofs.sums.Sums.add_at_full_scale.Goals as goal
 
@@ -18,28 +18,25 @@ invariant_of-self c =
     let rest = drop (length new) (take n (wide ++ beyond)) in
     let long_wide : length wide ≡ n = search rules in
     let long : length new ≡ n = search rules in
-    let whole : n ≡ 4096 * inside.channels = search rules in
+    let whole : n ≡ inside.lanes.frames * inside.lanes.channels = search rules in
     let kept : List ℤ → List ℤ → List ℤ = kept_sums inside.at_depth (bits_of inside.depth) in
     let is : old ≡ kept inside.layers.items inside.values.items =
     c.as_mut_slice-2.ensures.value ∙ written n wide beyond long_wide ∙ c.widen_layers.ensures
     ∙ ap (λ (l : List ℤ). kept l c.as_mut_slice.result.now) c.as_slice-layers.ensures.value
     ∙ ap (kept inside.layers.items) c.as_mut_slice.ensures.value in
-    let channels : inside.channels ≡ c.args.self.now.channels = ap (λ (s : BlockSums). s.channels) c.self.view_is in
-    let fits : FitsBlock 4096 inside.channels played.stretch =
-    subst (λ (m : ℕ). FitsBlock 4096 m played.stretch) (sym channels) c.requires in
+    let fits : FitsBlock inside.lanes.frames inside.lanes.channels played.stretch =
+    subst (λ (s : BlockSums). FitsBlock s.extent.frames s.extent.channels played.stretch) (sym c.self.view_is) c.requires in
     let over = written n new rest long in
     let counted = c.with-self-inside.ensures in
-    let from = inside.additions.fewer_from * inside.channels in
+    let from = inside.additions.fewer_from * inside.lanes.channels in
     let before : inside.additions.most < 32767 → AreFew inside.additions.most from old = λ few.
-    subst (AreFew inside.additions.most from) (sym is) (c.self.invariant.4 few) in (
+    subst (AreFew inside.additions.most from) (sym is) (c.self.invariant.2 few) in (
       ap (λ (l : List ℤ). length l) over ∙ long ∙ whole,
       c.self.invariant.1,
-      c.self.invariant.2,
-      c.self.invariant.3,
       λ few.
-          subst (AreFew c.with-self-inside.result.most (c.with-self-inside.result.fewer_from * inside.channels)) (sym over)
-          (subst (λ (m : ℕ). AreFew c.with-self-inside.result.most (m * inside.channels) new) (sym counted.from)
-          (few_after played.stretch played.shape played.frames.channels inside.channels played.frames.depth
+          subst (AreFew c.with-self-inside.result.most (c.with-self-inside.result.fewer_from * inside.lanes.channels)) (sym over)
+          (subst (λ (m : ℕ). AreFew c.with-self-inside.result.most (m * inside.lanes.channels) new) (sym counted.from)
+          (few_after played.stretch played.shape played.frames.channels inside.lanes.frames inside.lanes.channels played.frames.depth
           played.frames.samples.now old new fits played.ramp played.frames.fit played.whole played.source
           (long ∙ whole) (search rules) c.add_played.ensures inside.additions.most inside.additions.fewer_from
           c.with-self-inside.result.most before few (counted.counted few))),
@@ -62,7 +59,7 @@ returns-clause-played c =
     c.as_mut_slice-2.ensures.value ∙ written n wide beyond long_wide ∙ c.widen_layers.ensures
     ∙ ap (λ (l : List ℤ). kept l c.as_mut_slice.result.now) c.as_slice-layers.ensures.value
     ∙ ap (kept inside.layers.items) c.as_mut_slice.ensures.value in
-    let sums : List ℤ → BlockSums = λ l. record { channels = inside.channels; values = l } in
+    let sums : List ℤ → BlockSums = λ l. block_of inside.lanes.frames inside.lanes.channels l in
     played_as played.stretch played.shape played.frames.channels (bits_of played.frames.depth)
     played.frames.samples.now (sums old) c.args.self.now (sums new) (sums (take n (new ++ rest)))
     (ap sums is ∙ c.self.view_is) (ap sums (sym (written n new rest long))) c.add_played.ensures

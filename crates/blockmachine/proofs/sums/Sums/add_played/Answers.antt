@@ -18,30 +18,27 @@ invariant_of-self c =
     let new = c.add_layer.new.sums in
     let rest = drop (length new) inside.layers.items in
     let long : length new ≡ n = search rules in
-    let whole : n ≡ 4096 * inside.channels = search rules in
+    let whole : n ≡ inside.lanes.frames * inside.lanes.channels = search rules in
     let deep : inside.at_depth ≡ true = search rules in
-    let channels : inside.channels ≡ c.args.self.now.channels = ap (λ (s : BlockSums). s.channels) c.self.view_is in
-    let fits : FitsBlock 4096 inside.channels played.stretch =
-    subst (λ (m : ℕ). FitsBlock 4096 m played.stretch) (sym channels) c.requires in
+    let fits : FitsBlock inside.lanes.frames inside.lanes.channels played.stretch =
+    subst (λ (s : BlockSums). FitsBlock s.extent.frames s.extent.channels played.stretch) (sym c.self.view_is) c.requires in
     let over = written n new rest long in
     let counted = c.with-self-inside.ensures in
-    let from = inside.additions.fewer_from * inside.channels in
+    let from = inside.additions.fewer_from * inside.lanes.channels in
     let before : inside.additions.most < 32767 → AreFew inside.additions.most from (widened bits old) = λ few.
     subst (λ (l : List ℤ). AreFew inside.additions.most from (widened bits l)) (sym c.as_mut_slice.ensures.value)
     (subst (λ b. AreFew inside.additions.most from (kept_sums b bits inside.layers.items inside.values.items)) deep
-    (c.self.invariant.4 few)) in (
+    (c.self.invariant.2 few)) in (
       c.self.invariant.0,
       ap (λ (l : List ℤ). length l) over ∙ long ∙ whole,
-      c.self.invariant.2,
-      c.self.invariant.3,
       λ few.
-          subst (λ b. AreFew c.with-self-inside.result.most (c.with-self-inside.result.fewer_from * inside.channels)
+          subst (λ b. AreFew c.with-self-inside.result.most (c.with-self-inside.result.fewer_from * inside.lanes.channels)
           (kept_sums b bits (take n (new ++ rest)) inside.values.items)) (sym deep)
           (subst (λ (l : List ℤ). AreFew c.with-self-inside.result.most
-          (c.with-self-inside.result.fewer_from * inside.channels) (widened bits l)) (sym over)
-          (subst (λ (m : ℕ). AreFew c.with-self-inside.result.most (m * inside.channels) (widened bits new))
+          (c.with-self-inside.result.fewer_from * inside.lanes.channels) (widened bits l)) (sym over)
+          (subst (λ (m : ℕ). AreFew c.with-self-inside.result.most (m * inside.lanes.channels) (widened bits new))
           (sym counted.from)
-          (few_after played.stretch played.shape played.frames.channels inside.channels played.frames.depth
+          (few_after played.stretch played.shape played.frames.channels inside.lanes.frames inside.lanes.channels played.frames.depth
           played.frames.samples.now (widened bits old) (widened bits new) fits played.ramp played.frames.fit
           played.whole played.source (length-map new (full_scale bits) ∙ long ∙ whole)
           (length-map old (full_scale bits) ∙ search rules ∙ sym (length-map new (full_scale bits)))

@@ -16,7 +16,7 @@ invariant_of-self c =
     let n = inside.layers.len in
     let rest = drop (length new) inside.layers.items in
     let long : length new ≡ n = search rules in
-    let whole : n ≡ 4096 * inside.channels = search rules in
+    let whole : n ≡ inside.lanes.frames * inside.lanes.channels = search rules in
     let front = length-front n new rest (omega arith) in
     let wide = length-map (take n (new ++ rest)) (full_scale (bits_of c.args.depth)) in
     let nothing : (k : ℕ) → k < length (widened (bits_of c.args.depth) (take n (new ++ rest)))
@@ -26,8 +26,6 @@ invariant_of-self c =
     (omega (arith, ints), omega (arith, ints)) in (
       c.self.invariant.0,
       front ∙ whole,
-      c.self.invariant.2,
-      c.self.invariant.3,
       λ few. (
         λ k d below. subst (IsWithin 0) (sym (get_or_default _ k d (pos 0) below)) (nothing k below),
         λ k later below. nothing k below,
@@ -41,7 +39,7 @@ returns-clause-zero c = λ i channel near low high.
     let n = inside.layers.len in
     let rest = drop (length new) inside.layers.items in
     let long : length new ≡ n = search rules in
-    let whole : n ≡ 4096 * inside.channels = search rules in
-    let row : suc i * inside.channels ≤ 4096 * inside.channels = mul-le-mul_right inside.channels near in
-    zero_at (bits_of c.args.depth) n new rest c.set_to_zero.ensures (omega arith) (i * inside.channels + (channel - 1))
+    let whole : n ≡ inside.lanes.frames * inside.lanes.channels = search rules in
+    let row : suc i * inside.lanes.channels ≤ inside.lanes.frames * inside.lanes.channels = mul-le-mul_right inside.lanes.channels near in
+    zero_at (bits_of c.args.depth) n new rest c.set_to_zero.ensures (omega arith) (i * inside.lanes.channels + (channel - 1))
     (omega arith)
