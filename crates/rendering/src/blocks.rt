@@ -13,7 +13,7 @@ use crate::RenderFault;
 use blockcut::Stretch;
 use blockmachine::Machine;
 use devices::{DeviceFault, Shelf};
-use renderplan::{Instruction, Plan};
+use renderplan::{Plan, Program};
 use std::alloc::Global;
 use std::marker::Model;
 use wavread::Sound;
@@ -28,7 +28,7 @@ pub struct Blocks<'a> {
     plan: Plan,
     sounds: &'a [Sound],
     machine: Machine,
-    program: Vec<Instruction>,
+    program: Program,
     samples: Vec<i32>,
 }
 
@@ -42,7 +42,7 @@ impl<'a> Model for Blocks<'a> {
 
     ghost invariant = { λ b. IsBlockWork (record { planned = b.plan; sounds = b.sounds.now })
         × (b.machine ≡ record { frames = 4096; channels = b.plan.range.channels })
-        × (length b.program.items ≡ length b.plan.pieces + 2)
+        × (b.program.room ≡ length b.plan.pieces + 2)
         × (length b.samples.items ≡ 4096 * b.plan.range.channels) };
 }
 
@@ -54,26 +54,26 @@ fn play_block<S: Shelf>(
     sounds: &[Sound],
     shelf: &mut S,
     machine: &mut Machine,
-    program: &mut [Instruction],
+    program: &mut Program,
     samples: &mut [i32],
     bytes: &mut [u8],
 ) -> Result<(), DeviceFault>
     requires there { k < block_count plan.now.range }
     requires inside { All (IsPieceOf sounds.now) plan.now.pieces }
     requires machine { machine.old ≡ record { frames = 4096; channels = plan.now.range.channels } }
-    requires program { length program.old ≡ length plan.now.pieces + 2 }
+    requires program { program.old.room ≡ length plan.now.pieces + 2 }
     requires samples { length samples.old ≡ 4096 * plan.now.range.channels }
     requires room { length bytes.old ≡ bytes_for plan.now.range (block_frames plan.now.range k) }
     ensures played { IsTrue (S.honest shelf.old) → OnOk result
         (bytes.new ≡ block_bytes plan.now.range (heard plan.now sounds.now (S.stored shelf.old)) k) }
     ensures ready { machine.new ≡ machine.old }
+    ensures room { program.new.room ≡ program.old.room }
     ensures only_reads { OnlyReads S.Shelf shelf.old shelf.new result (λ _. ⊤) (λ _ failed. ⊤) }
 {
     let format = plan.format();
     let count = plan.frames_of(k) as usize * usize::from(format.channels);
-    let end = plan.block(k, program);
     let samples = &mut samples[..count];
-    let program = &program[..end];
+    plan.fill(k, program);
     match machine.run_packed(program, format.depth, sounds, shelf, samples, bytes) {
         Ok(()) => Ok(()),
         Err(_) => Err(DeviceFault),
@@ -90,11 +90,10 @@ impl<'a> Blocks<'a> {
         ensures only_memory { IfErr result (λ fault. fault ≡ Memory) }
     {
         let channels = plan.format().channels;
-        let Ok(machine) = Machine::new(alloc, channels) else {
+        let Ok(machine) = Machine::new(alloc, BLOCK_LENGTH as u32, channels) else {
             return Err(RenderFault::Memory);
         };
-        let mut program = Vec::new(alloc);
-        program.resize(plan.most_instructions(), Instruction::Start { frames: 0 })?;
+        let program = Program::with_room(alloc, plan.most_instructions())?;
         let mut samples = Vec::new(alloc);
         samples.resize(BLOCK_LENGTH * usize::from(channels), 0)?;
         Ok(Blocks {
@@ -164,7 +163,7 @@ impl<'a> Blocks<'a> {
         ensures only_reads { OnlyReads S.Shelf shelf.old shelf.new result (λ _. ⊤) (λ _ failed. ⊤) }
     {
         let machine = &mut self.machine;
-        let program = self.program.as_mut_slice();
+        let program = &mut self.program;
         let samples = self.samples.as_mut_slice();
         play_block(
             &self.plan,
