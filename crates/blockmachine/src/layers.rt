@@ -172,7 +172,7 @@ pub fn widen_layers(
 }
 
 /// Puts sums that are kept at a depth at full scale over others.
-fn widen_all(depth: Depth, layers: &[i32], values: &mut [i64])
+pub fn widen_all(depth: Depth, layers: &[i32], values: &mut [i64])
     requires { length layers.now ≡ length values.old }
     ensures { values.new ≡ widened (bits_of depth) layers.now }
 {

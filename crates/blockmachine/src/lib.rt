@@ -5,6 +5,7 @@ mod addition;
 mod additions;
 mod alone;
 mod buffer;
+mod exact;
 mod fault;
 mod frames;
 mod layers;

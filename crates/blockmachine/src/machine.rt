@@ -32,8 +32,8 @@ use wavread::Sound;
 /// has room for.
 #[derive(Drop)]
 pub struct Machine {
-    sums: Sums,
-    buffer: Buffer,
+    pub(crate) sums: Sums,
+    pub(crate) buffer: Buffer,
 }
 
 impl Model for Machine {
@@ -97,7 +97,7 @@ fn add_line<S: Shelf>(
 }
 
 /// Adds what each of these instructions plays.
-fn add_all<S: Shelf>(
+pub(crate) fn add_all<S: Shelf>(
     lines: &[Instruction],
     sounds: &[Sound],
     shelf: &mut S,
@@ -125,7 +125,7 @@ fn add_all<S: Shelf>(
 }
 
 /// The depth that a program hands its samples out at.
-fn depth_of(program: &[Instruction]) -> Option<Depth>
+pub(crate) fn depth_of(program: &[Instruction]) -> Option<Depth>
     ensures { (frames : ℕ) (depth : declared.Depth) (lines : List word.Instruction)
         → program.now ≡ instruction.Start frames ∷ (lines ++ instruction.Emit depth ∷ []) → result ≡ Some depth }
 {

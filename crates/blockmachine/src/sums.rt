@@ -25,11 +25,11 @@ const FEW: u32 = 32_767;
 /// the first stretch that is faded, deeper, or on some of the channels alone.
 #[derive(Drop)]
 pub struct Sums {
-    lanes: Lanes,
-    at_depth: bool,
-    depth: Depth,
-    layers: Vec<i32>,
-    values: Vec<i64>,
+    pub(crate) lanes: Lanes,
+    pub(crate) at_depth: bool,
+    pub(crate) depth: Depth,
+    pub(crate) layers: Vec<i32>,
+    pub(crate) values: Vec<i64>,
     additions: Additions,
 }
 

@@ -3,3 +3,4 @@ pub mod Passing
 pub mod Formed
 pub mod Shares
 pub mod Summing
+pub mod ExactSums

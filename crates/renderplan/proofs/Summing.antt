@@ -133,7 +133,7 @@ module _ (reading : Reading) (from n channels : ℕ) where
       line_effect p s i c below inside ∙ held_sum (is_under p c (from + i)) (m + holds p
       (from + i)) (s.sums i c) _ few both
 
-  lines_sum : (pieces : List Piece) (s : BlockState) (i c m : ℕ)
+  pub lines_sum : (pieces : List Piece) (s : BlockState) (i c m : ℕ)
       → All (PlaysFull reading) (flat_map (lines_of from n channels) pieces)
       → All IsPiece pieces → i < n → c ≤ channels
       → m + holding (from + i) pieces ≤ 32767 → IsWithin m (s.sums i c)

@@ -2,6 +2,7 @@
 //! shape.
 #![tactic(auto)]
 
+mod exact;
 mod fault;
 mod lines;
 mod plan;

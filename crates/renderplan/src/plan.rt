@@ -137,7 +137,7 @@ impl Plan {
     }
 
     /// The samples of block k.
-    fn window_of(&self, k: u64) -> Window
+    pub(crate) fn window_of(&self, k: u64) -> Window
         requires { k < block_count self.now.range }
         ensures from { result.from ≡ block_start self.now.range k }
         ensures frames { result.frames ≡ block_frames self.now.range k }
