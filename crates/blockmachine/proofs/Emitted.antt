@@ -1,8 +1,9 @@
 -- What sums are handed out as.
-use Rattle.std.proofs.Common.{◌≡◌, ◌≤◌, ◌<◌, ℕ, zero, suc, ◌+◌, ◌*◌, List, [], ◌∷◌, ◌++◌, length, take, get_or, refl, sym, ap, ◌∙◌, arith, zero-add}
+use Rattle.std.proofs.Common.{◌≡◌, ◌⊎◌, inl, inr, ◌≤◌, ◌<◌, ℕ, zero, suc, ◌+◌, ◌*◌, List, [], ◌∷◌, ◌++◌, length, take, get_or, refl, sym, ap, ◌∙◌, arith, zero-add}
 use Rattle.std.specs.Prelude.{ℤ, pos}
 use Rattle.std.proofs.lemmas.List.{append-nil, append_assoc, take_all, take_more}
 use Rattle.std.proofs.Math.Nat.{mul-le-mul_right}
+use Rattle.std.proofs.lemmas.Bool.{cases_lt}
 use Rattle.sound_terms.specs.Mix.{quantized}
 use Rattle.sound_terms.specs.Blocks.{block_samples, frame_samples}
 
@@ -65,3 +66,19 @@ module _ (depth : ℕ) (sums : ℕ → ℕ → ℤ) (channels frames : ℕ) (out
 
   pub by_samples : out ≡ block_samples depth sums channels 0 frames
   by_samples = sym (take_all (frames * channels) out (omega (arith, long))) ∙ frames_taken frames (omega arith)
+
+-- a sample of frames that are as many as few ones
+pub near : (i frames few most channels j : ℕ) → j < channels → few ≤ most → i < frames → few * channels ≡ frames * channels
+    → i < most
+near i frames few most channels j some small below same = by_place (cases_lt i most) where
+  by_place : (i < most) ⊎ (most ≤ i) → i < most
+  by_place (inl low) = low
+  by_place (inr high) =
+      let row : (most + 1) * channels ≤ frames * channels = mul-le-mul_right channels (omega (arith, high, below)) in
+      let room : few * channels ≤ most * channels = mul-le-mul_right channels small in
+      absurd (omega (arith, row, room, same, some))
+
+-- few frames have no more samples than most
+pub room : (n few most channels : ℕ) → few ≤ most → n ≡ few * channels → n ≤ most * channels
+room n few most channels small is =
+    let row : few * channels ≤ most * channels = mul-le-mul_right channels small in omega arith

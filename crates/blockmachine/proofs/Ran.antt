@@ -1,10 +1,12 @@
 -- What a program does, line after line.
-use Rattle.std.proofs.Common.{◌≡◌, ℕ, ◌-◌, ◌≤◌, List, [], ◌∷◌, ◌++◌, length, take, drop, arith, length-append}
+use Rattle.std.proofs.Common.{◌≡◌, ℕ, ◌-◌, ◌≤◌, List, All, [], ◌∷◌, ◌++◌, length, take, drop, arith, length-append, sym, ◌∙◌, subst}
 use Rattle.std.proofs.lemmas.List.{take_at}
+use Rattle.std.proofs.lemmas.List.Elements.{All-drop, All-take, All-weaker}
+use Rattle.sound_terms.specs.declared.Depth.{Depth}
 use Rattle.sound_terms.specs.declared.block.Instruction.{Instruction}
 use Rattle.sound_terms.specs.declared.block.Instruction.TheVariants.{Start, Flat, Rise, Fall, Emit}
 use Rattle.sound_terms.specs.declared.block.Stretch.{Stretch}
-use Rattle.sound_terms.specs.Blocks.{FitsBlock, IsFormed, LiesInFiles}
+use Rattle.sound_terms.specs.Blocks.{FitsBlock, IsBlockProgram, IsFormed, LiesInFiles}
 use Rattle.sound_terms.specs.Sounds.{SoundFacts}
 use Rattle.blockmachine.specs.Lines.{CanAdd}
 use Rattle.blockmachine.specs.Sums.{Extent}
@@ -55,3 +57,20 @@ can_add sounds extent (Flat s) formed lies = record { inside = formed.0; lies = 
 can_add sounds extent (Rise s offset den) formed lies = record { inside = formed.0; lies = lies; ramp = formed.1 }
 can_add sounds extent (Fall s offset den) formed lies = record { inside = formed.0; lies = lies; ramp = formed.1 }
 can_add sounds extent (Emit depth) formed lies = formed
+
+-- what stands between the ends of a program for a shorter block, over opened files, is added
+pub added_between : (sounds : List SoundFacts) (extent : Extent) (frames : ℕ) (depth : Depth)
+    → (program lines : List Instruction) → frames ≤ extent.frames → IsBlockProgram frames extent.channels depth lines
+    → program ≡ lines → All (LiesInFiles sounds) lines
+    → All (CanAdd sounds extent) (take (length program - 1 - 1) (drop 1 program))
+added_between sounds extent frames depth program lines le block same inside =
+    let most = extent.frames in
+    let n = extent.channels in
+    let between = between_ends program block.lines (Start frames) (Emit depth) (same ∙ block.whole) in
+    let longer =
+    All-weaker (IsFormed frames n) (IsFormed most n) (λ line formed. formed_longer frames most n le line formed)
+    block.lines block.formed in
+    let formed = subst (λ (l : List Instruction). All (IsFormed most n) l) (sym between) longer in
+    let all = All-drop (LiesInFiles sounds) 1 program (subst (All (LiesInFiles sounds)) (sym same) inside) in
+    let lies = All-take (LiesInFiles sounds) (length program - 1 - 1) (drop 1 program) all in
+    λ k d below. can_add sounds extent _ (formed k d below) (lies k d below)

@@ -4,11 +4,12 @@ ghost use Rattle.std.specs.List.{All};
 ghost use Rattle.sound_terms.specs.declared.Depth as declared;
 ghost use Rattle.sound_terms.specs.declared.block.Instruction.TheVariants as instruction;
 ghost use Rattle.sound_terms.specs.Depth.{bits_of};
-ghost use Rattle.sound_terms.specs.Blocks.{BlockState, IsBlockProgram, IsFormed, AddsOne, LiesInFiles, PlaysFull, executed_all};
+ghost use Rattle.sound_terms.specs.Blocks.{BlockState, IsBlockProgram, LiesInFiles, PlaysFull, executed_all};
 ghost use Rattle.sound_terms.specs.Sounds.{reading_by};
 ghost use Rattle.devices.specs.Frame.{OnlyReads};
 ghost use Rattle.blockmachine.specs.Exact.{AreSumsOf};
 ghost use Rattle.blockmachine.specs.Fault.{FailsAt, IsSource};
+ghost use Rattle.blockmachine.specs.Lines.{CanAdd};
 ghost use Rattle.blockmachine.specs.Sums.{AreSums, kept_sums};
 
 use crate::layers::widen_all;
@@ -16,7 +17,7 @@ use crate::machine::{add_all, depth_of};
 use crate::sums::Sums;
 use crate::{Machine, MachineFault};
 use devices::Shelf;
-use sound_terms::{Depth, Instruction};
+use sound_terms::{Depth, Instruction, Program};
 use wavread::Sound;
 
 /// Hands out the first sums at full scale, where they are kept at a depth and where they aren't.
@@ -35,9 +36,11 @@ fn put_kept(at_depth: bool, kept: Depth, layers: &[i32], values: &[i64], out: &m
 impl Sums {
     /// Hands out the first sums at full scale, as many as there is room for.
     fn put(&self, out: &mut [i64])
-        requires { (frames : ℕ) × (frames ≤ 4096) × (length out.old ≡ frames * self.now.channels) }
+        requires { (frames : ℕ) × (frames ≤ self.now.extent.frames)
+            × (length out.old ≡ frames * self.now.extent.channels) }
         ensures { (all : ℕ → ℕ → ℤ) → AreSums self.now all → (frames : ℕ)
-            → length out.old ≡ frames * self.now.channels → AreSumsOf frames self.now.channels out.new all }
+            → length out.old ≡ frames * self.now.extent.channels
+            → AreSumsOf frames self.now.extent.channels out.new all }
     {
         let layers = self.layers.as_slice();
         let values = self.values.as_slice();
@@ -55,9 +58,7 @@ impl Machine {
         shelf: &mut S,
         out: &mut [i64],
     ) -> Result<(), MachineFault>
-        requires formed { All (IsFormed self.old.frames self.old.channels) lines.now }
-        requires added { All AddsOne lines.now }
-        requires inside { All (LiesInFiles sounds.now) lines.now }
+        requires lines { All (CanAdd sounds.now self.old) lines.now }
         requires whole { (frames : ℕ) × (frames ≤ self.old.frames) × (length out.old ≡ frames * self.old.channels) }
         ensures summed { IsTrue (S.honest shelf.old)
             → OnOk result ((frames : ℕ) (start : BlockState) → length out.old ≡ frames * self.old.channels
@@ -79,34 +80,36 @@ impl Machine {
         Ok(())
     }
 
-    /// Runs the program of a block over sounds that were opened, and writes its exact sums over `out`, at full scale (48
-    /// bits), neither rounded nor clipped, frame by frame. It takes no memory. `Source` where a read fails; what was
+    /// Runs the program of a block over sounds that were opened, and writes its exact sums over `out`, at full scale
+    /// (48 bits), neither rounded nor clipped, frame by frame. It takes no memory. `Source` where a read fails; what was
     /// written is then unspecified, and the machine as ready as before.
     pub fn sum<S: Shelf>(
         &mut self,
-        program: &[Instruction],
+        program: &Program,
         sounds: &[Sound],
         shelf: &mut S,
         out: &mut [i64],
     ) -> Result<(), MachineFault>
         requires fits { (frames : ℕ) × (depth : declared.Depth) × (frames ≤ self.old.frames)
-            × IsBlockProgram frames self.old.channels depth program.now
+            × IsBlockProgram frames self.old.channels depth program.now.lines
             × (length out.old ≡ frames * self.old.channels) }
-        requires inside { All (LiesInFiles sounds.now) program.now }
+        requires inside { All (LiesInFiles sounds.now) program.now.lines }
         ensures summed { IsTrue (S.honest shelf.old)
             → OnOk result ((frames : ℕ) (depth : declared.Depth) (start : BlockState)
-            → IsBlockProgram frames self.old.channels depth program.now → length out.old ≡ frames * self.old.channels
+            → IsBlockProgram frames self.old.channels depth program.now.lines
+            → length out.old ≡ frames * self.old.channels
             → AreSumsOf frames self.old.channels out.new
-            (executed_all (reading_by (S.stored shelf.old) sounds.now) self.old.channels program.now start).sums) }
+            (executed_all (reading_by (S.stored shelf.old) sounds.now) self.old.channels program.now.lines start).sums) }
         ensures full { IsTrue (S.honest shelf.old)
-            → OnOk result (All (PlaysFull (reading_by (S.stored shelf.old) sounds.now)) program.now) }
+            → OnOk result (All (PlaysFull (reading_by (S.stored shelf.old) sounds.now)) program.now.lines) }
         ensures ready { self.new ≡ self.old }
         ensures source { IfErr result IsSource }
         ensures only_reads { OnlyReads S.Shelf shelf.old shelf.new result (λ fault. IsSource fault)
             (λ fault failed. FailsAt sounds.now fault failed) }
     {
-        if let Some(depth) = depth_of(program) {
-            let lines = &program[1..program.len() - 1];
+        let instructions = program.as_slice();
+        if let Some(depth) = depth_of(instructions) {
+            let lines = &instructions[1..instructions.len() - 1];
             self.sum_lines(lines, depth, sounds, shelf, out)?;
         }
         Ok(())

@@ -30,7 +30,8 @@ module _ (reading : Reading) (from n channels : ℕ) where
       by_place (is_under p c (from + i)) refl where
         by_place : (b : Bool) → is_under p c (from + i) ≡ b → part_of reading p c (from + i) ≡ pos 0
         by_place true under =
-            let some : nat_lt (max from p.start) (min (from + n) (p.start + p.length)) ≡ true = grind (arith, nat_tests) in
+            let some : nat_lt (max from p.start) (min (from + n) (p.start + p.length)) ≡ true =
+            grind (arith, nat_tests) in
             let there : nat_le p.dest channels ≡ true = grind (arith, nat_tests) in
             let no : true ≡ false = rw (some, there) at none in
             cc

@@ -1,37 +1,16 @@
-use Rattle.std.proofs.Common.{◌≡◌, ◌-◌, List, All, length, drop, take, sym, ◌∙◌, subst}
+use Rattle.std.proofs.Common.{◌≡◌, All, sym, ◌∙◌, subst}
 use Rattle.std.proofs.lemmas.Option.{same_Some}
-use Rattle.std.proofs.lemmas.List.Elements.{All-drop, All-take, All-weaker}
-use Rattle.sound_terms.specs.declared.block.Instruction.{Instruction}
-use Rattle.sound_terms.specs.declared.block.Instruction.TheVariants.{Start, Emit}
 use Rattle.sound_terms.specs.declared.Depth.{Depth}
 use Rattle.sound_terms.specs.Depth.{bits_of}
-use Rattle.sound_terms.specs.Blocks.{IsFormed, LiesInFiles}
 use Rattle.pcm.specs.Samples.{FitsDepth}
-use Rattle.blockmachine.proofs.Ran.{between_ends, can_add, formed_longer}
+use Rattle.blockmachine.proofs.Ran.{added_between}
 use Rattle.blockmachine.proofs.machine.Machine.run.Goals as goal
 
 pub run_lines-requires-clause-lines : goal.run_lines-requires-clause-lines
 run_lines-requires-clause-lines g c =
-    let sounds = c.args.sounds.now in
     let fits = c.requires.fits in
-    let block = fits.3 in
-    let program = c.as_slice-instructions.result.now in
-    let between =
-    between_ends program block.lines (Start fits.0) (Emit fits.1) (c.as_slice-instructions.ensures ∙ block.whole) in
-    let most = c.args.self.now.frames in
-    let n = c.args.self.now.channels in
-    let longer =
-    All-weaker (IsFormed fits.0 n) (IsFormed most n) (λ line formed. formed_longer fits.0 most n fits.2 line formed)
-    block.lines block.formed in
-    let lines = take (length program - 1 - 1) (drop 1 program) in
-    let formed : All (IsFormed most n) lines =
-    subst (λ (l : List Instruction). All (IsFormed most n) l) (sym between) longer in
-    let all =
-    All-drop (LiesInFiles sounds) 1 program
-    (subst (All (LiesInFiles sounds)) (sym c.as_slice-instructions.ensures) c.requires.inside) in
-    let lies : All (LiesInFiles sounds) lines =
-    All-take (LiesInFiles sounds) (length program - 1 - 1) (drop 1 program) all in
-    λ k d below. can_add sounds c.args.self.now _ (formed k d below) (lies k d below)
+    added_between c.args.sounds.now c.args.self.now fits.0 fits.1 c.as_slice-instructions.result.now
+    c.args.program.now.lines fits.2 fits.3 c.as_slice-instructions.ensures c.requires.inside
 
 pub run_lines-requires-clause-whole : goal.run_lines-requires-clause-whole
 run_lines-requires-clause-whole g c = (c.requires.fits.0, c.requires.fits.2, c.requires.fits.4)

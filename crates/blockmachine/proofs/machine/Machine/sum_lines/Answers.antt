@@ -17,9 +17,9 @@ returns-clause-summed g c = λ honest frames start long.
     let begun : BlockState = record start { frames = frames; sums = λ i channel. pos 0 } in
     let added : BlockState = executed_all reading channels lines begun in
     let sums = c.in_ok-add_all.ensures.added honest channels begun c.clear.ensures.zero in
-    let told : c.add_all.new.sums.channels ≡ channels =
-    c.add_all.ensures.same_channels ∙ c.clear.ensures.same_channels ∙ ap (λ (e : Extent). e.channels) c.self.view_is in
-    let handed : AreSumsOf frames c.add_all.new.sums.channels c.put.new.out added.sums =
+    let told : c.add_all.new.sums.extent.channels ≡ channels =
+    ap (λ (e : Extent). e.channels) (c.add_all.ensures.same_extent ∙ c.clear.ensures.same_extent ∙ c.self.view_is) in
+    let handed : AreSumsOf frames c.add_all.new.sums.extent.channels c.put.new.out added.sums =
     c.put.ensures added.sums sums frames (long ∙ ap (λ n. frames * n) (sym told)) in
     let here = subst (λ (n : ℕ). AreSumsOf frames n c.put.new.out added.sums) told handed in
     subst (λ (state : BlockState). AreSumsOf frames channels c.put.new.out state.sums)

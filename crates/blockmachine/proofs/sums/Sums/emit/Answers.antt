@@ -1,27 +1,11 @@
-use Rattle.std.proofs.Common.{◌≡◌, ◌⊎◌, inl, inr, ◌<◌, ◌≤◌, ℕ, List, suc, ◌+◌, ◌-◌, ◌*◌, get_or, length, arith, sym, ap, ◌∙◌}
+use Rattle.std.proofs.Common.{◌≡◌, ◌<◌, ◌≤◌, List, suc, ◌+◌, ◌-◌, ◌*◌, get_or, length, arith, sym, ap, ◌∙◌}
 use Rattle.std.specs.Prelude.{ℤ, pos}
 use Rattle.std.proofs.Math.Nat.{mul-le-mul_right}
-use Rattle.std.proofs.lemmas.Bool.{cases_lt}
 use Rattle.sound_terms.specs.Depth.{bits_of}
 use Rattle.sound_terms.specs.Mix.{quantized}
 use Rattle.blockmachine.specs.Sums.{BlockSums, kept_sums}
-use Rattle.blockmachine.proofs.Emitted.{by_samples}
+use Rattle.blockmachine.proofs.Emitted.{by_samples, near, room}
 use Rattle.blockmachine.proofs.sums.Sums.emit.Goals as goal
-
--- a sample of frames that are as many as few ones
-near : (i frames few most channels j : ℕ) → j < channels → few ≤ most → i < frames → few * channels ≡ frames * channels
-    → i < most
-near i frames few most channels j some small below same = by_place (cases_lt i most) where
-  by_place : (i < most) ⊎ (most ≤ i) → i < most
-  by_place (inl low) = low
-  by_place (inr high) =
-      let row : (most + 1) * channels ≤ frames * channels = mul-le-mul_right channels (omega (arith, high, below)) in
-      let room : few * channels ≤ most * channels = mul-le-mul_right channels small in
-      absurd (omega (arith, row, room, same, some))
-
-room : (n few most channels : ℕ) → few ≤ most → n ≡ few * channels → n ≤ most * channels
-room n few most channels small is =
-    let row : few * channels ≤ most * channels = mul-le-mul_right channels small in omega arith
 
 pub emit_kept-requires-clause-layers : goal.emit_kept-requires-clause-layers
 emit_kept-requires-clause-layers c =

@@ -1,0 +1,5 @@
+pub mod Events
+pub mod Heard
+pub mod Outside
+pub mod Places
+pub mod SilentSides

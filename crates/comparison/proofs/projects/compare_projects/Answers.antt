@@ -1,0 +1,57 @@
+use Rattle.std.proofs.Common.{ℕ, ap, ◌∙◌, sym, subst, arith}
+use Rattle.list_terms.specs.Heard.{project_mix}
+use Rattle.list_terms.specs.Project.{ListProject}
+use Rattle.comparison.specs.Whole.{DifferAt}
+use Rattle.comparison.proofs.Outside.{first_silent, found_alike, found_differing, found_in_day, second_silent}
+use Rattle.comparison.proofs.projects.compare_projects.Goals as goal
+
+pub returns-in-Some-clause-compared : goal.returns-in-Some-clause-compared
+returns-in-Some-clause-compared g c = λ honest sure.
+    let files = g.S.Shelf.stored c.args.first_shelf.now in
+    let stored = g.T.Shelf.stored c.args.second_shelf.now in
+    let first = c.args.first.now in
+    let second = c.args.second.now in
+    let mix = project_mix files first.project first.bound in
+    let mixed = project_mix stored second.project second.bound in
+    let one = c.events.result.now in
+    let two = c.events-2.result.now in
+    let events = c.events.ensures.events ∙ ap (λ (p : ListProject). p.events) c.project.ensures.lent in
+    let others = c.events-2.ensures.events ∙ ap (λ (p : ListProject). p.events) c.project-2.ensures.lent in
+    let silent =
+    first_silent files first.project first.bound one two events c.events.ensures.whole c.events-2.ensures.whole in
+    let others_silent =
+    second_silent stored second.project second.bound one two others c.events.ensures.whole c.events-2.ensures.whole in
+    let extent = c.compared_in-extent.result in
+    let said = c.compared_in-extent.ensures in
+    let found = c.in_ok-difference.field-0 in
+    let compared = c.in_ok-difference.ensures.compared honest sure in
+    let differs =
+    found_differing c.args.selection.now one two mix mixed silent others_silent extent.from extent.to extent.channels
+    said.from said.to said.channels found c.in-Some.difference c.in-Some.is compared in
+    let inside =
+    found_in_day c.args.selection.now one two mix mixed silent others_silent extent.from extent.to extent.channels
+    said.from said.to said.channels found c.in-Some.difference c.in-Some.is compared in
+    let time = c.time_of.ensures (omega (arith, inside, c.get.ensures.samples, c.get.ensures.in_day)) in
+    subst (λ (at : ℕ). DifferAt c.args.selection.now mix mixed at c.in-Some.difference.channel) (sym time) differs
+
+pub returns-in-None-clause-compared : goal.returns-in-None-clause-compared
+returns-in-None-clause-compared g c = λ honest sure.
+    let files = g.S.Shelf.stored c.args.first_shelf.now in
+    let stored = g.T.Shelf.stored c.args.second_shelf.now in
+    let first = c.args.first.now in
+    let second = c.args.second.now in
+    let mix = project_mix files first.project first.bound in
+    let mixed = project_mix stored second.project second.bound in
+    let one = c.events.result.now in
+    let two = c.events-2.result.now in
+    let events = c.events.ensures.events ∙ ap (λ (p : ListProject). p.events) c.project.ensures.lent in
+    let others = c.events-2.ensures.events ∙ ap (λ (p : ListProject). p.events) c.project-2.ensures.lent in
+    let silent =
+    first_silent files first.project first.bound one two events c.events.ensures.whole c.events-2.ensures.whole in
+    let others_silent =
+    second_silent stored second.project second.bound one two others c.events.ensures.whole c.events-2.ensures.whole in
+    let extent = c.compared_in-extent.result in
+    let said = c.compared_in-extent.ensures in
+    found_alike c.args.selection.now one two mix mixed silent others_silent extent.from extent.to extent.channels
+    said.from said.to said.channels c.in_ok-difference.field-0 c.in-None.is
+    (c.in_ok-difference.ensures.compared honest sure)

@@ -1,0 +1,31 @@
+use Rattle.std.proofs.Common.{◌≡◌, ℕ, ◌*◌, List, [], sym, ap, ◌∙◌, subst}
+use Rattle.std.specs.List.{All}
+use Rattle.sound_terms.specs.declared.block.Instruction.{Instruction}
+use Rattle.std.specs.Prelude.{pos}
+use Rattle.sound_terms.specs.Blocks.{BlockState, IsBlockProgram, PlaysFull, Programmed, block_frames, executed_all}
+use Rattle.sound_terms.specs.Mix.{Reading}
+use Rattle.sound_terms.specs.Sounds.{reading_by}
+use Rattle.blockmachine.specs.Exact.{AreSumsOf}
+use Rattle.blockmachine.specs.Sums.{Extent}
+use Rattle.comparison.proofs.side.sum_block.Goals as goal
+
+pub sum-requires-clause-inside : goal.sum-requires-clause-inside
+sum-requires-clause-inside g c = c.fill.ensures.inside c.args.sounds.now c.requires.inside
+
+pub returns-in-Ok-clause-summed : goal.returns-in-Ok-clause-summed
+returns-in-Ok-clause-summed g c = λ honest i channel below first last.
+    let range = c.args.plan.now.range in
+    let frames = block_frames range c.args.k in
+    let reading : Reading = reading_by (g.S.Shelf.stored c.args.shelf.now) c.args.sounds.now in
+    let start : BlockState = record { frames = 0; sums = λ i channel. pos 0; out = [] } in
+    let program = c.fill.new.program.lines in
+    let told : c.args.machine.now.channels ≡ range.channels = ap (λ (e : Extent). e.channels) c.requires.machine in
+    let formed = subst (λ (n : ℕ). IsBlockProgram frames n range.depth program) (sym told) c.fill.ensures.formed in
+    let long = c.requires.room ∙ ap (λ n. frames * n) (sym told) in
+    let summed = subst (λ (n : ℕ). AreSumsOf frames n c.sum.new.out (executed_all reading n program start).sums) told
+    (c.in-Ok.ensures.summed honest frames range.depth start formed long) in
+    let said = ap (λ (p : Programmed). p.lines) c.fill.ensures.program in
+    let full = subst (λ (lines : List Instruction). All (PlaysFull reading) lines) said (c.in-Ok.ensures.full honest) in
+    summed i channel below first last
+    ∙ ap (λ (lines : List Instruction). (executed_all reading range.channels lines start).sums i channel) said
+    ∙ c.sums_exactly.ensures reading c.args.k full start i channel below last

@@ -1,0 +1,12 @@
+use Rattle.comparison.specs.Side.{heard}
+use Rattle.comparison.proofs.SilentSides.{silent_alike}
+use Rattle.comparison.proofs.sides.compare_block.Goals as goal
+
+pub returns-then-is_silent-2-clause-compared : goal.returns-then-is_silent-2-clause-compared
+returns-then-is_silent-2-clause-compared g c = λ honest sure.
+    let files = g.S.Shelf.stored c.args.first_shelf.now in
+    let others = g.T.Shelf.stored c.args.second_shelf.now in
+    silent_alike c.args.first.now.planned.range c.args.second.now.planned.range c.args.k
+    (heard c.args.first.now files) (heard c.args.second.now others) c.requires.same
+    (c.is_silent.ensures c.if-is_silent.true files)
+    (c.is_silent-then-is_silent.ensures c.if-is_silent-2.true others)

@@ -1,0 +1,32 @@
+-- Whether two mixes sound the same in a range, and where they differ first.
+use Rattle.std.specs.Prelude.{◌≡◌, ◌≢◌, ℕ, ◌<◌, ◌≤◌, ℤ, pos, List, slice_index_or, Option, None, Some}
+use Rattle.comparison.specs.declared.differing.Difference.{Difference}
+
+-- the same exact sum on each of so many channels at each time from one up to, and without, another
+abbrev pub AreAlike : (from to channels : ℕ) → (mix other : ℕ → ℕ → ℤ) → Type 0
+AreAlike from to channels mix other = (channel time : ℕ) → 1 ≤ channel → channel ≤ channels → from ≤ time → time < to
+    → mix channel time ≡ other channel time
+
+-- on this channel at this time the sums differ; at no earlier time, and then on no lower channel
+pub record DifferFirst (from to channels : ℕ) (mix other : ℕ → ℕ → ℤ) (time channel : ℕ) : Type 0 where
+  pub begun : from ≤ time
+  pub before_end : time < to
+  pub from_one : 1 ≤ channel
+  pub to_last : channel ≤ channels
+  pub differ : mix channel time ≢ other channel time
+  pub before : AreAlike from time channels mix other
+  pub below : (lower : ℕ) → 1 ≤ lower → lower < channel → mix lower time ≡ other lower time
+
+-- they are alike there, or this is where they differ first
+abbrev pub IsCompared : (from to channels : ℕ) → (mix other : ℕ → ℕ → ℤ) → Option Difference → Type 0
+IsCompared from to channels mix other None = AreAlike from to channels mix other
+IsCompared from to channels mix other (Some difference) =
+    DifferFirst from to channels mix other difference.at difference.channel
+
+-- the position at which two lists of numbers differ first
+abbrev pub IsFirstDiffering : (numbers others : List ℤ) → ℕ → Option ℕ → Type 0
+IsFirstDiffering numbers others n None =
+    (k : ℕ) → k < n → slice_index_or numbers k (pos 0) ≡ slice_index_or others k (pos 0)
+IsFirstDiffering numbers others n (Some at) =
+    (at < n) × (slice_index_or numbers at (pos 0) ≢ slice_index_or others at (pos 0))
+    × ((k : ℕ) → k < at → slice_index_or numbers k (pos 0) ≡ slice_index_or others k (pos 0))

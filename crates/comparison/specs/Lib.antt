@@ -1,0 +1,5 @@
+pub mod Alike
+pub mod Fault
+pub mod Range
+pub mod Side
+pub mod Whole

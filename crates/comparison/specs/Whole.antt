@@ -1,0 +1,28 @@
+-- Whether two projects sound the same, and where they differ first.
+use Rattle.std.specs.Prelude.{◌≡◌, ◌≢◌, ℕ, ◌-◌, ◌<◌, ℤ}
+use Rattle.comparison.specs.declared.range.Selection.{Selection}
+use Rattle.comparison.specs.declared.projects.Comparison.{Comparison}
+use Rattle.comparison.specs.declared.projects.Comparison.TheVariants.{Same, Differs}
+use Rattle.comparison.specs.Range.{Extent, IsChosen}
+
+-- the same exact sum at every chosen time of every chosen channel
+abbrev pub SoundAlike : Selection → (mix other : ℕ → ℕ → ℤ) → Type 0
+SoundAlike selection mix other =
+    (channel time : ℕ) → IsChosen selection channel time → mix channel time ≡ other channel time
+
+-- the sums of this channel differ at this time; those of no channel at an earlier one, and then of no lower channel
+pub record DifferAt (selection : Selection) (mix other : ℕ → ℕ → ℤ) (time channel : ℕ) : Type 0 where
+  pub is_chosen : IsChosen selection channel time
+  pub differ : mix channel time ≢ other channel time
+  pub before : (any earlier : ℕ) → earlier < time → IsChosen selection any earlier → mix any earlier ≡ other any earlier
+  pub below : (lower : ℕ) → lower < channel → mix lower time ≡ other lower time
+
+-- what is reported of two mixes is so
+abbrev pub IsComparison : Selection → (mix other : ℕ → ℕ → ℤ) → Comparison → Type 0
+IsComparison selection mix other (Same frames channels) = SoundAlike selection mix other
+IsComparison selection mix other (Differs at channel) = DifferAt selection mix other at channel
+
+-- so many frames and channels were compared
+abbrev pub HasCompared : Extent → Comparison → Type 0
+HasCompared extent (Same frames channels) = (frames ≡ extent.to - extent.from) × (channels ≡ extent.channels)
+HasCompared extent (Differs at channel) = Unit {0}

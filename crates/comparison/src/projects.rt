@@ -1,0 +1,236 @@
+// Two projects without a fault, compared.
+ghost use Rattle.std.specs.Prelude.{◌≡◌, ◌*◌, ◌<◌, ◌≤◌, ◌↔◌, ℕ, IfErr, IfOk, IsErrOf, IsTrue, length};
+ghost use Rattle.std.specs.List.{All};
+ghost use Rattle.sampletime.specs.TimeCode.{day};
+ghost use Rattle.sound_terms.specs.declared.Depth.TheVariants.{TwentyFour};
+ghost use Rattle.sound_terms.specs.Groups.{sum_of};
+ghost use Rattle.sound_terms.specs.Media.{IsPieceOf};
+ghost use Rattle.work_terms.specs.Disk.{Files};
+ghost use Rattle.list_terms.specs.Heard.{project_mix, reading_of, sounds_of};
+ghost use Rattle.devices.specs.Frame.{OnlyReads};
+ghost use Rattle.comparison.specs.Alike.{IsCompared};
+ghost use Rattle.comparison.specs.Fault.{FailsAt, IsMemory, IsSource, IsAny, OfEither, OfFirst, OfSecond};
+ghost use Rattle.comparison.specs.Side.{heard};
+ghost use Rattle.comparison.specs.Range as range;
+ghost use Rattle.comparison.specs.Range.{HasChannels};
+ghost use Rattle.comparison.specs.Whole.{HasCompared, IsComparison};
+
+use crate::differing::Difference;
+use crate::range::{Extent, Selection, compared_in};
+use crate::side::Side;
+use crate::sides::compare_sides;
+use crate::{CompareFault, SideFault};
+use devices::Shelf;
+use interval::from_checked;
+use projectcheck::Checked;
+use renderplan::Plan;
+use sampletime::SampleTime;
+use sound_terms::Depth;
+use std::alloc::{AllocError, Global};
+
+/// How two projects compare: so many frames of so many channels are the same, or they differ first at this time, on
+/// this channel and on no lower one.
+#[derive(Clone, Copy, Debug, PartialEq, Eq)]
+pub enum Comparison {
+    Same { frames: u64, channels: u8 },
+    Differs { at: SampleTime, channel: u8 },
+}
+
+/// The plan of an extent of a project.
+fn plan_of(alloc: Global, checked: &Checked, extent: &Extent) -> Result<Plan, SideFault>
+    requires channels { (1 ≤ extent.now.channels) × (extent.now.channels ≤ 64) }
+    requires some { extent.now.from < extent.now.to }
+    ensures from { IfOk result (λ plan. plan.range.from ≡ extent.now.from) }
+    ensures to { IfOk result (λ plan. plan.range.to ≡ extent.now.to) }
+    ensures same { IfOk result (λ plan. plan.range
+        ≡ record { from = extent.now.from; to = extent.now.to; channels = extent.now.channels; depth = TwentyFour }) }
+    ensures inside { IfOk result (λ plan. All (IsPieceOf (sounds_of checked.now.bound)) plan.pieces) }
+    ensures mixes { IfOk result (λ plan. (files : Files) (channel time : ℕ)
+        → sum_of (reading_of files checked.now.bound) plan.pieces channel time
+        ≡ project_mix files checked.now.project checked.now.bound channel time) }
+    ensures only_memory { IfErr result IsMemory }
+{
+    let Ok(intervals) = from_checked(alloc, checked) else {
+        return Err(SideFault::Intervals);
+    };
+    match Plan::new(
+        alloc,
+        intervals,
+        extent.from,
+        extent.to,
+        extent.channels,
+        Depth::TwentyFour,
+    ) {
+        Ok(plan) => Ok(plan),
+        Err(_) => Err(SideFault::Memory),
+    }
+}
+
+/// A side of an extent of a project.
+fn side_of<'a>(alloc: Global, checked: &'a Checked, extent: &Extent) -> Result<Side<'a>, SideFault>
+    requires channels { (1 ≤ extent.now.channels) × (extent.now.channels ≤ 64) }
+    requires some { extent.now.from < extent.now.to }
+    ensures same { IfOk result (λ side. side.planned.range
+        ≡ record { from = extent.now.from; to = extent.now.to; channels = extent.now.channels; depth = TwentyFour }) }
+    ensures sounds { IfOk result (λ side. side.sounds ≡ sounds_of checked.now.bound) }
+    ensures mixes { IfOk result (λ side. (files : Files) (channel time : ℕ)
+        → heard side files channel time ≡ project_mix files checked.now.project checked.now.bound channel time) }
+    ensures only_memory { IfErr result IsMemory }
+{
+    let plan = plan_of(alloc, checked, extent)?;
+    let side = Side::new(alloc, plan, checked.bound().sounds())?;
+    Ok(side)
+}
+
+/// Room for the sums of a block of so many channels.
+fn room_for(alloc: Global, channels: u8) -> Result<Vec<i64>, AllocError>
+    requires { channels ≤ 64 }
+    ensures { IfOk result (λ sums. length sums.items ≡ 4096 * channels) }
+{
+    let mut sums = Vec::new(alloc);
+    sums.resize(4096 * usize::from(channels), 0)?;
+    Ok(sums)
+}
+
+/// Two sides of one extent, and room for their sums.
+#[derive(Drop)]
+struct Sides<'a, 'b> {
+    first: Side<'a>,
+    second: Side<'b>,
+    first_sums: Vec<i64>,
+    second_sums: Vec<i64>,
+}
+
+/// Both sides of an extent of two projects.
+fn sides_of<'a, 'b>(
+    alloc: Global,
+    first: &'a Checked,
+    second: &'b Checked,
+    extent: &Extent,
+) -> Result<Sides<'a, 'b>, CompareFault>
+    requires channels { (1 ≤ extent.now.channels) × (extent.now.channels ≤ 64) }
+    requires some { extent.now.from < extent.now.to }
+    ensures range { IfOk result (λ sides. sides.first.planned.range
+        ≡ record { from = extent.now.from; to = extent.now.to; channels = extent.now.channels; depth = TwentyFour }) }
+    ensures same { IfOk result (λ sides. sides.second.planned.range ≡ sides.first.planned.range) }
+    ensures first_sounds { IfOk result (λ sides. sides.first.sounds ≡ sounds_of first.now.bound) }
+    ensures second_sounds { IfOk result (λ sides. sides.second.sounds ≡ sounds_of second.now.bound) }
+    ensures first_mixes { IfOk result (λ sides. (files : Files) (channel time : ℕ)
+        → heard sides.first files channel time ≡ project_mix files first.now.project first.now.bound channel time) }
+    ensures second_mixes { IfOk result (λ sides. (files : Files) (channel time : ℕ)
+        → heard sides.second files channel time ≡ project_mix files second.now.project second.now.bound channel time) }
+    ensures first_room { IfOk result (λ sides. length sides.first_sums.items ≡ 4096 * extent.now.channels) }
+    ensures second_room { IfOk result (λ sides. length sides.second_sums.items ≡ 4096 * extent.now.channels) }
+    ensures only_memory { IfErr result (OfEither IsMemory) }
+{
+    let first = match side_of(alloc, first, extent) {
+        Ok(side) => side,
+        Err(fault) => return Err(CompareFault::First(fault)),
+    };
+    let Ok(first_sums) = room_for(alloc, extent.channels) else {
+        return Err(CompareFault::First(SideFault::Memory));
+    };
+    let second = match side_of(alloc, second, extent) {
+        Ok(side) => side,
+        Err(fault) => return Err(CompareFault::Second(fault)),
+    };
+    let Ok(second_sums) = room_for(alloc, extent.channels) else {
+        return Err(CompareFault::Second(SideFault::Memory));
+    };
+    Ok(Sides {
+        first,
+        second,
+        first_sums,
+        second_sums,
+    })
+}
+
+/// Where two projects differ first in an extent.
+fn compare_in<S: Shelf, T: Shelf>(
+    alloc: Global,
+    first: &Checked,
+    second: &Checked,
+    extent: &Extent,
+    first_shelf: &mut S,
+    second_shelf: &mut T,
+) -> Result<Option<Difference>, CompareFault>
+    requires channels { (1 ≤ extent.now.channels) × (extent.now.channels ≤ 64) }
+    requires some { extent.now.from < extent.now.to }
+    ensures compared { IsTrue (S.honest first_shelf.old) → IsTrue (T.honest second_shelf.old)
+        → IfOk result (IsCompared
+        extent.now.from extent.now.to extent.now.channels
+        (project_mix (S.stored first_shelf.old) first.now.project first.now.bound)
+        (project_mix (T.stored second_shelf.old) second.now.project second.now.bound)) }
+    ensures of_sums { IfErr result (OfEither IsAny) }
+    ensures first_read { OnlyReads S.Shelf first_shelf.old first_shelf.new result (λ fault. OfFirst IsSource fault)
+        (λ fault failed. OfFirst (λ of. FailsAt (sounds_of first.now.bound) of failed) fault) }
+    ensures second_read { OnlyReads T.Shelf second_shelf.old second_shelf.new result
+        (λ fault. OfSecond IsSource fault)
+        (λ fault failed. OfSecond (λ of. FailsAt (sounds_of second.now.bound) of failed) fault) }
+{
+    let sides = sides_of(alloc, first, second, extent)?;
+    let (mut one, mut two) = (sides.first, sides.second);
+    let (mut first_sums, mut second_sums) = (sides.first_sums, sides.second_sums);
+    compare_sides(
+        &mut one,
+        &mut two,
+        first_shelf,
+        second_shelf,
+        first_sums.as_mut_slice(),
+        second_sums.as_mut_slice(),
+    )
+}
+
+/// So many samples as a time of the day.
+fn time_of(samples: u64) -> SampleTime
+    ensures { samples ≤ day → result ≡ samples }
+{
+    SampleTime::new(samples).unwrap_or(SampleTime::DAY)
+}
+
+/// Whether two projects sound the same, on every channel at every time that was chosen, and where they differ first: by
+/// their exact sums, before any rounding. Nothing is read or summed where neither plays. `EmptyRange` comes before any
+/// memory is taken.
+pub fn compare_projects<S: Shelf, T: Shelf>(
+    alloc: Global,
+    first: &Checked,
+    second: &Checked,
+    selection: &Selection,
+    first_shelf: &mut S,
+    second_shelf: &mut T,
+) -> Result<Comparison, CompareFault>
+    requires { HasChannels selection.now }
+    ensures compared { IsTrue (S.honest first_shelf.old) → IsTrue (T.honest second_shelf.old)
+        → IfOk result (IsComparison selection.now
+        (project_mix (S.stored first_shelf.old) first.now.project first.now.bound)
+        (project_mix (T.stored second_shelf.old) second.now.project second.now.bound)) }
+    ensures counted { IfOk result
+        (HasCompared (range.compared_in selection.now first.now.project.events second.now.project.events)) }
+    ensures empty { IsErrOf result CompareFault.EmptyRange
+        ↔ ((range.compared_in selection.now first.now.project.events second.now.project.events).to
+        ≤ (range.compared_in selection.now first.now.project.events second.now.project.events).from) }
+    ensures first_read { OnlyReads S.Shelf first_shelf.old first_shelf.new result (λ fault. OfFirst IsSource fault)
+        (λ fault failed. OfFirst (λ of. FailsAt (sounds_of first.now.bound) of failed) fault) }
+    ensures second_read { OnlyReads T.Shelf second_shelf.old second_shelf.new result
+        (λ fault. OfSecond IsSource fault)
+        (λ fault failed. OfSecond (λ of. FailsAt (sounds_of second.now.bound) of failed) fault) }
+{
+    let extent = compared_in(
+        selection,
+        first.project().events(),
+        second.project().events(),
+    );
+    if extent.to.get() <= extent.from.get() {
+        return Err(CompareFault::EmptyRange);
+    }
+    match compare_in(alloc, first, second, &extent, first_shelf, second_shelf)? {
+        Some(difference) => Ok(Comparison::Differs {
+            at: time_of(difference.at),
+            channel: difference.channel,
+        }),
+        None => Ok(Comparison::Same {
+            frames: extent.to.get() - extent.from.get(),
+            channels: extent.channels,
+        }),
+    }
+}

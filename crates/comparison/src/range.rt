@@ -1,0 +1,113 @@
+// Which samples of two projects are compared, on which channels.
+ghost use Rattle.std.specs.Prelude.{◌≡◌, ◌≤◌, ◌++◌, max, min, IsTrue};
+ghost use Rattle.std.specs.List.{list_all};
+ghost use Rattle.list_terms.specs.Accepted.{greatest_of, least_of};
+ghost use Rattle.list_terms.specs.WholeProject.{is_event};
+ghost use Rattle.comparison.specs.Range.{HasChannels, compared_in};
+
+use sampletime::SampleTime;
+use sound_terms::Event;
+
+/// What may be chosen of a comparison: the samples from the time `from` up to, and without, `to`, on this many channels
+/// from 1 on (1 to 64). By default it goes from the first entry's start to the last one's end, of both projects, on all
+/// channels that entries name.
+#[derive(Clone, Copy, Debug, PartialEq, Eq)]
+pub struct Selection {
+    pub from: Option<SampleTime>,
+    pub to: Option<SampleTime>,
+    pub channels: Option<u8>,
+}
+
+impl Default for Selection {
+    ghost use Rattle.std.specs.Prelude.{◌≡◌, None};
+
+    ghost is_default = { λ selection. selection ≡ record { from = None; to = None; channels = None } };
+
+    /// All that sounds, on all channels.
+    fn default() -> Self {
+        Selection {
+            from: None,
+            to: None,
+            channels: None,
+        }
+    }
+}
+
+/// The samples from one time up to, and without, another, on channels from 1.
+#[derive(Clone, Copy)]
+pub struct Extent {
+    pub from: SampleTime,
+    pub to: SampleTime,
+    pub channels: u8,
+}
+
+/// The time at which the first event begins; 0 without an event.
+fn first_in(events: &[Event]) -> SampleTime
+    ensures { result ≡ least_of (λ event. event.dest_in) events.now }
+{
+    let Some((first, others)) = events.split_first() else {
+        return SampleTime::ZERO;
+    };
+    let mut least = first.dest_in;
+    for event in others {
+        least = least.min(event.dest_in);
+    }
+    least
+}
+
+/// The time at which the first event of two lists begins; 0 without an event.
+fn first_in_both(events: &[Event], others: &[Event]) -> SampleTime
+    ensures { result ≡ least_of (λ event. event.dest_in) (events.now ++ others.now) }
+{
+    if events.is_empty() {
+        first_in(others)
+    } else if others.is_empty() {
+        first_in(events)
+    } else {
+        first_in(events).min(first_in(others))
+    }
+}
+
+/// The time at which the last event has ended; 0 without an event.
+fn last_out(events: &[Event]) -> SampleTime
+    ensures { result ≡ greatest_of (λ event. event.dest_out) events.now }
+{
+    let mut greatest = SampleTime::ZERO;
+    for event in events {
+        greatest = greatest.max(event.dest_out);
+    }
+    greatest
+}
+
+/// The last channel on which an event sounds, at least 1.
+fn last_channel(events: &[Event]) -> u8
+    requires { IsTrue (list_all is_event events.now) }
+    ensures value { result ≡ max 1 (greatest_of (λ event. event.dest.last) events.now) }
+    ensures few { result ≤ 64 }
+{
+    let mut greatest = 1;
+    for event in events {
+        greatest = greatest.max(event.dest.last);
+    }
+    greatest
+}
+
+/// What is compared of two lists of events.
+pub fn compared_in(selection: &Selection, events: &[Event], others: &[Event]) -> Extent
+    requires channels { HasChannels selection.now }
+    requires whole { IsTrue (list_all is_event events.now) }
+    requires others_whole { IsTrue (list_all is_event others.now) }
+    ensures from { result.from ≡ (compared_in selection.now events.now others.now).from }
+    ensures to { result.to ≡ (compared_in selection.now events.now others.now).to }
+    ensures channels { result.channels ≡ (compared_in selection.now events.now others.now).channels }
+    ensures few { (1 ≤ result.channels) × (result.channels ≤ 64) }
+{
+    let from = first_in_both(events, others);
+    let to = last_out(events).max(last_out(others));
+    let channels = last_channel(events).max(last_channel(others));
+    Extent {
+        from: selection.from.unwrap_or(from),
+        to: selection.to.unwrap_or(to),
+        channels: selection.channels.unwrap_or(channels),
+    }
+}

@@ -1,0 +1,172 @@
+// One of two sides of a comparison.
+ghost use Rattle.std.specs.Prelude.{◌≡◌, ◌+◌, ◌*◌, ◌<◌, ◌≤◌, ℕ, pos, IfErr, IfOk, IsTrue, OnOk, length};
+ghost use Rattle.std.specs.List.{All};
+ghost use Rattle.sampletime.specs.TimeCode.{day};
+ghost use Rattle.work_terms.specs.Disk.{Files};
+ghost use Rattle.sound_terms.specs.Blocks.{block_count, block_frames, block_start};
+ghost use Rattle.sound_terms.specs.Media.{IsPieceOf};
+ghost use Rattle.devices.specs.Frame.{OnlyReads};
+ghost use Rattle.comparison.specs.Fault.{FailsAt, IsSource};
+ghost use Rattle.comparison.specs.Side.{AreBlockSums, heard};
+ghost use Rattle.comparison.specs.declared.fault.SideFault.TheVariants.{Memory};
+
+use crate::SideFault;
+use blockmachine::{Machine, MachineFault};
+use devices::Shelf;
+use renderplan::{Plan, Program};
+use std::alloc::{AllocError, Global};
+use std::marker::Model;
+use wavread::Sound;
+
+/// The frames of a block, of which the last one may have fewer.
+const BLOCK_LENGTH: u32 = 4096;
+
+/// The blocks of a plan over opened files, a machine that sums them, and room for the program of any one. A clause sees
+/// the plan and the files.
+#[derive(Drop)]
+pub struct Side<'a> {
+    plan: Plan,
+    sounds: &'a [Sound],
+    machine: Machine,
+    program: Program,
+}
+
+impl<'a> Model for Side<'a> {
+    ghost use Rattle.std.specs.Prelude.{◌≡◌, ◌+◌, ◌≤◌, length};
+    ghost use Rattle.comparison.specs.Side.{IsSide, SideWork};
+
+    ghost Value = { SideWork };
+
+    ghost view = { λ s. record { planned = s.plan; sounds = s.sounds.now } };
+
+    ghost invariant = { λ s. IsSide (record { planned = s.plan; sounds = s.sounds.now })
+        × (s.machine ≡ record { frames = 4096; channels = s.plan.range.channels })
+        × (length s.plan.pieces + 2 ≤ s.program.room) };
+}
+
+/// Sums block k of a plan over opened files. There is room for its program, and for just its sums.
+fn sum_block<S: Shelf>(
+    plan: &Plan,
+    k: u64,
+    sounds: &[Sound],
+    shelf: &mut S,
+    machine: &mut Machine,
+    program: &mut Program,
+    sums: &mut [i64],
+) -> Result<(), SideFault>
+    requires there { k < block_count plan.now.range }
+    requires inside { All (IsPieceOf sounds.now) plan.now.pieces }
+    requires machine { machine.old ≡ record { frames = 4096; channels = plan.now.range.channels } }
+    requires program { length plan.now.pieces + 2 ≤ program.old.room }
+    requires room { length sums.old ≡ block_frames plan.now.range k * plan.now.range.channels }
+    ensures summed { IsTrue (S.honest shelf.old) → OnOk result (AreBlockSums plan.now.range
+        (heard (record { planned = plan.now; sounds = sounds.now }) (S.stored shelf.old)) k sums.new) }
+    ensures ready { machine.new ≡ machine.old }
+    ensures program { program.new.room ≡ program.old.room }
+    ensures source { IfErr result IsSource }
+    ensures only_reads { OnlyReads S.Shelf shelf.old shelf.new result (λ fault. IsSource fault)
+        (λ fault failed. FailsAt sounds.now fault failed) }
+{
+    plan.sums_exactly();
+    plan.fill(k, program);
+    match machine.sum(program, sounds, shelf, sums) {
+        Ok(()) => Ok(()),
+        Err(MachineFault::Source { file }) => Err(SideFault::Source { file }),
+        Err(MachineFault::Memory) => Err(SideFault::Memory),
+    }
+}
+
+impl<'a> Side<'a> {
+    ghost use Rattle.comparison.specs.Side.{IsSide};
+
+    /// A plan over these files.
+    pub fn new(alloc: Global, plan: Plan, sounds: &'a [Sound]) -> Result<Self, SideFault>
+        requires { All (IsPieceOf sounds.now) plan.pieces }
+        ensures made { IfOk result (λ side. side ≡ record { planned = plan; sounds = sounds.now }) }
+        ensures only_memory { IfErr result (λ fault. fault ≡ Memory) }
+    {
+        let channels = plan.format().channels;
+        let Ok(machine) = Machine::new(alloc, BLOCK_LENGTH, channels) else {
+            return Err(SideFault::Memory);
+        };
+        let program = Program::with_room(alloc, plan.most_instructions())?;
+        Ok(Side {
+            plan,
+            sounds,
+            machine,
+            program,
+        })
+    }
+
+    /// How many blocks there are.
+    pub fn blocks(&self) -> u64
+        ensures { result ≡ block_count self.now.planned.range }
+    {
+        self.plan.blocks()
+    }
+
+    /// How many channels there are, 1 to 64.
+    pub fn channels(&self) -> u8
+        ensures channels { result ≡ self.now.planned.range.channels }
+        ensures within { (1 ≤ result) × (result ≤ 64) }
+    {
+        self.plan.format().channels
+    }
+
+    /// How many sums block k has: one for each of its frames and channels.
+    pub fn sums_of(&self, k: u64) -> usize
+        requires { k < block_count self.now.planned.range }
+        ensures sums { result ≡ block_frames self.now.planned.range k * self.now.planned.range.channels }
+        ensures few { result ≤ 4096 * self.now.planned.range.channels }
+    {
+        self.plan.frames_of(k) as usize * usize::from(self.channels())
+    }
+
+    /// The time at which block k begins.
+    pub fn start_of(&self, k: u64) -> u64
+        requires { k < block_count self.now.planned.range }
+        ensures start { result ≡ block_start self.now.planned.range k }
+        ensures in_day { result ≤ day }
+    {
+        self.plan.start_of(k)
+    }
+
+    /// Whether nothing sounds in block k.
+    pub fn is_silent(&self, k: u64) -> bool
+        requires { k < block_count self.now.planned.range }
+        ensures { IsTrue result → (files : Files) (i channel : ℕ) → i < block_frames self.now.planned.range k
+            → channel ≤ self.now.planned.range.channels
+            → heard self.now files channel (block_start self.now.planned.range k + i) ≡ pos 0 }
+    {
+        self.plan.is_silent(k)
+    }
+
+    /// Sums block k over `sums`, which has room for just these. A file that can't be read fails it.
+    pub fn sum<S: Shelf>(
+        &mut self,
+        k: u64,
+        shelf: &mut S,
+        sums: &mut [i64],
+    ) -> Result<(), SideFault>
+        requires there { k < block_count self.old.planned.range }
+        requires room { length sums.old ≡ block_frames self.old.planned.range k * self.old.planned.range.channels }
+        ensures summed { IsTrue (S.honest shelf.old) → OnOk result
+            (AreBlockSums self.old.planned.range (heard self.old (S.stored shelf.old)) k sums.new) }
+        ensures ready { self.new ≡ self.old }
+        ensures source { IfErr result IsSource }
+        ensures only_reads { OnlyReads S.Shelf shelf.old shelf.new result (λ fault. IsSource fault)
+            (λ fault failed. FailsAt self.old.sounds fault failed) }
+    {
+        let machine = &mut self.machine;
+        let program = &mut self.program;
+        sum_block(&self.plan, k, self.sounds, shelf, machine, program, sums)
+    }
+}
+
+impl From<AllocError> for SideFault {
+    ghost from_gives = { λ _ fault. fault ≡ Memory };
+
+    fn from(_: AllocError) -> Self {
+        SideFault::Memory
+    }
+}
