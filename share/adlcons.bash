@@ -22,8 +22,20 @@ _adlcons() {
         case $COMP_CWORD:${COMP_WORDS[1]} in
             2:explain)
                 local numbers
-                numbers=$(adlcons explain 2>/dev/null | grep -oE '^[0-9]+' | sort -u)
-                mapfile -t COMPREPLY < <(compgen -W "$numbers" -- "$word")
+                numbers=$(adlcons explain 2>/dev/null | awk '
+                    /^[0-9]/ { number = $1; sub(/:$/, "", number); answered[number] = 1 }
+                    /answer it\.$/ { delete answered[number] }
+                    END { for (number in answered) print number }' | sort)
+                mapfile -t COMPREPLY < <(compgen -W "$numbers notice" -- "$word")
+                ;;
+            3:explain)
+                if [[ $last == notice ]]; then
+                    numbers=$(adlcons explain notice 2>/dev/null | grep -oE '^notice [0-9]+' | grep -oE '[0-9]+')
+                    mapfile -t COMPREPLY < <(compgen -W "$numbers" -- "$word")
+                fi
+                ;;
+            2:help)
+                mapfile -t COMPREPLY < <(compgen -W 'check consolidate render resume show explain' -- "$word")
                 ;;
             2:check | 2:consolidate | 2:render | 2:resume | 2:show) mapfile -t COMPREPLY < <(compgen -f -- "$word") ;;
             3:check | 3:consolidate | 3:render | 3:resume | 3:show | 4:consolidate | 4:render | 4:resume)

@@ -140,6 +140,10 @@ def completion(scene: Scene) -> None:
     same("the orders", completed(scene, "render", "L.adl", "M", "OUT", "--order", ""), ["time", "source"])
     same("a handle", completed(scene, "consolidate", "L.adl", "M", "OUT", "--handle", ""), [])
     same("the numbers", completed(scene, "explain", "2")[:3], ["20", "21", "22"])
+    same("those that are answered", completed(scene, "explain", "4"), ["41", "42", "43", "44", "46", "47"])
+    same("notices", completed(scene, "explain", "no"), ["notice"])
+    same("their numbers", completed(scene, "explain", "notice", ""), list("1234567"))
+    same("what help explains", completed(scene, "help", "c"), ["check", "consolidate"])
 
 
 def named_files(_: Scene) -> None:

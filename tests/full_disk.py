@@ -57,8 +57,11 @@ def refused_file(line: bytes) -> str:
 
 
 def check_full(got, written: dict) -> None:
-    """It is refused for a file that isn't whole, or for a job, and there is no list beside media that aren't whole."""
+    """It is refused for a file that isn't whole, or for a job, and there is no list beside media that aren't whole.
+    Standard error says that the disk is full, and to make room."""
     same("the status", got.status, 1)
+    for said in (b"; the disk is full: No space left on device (os error 28); ", b"; make room, and "):
+        same(f"whether it says {said}", said in got.error, True)
     name = refused_file(got.output)
     if name != "consolidated.adl":
         same("whether a list is there", "consolidated.adl" in written, False)

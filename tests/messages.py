@@ -11,7 +11,7 @@ from harness import (
 )
 from model import FRONT
 from progress import on_terminal, put_sound, put_stretches
-from tables import FIRST_LIST, changed, wave
+from tables import FIRST_LIST, changed, data_chunk, format_chunk, riff_file, wave
 
 MIDNIGHT = b"00.00.00.00/0000"
 NOBODY = 65_534
@@ -250,8 +250,8 @@ HONOURED = FIRST_LIST.replace(b"<SEQUENCE>", b"""<TRACKLIST>
 def passed_over(scene: Scene) -> None:
     """What may be meant to be heard and is passed over is told by its line, in every command that is done."""
     told = "".join(f"not honoured at line {line}: {word}\n" for line, word in (
-        (4, "(MUTE)"), (5, "(Pan)"), (8, "(SYS_XFADE_LENGTH)"), (10, "<LEVEL_LIST>"), (21, "MUTE")))
-    told = told.replace("(SYS_XFADE_LENGTH)", "00.00.00.10/0000")
+        (4, "(MUTE) (Gain) -6.0"), (5, "(Pan) 0"), (8, "(SYS_XFADE_LENGTH) 00.00.00.10/0000"), (10, "<LEVEL_LIST>"),
+        (21, "MUTE")))
     lists = [(PASSED, told), (HONOURED, "")]
     lists += [(text.replace(b"\n", b"\r\n"), wanted) for text, wanted in lists]
     for text, wanted in lists:
@@ -290,7 +290,7 @@ def further_lines(scene: Scene) -> None:
     faders = b"<FADER_LIST>\n(Fader) 1\n(Fader) 2\n</FADER_LIST>\n"
     text = b"".join((*lines[:9], *faulty, *lines[10:11], faders, *lines[11:]))
     wanted = (
-        "also 13 at line 13 entry 2", "also 13 at line 14 entry 2", "also 8 at line 15 entry 3", "also 13 at line 19",
+        "also 13 at line 13 entry 2", "also 13 at line 14 entry 2", "also 08 at line 15 entry 3", "also 13 at line 19",
         "also 13 at line 20")
     same("what the model tells", model.answer("check", text, MEDIA_FILES).further, wanted)
     expect_refused(scene, text, MEDIA_FILES, "refused 13 at line 10 entry 1")
@@ -315,6 +315,115 @@ def nearly_the_name(scene: Scene) -> None:
             expect_said(got, f"refused 21 at index 1 file {wanted}", (NEARLY % there,))
         (scene.folder / MEDIA / there).unlink()
         expect_said(scene.run("check", LIST, MEDIA), f"refused 21 at index 1 file {wanted}", (), ("the folder has",))
+
+
+def elsewhere(scene: Scene) -> None:
+    """A file that is missing and lies in a folder of MEDIA is told, and so is a \\ where only / parts folders."""
+    line = "refused 21 at index 1 file "
+    scene.put(FIRST_LIST)
+    (scene.folder / MEDIA / "Edits").mkdir()
+    (scene.folder / MEDIA / "Edits" / "A.wav").write_bytes(wave())
+    for command in model.COMMANDS:
+        said = ("; found in Edits/; put it into the folder itself",)
+        expect_said(scene.run(*words_of(command)), f"{line}A.wav", said)
+    scene.put(with_url(rb"URL:file://localhost/C:\Audio Files\VO.wav"), {"VO.wav": wave()})
+    said = "; VO.wav is there: write / for \\; correct the list"
+    expect_said(scene.run("check", LIST, MEDIA), rf"{line}C:\Audio Files\VO.wav", (said,))
+
+
+KEPT_TIME = (
+    "only integer PCM of 16, 24 or 32 bits is read: ffmpeg -i IN -c:a pcm_s24le -write_bext 1 OUT keeps the "
+    "TimeReference, and clips what lies above full scale")
+FLOAT = "the file is 32-bit floating point (format tag 3); "
+SUB_FORMAT = b"\x16\0\x20\0\3\0\0\0\3\0\0\0\0\0\x10\0\x80\0\0\xaa\0\x38\x9b\x71"
+
+
+def sound(**format) -> bytes:
+    return riff_file(format_chunk(**format), data_chunk((1, 2, 3, 4)))
+
+
+# What is said of a file that isn't read: its bytes, the number, what it is, and what to do.
+OF_FILES = {
+    "floating point": (
+        sound(tag=3, bits=32, channels=2), 27, FLOAT + KEPT_TIME),
+    "floating point, extensible": (
+        sound(tag=0xfffe, bits=32, more=SUB_FORMAT), 27, FLOAT + KEPT_TIME),
+    "8 bits": (sound(bits=8), 27, "the file is 8-bit integer PCM; " + KEPT_TIME),
+    "ADPCM": (sound(tag=2, bits=4, block=2), 27, "the file is Microsoft ADPCM (format tag 2); " + KEPT_TIME),
+    "a tag without a name": (sound(tag=0x1234), 27, "the file has format tag 4660; " + KEPT_TIME),
+    "65 channels": (sound(channels=65), 27, "the file has 65 channels; only 1 to 64 channels are read: split the file"),
+    "another rate": (
+        sound(rate=44100), 29,
+        "the file has 44100 samples a second; convert the file to 48000, and its TimeReference with it"),
+    "FLAC": (b"fLaC\0\0\0\x22", 23, "the file is FLAC; convert the file to WAVE"),
+    "AIFF": (b"FORM\0\0\0\0AIFFCOMM", 23, "the file is AIFF; convert the file to WAVE"),
+    "MP3": (b"ID3\4\0\0\0\0\0\0\0\0", 23, "the file is MP3; convert the file to WAVE"),
+    "an empty file": (b"", 23, "the file is empty; copy the file again"),
+    "zeros": (bytes(100), 23, "the file begins with zeros, as one whose copy was interrupted; copy the file again"),
+    "another file": (b"hello", 23, "the file doesn't begin as RIFF or RF64 of form WAVE; convert the file to WAVE"),
+}
+
+
+def said_of_file(data: bytes, number: int, said: str):
+    """Every command refuses the list for its file, and says what that is; a check says it of a further one too."""
+    def body(scene: Scene) -> None:
+        scene.put(FIRST_LIST, {"A.wav": data})
+        for command in model.COMMANDS:
+            got = scene.run(*words_of(command))
+            expect_said(got, f"refused {number} at index 1 file A.wav", (f": {said}",))
+        lines = [model.source_line(1, "Gone.wav", MIDNIGHT), model.source_line(2, "A.wav", MIDNIGHT)]
+        entries = [model.entry_line(each, each, MIDNIGHT, MIDNIGHT, model.time_text(3)) for each in (1, 2)]
+        scene.put(model.list_text(lines, entries))
+        further = scene.run("check", LIST, MEDIA).error.decode().splitlines()[-1]
+        same("its end", further.endswith(": " + said.split("; ")[0]), True)
+    return body
+
+
+# What is said of an entry at fault, by its words behind the number and its place.
+OF_ENTRIES = (
+    (46, (100, 0, 5), {}, "entry 1 plays A.wav up to frame 5; the file has 4 (1 too many); correct its source in"),
+    (46, (98, 0, 3), {}, "entry 1 begins 2 frames before the first one of A.wav, which has 4; correct its source in"),
+    (42, (100, 5, 3), {}, "entry 1 ends 2 samples before it starts; correct its times"),
+    (44, (100, 0, 3), {"source": b"1~2", "dest": b"1~2"},
+     "entry 1 plays channel 2 of A.wav, which has 1; correct the channels, or name another file; a mono clip on two "
+     "channels is two entries, one on each"),
+)
+
+
+def said_of_entries(scene: Scene) -> None:
+    """A fault of an entry is told in its own numbers: the file, its frames, and by how many it is passed."""
+    index = model.source_line(1, "A.wav", model.time_text(100))
+    good = model.entry_line(1, 1, *map(model.time_text, (100, 0, 4)))
+    for number, times, channels, said in OF_ENTRIES:
+        line = model.entry_line(1, 1, *map(model.time_text, times), **channels)
+        scene.put(model.list_text([index], [line]), MEDIA_FILES)
+        expect_said(scene.run("check", LIST, MEDIA), f"refused {number} at entry 1", (f": {said}",))
+        later = model.entry_line(2, 1, *map(model.time_text, times), **channels)
+        unknown = good.replace(b"I 0001", b"I 0007")
+        scene.put(model.list_text([index], [unknown, later]), MEDIA_FILES)
+        got = scene.run("check", LIST, MEDIA)
+        same("the line", got.output, b"refused 41 at entry 1\n")
+        if b": entry 1 plays index 7, which SOURCE_INDEX doesn't have; add the index" not in got.error:
+            raise Mismatch(f"41 is explained so: {got.error!r}")
+        further = said.split("; correct")[0].replace("entry 1", "entry 2")
+        same("its end", got.error.decode().splitlines()[-1].endswith(f": {further}"), True)
+
+
+def further_words(scene: Scene) -> None:
+    """Each further line tells its column and its word, also behind the bad number of an index or an entry."""
+    lines = FIRST_LIST.splitlines(keepends=True)
+    index, entry = lines[6], lines[9]
+    text = b"".join((
+        *lines[:6], index.replace(b"0001", b"0"), *lines[6:9],
+        entry.replace(b"0001 (Cut)", b"0 (Cut)") + b"(Infade) 00.00.00.00/0001 COS\n",
+        entry.replace(b"0001 (Cut)", b"0002 (Cut)") + b"(Gain) _ _ -3.00\n",
+        entry.replace(b"0001 (Cut)", b"0003 (Cut)").replace(b"01.00.00.00/0004", b"01.00.00.25/0000"), *lines[10:]))
+    told = (
+        "also 07 at line 11: bad number of an index or an entry; at column 9 stands: 0",
+        "also 13 at line 14 entry 2: unsupported line; at column 12 stands: -3.00; of gains only zero is read",
+        "also 06 at line 15 entry 3: bad time; at column 65 stands: 01.00.00.25/0000; the list has 25 frames a second")
+    expect_refused(scene, text, MEDIA_FILES, "refused 07 at line 7")
+    same("what is told", tuple(scene.run("check", LIST, MEDIA).error.decode().splitlines()[1:]), told)
 
 
 def all_that_is_at_fault(scene: Scene) -> None:
@@ -348,7 +457,7 @@ def rate_behind_faults(scene: Scene) -> None:
     """The rate of a list holds for its further lines, also where it is told behind the first of them."""
     faders = b"<FADER_LIST>\n(Fader) 1\n</FADER_LIST>\n<SEQUENCE>"
     text = FIRST_LIST.replace(b"<SEQUENCE>", faders, 1).replace(b"FRAME_RATE) 25", b"FRAME_RATE) 30")
-    for time, told in ((b"01.00.00.29/0000", ()), (b"01.00.00.30/0000", ("also 6 at line 13 entry 1",))):
+    for time, told in ((b"01.00.00.29/0000", ()), (b"01.00.00.30/0000", ("also 06 at line 13 entry 1",))):
         scene.put(text.replace(b"01.00.00.00/0004", time), MEDIA_FILES)
         same_outcome(scene.run("check", LIST, MEDIA), 1, "refused 13 at line 3", further=told)
 
@@ -391,6 +500,11 @@ def run(suite: Suite) -> None:
     suite.case("a medium that is gone", medium_gone_meanwhile)
     suite.case("control characters in words", control_characters)
     suite.case("a name that is nearly the one", nearly_the_name)
+    suite.case("a file in a folder, or behind a backslash", elsewhere)
+    for name, (data, number, said) in OF_FILES.items():
+        suite.case(f"said of a file: {name}", said_of_file(data, number, said))
+    suite.case("said of entries", said_of_entries)
+    suite.case("further faults behind a bad number", further_words)
     suite.case("all that is at fault", all_that_is_at_fault)
     suite.case("the rate behind faults", rate_behind_faults)
     suite.case("an empty name of the media", current_folder)

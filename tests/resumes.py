@@ -290,11 +290,14 @@ BROKEN = {
 
 
 def no_folder(scene: Scene) -> None:
-    """An output that isn't there is 62 at its first file, and never 20."""
+    """An output that isn't there is 62 at its first file, and never 20; standard error names the folder first."""
     text, media = plain(2)
     scene.put(text, media)
-    for name in ("none", LIST):
-        same_outcome(scene.run("resume", LIST, MEDIA, name), 1, f"refused 62 at file {SOUND}")
+    for name, why in (("none", "No such file or directory (os error 2)"), (LIST, "Not a directory (os error 20)")):
+        got = scene.run("resume", LIST, MEDIA, name)
+        told = f"the folder {name} can't be opened: {why}\n".encode()
+        same("what is said of the folder", got.error[:len(told)], told)
+        same_outcome(got._replace(error=got.error.removeprefix(told)), 1, f"refused 62 at file {SOUND}")
 
 
 def links(scene: Scene) -> None:

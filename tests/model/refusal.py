@@ -18,7 +18,7 @@ class Refused(Exception):
 
     def further(self) -> str:
         """How it is told behind another one."""
-        return f"also {self.number}{self.place}"
+        return f"also {self.number:02d}{self.place}"
 
 
 class Notice(NamedTuple):

@@ -1,8 +1,11 @@
 // What a command tells on standard error beside the refusal and its explanation.
 use answers::Asides;
+use explanations::Near;
+use shelf::FolderShelf;
 use std::alloc::Global;
 use std::fs;
 use std::fs::Files;
+use std::os::unix::fs::FileExt;
 use unicode_normalization::to_nfc;
 
 /// How many further faults are told where not all are asked for.
@@ -30,11 +33,11 @@ impl<'a, R> FolderAsides<'a, R> {
     }
 }
 
-impl<R: Files + AllocGlobal + Clone + Drop> Asides for FolderAsides<'_, R> {
-    fn most(&self) -> usize {
-        if self.tells_all { usize::MAX } else { FEW }
-    }
-
+impl<R: Files + AllocGlobal + Clone + Drop> FolderAsides<'_, R>
+where
+    R::File: FileExt,
+{
+    /// The name in the folder that differs from this one in case or in its form of Unicode alone.
     fn similar(&self, alloc: Global, name: &str) -> Option<String> {
         let wanted = to_nfc(alloc, name).ok()?;
         let mut names = fs::read_dir(self.rt, listed(self.media)).ok()?;
@@ -48,6 +51,72 @@ impl<R: Files + AllocGlobal + Clone + Drop> Asides for FolderAsides<'_, R> {
             }
         }
         None
+    }
+
+    /// The folder in that of the media which has a file of this name.
+    fn folder_of(&self, alloc: Global, name: &str) -> Option<String> {
+        let mut names = fs::read_dir(self.rt, listed(self.media)).ok()?;
+        for _ in 0..MOST_NAMES {
+            if let Ok(found) = names.next()? {
+                if self.has_file(alloc, found.file_name(), name) {
+                    return String::from_str(alloc, found.file_name()).ok();
+                }
+            }
+        }
+        None
+    }
+
+    /// Whether a folder in that of the media has a plain file of this name.
+    fn has_file(&self, alloc: Global, folder: &str, name: &str) -> bool {
+        match format!(in alloc; "{folder}/{name}") {
+            Ok(path) => self.is_file(alloc, &path),
+            Err(_) => false,
+        }
+    }
+
+    /// Whether this path leads to a plain file in the folder of the media.
+    fn is_file(&self, alloc: Global, path: &str) -> bool {
+        let folder = listed(self.media);
+        match format!(in alloc; "{folder}/{path}") {
+            Ok(path) => fs::metadata(self.rt, &path).is_ok_and(|found| found.is_file()),
+            Err(_) => false,
+        }
+    }
+
+    /// The part of this name behind its last `\\`, where the folder has a file of that name.
+    fn behind_backslash(&self, alloc: Global, name: &str) -> Option<String> {
+        let (_, last) = name.rsplit_once('\\')?;
+        if !last.is_empty() && self.is_file(alloc, last) {
+            String::from_str(alloc, last).ok()
+        } else {
+            None
+        }
+    }
+}
+
+impl<R: Files + AllocGlobal + Clone + Drop> Asides for FolderAsides<'_, R>
+where
+    R::File: FileExt,
+{
+    type Sources = FolderShelf<R>;
+
+    fn most(&self) -> usize {
+        if self.tells_all { usize::MAX } else { FEW }
+    }
+
+    fn near(&self, alloc: Global, name: &str) -> Option<Near> {
+        if let Some(last) = self.behind_backslash(alloc, name) {
+            return Some(Near::Backslash(last));
+        }
+        if let Some(similar) = self.similar(alloc, name) {
+            return Some(Near::Spelled(similar));
+        }
+        Some(Near::Folder(self.folder_of(alloc, name)?))
+    }
+
+    fn sources(&self, alloc: Global) -> Option<FolderShelf<R>> {
+        let rt = self.rt.clone().ok()?;
+        FolderShelf::new(alloc, rt, self.media).ok()
     }
 }
 

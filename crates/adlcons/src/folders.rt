@@ -416,7 +416,16 @@ where
         return;
     };
     if let Err(fault) = check_project(rt.alloc(), list, &mut shelf) {
-        tell_further(rt.alloc(), list, &mut shelf, &fault, usize::MAX, err);
+        let asides = FolderAsides::new(rt, media, true);
+        tell_further(
+            rt.alloc(),
+            list,
+            &mut shelf,
+            &fault,
+            usize::MAX,
+            &asides,
+            err,
+        );
     }
 }
 

@@ -2,6 +2,7 @@
 ghost use Rattle.std.specs.Prelude.{◌≡◌, ◌≤◌, ◌⊎◌, codes, IfOk, OnErr};
 ghost use Rattle.adlcons.specs.Openings.{IsKeptOut, ReportsFolder};
 
+use crate::asides::FolderAsides;
 use crate::folders::{OpenFault, keep_out, tell_all_further, tell_unlisted, unlisted_reason};
 use crate::reading::read_list;
 use answers::{REFUSED, answer_picture, answer_report};
@@ -52,7 +53,8 @@ where
     let list = read_list(rt, list)?;
     let mut shelf = FolderShelf::new(rt.alloc(), rt.clone()?, media)?;
     let unlisted = unlisted_reason(rt, media);
-    let status = answer_report(rt.alloc(), &list, &mut shelf, out, err);
+    let asides = FolderAsides::new(rt, media, tells_all);
+    let status = answer_report(rt.alloc(), &list, &mut shelf, out, err, &asides);
     if status == REFUSED && tells_all {
         tell_all_further(rt, &list, media, err);
     }
@@ -100,7 +102,17 @@ where
     let text = read_list(rt, list)?;
     let mut shelf = FolderShelf::new(rt.alloc(), rt.clone()?, media)?;
     let unlisted = unlisted_reason(rt, media);
-    let status = answer_picture(rt.alloc(), list, &text, handle, &mut shelf, out, err);
+    let asides = FolderAsides::new(rt, media, tells_all);
+    let status = answer_picture(
+        rt.alloc(),
+        list,
+        &text,
+        handle,
+        &mut shelf,
+        out,
+        err,
+        &asides,
+    );
     if status == REFUSED && tells_all {
         tell_all_further(rt, &text, media, err);
     }

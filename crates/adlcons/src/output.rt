@@ -33,16 +33,17 @@ pub enum HeldFolder<F: Drop> {
 }
 
 impl<F: Drop> HeldFolder<F> {
-    /// Tells that others aren't kept from the folder of this path, where it is there and couldn't be locked.
+    /// Tells that the folder of this path isn't there, or that others aren't kept from it where it couldn't be locked.
     pub fn tell_unlocked<E: Console>(&self, path: &str, err: &mut E) {
         if let HeldFolder::Unlocked(reason) = self {
+            let folder = PrintedName(path);
             if matches!(
                 reason.kind(),
                 ErrorKind::NotFound | ErrorKind::NotADirectory
             ) {
+                err.print_line(format_args!("the folder {folder} can't be opened: {reason}"));
                 return;
             }
-            let folder = PrintedName(path);
             err.print_line(format_args!(
                 "the folder {folder} can't be locked: {reason}; run no other command there meanwhile"
             ));

@@ -1,23 +1,26 @@
 // What else is told of a list that is refused: its further faults, each in a line.
 ghost use Rattle.opening.specs.Further.{WasRead};
 
+use crate::asides::Asides;
 use crate::refusal::put_project_place;
+use crate::second_look::SecondLook;
 use adlread::{AdlFault, Faults};
-use console::{Console, put_counted};
+use console::Console;
 use consolidate::Fault;
 use devices::Shelf;
-use explanations::further_meaning;
+use explanations::{FurtherExplanation, ListLines, Look};
 use opening::further_faults;
 use std::alloc::Global;
 
 /// Prints the further faults of a list that is refused by this first one, so many at most, and how many more there are;
 /// of lines, whether there are more. Nothing is printed where they can't be found.
-pub fn tell_further<S: Shelf, E: Console>(
+pub fn tell_further<S: Shelf, E: Console, A: Asides>(
     alloc: Global,
     list: &[u8],
     shelf: &mut S,
     first: &Fault,
     most: usize,
+    asides: &A,
     err: &mut E,
 )
     ensures { WasRead S.Shelf shelf.old shelf.new }
@@ -32,11 +35,25 @@ pub fn tell_further<S: Shelf, E: Console>(
     let Ok(further) = further_faults(alloc, list, shelf, first, most) else {
         return;
     };
-    for fault in &further.faults {
-        tell_also(alloc, fault, err);
-    }
+    tell_each(alloc, list, &further.faults, asides, err);
     if further.more > 0 {
         err.print_line(format_args!("and {} more", further.more));
+    }
+}
+
+/// Prints these faults of files or entries, with what a second look finds about each.
+fn tell_each<E: Console, A: Asides>(
+    alloc: Global,
+    list: &[u8],
+    faults: &[opening::Fault],
+    asides: &A,
+    err: &mut E,
+) {
+    let mut second_look = SecondLook::new(asides.sources(alloc));
+    let mut lines = ListLines::new(list);
+    for fault in faults {
+        let look = second_look.at(alloc, list, fault, asides);
+        tell_also(alloc, fault, &mut lines, &look, err);
     }
 }
 
@@ -51,24 +68,29 @@ fn tell_further_lines<E: Console>(
     let Ok(mut faults) = Faults::behind(alloc, list, first) else {
         return;
     };
+    let mut lines = ListLines::new(list);
+    let look = Look::nothing();
     for _ in 0..most {
         let Some(fault) = faults.next_fault(alloc) else {
             return;
         };
-        tell_also(alloc, &opening::Fault::List(fault), err);
+        tell_also(alloc, &opening::Fault::List(fault), &mut lines, &look, err);
     }
     if faults.next_fault(alloc).is_some() {
         err.print_line("and more");
     }
 }
 
-/// Prints a further fault: its number, its place, and what the number means there.
-fn tell_also<E: Console>(alloc: Global, fault: &opening::Fault, err: &mut E) {
-    put_counted(err, "also ", u64::from(fault.number()));
+/// Prints a further fault: its number, its place, what the number means there, and what is found about it.
+fn tell_also<E: Console>(
+    alloc: Global,
+    fault: &opening::Fault,
+    lines: &mut ListLines<'_>,
+    look: &Look,
+    err: &mut E,
+) {
+    let number = fault.number();
+    err.print(format_args!("also {number:02}"));
     let _ = put_project_place(alloc, fault, err);
-    if let Some(meaning) = further_meaning(fault) {
-        err.put(b": ");
-        err.put(meaning.as_bytes());
-    }
-    err.end_line();
+    err.print_line(FurtherExplanation::of(fault, lines.at(fault), look));
 }

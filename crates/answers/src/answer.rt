@@ -15,7 +15,7 @@ ghost use Rattle.commandline.specs.CommandLine.{is_shown};
 ghost use Rattle.commandline.specs.Request.{asked_of};
 ghost use Rattle.console.specs.Printing.{Prints};
 ghost use Rattle.list_terms.specs.Text.{rate_of as rate_at};
-ghost use Rattle.answers.specs.Answers.{IsAnswered, IsChecked, MayBeMistaken, RendersBy, ResumesBy, accepted_lines, asking, refusal_line, rendered_lines, resumed_lines, written_lines};
+ghost use Rattle.answers.specs.Answers.{IsAnswered, IsChecked, MayBeMistaken, RendersBy, ResumesBy, accepted_lines, asking, rendered_lines, resumed_lines, written_lines};
 ghost use Rattle.answers.specs.BadTime.{name_of};
 ghost use Rattle.checkreport.specs.Reported.{IsReported};
 ghost use Rattle.answers.specs.Times.{bad_time_line, values_of};
@@ -26,9 +26,8 @@ use crate::check_report::answer_report;
 use crate::chosen::{BadTime, options_of, tell_bad_time};
 use crate::drawing::answer_picture;
 use crate::meter::Meter;
-use crate::refusal::put_fault;
+use crate::refusal::refuse;
 use crate::report::{tell_changed, tell_done, tell_meanings};
-use adlmodel::place_of;
 use adlread::rate_of;
 use clap::Error;
 use commandline::{Request, VERSION};
@@ -123,7 +122,7 @@ pub fn answer_request<
 {
     match request {
         Request::Check(_, _) => answer_check(alloc, list, shelf, out, err, asides),
-        Request::Report(_, _) => answer_report(alloc, list, shelf, out, err),
+        Request::Report(_, _) => answer_report(alloc, list, shelf, out, err, asides),
         Request::Render(_, chosen) => match options_of(chosen, rate_of(list)) {
             Ok(options) => answer_render(
                 alloc, list, &options, shelf, bench, out, err, meter, asides,
@@ -143,7 +142,7 @@ pub fn answer_request<
             )
         }
         Request::Show(name, _, handle) => {
-            answer_picture(alloc, name, list, handle, shelf, out, err)
+            answer_picture(alloc, name, list, handle, shelf, out, err, asides)
         }
         Request::Explain(number) => explain(number, out, err),
         Request::ExplainNotice(number) => explain_notice(number, out, err),
@@ -186,8 +185,8 @@ fn answer_check<S: Shelf + Reasons, O: Console, E: Console, A: Asides>(
         }
         Err(fault) => {
             let explanation = Explanation::of(&fault, list, shelf.reason(), None);
-            let _ = refuse(alloc, &fault, explanation, asides, out, err);
-            tell_further(alloc, list, shelf, &fault, asides.most(), err);
+            let _ = refuse(alloc, list, &fault, explanation, asides, out, err);
+            tell_further(alloc, list, shelf, &fault, asides.most(), asides, err);
             REFUSED
         }
     }
@@ -237,7 +236,7 @@ fn answer_render<
         Err(fault) => {
             let explanation = Explanation::of(&fault, list, shelf.reason(), bench.reason());
             let explanation = explanation.of_rendering();
-            let _ = refuse(alloc, &fault, explanation, asides, out, err);
+            let _ = refuse(alloc, list, &fault, explanation, asides, out, err);
             REFUSED
         }
     }
@@ -287,7 +286,7 @@ fn answer_resume<
         Err(fault) => {
             let explanation = Explanation::of(&fault, list, shelf.reason(), bench.reason());
             let explanation = explanation.of_rendering();
-            let _ = refuse(alloc, &fault, explanation, asides, out, err);
+            let _ = refuse(alloc, list, &fault, explanation, asides, out, err);
             REFUSED
         }
     }
@@ -352,42 +351,10 @@ fn answer_consolidate<
         }
         Err(fault) => {
             let explanation = Explanation::of(&fault, list, shelf.reason(), bench.reason());
-            let _ = refuse(alloc, &fault, explanation, asides, out, err);
+            let _ = refuse(alloc, list, &fault, explanation, asides, out, err);
             REFUSED
         }
     }
-}
-
-/// Prints the line of a refusal on `out` and its explanation on `err`. It is false where no memory was left for the name
-/// of an index's file, which the line is without.
-fn refuse<O: Console, E: Console, A: Asides>(
-    alloc: Global,
-    fault: &Fault,
-    explanation: Explanation<'_>,
-    asides: &A,
-    out: &mut O,
-    err: &mut E,
-) -> bool
-    ensures { Prints O.contents O.failures out.old out.new (refusal_line result (refusal_of fault.now)) }
-{
-    let is_named = put_fault(alloc, fault, out);
-    out.end_line();
-    let similar = similar_to_missing(alloc, fault, asides);
-    let similar = similar.as_ref().map(|name| name.as_str());
-    err.print_line(explanation.with_similar(similar));
-    is_named
-}
-
-/// The name of a source that is nearly that of the one that is missing, where one is.
-fn similar_to_missing<A: Asides>(alloc: Global, fault: &Fault, asides: &A) -> Option<String> {
-    let Fault::Project(opening::Fault::Media { source, fault }) = fault else {
-        return None;
-    };
-    if fault.number() != 21 {
-        return None;
-    }
-    let place = place_of(alloc, source.url()).ok()??;
-    asides.similar(alloc, place.name())
 }
 
 /// Prints which option's time can't be read, and answers the status.

@@ -1,11 +1,19 @@
 // What a command tells on standard error beside the refusal and its explanation.
+use explanations::Near;
+use shelf::Shelf;
 use std::alloc::Global;
 
 /// What is told beside a refusal.
 pub trait Asides {
+    /// The sources as they are looked at once more.
+    type Sources: Shelf + Drop;
+
     /// How many further faults are told at most.
     fn most(&self) -> usize;
 
-    /// The name of a source that differs from this one in case or in its form of Unicode alone.
-    fn similar(&self, alloc: Global, name: &str) -> Option<String>;
+    /// Where a source of this name, which is missing, may be.
+    fn near(&self, alloc: Global, name: &str) -> Option<Near>;
+
+    /// The sources once more; none where no memory was left.
+    fn sources(&self, alloc: Global) -> Option<Self::Sources>;
 }

@@ -2,6 +2,8 @@
 ghost use Rattle.std.specs.Prelude.{◌≤◌, IsTrue};
 ghost use Rattle.checkreport.specs.Reported.{IsReported};
 
+use crate::asides::Asides;
+use crate::refusal::look_at;
 use crate::report::tell_changed;
 use checkreport::{put_accepted, put_refused};
 use console::Console;
@@ -14,12 +16,13 @@ use std::alloc::Global;
 /// Checks the list, and prints all that came of it as JSON on `out`, by the form of `docs/REPORT.md`; where no memory
 /// was left for the first fault of a list that is refused, the refusal 18. A refusal of the list is explained on `err`.
 /// The status is 0 where the list is accepted and told, and else 1.
-pub fn answer_report<S: Shelf + Reasons, O: Console, E: Console>(
+pub fn answer_report<S: Shelf + Reasons, O: Console, E: Console, A: Asides>(
     alloc: Global,
     list: &[u8],
     shelf: &mut S,
     out: &mut O,
     err: &mut E,
+    asides: &A,
 ) -> u8
     ensures reported { IsTrue (S.honest shelf.old)
         → IsReported list.now (S.stored shelf.old) O.Console out.old out.new result }
@@ -32,7 +35,8 @@ pub fn answer_report<S: Shelf + Reasons, O: Console, E: Console>(
         Err(fault) => {
             let status = put_refused(alloc, list, shelf, &fault, out);
             let fault = Fault::Project(fault);
-            err.print_line(Explanation::of(&fault, list, shelf.reason(), None));
+            let look = look_at(alloc, list, &fault, asides);
+            err.print_line(Explanation::of(&fault, list, shelf.reason(), None).with_look(&look));
             status
         }
     }

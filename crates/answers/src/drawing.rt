@@ -1,7 +1,8 @@
 // The answer to a request for a picture.
 ghost use Rattle.std.specs.Prelude.{◌≤◌};
 
-use crate::refusal::put_fault;
+use crate::asides::Asides;
+use crate::refusal::refuse;
 use crate::report::tell_changed;
 use console::Console;
 use consolidate::Fault;
@@ -13,7 +14,7 @@ use std::alloc::Global;
 
 /// Draws the list of this path with handles of so many frames, as SVG on `out`, and answers 0; or prints why it is
 /// refused, as a check does, and answers 1.
-pub fn answer_picture<S: Shelf + Reasons, O: Console, E: Console>(
+pub fn answer_picture<S: Shelf + Reasons, O: Console, E: Console, A: Asides>(
     alloc: Global,
     path: &str,
     list: &[u8],
@@ -21,6 +22,7 @@ pub fn answer_picture<S: Shelf + Reasons, O: Console, E: Console>(
     shelf: &mut S,
     out: &mut O,
     err: &mut E,
+    asides: &A,
 ) -> u8
     ensures { result ≤ 1 }
 {
@@ -36,9 +38,8 @@ pub fn answer_picture<S: Shelf + Reasons, O: Console, E: Console>(
         },
         Err(fault) => Fault::Project(fault),
     };
-    let _ = put_fault(alloc, &fault, out);
-    out.end_line();
-    err.print_line(Explanation::of(&fault, list, shelf.reason(), None));
+    let explanation = Explanation::of(&fault, list, shelf.reason(), None);
+    let _ = refuse(alloc, list, &fault, explanation, asides, out, err);
     1
 }
 

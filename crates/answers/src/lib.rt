@@ -10,6 +10,7 @@ mod drawing;
 mod meter;
 mod refusal;
 mod report;
+mod second_look;
 mod standard;
 
 pub use also::tell_further;

@@ -8,14 +8,47 @@ ghost use Rattle.consolidate.specs.Fault.{name_of_output, place_of_marks, refusa
 ghost use Rattle.console.specs.Lines.{place_text, refusal_text};
 ghost use Rattle.console.specs.Places.{where_of};
 ghost use Rattle.console.specs.Printing.{Prints};
-ghost use Rattle.answers.specs.Answers.{place_told};
+ghost use Rattle.answers.specs.Answers.{place_told, refusal_line};
 
+use crate::asides::Asides;
+use crate::second_look::SecondLook;
 use adlmodel::{Source, place_of};
 use adlread::AdlFault;
 use console::{Console, Place, Refusal, put_place, put_refusal, put_refused};
 use consolidate::{Fault, LIST, MARKS, MarksFault, OutputFile, REPORT, SOUND, SUMS};
+use explanations::{Explanation, Look};
 use list_terms::Location;
 use std::alloc::Global;
+
+/// Prints the line of a refusal of this list on `out` and its explanation on `err`, with what a second look at the media
+/// finds. It is false where no memory was left for the name of an index's file, which the line is without.
+pub fn refuse<O: Console, E: Console, A: Asides>(
+    alloc: Global,
+    list: &[u8],
+    fault: &Fault,
+    explanation: Explanation<'_>,
+    asides: &A,
+    out: &mut O,
+    err: &mut E,
+) -> bool
+    ensures { Prints O.contents O.failures out.old out.new (refusal_line result (refusal_of fault.now)) }
+{
+    let is_named = put_fault(alloc, fault, out);
+    out.end_line();
+    let look = look_at(alloc, list, fault, asides);
+    err.print_line(explanation.with_look(&look));
+    is_named
+}
+
+/// What a second look at the media finds about a fault of a command over this list.
+pub fn look_at<A: Asides>(alloc: Global, list: &[u8], fault: &Fault, asides: &A) -> Look {
+    match fault {
+        Fault::Project(fault) => {
+            SecondLook::new(asides.sources(alloc)).at(alloc, list, fault, asides)
+        }
+        _ => Look::nothing(),
+    }
+}
 
 /// Prints the refusal of a list by a command, without its line's end. It is false where no memory was left for the name
 /// of an index's file, which the refusal is told without.

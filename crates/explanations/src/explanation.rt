@@ -1,37 +1,26 @@
 // What is told of a refusal beside its line: what its number means there, what was found, and what to do.
-use crate::column::{Stood, stood_at};
-use crate::hints::hint_at;
+use crate::line_at_fault::{LineAtFault, ListLines};
+use crate::look::Look;
 use crate::meanings::{Meaning, Spot, meaning_at};
 use crate::names::PrintedName;
 use crate::remedies::{SystemWord, remedy_by};
-use adlread::{AdlFault, rate_of};
+use adlread::AdlFault;
 use consolidate::{Fault, MARKS, MarksFault, OutputFile};
-use list_terms::{Location, TextFault};
-use percent_encoding::percent_encode_byte;
-use sampletime::Rate;
 use shelf::Reason;
 use std::fmt;
 use std::fmt::Display;
 use std::io::{Error, ErrorKind};
 
-/// How many bytes of a line at fault are shown, and of what stands at the fault.
-const SHOWN_BYTES: usize = 160;
-
-const STOOD_BYTES: usize = 60;
-
-/// How many bytes of a list are looked at together for the ends of their lines.
-const BLOCK_BYTES: usize = 4096;
-
 /// What a command found where it refused: the line at fault, a file that the place doesn't name, what lies in a folder,
-/// what else is found of the folder of the output, a file whose name is nearly that of the missing one, what the system
-/// said, and what is unfinished.
+/// what else is found of the folder of the output, what a second look at the media found, what the system said, and what
+/// is unfinished.
 #[derive(Clone, Copy)]
 struct Findings<'a> {
     line: Option<LineAtFault<'a>>,
     file: Option<&'a str>,
     inside: Option<&'a str>,
     folder: Option<FoundFolder>,
-    similar: Option<&'a str>,
+    look: Option<&'a Look>,
     reason: Option<Error>,
     unfinished: Option<Unfinished>,
 }
@@ -101,12 +90,11 @@ impl<'a> Explanation<'a> {
         }
     }
 
-    /// The same, with a file of the folder whose name differs from that of the missing one in case or in its form of
-    /// Unicode alone, if there is one.
-    pub fn with_similar(self, similar: Option<&'a str>) -> Explanation<'a> {
+    /// The same, with what a second look at the media found.
+    pub fn with_look(self, look: &'a Look) -> Explanation<'a> {
         Explanation {
             findings: Findings {
-                similar,
+                look: Some(look),
                 ..self.findings
             },
             ..self
@@ -134,8 +122,8 @@ impl<'a> Explanation<'a> {
 
     /// What to do: by what was found in the folder, by what the system said, or else by the number.
     fn remedy(&self, meaning: Meaning) -> &'static str {
-        if self.findings.similar.is_some() {
-            return "rename that file, or write its name in the list as it is in the folder";
+        if let Some(remedy) = self.findings.look.and_then(|look| look.remedy()) {
+            return remedy;
         }
         if let Some(folder) = self.findings.folder {
             return folder.remedy();
@@ -171,10 +159,47 @@ fn project_spot(fault: &opening::Fault) -> Spot {
     }
 }
 
-/// What a further fault of a list means.
-pub fn further_meaning(fault: &opening::Fault) -> Option<&'static str> {
-    let meaning = meaning_at(fault.number(), project_spot(fault))?;
-    Some(meaning.meaning)
+/// What a further fault of a list means, what stands at it, and what a second look at the media found, behind its number
+/// and place in one line.
+#[derive(Clone, Copy)]
+pub struct FurtherExplanation<'a> {
+    meaning: Option<Meaning>,
+    line: Option<LineAtFault<'a>>,
+    look: &'a Look,
+}
+
+impl<'a> FurtherExplanation<'a> {
+    /// Of this fault, which stands at this line of the list, or at none.
+    pub fn of(
+        fault: &opening::Fault,
+        line: Option<LineAtFault<'a>>,
+        look: &'a Look,
+    ) -> FurtherExplanation<'a> {
+        FurtherExplanation {
+            meaning: meaning_at(fault.number(), project_spot(fault)),
+            line,
+            look,
+        }
+    }
+}
+
+impl fmt::Display for FurtherExplanation<'_> {
+    fn fmt<W: fmt::Write>(&self, f: &mut fmt::Formatter<W>) -> fmt::Result {
+        if let Some(meaning) = self.meaning {
+            write!(f, ": {}", meaning.meaning)?;
+        }
+        if self.look.has_cause() {
+            f.write_str(": ")?;
+            self.look.fmt_cause(f)?;
+        }
+        if let Some(line) = self.line {
+            line.fmt_brief(f)?;
+        }
+        match &self.look.near {
+            Some(near) => write!(f, "; {near}"),
+            None => Ok(()),
+        }
+    }
 }
 
 impl<'a> Findings<'a> {
@@ -185,7 +210,7 @@ impl<'a> Findings<'a> {
             file: None,
             inside,
             folder: None,
-            similar: None,
+            look: None,
             reason,
             unfinished: None,
         }
@@ -206,7 +231,7 @@ impl<'a> Findings<'a> {
             },
             inside: None,
             folder: None,
-            similar: None,
+            look: None,
             reason: reason_of(fault, source, output).map(|reason| reason.error),
             unfinished: unfinished_after(fault, output),
         }
@@ -223,65 +248,11 @@ fn reason_of(fault: &Fault, source: Option<Reason>, output: Option<Reason>) -> O
     }
 }
 
-/// A line of the list, what stands in it at the fault, the list's rate where a time's frame passes it, and what else
-/// helps there.
-#[derive(Clone, Copy)]
-struct LineAtFault<'a> {
-    line: &'a [u8],
-    stood: Stood<'a>,
-    passed: Option<Rate>,
-    hint: Option<&'static str>,
-}
-
 /// The line at which the fault stands.
 fn line_at_fault<'a>(fault: &Fault, list: &'a [u8]) -> Option<LineAtFault<'a>> {
-    let Fault::Project(
-        opening::Fault::List(
-            AdlFault::Text {
-                fault,
-                location,
-                stood,
-            },
-        ),
-    ) = fault
-    else {
-        return None;
-    };
-    let number = match *location {
-        Location::Line { line } | Location::Entry { line, .. } | Location::Index { line, .. } => {
-            line
-        }
-    };
-    let line = line_of(list, number)?;
-    let stood = stood_at(line, *stood);
-    let passed = if *fault == TextFault::BadTime {
-        passed_rate(stood.text, list)
-    } else {
-        None
-    };
-    let hint = hint_at(*fault, stood.text, line, list);
-    Some(LineAtFault {
-        line,
-        stood,
-        passed,
-        hint,
-    })
-}
-
-/// The rate of the list, where this has the shape of a time and its frame passes it.
-fn passed_rate(time: &[u8], list: &[u8]) -> Option<Rate> {
-    let rate = rate_of(list);
-    if passes(time, rate) { Some(rate) } else { None }
-}
-
-/// Whether this has the shape of a time, and its frame passes the rate.
-fn passes(time: &[u8], rate: Rate) -> bool {
-    match time {
-        [_, _, _, _, _, _, _, _, _, tens, ones, _, _, _, _, _]
-            if tens.is_ascii_digit() && ones.is_ascii_digit() => {
-            (*tens - b'0') * 10 + (*ones - b'0') >= rate.frames_per_second()
-        }
-        _ => false,
+    match fault {
+        Fault::Project(fault) => ListLines::new(list).at(fault),
+        _ => None,
     }
 }
 
@@ -312,40 +283,6 @@ fn is_left(reason: Reason) -> bool {
     reason.has_file && reason.error.kind() != ErrorKind::NotFound
 }
 
-/// The line of this number, counted from 1, without its end. A byte order mark in front of the list is no part of it.
-fn line_of(list: &[u8], number: u64) -> Option<&[u8]> {
-    let list = list.strip_prefix(b"\xEF\xBB\xBF").unwrap_or(list);
-    let place = usize::try_from(number.checked_sub(1)?).ok()?;
-    let (near, ends) = behind_blocks(list, place);
-    let line = near.split(|byte| *byte == b'\n').nth(ends)?;
-    Some(line.strip_suffix(b"\r").unwrap_or(line))
-}
-
-/// What stands behind the blocks in which fewer than so many lines end, and how many of them don't end there: a line far
-/// down a long list is found sooner where the ends in a block are counted at once.
-fn behind_blocks(text: &[u8], ends: usize) -> (&[u8], usize) {
-    let mut at: usize = 0;
-    let mut left = ends;
-    for block in text.chunks(BLOCK_BYTES) {
-        let ended = line_feeds_in(block);
-        if ended >= left {
-            break;
-        }
-        left -= ended;
-        at = at.saturating_add(block.len());
-    }
-    (text.get(at..).unwrap_or(b""), left)
-}
-
-/// How many line feeds a block has.
-fn line_feeds_in(block: &[u8]) -> usize {
-    let mut count: usize = 0;
-    for byte in block {
-        count = count.wrapping_add(usize::from(*byte == b'\n'));
-    }
-    count
-}
-
 /// The explanation of a refusal with this number, which names this, in one line.
 #[derive(Clone, Copy)]
 pub struct Explanation<'a> {
@@ -360,13 +297,24 @@ impl fmt::Display for Explanation<'_> {
         let number = self.number;
         let meaning = meaning_at(number, self.spot);
         if let Some(meaning) = meaning {
-            write!(f, "{}: {}", meaning.meaning, meaning.cause)?;
+            write!(f, "{}: ", meaning.meaning)?;
+            self.findings.fmt_cause(meaning, f)?;
         }
         self.findings.fmt(f)?;
         if let Some(meaning) = meaning {
             write!(f, "; {}", self.remedy(meaning))?;
         }
         write!(f, " (adlcons explain {number})")
+    }
+}
+
+impl Findings<'_> {
+    /// What is at fault, as it was found or else as the number says.
+    fn fmt_cause<W: fmt::Write>(&self, meaning: Meaning, f: &mut fmt::Formatter<W>) -> fmt::Result {
+        match self.look {
+            Some(look) if look.has_cause() => look.fmt_cause(f),
+            _ => f.write_str(meaning.cause),
+        }
     }
 }
 
@@ -387,12 +335,8 @@ impl fmt::Display for Findings<'_> {
             let found = folder.text();
             write!(f, "; {found}")?;
         }
-        if let Some(name) = self.similar {
-            let name = PrintedName(name);
-            write!(
-                f,
-                "; the folder has {name}, in other capitals or another form of Unicode (NFC, NFD)"
-            )?;
+        if let Some(near) = self.look.and_then(|look| look.near.as_ref()) {
+            write!(f, "; {near}")?;
         }
         if let Some(reason) = self.reason {
             let word = SystemWord(reason);
@@ -406,47 +350,5 @@ impl fmt::Display for Findings<'_> {
             Some(Unfinished::Whole) => f.write_str("; what lies in the output is unfinished"),
             None => Ok(()),
         }
-    }
-}
-
-impl fmt::Display for LineAtFault<'_> {
-    fn fmt<W: fmt::Write>(&self, f: &mut fmt::Formatter<W>) -> fmt::Result {
-        let column = self.stood.column;
-        if self.stood.text.is_empty() {
-            write!(f, "; the line ends at column {column}")?;
-        } else {
-            let text = Shown(self.stood.text, STOOD_BYTES);
-            write!(f, "; at column {column} stands: {text}")?;
-        }
-        if let Some(rate) = self.passed {
-            let frames = rate.frames_per_second();
-            write!(f, "; the list has {frames} frames a second")?;
-        }
-        let line = Shown(self.line, SHOWN_BYTES);
-        write!(f, "; the line is: {line}")?;
-        match self.hint {
-            Some(hint) => write!(f, "; {hint}"),
-            None => Ok(()),
-        }
-    }
-}
-
-/// The first bytes of a text, so many: printing ASCII as it stands, a tab as a blank, all else as percent escapes.
-#[derive(Clone, Copy)]
-pub struct Shown<'a>(pub &'a [u8], pub usize);
-
-impl fmt::Display for Shown<'_> {
-    fn fmt<W: fmt::Write>(&self, f: &mut fmt::Formatter<W>) -> fmt::Result {
-        for byte in self.0.iter().take(self.1) {
-            match *byte {
-                b' '..=b'~' => write!(f, "{}", char::from(*byte))?,
-                b'\t' => f.write_str(" ")?,
-                other => f.write_str(percent_encode_byte(other))?,
-            }
-        }
-        if self.0.len() > self.1 {
-            f.write_str(" ..")?;
-        }
-        Ok(())
     }
 }

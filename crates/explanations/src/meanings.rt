@@ -253,8 +253,9 @@ pub static MEANINGS: [Meaning; 55] = [
         number: 27,
         spot: Spot::IndexFile,
         meaning: "unsupported format",
-        cause: "sources must be PCM of 16, 24 or 32 bits with 1 to 64 channels",
-        remedy: "convert the file to that format",
+        cause: "the file has floating point, 8 bits, a compressed format or more than 64 channels",
+        remedy: "only integer PCM of 16, 24 or 32 bits is read: ffmpeg -i IN -c:a pcm_s24le -write_bext 1 OUT \
+                keeps the TimeReference, and clips what lies above full scale",
         is_answered: true,
     },
     Meaning {
@@ -270,7 +271,8 @@ pub static MEANINGS: [Meaning; 55] = [
         spot: Spot::IndexFile,
         meaning: "the file has another sample rate",
         cause: "all sources must have 48000 samples a second",
-        remedy: "convert the file to 48000",
+        remedy: "convert the file to 48000, and its TimeReference with it, which counts samples at the file's own rate \
+                and is left as it is by a conversion",
         is_answered: true,
     },
     Meaning {
@@ -318,7 +320,7 @@ pub static MEANINGS: [Meaning; 55] = [
         spot: Spot::Entry,
         meaning: "the file has fewer channels",
         cause: "the entry plays a source channel that its file lacks",
-        remedy: "correct the channels, or name another file",
+        remedy: "correct the channels, or name another file; a mono clip on two channels is two entries, one on each",
         is_answered: true,
     },
     Meaning {
@@ -432,7 +434,8 @@ pub static MEANINGS: [Meaning; 55] = [
         meaning: "the output can't be written",
         cause: "the disk is full, the device failed, you may not write there, \
                 or a file of that name already exists",
-        remedy: "make room or get permission to write there, and run again into an empty folder",
+        remedy: "make room or get permission to write there; then go on with adlcons resume where a rendering was begun, \
+                and else run again into an empty folder",
         is_answered: true,
     },
     Meaning {
@@ -447,8 +450,9 @@ pub static MEANINGS: [Meaning; 55] = [
         number: 66,
         spot: Spot::Job,
         meaning: "a piece of work failed three times",
-        cause: "a device failed again and again",
-        remedy: "check the devices, and run again into an empty folder",
+        cause: "a device failed again and again, or the disk is full",
+        remedy: "make room or check the devices; then go on with adlcons resume where a rendering was begun, \
+                and else run again into an empty folder",
         is_answered: true,
     },
     Meaning {

@@ -1,5 +1,5 @@
 // Words of a list that are passed over though they may be meant to be heard.
-use crate::explanation::Shown;
+use crate::shown::Shown;
 use adltoken::{Lines, Token, TokenKind, Tokens, is_same_name, trimmed};
 use std::fmt;
 
@@ -9,10 +9,10 @@ const MOST: usize = 20;
 /// How many fields an entry has, its keyword among them.
 const ENTRY_FIELDS: usize = 10;
 
-/// How many bytes of such a word are shown.
-const WORD_BYTES: usize = 60;
+/// How many bytes of such words are shown.
+const SHOWN_BYTES: usize = 60;
 
-/// The words of a list that are passed over though they may be meant to be heard, each in a line of its own: gain, pan
+/// The words of a list that are passed over though they may be meant to be heard, those of a line in one: gain, pan
 /// and mute in TRACKLIST, a length of crossfades in SYSTEM that isn't zero, what stands behind the fields of an entry,
 /// and sections of levels, which are skipped. At most 20 are told, and how many more there are.
 #[derive(Clone, Copy)]
@@ -31,12 +31,12 @@ impl fmt::Display for PassedWords<'_> {
             if is_same_name(text, b"</ADL>") {
                 break;
             }
-            if let Some(word) = word_in(section, text) {
+            if let Some(words) = words_in(section, text) {
                 count = count.saturating_add(1);
                 if count <= MOST {
                     let number = lines.number();
-                    let word = Shown(word, WORD_BYTES);
-                    writeln!(f, "not honoured at line {number}: {word}")?;
+                    let words = Shown(words, SHOWN_BYTES);
+                    writeln!(f, "not honoured at line {number}: {words}")?;
                 }
             }
             section = section.behind(text);
@@ -89,8 +89,8 @@ fn named_by(line: &[u8]) -> Option<&[u8]> {
     line.strip_prefix(b"<")?.strip_suffix(b">")
 }
 
-/// The word of a line in this section that is passed over.
-fn word_in(section: Section, line: &[u8]) -> Option<&[u8]> {
+/// The words of a line in this section that are passed over: from the first of them on.
+fn words_in(section: Section, line: &[u8]) -> Option<&[u8]> {
     if named_by(line).is_some_and(says_levels) {
         return Some(line);
     }
@@ -98,12 +98,26 @@ fn word_in(section: Section, line: &[u8]) -> Option<&[u8]> {
     let mut tokens = Tokens::new(line);
     for place in 1..=line.len() {
         match tokens.next_token() {
-            Ok(Some(token)) if sought.is_at(place, token) => return Some(token.text),
+            Ok(Some(token)) if sought.is_at(place, token) => {
+                return match sought {
+                    Sought::CrossfadeLength => Some(line),
+                    _ => from_token(line, token, tokens.rest),
+                };
+            }
             Ok(Some(_)) => {}
             _ => return None,
         }
     }
     None
+}
+
+/// A line from this token on, behind which this is left of it.
+fn from_token<'a>(line: &'a [u8], token: Token<'_>, left: &[u8]) -> Option<&'a [u8]> {
+    let before = line
+        .len()
+        .checked_sub(left.len())?
+        .checked_sub(token.text.len())?;
+    line.get(before..)
 }
 
 /// Whether the name of a section that isn't known says levels.

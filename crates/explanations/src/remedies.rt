@@ -14,6 +14,11 @@ impl fmt::Display for SystemWord {
             (None, ErrorKind::InvalidData) => f.write_str("it was changed meanwhile"),
             (None, ErrorKind::UnexpectedEof) => f.write_str("it is shorter than it was"),
             (None, ErrorKind::NotFound) => f.write_str("it is gone"),
+            (_, ErrorKind::StorageFull) => write!(f, "the disk is full: {error}"),
+            (_, ErrorKind::QuotaExceeded) => write!(
+                f,
+                "the disk has no more room for you: {error}"
+            ),
             _ => write!(f, "the system says: {error}"),
         }
     }
@@ -30,6 +35,7 @@ pub fn remedy_by(number: u8, kind: Option<ErrorKind>, goes_on: bool) -> Option<&
         62 if goes_on => Some(unfinished_remedy(kind?)),
         62 => Some(output_remedy(kind?)),
         66 if goes_on => Some(unfinished_job_remedy(kind)),
+        66 => Some(job_remedy(kind)),
         _ => None,
     }
 }
@@ -41,7 +47,20 @@ fn unfinished_job_remedy(kind: Option<ErrorKind>) -> &'static str {
         Some(ErrorKind::NotFound | ErrorKind::InvalidData | ErrorKind::UnexpectedEof) => {
             "leave the sources and the output alone while the command runs, and run again into an empty folder"
         }
+        Some(ErrorKind::StorageFull | ErrorKind::QuotaExceeded) => {
+            "make room, and go on with adlcons resume and the same words"
+        }
         _ => "check the devices, and go on with adlcons resume and the same words",
+    }
+}
+
+/// What to do about a consolidation of which a piece of work failed three times.
+fn job_remedy(kind: Option<ErrorKind>) -> &'static str {
+    match kind {
+        Some(ErrorKind::StorageFull | ErrorKind::QuotaExceeded) => {
+            "make room, and run again into an empty folder"
+        }
+        _ => "check the devices, and run again into an empty folder",
     }
 }
 
