@@ -1,11 +1,12 @@
 // Stretches added to sums, beside the plain definition: at every length and offset, on one channel and on both.
-ghost use Rattle.std.specs.Prelude.{◌≡◌, ◌+◌, ◌≤◌};
+ghost use Rattle.std.specs.Prelude.{◌≡◌, ◌+◌, ◌≤◌, ◌∷◌, []};
+ghost use Rattle.sound_terms.specs.declared.block.Instruction.TheVariants.{Start, Flat, Emit};
 ghost use Rattle.sound_terms.specs.Blocks.{FitsBlock};
 ghost use Rattle.sound_terms.specs.Media.{LiesInFile};
 
 use crate::kernels::{LONGEST, OFFSETS, sample_at};
 use blockmachine::Machine;
-use renderplan::{Depth, Instruction, Shape, Stretch};
+use renderplan::{Depth, Instruction, Program, Stretch};
 use shelf::MemoryShelf;
 use soundlaw::{finish, widen};
 use std::alloc::Global;
@@ -53,29 +54,41 @@ fn expected(depth: Depth, shown: Depth, stretch: Stretch, frame: usize, channel:
     finish(2 * widen(sample, depth), shown)
 }
 
+/// A block to which a stretch is added twice.
+fn add_twice(program: &mut Program, stretch: Stretch, shown: Depth)
+    requires { 4 ≤ program.old.room }
+    ensures { program.new ≡ record program.old {
+      lines = Start 83 ∷ Flat stretch ∷ Flat stretch ∷ Emit shown ∷ [];
+    } }
+{
+    program.clear();
+    program.push(Instruction::Start { frames: 83 });
+    program.push(Instruction::Flat { stretch });
+    program.push(Instruction::Flat { stretch });
+    program.push(Instruction::Emit { depth: shown });
+}
+
 /// The machine hands out a stretch that is added twice as the definition has it.
 fn adds(
     rt: &impl Abort,
     machine: &mut Machine,
+    program: &mut Program,
     sounds: &[Sound],
     shelf: &mut MemoryShelf,
     depth: Depth,
     shown: Depth,
     stretch: Stretch,
 ) -> Result<(), Fail>
-    requires machine { machine.old ≡ record { frames = 4096; channels = 2 } }
+    requires machine { machine.old ≡ record { frames = 83; channels = 2 } }
+    requires room { 4 ≤ program.old.room }
     requires fits { FitsBlock 83 2 stretch }
     requires inside { LiesInFile sounds.now stretch.file stretch.first stretch.width stretch.frame stretch.length }
-    ensures { machine.new ≡ machine.old }
+    ensures machine { machine.new ≡ machine.old }
+    ensures room { 4 ≤ program.new.room }
 {
-    let flat = Instruction::Add {
-        stretch,
-        shape: Shape::Flat,
-    };
-    let start = Instruction::Start { frames: 83 };
-    let emit = Instruction::Emit { depth: shown };
+    add_twice(program, stretch, shown);
     let mut out = [0; 2 * FRAMES];
-    machine.run(&[start, flat, flat, emit], sounds, shelf, &mut out)?;
+    machine.run(program, sounds, shelf, &mut out)?;
     for (k, sample) in out.iter().enumerate() {
         let channel = if k % 2 == 0 { 1 } else { 2 };
         assert_eq!(rt; *sample, expected(depth, shown, stretch, k / 2, channel));
@@ -87,20 +100,23 @@ fn adds(
 fn adds_at_each_place(
     rt: &impl Abort,
     machine: &mut Machine,
+    program: &mut Program,
     sounds: &[Sound],
     shelf: &mut MemoryShelf,
     depth: Depth,
     shown: Depth,
     channels: (u8, u8, u8),
 ) -> Result<(), Fail>
-    requires machine { machine.old ≡ record { frames = 4096; channels = 2 } }
+    requires machine { machine.old ≡ record { frames = 83; channels = 2 } }
     requires file { LiesInFile sounds.now 0 channels.0 channels.2 0 67 }
     requires first { 1 ≤ channels.0 }
     requires dest { 1 ≤ channels.1 }
     requires width { 1 ≤ channels.2 }
     requires last { channels.1 + channels.2 ≤ 3 }
     requires source { channels.0 + channels.2 ≤ 3 }
-    ensures { machine.new ≡ machine.old }
+    requires room { 4 ≤ program.old.room }
+    ensures machine { machine.new ≡ machine.old }
+    ensures room { 4 ≤ program.new.room }
 {
     let (first, dest, width) = channels;
     for at in 0..16 {
@@ -114,7 +130,7 @@ fn adds_at_each_place(
                 dest,
                 width,
             };
-            adds(rt, machine, sounds, shelf, depth, shown, stretch)?;
+            adds(rt, machine, program, sounds, shelf, depth, shown, stretch)?;
         }
     }
     Ok(())
@@ -135,11 +151,13 @@ fn adds_on_all(
     if sounds[0].channels() != 2 || sounds[0].frames() != 67 {
         return Err("another file".into());
     }
-    let mut machine = Machine::new(alloc, 2)?;
+    let mut machine = Machine::new(alloc, FRAMES as u32, 2)?;
+    let mut program = Program::with_room(alloc, 4)?;
     let channels = [(1, 1, 2), (1, 2, 1), (2, 1, 1)];
     adds_at_each_place(
         rt,
         &mut machine,
+        &mut program,
         &sounds,
         &mut shelf,
         depth,
@@ -149,6 +167,7 @@ fn adds_on_all(
     adds_at_each_place(
         rt,
         &mut machine,
+        &mut program,
         &sounds,
         &mut shelf,
         depth,
@@ -158,6 +177,7 @@ fn adds_on_all(
     adds_at_each_place(
         rt,
         &mut machine,
+        &mut program,
         &sounds,
         &mut shelf,
         depth,

@@ -1,5 +1,5 @@
-//! Tests of sound: kernels, chunks, pieces that are cut and go by any passes, what is read for silence, and the longest
-//! files.
+//! Tests of sound: kernels, chunks, pieces that are cut and go by any passes, programs of blocks, what is read for
+//! silence, and the longest files.
 #![tactic(auto)]
 
 #[cfg(test)]
@@ -14,5 +14,7 @@ mod kernels;
 mod long_files;
 #[cfg(test)]
 mod pass_lists;
+#[cfg(test)]
+mod programs;
 #[cfg(test)]
 mod silences;
