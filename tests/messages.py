@@ -301,6 +301,19 @@ def further_lines(scene: Scene) -> None:
         expect_refused(scene, text, MEDIA_FILES, "refused 13 at line 13")
 
 
+def behind_bad_numbers(scene: Scene) -> None:
+    """A bad number of an index or of an entry ends no list of faults."""
+    lines = FIRST_LIST.splitlines(keepends=True)
+    index, entry = lines[6], lines[9]
+    text = b"".join((
+        *lines[:6], index.replace(b"0001", b"0"), *lines[6:9],
+        entry.replace(b"0001 (Cut)", b"0 (Cut)") + b"(Infade) 00.00.00.00/0001 COS\n",
+        entry.replace(b"0001 (Cut)", b"0002 (Cut)") + b"(Gain) _ _ -3.00\n",
+        entry.replace(b"0001 (Cut)", b"0003 (Cut)").replace(b"01.00.00.00/0004", b"01.00.00.25/0000"), *lines[10:]))
+    same("how many the model tells", len(model.answer("check", text, MEDIA_FILES).further), 3)
+    expect_refused(scene, text, MEDIA_FILES, "refused 07 at line 7")
+
+
 NEARLY = "; the folder has %s, in other capitals or another form of Unicode (NFC, NFD); rename that file"
 
 
@@ -516,3 +529,4 @@ def run(suite: Suite) -> None:
     suite.case("a source that changed meanwhile", changed_source)
     suite.case("a source that is cut short meanwhile", cut_source)
     suite.case("further lines at fault", further_lines)
+    suite.case("further lines behind bad numbers", behind_bad_numbers)

@@ -87,7 +87,7 @@ def accepted(text: bytes, media: dict):
     return body
 
 
-def refused(text: bytes, media: dict, faults):
+def refused(text: bytes, media: dict, faults, is_complete: bool = True):
     """The first fault and the further ones, as the model finds them."""
     def body(scene: Scene) -> None:
         scene.put(text, media)
@@ -96,7 +96,7 @@ def refused(text: bytes, media: dict, faults):
         except Refused as refusal:
             first = refusal
         wanted = [fault_told(fault) for fault in (first, *faults(text, media, first))]
-        same("the report", reported(scene, 1), {"accepted": False, "complete": True, "faults": wanted})
+        same("the report", reported(scene, 1), {"accepted": False, "complete": is_complete, "faults": wanted})
     return body
 
 
@@ -224,6 +224,11 @@ def run(suite: Suite) -> None:
     suite.case("the report of two files at fault", refused(files, {"A.wav": wave(), "C.wav": b"no"}, files_at_fault))
     suite.case("the report of a line at fault", refused(
         FIRST_LIST.replace(b"(Cut)", b"(Cat)"), {"A.wav": wave()}, lambda *_: []))
+    for name, part, other in (
+            ("rate", b"FRAME_RATE) 25", b"FRAME_RATE) 29"), ("rate that isn't there", b"(SEQ_FRAME_RATE) 25\n", b""),
+            ("section that isn't there", b"<SOURCE_INDEX>", b"<SOURCES>")):
+        suite.case(f"the report of a {name}", refused(
+            FIRST_LIST.replace(part, other), {"A.wav": wave()}, lambda *_: [], is_complete=False))
     suite.case("the report of a file that begins past the day", base_past_the_day)
     suite.case("the report of a name that JSON escapes", unprintable_names)
     for name, (text, status, objects) in long_lists().items():

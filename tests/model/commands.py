@@ -21,7 +21,8 @@ MOST_FURTHER = 20
 
 # Faults of a line alone, and not of its section.
 OF_A_LINE = (1, 2, 6, 7, 8, 9, 10, 13, 14, 16, 17)
-UNSUPPORTED = 13
+# Those that end nothing also where they name no entry and no index.
+OF_ANY_LINE = (7, 13, 16)
 
 
 class Options(NamedTuple):
@@ -202,7 +203,7 @@ def without_line(text: bytes, number: int) -> bytes:
 def line_at_fault(refusal: Refused) -> Optional[int]:
     """The line that is at fault by itself, if it is one."""
     place = re.fullmatch(r" at line (\d+)( \w+ \d+)?", refusal.place)
-    if place and refusal.number in OF_A_LINE and (place[2] or refusal.number == UNSUPPORTED):
+    if place and refusal.number in OF_A_LINE and (place[2] or refusal.number in OF_ANY_LINE):
         return int(place[1])
     return None
 

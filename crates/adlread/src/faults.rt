@@ -29,7 +29,7 @@ pub struct Faults<'a> {
     /// The lines that are read belong to an entry whose own line is at fault.
     is_in_faulty_entry: bool,
     is_over: bool,
-    /// No memory was left for a line, and the faults ended there.
+    /// The faults ended although there may be more.
     is_cut_short: bool,
 }
 
@@ -48,8 +48,7 @@ impl<'a> Faults<'a> {
             return Ok(faults);
         }
         let mut none = Faults::at_rate(alloc, text, UNTOLD)?;
-        none.is_over = true;
-        none.is_cut_short = is_of_memory(first);
+        none.cut_short();
         Ok(none)
     }
 
@@ -79,14 +78,20 @@ impl<'a> Faults<'a> {
             }
             if self.fault_of(alloc, line).is_some() {
                 // None of these lines is at fault, so no memory was left.
-                self.is_cut_short = true;
                 break;
             }
         }
-        self.is_over = true;
+        self.cut_short();
     }
 
-    /// Whether they have ended for want of memory, so that there may be more than were given.
+    /// They end here, although there may be more.
+    fn cut_short(&mut self) {
+        self.is_over = true;
+        self.is_cut_short = true;
+    }
+
+    /// Whether they have ended although there may be more than were given: behind a fault of a section, of a header or
+    /// of a rate, and for want of memory.
     pub fn is_cut_short(&self) -> bool
         ensures { result ≡ self.now.is_cut_short }
     {
@@ -105,7 +110,7 @@ impl<'a> Faults<'a> {
                 return self.told(fault, line);
             }
         }
-        self.is_over = true;
+        self.cut_short();
         let number = self.lines.number().max(1);
         Some(at_line(TextFault::SectionMismatch, number, first_in(self.last)))
     }
@@ -138,13 +143,13 @@ impl<'a> Faults<'a> {
             self.is_in_faulty_entry = opens_entry(line);
             self.go_behind_first();
         } else {
-            self.is_over = true;
+            self.cut_short();
         }
         if is_of_memory(fault) {
-            self.is_cut_short = true;
-            return None;
+            None
+        } else {
+            Some(fault)
         }
-        Some(fault)
     }
 
     /// Takes the rate of frames that the list has without its lines at fault, behind the first one of them.
@@ -194,7 +199,16 @@ fn is_of_its_own(fault: AdlFault) -> bool {
     };
     match location {
         Location::Entry { .. } | Location::Index { .. } => is_of_a_line(fault),
-        Location::Line { .. } => fault == TextFault::Unsupported,
+        Location::Line { .. } => is_of_any_line(fault),
+    }
+}
+
+/// Whether the fault is one of a line alone where it names neither an entry nor an index: what can't be honoured, a
+/// line of no entry, and a line of an entry or an index whose own number is bad.
+fn is_of_any_line(fault: TextFault) -> bool {
+    match fault {
+        TextFault::Unsupported | TextFault::BadNumber | TextFault::Unplaced => true,
+        _ => false,
     }
 }
 

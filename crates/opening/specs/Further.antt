@@ -1,10 +1,11 @@
 -- What else is at fault in a list that is refused.
-use Rattle.std.specs.Prelude.{◌≡◌, ◌≤◌, ◌+◌, ◌-◌, ◌==◌, ◌⊎◌, ℕ, IsTrue, List, [], ◌∷◌, ◌++◌, Option, None, Some, Result, Ok, Err, if◌then◌else◌, drop, length, map, option_map, position, take, unwrap_or}
+use Rattle.std.specs.Prelude.{◌≡◌, ◌≤◌, ◌<◌, ◌^◌, ◌+◌, ◌-◌, ◌==◌, ◌⊎◌, ℕ, IsTrue, List, [], ◌∷◌, ◌++◌, Option, None, Some, Result, Ok, Err, if◌then◌else◌, drop, length, map, option_map, position, take, unwrap_or, ⊤}
 use Rattle.std.specs.List.{cons_option, filter, filter_map}
 use Rattle.sound_terms.specs.declared.Event.{Event}
 use Rattle.devices.specs.declared.source.Shelf as source
 use Rattle.work_terms.specs.Disk.{Files}
 use Rattle.work_terms.specs.Refusals.{Refusal, is_device}
+use Rattle.list_terms.specs.Text.{text_value}
 use Rattle.list_terms.specs.Names.{Place, place_of_url}
 use Rattle.list_terms.specs.Project.{ListProject, Source}
 use Rattle.list_terms.specs.Binding.{Binding, is_used}
@@ -20,6 +21,8 @@ use Rattle.opening.specs.Paths.{naming_of, path_among}
 use Rattle.opening.specs.declared.fault.Fault.{Fault}
 use Rattle.opening.specs.declared.fault.Fault.TheVariants as fault
 use Rattle.opening.specs.declared.further.Further.{Further}
+use Rattle.opening.specs.declared.further.untold.Untold.{Untold}
+use Rattle.opening.specs.declared.further.untold.Untold.TheVariants as untold
 use Rattle.opening.specs.declared.further.paths.Naming.{Naming}
 use Rattle.opening.specs.declared.further.paths.Naming.TheVariants.{First, Again, ByOtherPath}
 
@@ -118,3 +121,22 @@ pub record WasRead {S : Type 0} (shelf : source.Ghosts S) (old new : S) : Type 0
   pub honest_same : shelf.honest new ≡ shelf.honest old
   pub later : shelf.failures old ≤ shelf.failures new
   pub keeps : (n : List ℕ) → shelf.failed_at old n → shelf.failed_at new n
+
+-- the text, or a file that it names, is at fault
+abbrev pub IsUnbound : List ℕ → Files → Type 0
+IsUnbound text files =
+    ((refusal : Refusal) × (text_value text ≡ Err refusal))
+    ⊎ OfText text (λ project. (refusal : Refusal) × (binding_of project files ≡ Err refusal))
+
+-- why a list isn't read again: no memory was left, or its text is at fault
+abbrev pub IsUnread : List ℕ → Untold → Type 0
+IsUnread text untold.Memory = ⊤
+IsUnread text untold.Device = ⊥
+IsUnread text untold.NotFirst = (refusal : Refusal) × (text_value text ≡ Err refusal)
+
+-- why further faults aren't told: no memory was left, the device failed and counted that, or before each entry something
+-- else is at fault
+abbrev pub HasReason : {S : Type 0} → source.Ghosts S → List ℕ → S → S → Untold → Type 0
+HasReason shelf text old new untold.Memory = ⊤
+HasReason shelf text old new untold.Device = shelf.failures old + 1 < 2 ^ 64 → shelf.failures old < shelf.failures new
+HasReason shelf text old new untold.NotFirst = IsTrue (shelf.honest old) → IsUnbound text (shelf.stored old)

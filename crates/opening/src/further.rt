@@ -1,21 +1,23 @@
 // What else is at fault in a list that is refused: the faults of the stage of the first one that don't hang on it.
-ghost use Rattle.std.specs.Prelude.{◌≡◌, ◌≤◌, IfOk, IsTrue, Ok, length};
+ghost use Rattle.std.specs.Prelude.{◌≡◌, ◌≤◌, ℕ, IfErr, IfOk, IsTrue, List, Ok, length};
+ghost use Rattle.list_terms.specs.Bound.{binding_of};
 ghost use Rattle.list_terms.specs.Text.{text_value};
-ghost use Rattle.opening.specs.Further.{AreAll, AreFurther, AreOfEntries, AreOfFiles, IsCut, WasRead};
+ghost use Rattle.opening.specs.Further.{AreAll, AreFurther, AreOfEntries, AreOfFiles, HasReason, IsCut, IsUnread, WasRead};
 ghost use Rattle.opening.specs.Own.{OfText};
 
 mod entries;
 mod files;
 mod paths;
+mod untold;
 
 use crate::Fault;
-use adlread::{Project, read};
+use adlread::{AdlFault, Project, read};
 use devices::Shelf;
 use entries::entry_faults;
 use files::file_faults;
-use sourceindex::bind;
+use sourceindex::{Bound, bind};
 use std::alloc::{AllocError, Global};
-use thiserror::Error;
+pub use untold::Untold;
 
 /// The further faults of a list: so many at most, in the order in which they would be told, and how many more there
 /// are.
@@ -23,17 +25,6 @@ use thiserror::Error;
 pub struct Further {
     pub faults: Vec<Fault>,
     pub more: usize,
-}
-
-/// The further faults of a list can't be told: the list wasn't read or bound again, or no memory was left.
-#[derive(Clone, Copy, Debug, PartialEq, Eq, Error)]
-#[error("the further faults of the list can't be told")]
-pub struct Untold;
-
-impl From<AllocError> for Untold {
-    fn from(_: AllocError) -> Untold {
-        Untold
-    }
 }
 
 impl Further {
@@ -50,8 +41,9 @@ impl Further {
 }
 
 /// What else is at fault in a list that is refused over these sources, by its first fault: so many faults at most, and
-/// how many more there are. Behind a fault of the text there is nothing. Behind that of a file, the files that later used indexes name are opened, each by itself and once.
-/// Beside that of an entry, each other entry is looked at by itself.
+/// how many more there are. Behind a fault of the text there is nothing. Behind that of a file, the files that later
+/// used indexes name are opened, each by itself and once. Beside that of an entry, each other entry is looked at by
+/// itself. Where they can't be told, no memory was left, the device failed, or that fault isn't the first one.
 pub fn further_faults<S: Shelf>(
     alloc: Global,
     list: &[u8],
@@ -62,6 +54,7 @@ pub fn further_faults<S: Shelf>(
     ensures further { IsTrue (S.honest shelf.old)
         → IfOk result (AreFurther most list.now (S.stored shelf.old) first.now) }
     ensures few { IfOk result (λ further. length further.faults.items ≤ most) }
+    ensures untold { IfErr result (HasReason S.Shelf list.now shelf.old shelf.new) }
     ensures only_read { WasRead S.Shelf shelf.old shelf.new }
 {
     let all = all_faults(alloc, list, shelf, first)?;
@@ -77,6 +70,7 @@ fn all_faults<S: Shelf>(
 ) -> Result<Vec<Fault>, Untold>
     ensures all { IsTrue (S.honest shelf.old)
         → IfOk result (λ all. AreAll list.now (S.stored shelf.old) first.now all.items) }
+    ensures untold { IfErr result (HasReason S.Shelf list.now shelf.old shelf.new) }
     ensures only_read { WasRead S.Shelf shelf.old shelf.new }
 {
     match first {
@@ -89,11 +83,27 @@ fn all_faults<S: Shelf>(
 
 /// Reads the list again.
 fn read_again(alloc: Global, list: &[u8]) -> Result<Project, Untold>
-    ensures { IfOk result (λ project. text_value list.now ≡ Ok project) }
+    ensures read { IfOk result (λ project. text_value list.now ≡ Ok project) }
+    ensures untold { IfErr result (λ untold. IsUnread list.now untold) }
 {
     match read(alloc, list) {
         Ok(project) => Ok(project),
-        Err(_) => Err(Untold),
+        Err(AdlFault::Memory) => Err(Untold::Memory),
+        Err(AdlFault::Text { .. }) => Err(Untold::NotFirst),
+    }
+}
+
+/// Binds the project of the list again.
+fn bind_again<S: Shelf>(alloc: Global, project: &Project, shelf: &mut S) -> Result<Bound, Untold>
+    ensures bound { IsTrue (S.honest shelf.old)
+        → IfOk result (λ bound. binding_of project.now (S.stored shelf.old) ≡ Ok bound) }
+    ensures untold { (list : List ℕ) → text_value list ≡ Ok project.now
+        → IfErr result (HasReason S.Shelf list shelf.old shelf.new) }
+    ensures only_read { WasRead S.Shelf shelf.old shelf.new }
+{
+    match bind(alloc, project, shelf) {
+        Ok(bound) => Ok(bound),
+        Err(fault) => Err(Untold::of(fault)),
     }
 }
 
@@ -107,6 +117,7 @@ fn behind_file<S: Shelf>(
     ensures of_files { IsTrue (S.honest shelf.old)
         → IfOk result (λ faults. OfText list.now (λ project.
         AreOfFiles project (S.stored shelf.old) index faults.items)) }
+    ensures untold { IfErr result (HasReason S.Shelf list.now shelf.old shelf.new) }
     ensures only_read { WasRead S.Shelf shelf.old shelf.new }
 {
     let project = read_again(alloc, list)?;
@@ -124,12 +135,11 @@ fn beside_entry<S: Shelf>(
     ensures of_entries { IsTrue (S.honest shelf.old)
         → IfOk result (λ faults. OfText list.now (λ project.
         AreOfEntries project (S.stored shelf.old) entry faults.items)) }
+    ensures untold { IfErr result (HasReason S.Shelf list.now shelf.old shelf.new) }
     ensures only_read { WasRead S.Shelf shelf.old shelf.new }
 {
     let project = read_again(alloc, list)?;
-    let Ok(bound) = bind(alloc, &project, shelf) else {
-        return Err(Untold);
-    };
+    let bound = bind_again(alloc, &project, shelf)?;
     let faults = entry_faults(alloc, &bound, project.events(), entry)?;
     Ok(faults)
 }
