@@ -33,11 +33,31 @@ pub fn refuse<O: Console, E: Console, A: Asides>(
 ) -> bool
     ensures { Prints O.contents O.failures out.old out.new (refusal_line result (refusal_of fault.now)) }
 {
+    let is_named = put_line(alloc, fault, out);
+    tell_explanation(alloc, list, fault, explanation, asides, err);
+    is_named
+}
+
+/// Prints the line of a refusal.
+fn put_line<O: Console>(alloc: Global, fault: &Fault, out: &mut O) -> bool
+    ensures { Prints O.contents O.failures out.old out.new (refusal_line result (refusal_of fault.now)) }
+{
     let is_named = put_fault(alloc, fault, out);
     out.end_line();
+    is_named
+}
+
+/// Prints the explanation of a refusal, with what a second look at the media finds.
+fn tell_explanation<E: Console, A: Asides>(
+    alloc: Global,
+    list: &[u8],
+    fault: &Fault,
+    explanation: Explanation<'_>,
+    asides: &A,
+    err: &mut E,
+) {
     let look = look_at(alloc, list, fault, asides);
     err.print_line(explanation.with_look(&look));
-    is_named
 }
 
 /// What a second look at the media finds about a fault of a command over this list.
