@@ -1,0 +1,12 @@
+//! The public calls as a caller writes them: each type named, each call made once, with its arguments and its answer.
+//! Nothing is run. That it is proved keeps these names, arguments and answers as they are.
+#![tactic(auto)]
+
+pub mod boards;
+pub mod files;
+pub mod lists;
+pub mod numbers;
+pub mod rendering;
+pub mod samples;
+pub mod sounding;
+pub mod stores;
