@@ -5,7 +5,8 @@ ghost use Rattle.sound_terms.specs.Entries.{IsPlayable};
 
 use groups::{Intervals, Piece, Shape, group_of};
 use sampletime::SampleTime;
-use sound_terms::{BoundIndex, Channels, Event, Fade};
+use sound_terms::{BoundIndex, Channels, Depth, Event, Fade};
+use soundlaw::{contribution, finish, widen};
 use std::test::Fail;
 
 /// A file whose first frame is at midnight.
@@ -100,13 +101,39 @@ fn cut_in_fade(rt: &HostRuntime) -> Result<Intervals, Fail> {
     Ok(given.cut_at(time(2)?)?)
 }
 
+/// What a sample of 1,000 finishes as at 16 bits where this many quarters of it sound.
+fn quarters(num: u64) -> i32
+    requires { num ≤ 4 }
+{
+    finish(
+        contribution(widen(1000, Depth::Sixteen), num, 4),
+        Depth::Sixteen,
+    )
+}
+
+/// What two such samples finish as under the first two places of a piece of an in-fade of four.
+fn finished(piece: &Piece) -> Option<[i32; 2]> {
+    match piece.shape {
+        Shape::Rise { offset, den: 4 } if offset <= 2 => Some([
+            quarters(offset),
+            quarters(offset + 1),
+        ]),
+        _ => None,
+    }
+}
+
 #[test]
 fn an_in_fade_that_is_cut_goes_on_where_it_was(rt: HostRuntime) -> Result<(), Fail> {
     let cut = cut_in_fade(&rt)?;
     assert!(rt; !cut.whole());
     assert_eq!(rt; cut.groups().len(), 2);
-    for (group, piece) in cut.groups().iter().zip([RAMP, REST]) {
+    for (group, (piece, samples)) in cut
+        .groups()
+        .iter()
+        .zip([(RAMP, [0, 250]), (REST, [500, 750])])
+    {
         assert_eq!(rt; group.pieces(), [piece].as_slice());
+        assert_eq!(rt; group.pieces().first().and_then(finished), Some(samples));
     }
     Ok(())
 }
