@@ -8,3 +8,5 @@ mod Frames
 mod Parts
 mod Ranges
 mod Steps
+mod Forms
+mod Works

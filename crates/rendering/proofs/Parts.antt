@@ -129,7 +129,7 @@ are_apart work sources is j k first second other same = elim (cases_lt j k) [
 
 -- ---- a file of zeros behind its header
 
-zero_at : (n i : ℕ) → get_or (zeros n) i 0 ≡ 0
+pub zero_at : (n i : ℕ) → get_or (zeros n) i 0 ≡ 0
 unfolding zeros
 zero_at zero i = refl
 zero_at (suc n) zero = refl

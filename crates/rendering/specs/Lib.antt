@@ -1,4 +1,5 @@
 pub mod Fault
+pub mod Maker
 pub mod Marked
 pub mod Planned
 pub mod Rendering

@@ -4,7 +4,7 @@ use Rattle.std.specs.List.{count_by}
 use Rattle.sha2.specs.Sha256.{sha256}
 use Rattle.sound_terms.specs.Blocks.{block_count, block_length}
 use Rattle.sound_terms.specs.Render.{Range, render_info}
-use Rattle.sound_terms.specs.Waves.{header_of}
+use Rattle.sound_terms.specs.Waves.{header_of, zeros}
 use Rattle.work_terms.specs.Disk.{Files}
 use Rattle.markfile.specs.Format.{AreMarksOf, head_of, marks_name, run_bytes, sound_name}
 use Rattle.markfile.specs.Started.{is_started}
@@ -35,6 +35,10 @@ padded n = n + n % 2
 
 abbrev pub file_length : Range → ℕ
 file_length range = length (header_of (render_info range)) + padded (bytes_for range (range.to - range.from))
+
+-- the rendered file as it is laid out: its header, and zeros
+abbrev pub laid_file : Range → List ℕ
+laid_file range = header_of (render_info range) ++ zeros (padded (bytes_for range (range.to - range.from)))
 
 -- the run has the blocks and the length of the rendering
 pub record IsRunOf (work : RenderWork) (run : RunId) : Type 0 where

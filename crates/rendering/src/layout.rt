@@ -5,6 +5,7 @@ ghost use Rattle.work_terms.specs.Disk.{Files, IsDurable, LeavesOthers};
 ghost use Rattle.devices.specs.Frame.{OnlyWrites};
 ghost use Rattle.job_terms.specs.Workers.{jobs_over};
 ghost use Rattle.schedule.specs.Filled.{AreFilled};
+ghost use Rattle.rendering.specs.Marked.{laid_file};
 ghost use Rattle.rendering.specs.Work.{whole_of, work_of};
 ghost use Rattle.rendering.specs.Written.{WritesRendering};
 
@@ -40,6 +41,8 @@ impl<'a> Rendering<'a> {
         ensures filled { IsTrue (B.honest bench.old) → (sources : Files) → OnOk result (AreFilled
             (jobs_over (work_of self.now) sources) (λ _. whole_of self.now sources) (λ _. false)
             (B.stored bench.new)) }
+        ensures laid { IsTrue (B.honest bench.old)
+            → OnOk result (B.stored bench.new (codes "render.wav") ≡ Some (laid_file self.now.planned.range)) }
         ensures beside { LeavesOthers B.may_leave B.moment B.left_since (codes "render.wav") bench.old bench.new }
         ensures only_writes { WritesRendering B.Bench bench.old bench.new result (λ _. ⊤) }
     {

@@ -5,6 +5,7 @@ mod blocks;
 mod fault;
 mod jobs;
 mod layout;
+mod maker;
 mod marked;
 mod options;
 mod order;
@@ -13,6 +14,7 @@ mod work;
 
 pub use fault::{LayFault, RenderFault};
 pub use job_terms::Order;
+pub use maker::RenderingWork;
 pub use marked::MarkedRendering;
 pub use options::Options;
 pub use sound_terms::Depth;

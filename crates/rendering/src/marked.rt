@@ -21,7 +21,7 @@ ghost use Rattle.schedule.specs.Run.{HasRoom};
 ghost use Rattle.schedule.specs.declared.fault.JobFault.TheVariants as job_fault;
 ghost use Rattle.schedule.specs.declared.fault.RunFault.TheVariants as run_fault;
 ghost use Rattle.workboard.specs.Indexed.{IsOrder};
-ghost use Rattle.rendering.specs.Marked.{HoldsMarked, IsAllMarked, IsFoundAs, IsLeftByRun, IsOther, IsResumable, file_length, full_marks, lay_name, marking_of, run_of};
+ghost use Rattle.rendering.specs.Marked.{HoldsMarked, IsAllMarked, IsFoundAs, IsLeftByRun, IsOther, IsResumable, file_length, full_marks, laid_file, lay_name, marking_of, run_of};
 ghost use Rattle.rendering.specs.Work.{AreCutBy, IsRenderWork, done_before, place_of, stretch_at, whole_of, work_of};
 ghost use Rattle.rendering.specs.Written.{WritesRendering};
 ghost use Rattle.rendering.specs.Fault.{refusal_of};
@@ -45,10 +45,10 @@ use std::marker::Model;
 use workboard::Board;
 
 /// The bytes of the marks before that of the first block.
-const FRONT: u64 = 44;
+pub(crate) const FRONT: u64 = 44;
 
 /// The most blocks of a job.
-const MOST_BLOCKS: usize = 1024;
+pub(crate) const MOST_BLOCKS: usize = 1024;
 
 /// A rendering whose blocks are marked: once a job's bytes stand on the disk its blocks' marks are written, so that
 /// another run of the same list goes on where this one stopped.
@@ -71,7 +71,7 @@ impl<'a> Model for MarkedRendering<'a> {
 
 impl<'a> Rendering<'a> {
     /// The stretch of this job.
-    fn stretch(&self, job: u32) -> Stretch
+    pub(crate) fn stretch(&self, job: u32) -> Stretch
         requires { job < (work_of self.now).count }
         ensures stretch { result ≡ stretch_at self.now.stretches job }
         ensures some { result.first < result.behind }
@@ -82,7 +82,7 @@ impl<'a> Rendering<'a> {
     }
 
     /// Makes the bytes of this job.
-    fn play<S: Shelf>(
+    pub(crate) fn play<S: Shelf>(
         &mut self,
         job: u32,
         shelf: &mut S,
@@ -100,7 +100,7 @@ impl<'a> Rendering<'a> {
     }
 
     /// Where a stretch begins in the rendered file.
-    fn place_at(&self, stretch: &Stretch) -> u64
+    pub(crate) fn place_at(&self, stretch: &Stretch) -> u64
         ensures { result ≡ place_of self.now.planned.range stretch.now }
     {
         let block = self.blocks.length_of(BLOCK_LENGTH) as u64;
@@ -108,7 +108,7 @@ impl<'a> Rendering<'a> {
     }
 
     /// The run that renders it of this list.
-    fn run(&self, list: &[u8]) -> RunId
+    pub(crate) fn run(&self, list: &[u8]) -> RunId
         ensures digest { result.digest ≡ sha256 (run_bytes self.now.planned.range list.now) }
         ensures blocks { result.blocks ≡ block_count self.now.planned.range }
         ensures length { result.length ≡ file_length self.now.planned.range }
@@ -120,10 +120,12 @@ impl<'a> Rendering<'a> {
     }
 
     /// Makes the rendered file at its full length, with every sample zero, and syncs it.
-    fn lay_out_synced<B: Bench>(&self, bench: &mut B) -> Result<(), DeviceFault>
+    pub(crate) fn lay_out_synced<B: Bench>(&self, bench: &mut B) -> Result<(), DeviceFault>
         ensures filled { IsTrue (B.honest bench.old) → (sources : Files) → OnOk result (AreFilled
             (jobs_over (work_of self.now) sources) (λ _. whole_of self.now sources) (λ _. false)
             (B.stored bench.new)) }
+        ensures laid { IsTrue (B.honest bench.old)
+            → OnOk result (B.stored bench.new sound_name ≡ Some (laid_file self.now.planned.range)) }
         ensures durable { IsTrue (B.honest bench.old)
             → OnOk result (IsDurable sound_name (B.stored bench.new) (B.may_leave bench.new)) }
         ensures beside { LeavesOthers B.may_leave B.moment B.left_since (codes "render.wav") bench.old bench.new }
@@ -140,7 +142,7 @@ impl<'a> Rendering<'a> {
     }
 
     /// Cuts its blocks by these marks, one for each: the marked ones are done.
-    fn cut_by(&mut self, alloc: Global, marked: &[bool]) -> Result<(), AllocError>
+    pub(crate) fn cut_by(&mut self, alloc: Global, marked: &[bool]) -> Result<(), AllocError>
         requires { length marked.now ≡ block_count self.old.planned.range }
         ensures planned { self.new.planned ≡ self.old.planned }
         ensures sounds { self.new.sounds ≡ self.old.sounds }
@@ -159,7 +161,7 @@ impl<'a> Rendering<'a> {
     }
 
     /// Which of its jobs are done.
-    fn done(&self, alloc: Global) -> Result<Vec<bool>, AllocError>
+    pub(crate) fn done(&self, alloc: Global) -> Result<Vec<bool>, AllocError>
         ensures { IfOk result (λ done. done.items ≡ map (λ stretch. stretch.done) self.now.stretches) }
     {
         self.stretches
@@ -215,7 +217,7 @@ fn trues(marked: &[bool]) -> usize
 }
 
 /// How many of these marks are set.
-fn count_of(marked: &[bool]) -> u32
+pub(crate) fn count_of(marked: &[bool]) -> u32
     requires { length marked.now < 2 ^ 32 }
     ensures { result ≡ count_by (λ mark. mark) marked.now }
 {

@@ -1,0 +1,43 @@
+-- A marked rendering as a work of an execution.
+use Rattle.std.specs.Prelude.{◌==◌, true, cond, Some, length}
+use Rattle.work_terms.specs.Disk.{Files}
+use Rattle.job_terms.specs.Workers.{jobs_over}
+use Rattle.markfile.specs.Format.{head_of, marks_name, sound_name}
+use Rattle.execution.specs.Filled.{AreApart}
+use Rattle.execution.specs.Marking.{Marking}
+use Rattle.execution.specs.Plan.{JobPlan, SourcesFit}
+use Rattle.rendering.specs.Marked.{MarkedWork, block_end, block_place}
+use Rattle.rendering.specs.Work.{stretch_at, whole_of, work_of}
+
+-- the rendered file, block by block, and its marks
+abbrev pub marks_of : MarkedWork → Files → Marking
+marks_of marked sources = record {
+  name = sound_name;
+  whole = whole_of marked.work sources;
+  count = marked.run.blocks;
+  first = block_place marked.work.planned.range;
+  last = block_end marked.work.planned.range;
+  jobs = length marked.work.stretches;
+  from = λ k. (stretch_at marked.work.stretches k).first;
+  end = λ k. (stretch_at marked.work.stretches k).behind;
+  marks = marks_name;
+  head = head_of marked.run;
+}
+
+-- its jobs write the rendered file, the output 0, and mark it in the output 1; no output comes last
+abbrev pub plan_of : MarkedWork → JobPlan
+plan_of marked = record {
+  jobs = work_of marked.work;
+  marks = true;
+  marking = λ sources. Some (marks_of marked sources);
+  whole = λ sources name. whole_of marked.work sources;
+  output = λ file. cond (file == 0) sound_name marks_name;
+  last = 2;
+  outputs = 2;
+}
+
+-- whatever the sources hold, each job has as many bytes as are counted, which are a part of the rendered file, and the
+-- places of two jobs don't meet
+pub record HasSoundJobs (marked : MarkedWork) : Type 0 where
+  pub fit : (sources : Files) → SourcesFit (plan_of marked) sources
+  pub apart : (sources : Files) → AreApart (jobs_over (plan_of marked).jobs sources)
