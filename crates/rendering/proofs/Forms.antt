@@ -1,5 +1,5 @@
 -- What holds by the words of `schedule` holds by those of `execution`.
-use Rattle.std.proofs.Common.{◌≡◌, ◌∙◌, ℕ, Bool, List, Option, None, Some, refl}
+use Rattle.std.proofs.Common.{◌≡◌, ◌∙◌, ℕ, Bool, true, List, Option, None, Some, refl}
 use Rattle.work_terms.specs.Disk.{Files}
 use Rattle.job_terms.specs.Workers.{Jobs}
 use Rattle.markfile.specs.Started as mark_file
@@ -7,7 +7,7 @@ use Rattle.schedule.specs.Filled as former_fill
 use Rattle.schedule.specs.Marking as former
 use Rattle.schedule.specs.Placed as former_place
 use Rattle.execution.specs.Filled.{AreFilled}
-use Rattle.execution.specs.Marking.{AreLeftBy, HoldsIn, IsRunning, is_started}
+use Rattle.execution.specs.Marking.{AreLeftBy, HoldsIn, IsRunning, Leaves, is_started}
 use Rattle.execution.specs.Placed.{IsStretchOf}
 use Rattle.rendering.specs.Maker.{marks_of}
 use Rattle.rendering.specs.Marked.{IsLeftByRun, MarkedWork, marking_of}
@@ -33,7 +33,7 @@ module _ (marked : MarkedWork) (sources : Files) where
     holds = record { size = h.holds.size; same = h.holds.same };
   }
 
-  holds_before : (marks : ℕ → Bool) (file : Option (List ℕ)) → HoldsIn (marks_of marked sources) marks file
+  pub holds_before : (marks : ℕ → Bool) (file : Option (List ℕ)) → HoldsIn (marks_of marked sources) marks file
       → former.HoldsIn (marking_of marked sources) marks file
   holds_before marks file h = record {
     bytes = h.bytes;
@@ -41,10 +41,10 @@ module _ (marked : MarkedWork) (sources : Files) where
     holds = record { size = h.holds.size; same = h.holds.same };
   }
 
-  pub running_as : (done : ℕ → Bool) (outcomes : Files → Type 0)
+  pub runs_as : (done : ℕ → Bool) (outcomes : Files → Type 0)
       → former.IsRunning (marking_of marked sources) done outcomes
       → IsRunning (marks_of marked sources) done outcomes
-  running_as done outcomes runs = record {
+  runs_as done outcomes runs = record {
     marks = runs.marks;
     ours = record { front = runs.ours.front; size = runs.ours.size };
     tell = runs.tell;
@@ -52,15 +52,27 @@ module _ (marked : MarkedWork) (sources : Files) where
     wave = λ c left. holds_as (former.is_marked runs.marks) (c (marks_of marked sources).name) (runs.wave c left);
   }
 
-  pub running_before : (done : ℕ → Bool) (outcomes : Files → Type 0)
+  pub runs_before : (done : ℕ → Bool) (outcomes : Files → Type 0)
       → IsRunning (marks_of marked sources) done outcomes
       → former.IsRunning (marking_of marked sources) done outcomes
-  running_before done outcomes runs = record {
+  runs_before done outcomes runs = record {
     marks = runs.marks;
     ours = record { front = runs.ours.front; size = runs.ours.size };
     tell = runs.tell;
     kept = runs.kept;
     wave = λ c left. holds_before (former.is_marked runs.marks) (c (marks_of marked sources).name) (runs.wave c left);
+  }
+
+  -- any jobs may be done by then
+  pub leaves_as_any : (done : ℕ → Bool) (c : Files) → former.Leaves (marking_of marked sources) done c
+      → Leaves (marks_of marked sources) done (λ _. true) c
+  leaves_as_any done c left = record {
+    marks = left.marks;
+    there = left.there;
+    ours = record { front = left.ours.front; size = left.ours.size };
+    still = left.still;
+    only = λ job b lt from to on. refl;
+    wave = holds_as (former.is_marked left.marks) (c (marks_of marked sources).name) left.wave;
   }
 
   pub left_as : (outcomes : Files → Type 0) → AreLeftBy (Some (marks_of marked sources)) outcomes

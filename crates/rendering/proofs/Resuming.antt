@@ -1,11 +1,11 @@
 -- A rendering that begins with its marks, goes on with those it finds, and ends.
-use Rattle.std.proofs.Common.{◌≡◌, ◌≢◌, ◌∙◌, ℕ, zero, suc, ◌+◌, ◌<◌, ◌≤◌, Bool, true, false, cond, Option, Some, None, Ok, List, [], ◌∷◌, ◌++◌, ◌==◌, length, take, drop, replicate, get_or, refl, sym, ap, subst, inl, inr, arith}
+use Rattle.std.proofs.Common.{◌≡◌, ◌≢◌, ◌∙◌, ℕ, zero, suc, ◌<◌, ◌≤◌, Bool, true, false, cond, Option, Some, None, Ok, List, [], ◌∷◌, length, take, replicate, get_or, refl, sym, ap, subst, inl, inr, arith}
 use Rattle.std.specs.Prelude.{Contains, map, option_map}
 use Rattle.std.specs.List.{All}
 use Rattle.sha2.specs.Sha256.{sha256}
 use Rattle.sound_terms.specs.Render.{Range}
 use Rattle.std.proofs.lemmas.Bool.Decides.{nat_tests}
-use Rattle.std.proofs.lemmas.List.{ext_get_or, get_or-drop, get_or-map, get_or-replicate, get_or-take, length-drop, length-map, length-replicate, take-append-drop}
+use Rattle.std.proofs.lemmas.List.{get_or-map, get_or-replicate, get_or-take, length-map}
 use Rattle.sound_terms.specs.Blocks.{block_count}
 use Rattle.sound_terms.specs.Sounds.{SoundFacts}
 use Rattle.renderplan.specs.Planned.{Planned}
@@ -23,8 +23,10 @@ use Rattle.markfile.specs.Opened.{AreFound, AreSettled, IsSettledAs, front_fault
 use Rattle.markfile.specs.Started.{LeavesStart, NoneStarted, is_started}
 use Rattle.schedule.specs.Filled.{AreFilled, IsFilled, IsFixedIn}
 use Rattle.schedule.specs.Marking.{AreTrueMarks, AreTrueOfAll, HoldsIn, IsNoOutput, IsRunning, Leaves, Marking, done_of, is_marked}
-use Rattle.rendering.specs.Marked.{HoldsMarked, IsAllMarked, IsLeftByRun, IsOther, IsResumable, IsRunOf, MarkedWork, block_end, block_place, file_length, full_marks, marking_of, run_of}
+use Rattle.rendering.specs.Marked.{HoldsMarked, IsAllMarked, IsLeftByRun, IsOther, IsResumable, IsRunOf, MarkedWork, block_end, block_place, file_length, marking_of, run_of}
 use Rattle.rendering.specs.Work.{IsRenderWork, RenderWork, done_before, no_stretch, stretch_at, whole_of, work_of}
+use Rattle.rendering.specs.MakerLaws.{finished_marks, finished_whole, marked_stays}
+use Rattle.rendering.proofs.Forms.{holds_before, leaves_as_any, runs_as}
 use Rattle.rendering.proofs.BlockMarks.{job_block, job_own, names_apart}
 use Rattle.rendering.proofs.Parts.{stretch_inside}
 
@@ -162,30 +164,15 @@ module _ (marked : MarkedWork) (sources : Files) (is : IsRenderWork marked.work)
     pub ends_whole : (done : ℕ → Bool) (o : Files → Type 0) → IsRunning m done o
         → ((k : ℕ) → k < length marked.work.stretches → done k ≡ true) → (c : Files) → o c
         → c sound_name ≡ Some (whole_of marked.work sources)
-    ends_whole done o runs all c left =
-        let sound = runs.wave c left in
-        sound.there ∙ ap (λ x. Some x) (ext_get_or 0 sound.bytes (whole_of marked.work sources) sound.holds.size
-        (λ i lt. sound.holds.same i (λ b few from to. each b few)))
-      where
-        each : (b : ℕ) → b < marked.run.blocks → is_marked runs.marks b ≡ true
-        each b lt =
-            let inside = cut-covers marked.work.stretches 0 (block_count marked.work.planned.range) b no_stretch is.cut
-            (omega arith) (omega (arith, lt, run.blocks)) in
-            runs.tell inside.place b inside.there inside.behind_first inside.before_end ∙ all inside.place inside.there
+    ends_whole done o runs all c left = finished_whole marked sources (record { work = is; run = run }) done o
+        (runs_as marked sources done o runs) all c left
 
     -- and their marks set
     pub ends_marked : (done : ℕ → Bool) (o : Files → Type 0) → IsRunning m done o
         → ((k : ℕ) → k < length marked.work.stretches → done k ≡ true) → (c : Files) → o c
         → IsAllMarked marked.run (c marks_name)
-    ends_marked done o runs all c left = record {
-      marks = runs.marks;
-      there = runs.kept c left;
-      ours = record { front = runs.ours.front; size = runs.ours.size };
-      all = λ b lt.
-          let inside = cut-covers marked.work.stretches 0 (block_count marked.work.planned.range) b no_stretch is.cut
-          (omega arith) (omega (arith, lt, run.blocks)) in
-          runs.tell inside.place b inside.there inside.behind_first inside.before_end ∙ all inside.place inside.there;
-    }
+    ends_marked done o runs all c left = finished_marks marked sources (record { work = is; run = run }) done o
+        (runs_as marked sources done o runs) all c left
 
     -- the file is filled as far as the jobs are done whose marks are set
     pub filled_running : (done : ℕ → Bool) (o : Files → Type 0) (files : Files) → IsRunning m done o → o files
@@ -213,48 +200,9 @@ module _ (marked : MarkedWork) (sources : Files) (is : IsRenderWork marked.work)
     -- the blocks that were marked before stand
     pub leaves_marked : (done : ℕ → Bool) (o : Files → Type 0) (files c : Files) (marks : List ℕ)
         → IsRunning m done o → o files → files marks_name ≡ Some marks → Leaves m done c → HoldsMarked m marks c
-    leaves_marked done o files c marks runs now there left = record {
-      bytes = left.wave.bytes;
-      there = left.wave.there;
-      holds = record {
-        size = left.wave.holds.size;
-        same = λ i fixed. left.wave.holds.same i (λ b few from to. still b few (fixed b few from to));
-      };
-    }
-      where
-        same : runs.marks ≡ marks
-        same = some_same runs.marks marks (sym (runs.kept files now) ∙ there)
-
-        still : (b : ℕ) → b < marked.run.blocks → is_marked marks b ≡ true → is_marked left.marks b ≡ true
-        still b few set =
-            let inside = cut-covers marked.work.stretches 0 (block_count marked.work.planned.range) b no_stretch is.cut
-            (omega arith) (omega (arith, few, run.blocks)) in
-            left.still inside.place b inside.there inside.behind_first inside.before_end
-            (sym (runs.tell inside.place b inside.there inside.behind_first inside.before_end)
-            ∙ ap (λ x. is_marked x b) same ∙ set)
-
--- ---- marks that are all set
-
-full : (run : RunId) (marks : List ℕ) → take 44 marks ≡ 1 ∷ head_of run → length marks ≡ 44 + run.blocks
-    → ((b : ℕ) → b < run.blocks → is_marked marks b ≡ true) → marks ≡ full_marks run
-full run marks front size set = sym (take-append-drop 44 marks) ∙ ap (λ x. x ++ drop 44 marks) front
-    ∙ ap (λ x. (1 ∷ head_of run) ++ x) ones
-  where
-    one : (n : ℕ) → (n == 1) ≡ true → n ≡ 1
-    one n e = grind (arith, nat_tests, e)
-
-    below : (i : ℕ) → i < length (drop 44 marks) → i < run.blocks
-    below i lt = omega (arith, lt, length-drop 44 marks, size)
-
-    ones : drop 44 marks ≡ replicate run.blocks 1
-    ones = ext_get_or 0 (drop 44 marks) (replicate run.blocks 1)
-        (length-drop 44 marks ∙ omega (arith, size) ∙ sym (length-replicate {A = ℕ} run.blocks 1))
-        (λ i lt. get_or-drop 44 marks i 0 ∙ one (get_or marks (44 + i) 0) (set i (below i lt))
-        ∙ sym (get_or-replicate {A = ℕ} run.blocks i 1 0 (below i lt)))
-
-pub full_of : (run : RunId) (file : Option (List ℕ)) → IsAllMarked run file → file ≡ Some (full_marks run)
-full_of run file is =
-    is.there ∙ ap (λ x. Some x) (full run is.marks is.ours.front is.ours.size is.all)
+    leaves_marked done o files c marks runs now there left = holds_before marked sources (is_marked marks) (c sound_name)
+        (marked_stays marked sources (record { work = is; run = run }) done (λ _. true) o files c marks
+        (runs_as marked sources done o runs) now there (leaves_as_any marked sources done c left))
 
 -- ---- other files
 

@@ -28,7 +28,7 @@ use Rattle.rendering.specs.Marked.{IsRunOf, MarkedWork, laid_file, padded}
 use Rattle.rendering.specs.Work.{IsRenderWork, RenderWork, bytes_for, heard, no_stretch, stretch_at, work_of}
 use Rattle.rendering.specs.Written.{frames_before}
 use Rattle.rendering.proofs.BlockMarks.{names_apart}
-use Rattle.rendering.proofs.Forms.{filled_as, holds_as, running_before, started_as}
+use Rattle.rendering.proofs.Forms.{filled_as, holds_as, runs_before, started_as}
 use Rattle.rendering.proofs.Frames.{length-frames_of}
 use Rattle.rendering.proofs.Parts.{are_apart, are_parts, bytes_product, laid_filled, zero_at}
 use Rattle.rendering.proofs.Resuming.{apart, filled_running, laid_holds, stays_beside}
@@ -239,7 +239,7 @@ pub filled_by : (marked : MarkedWork) (sources : Files) → IsRenderWork marked.
     → AreFilled (jobs_over (plan_of marked).jobs sources) ((plan_of marked).whole sources) done files
 filled_by marked sources is run done o files runs now =
     filled_as (jobs_over (plan_of marked).jobs sources) ((plan_of marked).whole sources) done files
-    (filled_running marked sources is run done o files (running_before marked sources done o runs) now)
+    (filled_running marked sources is run done o files (runs_before marked sources done o runs) now)
 
 -- which jobs are done
 pub done_at : (stretches : List Stretch) (k : ℕ) → k < length (map (λ (s : Stretch). s.done) stretches)

@@ -1,5 +1,6 @@
 pub mod Fault
 pub mod Maker
+pub mod MakerLaws
 pub mod Marked
 pub mod Planned
 pub mod Rendering

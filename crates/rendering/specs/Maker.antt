@@ -6,8 +6,8 @@ use Rattle.markfile.specs.Format.{head_of, marks_name, sound_name}
 use Rattle.execution.specs.Filled.{AreApart}
 use Rattle.execution.specs.Marking.{Marking}
 use Rattle.execution.specs.Plan.{JobPlan, SourcesFit}
-use Rattle.rendering.specs.Marked.{MarkedWork, block_end, block_place}
-use Rattle.rendering.specs.Work.{stretch_at, whole_of, work_of}
+use Rattle.rendering.specs.Marked.{IsRunOf, MarkedWork, block_end, block_place}
+use Rattle.rendering.specs.Work.{IsRenderWork, stretch_at, whole_of, work_of}
 
 -- the rendered file, block by block, and its marks
 abbrev pub marks_of : MarkedWork → Files → Marking
@@ -35,6 +35,11 @@ plan_of marked = record {
   last = 2;
   outputs = 2;
 }
+
+-- its jobs are all its blocks, of which its run has as many
+pub record IsMarkedWork (marked : MarkedWork) : Type 0 where
+  pub work : IsRenderWork marked.work
+  pub run : IsRunOf marked.work marked.run
 
 -- whatever the sources hold, each job has as many bytes as are counted, which are a part of the rendered file, and the
 -- places of two jobs don't meet

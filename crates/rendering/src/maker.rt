@@ -14,7 +14,7 @@ ghost use Rattle.execution.specs.Filled.{AreFilled};
 ghost use Rattle.execution.specs.Marking.{AreLeftBy, IsRunningBy, LaysBy, NoneStartedBy};
 ghost use Rattle.execution.specs.Plan.{AreBlank, IsAt, Stays};
 ghost use Rattle.rendering.specs.Fault.{refusal_of};
-ghost use Rattle.rendering.specs.Maker.{HasSoundJobs, plan_of};
+ghost use Rattle.rendering.specs.Maker.{HasSoundJobs, IsMarkedWork, plan_of};
 ghost use Rattle.rendering.specs.Marked.{IsFoundAs, IsRunOf, run_of};
 ghost use Rattle.rendering.specs.Planned.{IsRenderingOf};
 ghost use Rattle.rendering.specs.Rendering.{HasRange, HaveChannels, render_fault, values_of};
@@ -185,6 +185,7 @@ impl<'a> RenderingWork<'a> {
         ensures planned { IfOk result (λ marked. IsRenderingOf checked.now.project checked.now.bound
             (values_of options.now) marked.work) }
         ensures run { IfOk result (λ marked. marked.run ≡ run_of list.now marked.work.planned.range) }
+        ensures whole { IfOk result (λ marked. IsMarkedWork marked) }
         ensures jobs { IfOk result (λ marked. HasSoundJobs marked) }
         ensures refusals { Answers refusal_of result (render_fault checked.now.project (values_of options.now)) }
     {
@@ -236,6 +237,7 @@ impl<'a> RenderingWork<'a> {
         ensures planned { self.new.work.planned ≡ self.old.work.planned }
         ensures sounds { self.new.work.sounds ≡ self.old.work.sounds }
         ensures run { self.new.run ≡ self.old.run }
+        ensures whole { IsMarkedWork self.new }
         ensures jobs { HasSoundJobs self.new }
         ensures untouched { IsUntouched B.stored B.may_leave B.moment B.left_since bench.old bench.new }
         ensures only_reads { ReadsMarks B.Bench bench.old bench.new result }

@@ -6,10 +6,10 @@ use Rattle.markfile.specs.declared.opening.Marks.{Marks}
 use Rattle.work_terms.specs.Disk.{Files}
 use Rattle.markfile.specs.Opened.{Answers, AreFound, AreSettled, opened_of}
 use Rattle.execution.specs.Marking.{AreLeftBy}
-use Rattle.rendering.specs.Maker.{HasSoundJobs, plan_of}
+use Rattle.rendering.specs.Maker.{HasSoundJobs, IsMarkedWork, plan_of}
 use Rattle.rendering.specs.Marked.{IsFoundAs, MarkedWork}
 use Rattle.rendering.specs.Work.{AreCutBy, done_before}
-use Rattle.rendering.proofs.Forms.{left_as, running_as}
+use Rattle.rendering.proofs.Forms.{left_as, runs_as}
 use Rattle.rendering.proofs.Resuming.{goes_on_running, same_run}
 use Rattle.rendering.proofs.Works.{filled_by, sound_jobs}
 use Rattle.rendering.proofs.maker.RenderingWork.open.Goals as goal
@@ -46,7 +46,7 @@ returns-in-Ok-cut_by-clause-running g c honest sources left =
     cut.cut.uniform in
     let settled = subst (λ (f : Files). (x : Files) → g.B.Bench.may_leave c.open_marks.new.bench x → AreSettled f x)
     c.in-Ok.ensures.only_reads.same (c.in-Ok.ensures.settled honest) in
-    running_as now sources (done_before now.work) (g.B.Bench.may_leave c.open_marks.new.bench)
+    runs_as now sources (done_before now.work) (g.B.Bench.may_leave c.open_marks.new.bench)
     (goes_on_running c.self.inside.rendering c.cut_by.new.self c.self.inside.run sources cut.whole
     (same_run c.self.inside.rendering c.cut_by.new.self c.self.inside.run cut.planned c.self.invariant.1) cut.planned
     cut.sounds (g.B.Bench.may_leave c.args.bench.now) (g.B.Bench.may_leave c.open_marks.new.bench) files marked found
@@ -113,3 +113,25 @@ returns-in-Err-cut_by-clause-found g c honest =
     subst (λ (f : Option Marks). Answers (Ok f) due) c.in-Some.is (c.in-Ok.ensures.found honest) in
     subst (λ (x : MarkedWork). IsOk (opened_of x.run (g.B.Bench.stored c.args.bench.now))) c.self.view_is
     (subst IsOk (sym found) refl)
+
+pub returns-in-Err-clause-whole : goal.returns-in-Err-clause-whole
+returns-in-Err-clause-whole g c = subst IsMarkedWork c.self.view_is
+    (record { work = c.self.invariant.0; run = c.self.invariant.1 })
+
+pub returns-in_default-clause-whole : goal.returns-in_default-clause-whole
+returns-in_default-clause-whole g c = subst IsMarkedWork c.self.view_is
+    (record { work = c.self.invariant.0; run = c.self.invariant.1 })
+
+pub returns-in-Ok-cut_by-clause-whole : goal.returns-in-Ok-cut_by-clause-whole
+returns-in-Ok-cut_by-clause-whole g c =
+    let cut = c.in-Ok-cut_by.ensures in record {
+      work = cut.whole;
+      run = same_run c.self.inside.rendering c.cut_by.new.self c.self.inside.run cut.planned c.self.invariant.1;
+    }
+
+pub returns-in-Err-cut_by-clause-whole : goal.returns-in-Err-cut_by-clause-whole
+returns-in-Err-cut_by-clause-whole g c =
+    let cut = c.in-Err-cut_by.ensures in record {
+      work = cut.whole;
+      run = same_run c.self.inside.rendering c.cut_by.new.self c.self.inside.run cut.planned c.self.invariant.1;
+    }

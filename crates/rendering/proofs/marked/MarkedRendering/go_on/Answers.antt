@@ -7,7 +7,8 @@ use Rattle.rendering.specs.Marked.{HoldsMarked, IsRunOf, MarkedWork, marking_of}
 use Rattle.rendering.specs.Work.{IsRenderWork, done_before, whole_of}
 use Rattle.rendering.proofs.Beside.{weaker}
 use Rattle.rendering.proofs.Parts.{are_apart, are_parts}
-use Rattle.rendering.proofs.Resuming.{ends_marked, ends_whole, filled_running, full_of, leaves_as, leaves_marked, other_output, running_as, true_left}
+use Rattle.rendering.specs.MakerLaws.{full_of}
+use Rattle.rendering.proofs.Resuming.{ends_marked, ends_whole, filled_running, leaves_as, leaves_marked, other_output, running_as, true_left}
 use Rattle.rendering.proofs.marked.MarkedRendering.go_on.Goals as goal
 
 pub returns-in-Ok-clause-any_moment : goal.returns-in-Ok-clause-any_moment

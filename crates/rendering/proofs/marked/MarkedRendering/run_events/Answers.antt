@@ -5,7 +5,8 @@ use Rattle.rendering.specs.Marked.{IsRunOf, MarkedWork, marking_of}
 use Rattle.rendering.specs.Work.{IsRenderWork, done_before, whole_of, work_of}
 use Rattle.rendering.proofs.Beside.{weaker}
 use Rattle.rendering.proofs.Parts.{are_apart, are_parts}
-use Rattle.rendering.proofs.Resuming.{ends_marked, ends_whole, filled_none, filled_running, full_of, leaves_as, none_before, other_output, running_as, true_left}
+use Rattle.rendering.specs.MakerLaws.{full_of}
+use Rattle.rendering.proofs.Resuming.{ends_marked, ends_whole, filled_none, filled_running, leaves_as, none_before, other_output, running_as, true_left}
 use Rattle.rendering.proofs.marked.MarkedRendering.run_events.Goals as goal
 
 pub returns-in-Ok-clause-events : goal.returns-in-Ok-clause-events
