@@ -17,7 +17,7 @@ pub enum RenderFault {
     /// 58: the range ends where it begins, or before.
     #[error("the range is empty")]
     EmptyRange,
-    /// 57: no memory was left for the plan, its blocks or the header.
+    /// 57: no memory was left for the plan, its blocks, the header, or marks that are made with the plan.
     #[error("out of memory")]
     Memory,
 }
