@@ -21,6 +21,7 @@ pub fn lay_out<B: Bench>(
     ensures laid { IsTrue (B.honest bench.old) → OnOk result (B.stored bench.new name.now ≡ Some (laid_out info.now)) }
     ensures only_writes { OnlyWrites B.Bench (λ n. n ≢ name.now) bench.old bench.new result (λ _. ⊤)
         (λ _ failed. failed name.now) }
+    ensures later { B.moment bench.old ≤ B.moment bench.new }
 {
     let head = &mut room[..info.header_length()];
     info.put_header(head);
