@@ -1,4 +1,6 @@
 mod Addressed
+mod AllWhole
+mod Blanks
 mod Checks
 mod CopiedReading
 mod Due
@@ -9,9 +11,11 @@ mod LeftAtHome
 mod Linked
 mod MediaBound
 mod MediaThere
+mod Numbers
 mod Opened
 mod Places
 mod Reported
 mod SameSound
 mod Spread
 mod Wholes
+mod Writes

@@ -39,7 +39,7 @@ module _ (plan : MediaPlan) (is : IsMediaPlan plan) (sources written : Files) (t
         in_day = medium_run.addressed.in_day;
         file = medium_by plan.sounds plan.homes sources run;
         there = subst (λ (n : ℕ). written (media_name n) ≡ Some (medium_by plan.sounds plan.homes sources run)) counted
-            (held plan is sources there_all written holds k run there);
+            (held plan is sources written holds k run there);
         reads_back = medium.reads_back (media_name (1 + k));
         samples = medium.samples;
       }
@@ -54,7 +54,7 @@ module _ (plan : MediaPlan) (is : IsMediaPlan plan) (sources written : Files) (t
       let source = source_there plan is sources there_all k run there in
       let counted : suc k ≡ 1 + k = omega arith in
       let medium = subst (λ (n : ℕ). written (media_name n) ≡ Some (medium_by plan.sounds plan.homes sources run)) counted
-      (held plan is sources there_all written holds k run there) in
+      (held plan is sources written holds k run there) in
       record {
         facts = sound_at plan.sounds run.file;
         opened = subst (λ (s : List SoundFacts). slice_get s run.file ≡ Some (sound_at plan.sounds run.file)) sounds

@@ -4,6 +4,7 @@ pub mod Jobs
 pub mod Media
 pub mod Named
 pub mod Numbered
+pub mod Outputs
 pub mod Own
 pub mod Pieces
 pub mod Planned

@@ -59,7 +59,7 @@ impl<'a> Consolidation<'a> {
     }
 
     /// What is told of it once it is written.
-    fn written(&self) -> Written
+    pub(crate) fn written(&self) -> Written
         ensures { result ≡ written_of self.now }
     {
         Written {

@@ -1,5 +1,5 @@
 // Lays out the media of all runs.
-ghost use Rattle.std.specs.Prelude.{◌≡◌, ◌≢◌, ◌<◌, ◌+◌, Bool, IfErr, IsTrue, OnOk, length, false, ⊤};
+ghost use Rattle.std.specs.Prelude.{◌≡◌, ◌≢◌, ◌<◌, ◌≤◌, ◌+◌, Bool, IfErr, IsTrue, OnOk, length, false, ⊤};
 ghost use Rattle.work_terms.specs.Disk.{Files};
 ghost use Rattle.list_terms.specs.Renewed.{media_name};
 ghost use Rattle.job_terms.specs.Workers.{jobs_over};
@@ -12,19 +12,43 @@ ghost use Rattle.consolidation.specs.There.{AreThere};
 ghost use Rattle.consolidation.specs.declared.fault.WriteFault.TheVariants as fault;
 
 use crate::{Consolidation, WriteFault};
-use devices::Bench;
+use devices::{Bench, DeviceFault};
 use mediacopy::{info_of, lay_out};
 
 /// The bytes of the longest header: that with 65,536 bytes of CodingHistory.
-const LONGEST_HEADER: usize = 66_226;
+pub(crate) const LONGEST_HEADER: usize = 66_226;
 
 impl<'a> Consolidation<'a> {
     /// The name of the medium of the run at this place.
-    fn medium_name(&self, place: usize) -> &str
+    pub(crate) fn medium_name(&self, place: usize) -> &str
         requires { place < length self.now.runs }
-        ensures { result.now ≡ media_name (place + 1) }
+        ensures name { result.now ≡ media_name (place + 1) }
+        ensures few { place < 32767 }
     {
         self.names[place].as_str()
+    }
+
+    /// Makes the medium of the run at this place at its full length, all samples zero. Its header is made in `room`.
+    pub(crate) fn blank_medium<B: Bench>(
+        &self,
+        place: usize,
+        room: &mut [u8],
+        bench: &mut B,
+    ) -> Result<(), DeviceFault>
+        requires there { place < length self.now.runs }
+        requires room { length room.old ≡ 66226 }
+        ensures laid { IsTrue (B.honest bench.old) → OnOk result (IsLaidOut self.now (B.stored bench.new) place) }
+        ensures only_writes { OnlyWrites B.Bench (λ n. n ≢ media_name (place + 1)) bench.old bench.new result (λ _. ⊤)
+            (λ _ failed. failed (media_name (place + 1))) }
+        ensures later { B.moment bench.old ≤ B.moment bench.new }
+        ensures few { place < 32767 }
+    {
+        let run = &self.runs.as_slice()[place];
+        let sound = &self.sounds[run.file as usize];
+        let base = self.runs.homes().base(run.file);
+        let info = info_of(sound, base, run);
+        let name = self.medium_name(place);
+        lay_out(bench, name, &info, room)
     }
 
     /// Lays out the medium of the run at this place. Its header is made in `room`.
@@ -42,12 +66,7 @@ impl<'a> Consolidation<'a> {
         ensures only_writes { OnlyWrites B.Bench (λ n. n ≢ media_name (place + 1)) bench.old bench.new result (λ _. ⊤)
             FailsIn }
     {
-        let run = &self.runs.as_slice()[place];
-        let sound = &self.sounds[run.file as usize];
-        let base = self.runs.homes().base(run.file);
-        let info = info_of(sound, base, run);
-        let name = self.medium_name(place);
-        match lay_out(bench, name, &info, room) {
+        match self.blank_medium(place, room, bench) {
             Ok(()) => Ok(()),
             Err(_) => Err(WriteFault::Medium {
                 number: place as u32 + 1,

@@ -4,10 +4,14 @@
 mod end;
 mod fault;
 mod jobs;
+mod last;
 mod layout;
 mod list;
+mod maker;
 mod media;
+mod outcome;
 mod output_groups;
+mod outputs;
 mod pieces;
 mod plan;
 mod planning;

@@ -1,5 +1,5 @@
 // Writes the list over the media, and the report.
-ghost use Rattle.std.specs.Prelude.{◌≡◌, ◌≢◌, IfErr, IsTrue, OnOk, Some, codes, true, ⊤};
+ghost use Rattle.std.specs.Prelude.{◌≡◌, ◌≢◌, ◌≤◌, IfErr, IsTrue, OnOk, Some, codes, true, ⊤};
 ghost use Rattle.work_terms.specs.Disk.{IsDurable};
 ghost use Rattle.devices.specs.Frame.{OnlyWrites};
 ghost use Rattle.consolidation.specs.Fault.{FailsIn};
@@ -20,13 +20,18 @@ pub const REPORT: &str = "consolidated.json";
 pub const SUMS: &str = "SHA256SUMS";
 
 /// Writes a file of these bytes, and syncs it.
-fn write_file<B: Bench>(bench: &mut B, name: &str, bytes: &[u8]) -> Result<(), DeviceFault>
+pub(crate) fn write_file<B: Bench>(
+    bench: &mut B,
+    name: &str,
+    bytes: &[u8],
+) -> Result<(), DeviceFault>
     ensures written { IsTrue (B.honest bench.old)
         → OnOk result (B.stored bench.new name.now ≡ Some bytes.now) }
     ensures durable { IsTrue (B.honest bench.old)
         → OnOk result (IsDurable name.now (B.stored bench.new) (B.may_leave bench.new)) }
     ensures only_writes { OnlyWrites B.Bench (λ n. n ≢ name.now) bench.old bench.new result (λ _. ⊤)
         (λ _ failed. failed name.now) }
+    ensures later { B.moment bench.old ≤ B.moment bench.new }
 {
     bench.create(name)?;
     bench.append(name, bytes)?;

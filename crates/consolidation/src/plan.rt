@@ -8,6 +8,7 @@ ghost use Rattle.passes.specs.Left.{left_by};
 ghost use Rattle.devices.specs.Frame.{OnlyReads};
 ghost use Rattle.consolidation.specs.Consolidated.{IsWorkOf, Work, work_fault};
 ghost use Rattle.consolidation.specs.Fault.{FailsAt, IsSource, refusal_of};
+ghost use Rattle.consolidation.specs.Outputs.{FitsSources};
 ghost use Rattle.consolidation.specs.Planned.{IsMediaPlan, IsPlanOf};
 ghost use Rattle.consolidation.specs.There.{AreThere};
 
@@ -97,6 +98,7 @@ impl<'a> Consolidation<'a> {
             → Answers refusal_of result (work_fault work) }
         ensures there { (sources : Files) → binding_of checked.now.project sources ≡ Ok checked.now.bound
             → AreThere sources (sounds_of checked.now.bound) }
+        ensures fits { IfOk result FitsSources }
         ensures only_reads { OnlyReads S.Shelf shelf.old shelf.new result IsSource
             (FailsAt (sounds_of checked.now.bound)) }
     {

@@ -1,0 +1,28 @@
+use Rattle.std.specs.Prelude.{is_some}
+use Rattle.consolidation.proofs.AllWhole.{are_durable, foreign_elsewhere, holds_last, holds_media}
+use Rattle.consolidation.proofs.Ended.{consolidated, same_sound}
+use Rattle.consolidation.proofs.plan.Consolidation.outcome.Goals as goal
+
+pub returns-clause-same_sound : goal.returns-clause-same_sound
+returns-clause-same_sound g c = λ text leave project binding handle asked sources accepted of are_there holds last.
+    let plan = c.args.self.now in
+    let is = c.count.ensures.planned in
+    let written = g.B.Bench.stored c.args.bench.now in
+    same_sound plan is leave project binding handle asked sources written of are_there
+    (holds_media plan is sources written holds) (holds_last plan is sources written last).0 text accepted
+
+pub returns-clause-consolidated : goal.returns-clause-consolidated
+returns-clause-consolidated g c = λ leave project binding handle asked sources old of are_there holds last others.
+    let plan = c.args.self.now in
+    let is = c.count.ensures.planned in
+    let written = g.B.Bench.stored c.args.bench.now in
+    let held = holds_last plan is sources written last in
+    rw c.written.ensures (consolidated plan is leave project binding handle asked sources written of are_there
+    (holds_media plan is sources written holds) held.0 old
+    (λ n elsewhere. others n (foreign_elsewhere plan is (is_some asked) of.is_asked n elsewhere)) held.1)
+
+pub returns-clause-durable : goal.returns-clause-durable
+returns-clause-durable g c = λ durable.
+    let plan = c.args.self.now in
+    rw c.written.ensures (are_durable plan c.count.ensures.planned (g.B.Bench.stored c.args.bench.now)
+    (g.B.Bench.may_leave c.args.bench.now) durable)

@@ -1,0 +1,87 @@
+// The media of a consolidation as outputs by number: laid out, and synced.
+ghost use Rattle.std.specs.Prelude.{◌≡◌, ◌≢◌, ◌<◌, ◌≤◌, ◌+◌, ℕ, IsTrue, OnOk, length, ⊤};
+ghost use Rattle.work_terms.specs.Disk.{Files, IsDurable, ReadsTo};
+ghost use Rattle.list_terms.specs.Renewed.{media_name};
+ghost use Rattle.devices.specs.Frame.{OnlyWrites};
+ghost use Rattle.consolidation.specs.Media.{IsLaidOut, IsNoMedium};
+ghost use Rattle.consolidation.specs.Outputs.{FailsAtMedium};
+ghost use Rattle.consolidation.specs.Planned.{IsMediaPlan};
+
+use crate::Consolidation;
+use crate::layout::LONGEST_HEADER;
+use devices::Bench;
+use execution::OutputFault;
+
+impl<'a> Consolidation<'a> {
+    /// Lays out the medium at a position. Its header is made in `room`.
+    fn lay_out_output<B: Bench>(
+        &self,
+        position: usize,
+        room: &mut [u8],
+        bench: &mut B,
+    ) -> Result<(), OutputFault>
+        requires among { position < length self.now.runs }
+        requires room { length room.old ≡ 66226 }
+        ensures laid { IsTrue (B.honest bench.old) → OnOk result (IsLaidOut self.now (B.stored bench.new) position) }
+        ensures only_writes { OnlyWrites B.Bench (λ n. n ≢ media_name (position + 1)) bench.old bench.new result (λ _. ⊤)
+            (FailsAtMedium (length self.now.runs)) }
+        ensures later { B.moment bench.old ≤ B.moment bench.new }
+    {
+        match self.blank_medium(position, room, bench) {
+            Ok(()) => Ok(()),
+            Err(_) => Err(OutputFault {
+                file: position as u32,
+            }),
+        }
+    }
+
+    /// Makes each medium at its full length: its header, and zeros in the place of all samples. It takes no memory.
+    pub(crate) fn lay_out_outputs<B: Bench>(&self, bench: &mut B) -> Result<(), OutputFault>
+        ensures laid { IsTrue (B.honest bench.old) → OnOk result ((k : ℕ) → k < length self.now.runs
+            → IsLaidOut self.now (B.stored bench.new) k) }
+        ensures only_writes { OnlyWrites B.Bench (IsNoMedium (length self.now.runs)) bench.old bench.new result (λ _. ⊤)
+            (FailsAtMedium (length self.now.runs)) }
+        ensures later { B.moment bench.old ≤ B.moment bench.new }
+        ensures planned { IsMediaPlan self.now }
+    {
+        let mut room = [0; LONGEST_HEADER];
+        for position in 0..self.runs.len() {
+            self.lay_out_output(position, &mut room, bench)?;
+        }
+        Ok(())
+    }
+
+    /// Syncs the medium at a position.
+    fn sync_output<B: Bench>(&self, position: usize, bench: &mut B) -> Result<(), OutputFault>
+        requires { position < length self.now.runs }
+        ensures durable { IsTrue (B.honest bench.old)
+            → OnOk result (IsDurable (media_name (position + 1)) (B.stored bench.new) (B.may_leave bench.new)) }
+        ensures crash { (c : Files) → B.may_leave bench.new c → B.may_leave bench.old c }
+        ensures only_reads { ReadsTo B.stored B.honest B.failures B.failed_at bench.old bench.new result (λ _. ⊤)
+            (FailsAtMedium (length self.now.runs)) }
+        ensures later { B.moment bench.old ≤ B.moment bench.new }
+    {
+        match bench.sync(self.medium_name(position)) {
+            Ok(()) => Ok(()),
+            Err(_) => Err(OutputFault {
+                file: position as u32,
+            }),
+        }
+    }
+
+    /// Syncs each medium, once.
+    pub(crate) fn sync_outputs<B: Bench>(&self, bench: &mut B) -> Result<(), OutputFault>
+        ensures durable { IsTrue (B.honest bench.old) → OnOk result ((k : ℕ) → k < length self.now.runs
+            → IsDurable (media_name (k + 1)) (B.stored bench.new) (B.may_leave bench.new)) }
+        ensures crash { (c : Files) → B.may_leave bench.new c → B.may_leave bench.old c }
+        ensures only_reads { ReadsTo B.stored B.honest B.failures B.failed_at bench.old bench.new result (λ _. ⊤)
+            (FailsAtMedium (length self.now.runs)) }
+        ensures later { B.moment bench.old ≤ B.moment bench.new }
+        ensures planned { IsMediaPlan self.now }
+    {
+        for position in 0..self.runs.len() {
+            self.sync_output(position, bench)?;
+        }
+        Ok(())
+    }
+}
