@@ -8,4 +8,5 @@ pub mod Planned
 pub mod Resumes
 pub mod Rounds
 pub mod Stores
+pub mod Reported
 mod Told

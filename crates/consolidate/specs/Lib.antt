@@ -1,4 +1,6 @@
 pub mod Commands
+pub mod CompareFault
+pub mod Comparing
 pub mod Fault
 pub mod Marks
 pub mod Own

@@ -2,6 +2,8 @@
 #![tactic(auto)]
 
 mod checking;
+mod compare_fault;
+mod compared;
 mod consolidated;
 mod fault;
 mod marked;
@@ -13,6 +15,9 @@ mod scheduled;
 mod schedules;
 
 pub use checking::check_project;
+pub use compare_fault::{CompareFault, ListFault};
+pub use compared::{Compared, compare};
+pub use comparison::{Comparison, Selection};
 pub use consolidated::{Written, consolidate};
 pub use consolidation::{LIST, REPORT, SUMS, Sizes};
 pub use fault::{Fault, OutputFile};

@@ -1,0 +1,260 @@
+-- Faults of the sums of two lists, as they are reported.
+use Rattle.std.proofs.Common.{◌≡◌, ◌↔◌, ℕ, ◌<◌, ◌≤◌, List, None, Ok, Err, refl, sym, ◌∙◌, subst, arith}
+use Rattle.std.specs.Prelude.{Option, Result, IsErrOf}
+use Rattle.sound_terms.specs.Sounds.{SoundFacts}
+use Rattle.work_terms.specs.Disk.{Files}
+use Rattle.work_terms.specs.Refusals.{IsDue, Refusal}
+use Rattle.list_terms.specs.Project.{ListProject}
+use Rattle.comparison.specs.declared.fault.SideFault.{SideFault}
+use Rattle.comparison.specs.declared.fault.SideFault.TheVariants as side
+use Rattle.comparison.specs.declared.fault.CompareFault as of_sums
+use Rattle.comparison.specs.declared.fault.CompareFault.TheVariants as sums
+use Rattle.comparison.specs.declared.projects.Comparison.{Comparison}
+use Rattle.comparison.specs.Fault as comparison
+use Rattle.comparison.specs.Range.{Extent, compared_in}
+use Rattle.comparison.specs.declared.range.Selection.{Selection}
+use Rattle.consolidate.specs.declared.compare_fault.ListFault.{ListFault}
+use Rattle.consolidate.specs.declared.compare_fault.ListFault.TheVariants.{Project, Intervals, Memory, Source}
+use Rattle.consolidate.specs.declared.compare_fault.CompareFault.{CompareFault}
+use Rattle.consolidate.specs.declared.compare_fault.CompareFault.TheVariants.{EmptyRange, First, Second}
+use Rattle.consolidate.specs.declared.compared.Compared.{Compared}
+use Rattle.consolidate.specs.CompareFault.{ForFirst, ForSecond, HoldsOfDevice, IsDevice, IsFirst, IsOfSums, IsOwn, IsReportedAs, IsReportedOfTwo, OfFirst, OfSecond, refusal_of}
+use Rattle.consolidate.specs.Comparing.{AnswersFirst, AnswersRange, AnswersSecond}
+
+-- a text that spells a project has no fault
+pub no_fault : (project : ListProject) (refusal : Refusal) (read : Result ListProject Refusal) → read ≡ Ok project
+    → read ≡ Err refusal → ⊥
+no_fault project refusal read good bad = let wrong : Ok project ≡ Err refusal = sym good ∙ bad in cc
+
+-- what is empty of two projects is so of the same ones
+pub empty_alike : (selection : Selection) (p project n next : ListProject)
+    (result : Result Comparison of_sums.CompareFault) → p ≡ project → n ≡ next
+    → IsErrOf result sums.EmptyRange
+    ↔ ((compared_in selection p.events n.events).to ≤ (compared_in selection p.events n.events).from)
+    → IsErrOf result sums.EmptyRange
+    ↔ ((compared_in selection project.events next.events).to ≤ (compared_in selection project.events next.events).from)
+empty_alike selection p project n next result same next_same empty =
+    subst (λ (q : ListProject). IsErrOf result sums.EmptyRange
+    ↔ ((compared_in selection q.events next.events).to ≤ (compared_in selection q.events next.events).from)) same
+    (subst (λ (q : ListProject). IsErrOf result sums.EmptyRange
+    ↔ ((compared_in selection p.events q.events).to ≤ (compared_in selection p.events q.events).from)) next_same empty)
+
+-- where two projects were compared there was something to compare
+pub some_compared : (extent : Extent) (comparison : Comparison)
+    → IsErrOf {E = of_sums.CompareFault} (Ok comparison) sums.EmptyRange ↔ (extent.to ≤ extent.from)
+    → extent.from < extent.to
+some_compared extent comparison empty =
+    let some : ¬ (extent.to ≤ extent.from) =
+    λ below. let wrong : IsErrOf {E = of_sums.CompareFault} (Ok comparison) sums.EmptyRange = empty.1 below in cc in
+    omega (arith, some)
+
+-- ---- of one list
+
+of_sums_only : (sounds : List SoundFacts) (fault : SideFault) (reported : ListFault)
+    → IsReportedAs sounds fault reported → IsOfSums reported
+of_sums_only sounds side.Intervals reported is = subst IsOfSums (sym is) tt
+of_sums_only sounds side.Memory reported is = subst IsOfSums (sym is) tt
+of_sums_only sounds (side.Source file) (Source name) is = tt
+of_sums_only sounds (side.Source file) (Project of) is = absurd is
+of_sums_only sounds (side.Source file) Intervals is = absurd is
+of_sums_only sounds (side.Source file) Memory is = absurd is
+
+due_of_sums : (reported : ListFault) → IsOfSums reported → IsDue (refusal_of reported) None
+due_of_sums (Project of) is = absurd is
+due_of_sums Intervals is = tt
+due_of_sums Memory is = tt
+due_of_sums (Source name) is = tt
+
+own_of_sums : (text : List ℕ) (reported : ListFault) → IsOfSums reported → IsOwn text reported
+own_of_sums text (Project of) is = absurd is
+own_of_sums text Intervals is = tt
+own_of_sums text Memory is = tt
+own_of_sums text (Source name) is = tt
+
+first_of_sums : (text : List ℕ) (files : Files) (reported : ListFault) → IsOfSums reported → IsFirst text files reported
+first_of_sums text files (Project of) is = absurd is
+first_of_sums text files Intervals is = tt
+first_of_sums text files Memory is = tt
+first_of_sums text files (Source name) is = tt
+
+was_device : (sounds : List SoundFacts) (fault : SideFault) (reported : ListFault) → IsReportedAs sounds fault reported
+    → IsDevice reported → comparison.IsSource fault
+was_device sounds side.Intervals reported is device =
+    let no : 47 ≡ 22 = subst (λ (r : ListFault). IsDevice r) is device in absurd (omega (arith, no))
+was_device sounds side.Memory reported is device =
+    let no : 57 ≡ 22 = subst (λ (r : ListFault). IsDevice r) is device in absurd (omega (arith, no))
+was_device sounds (side.Source file) reported is device = tt
+
+is_device : (sounds : List SoundFacts) (fault : SideFault) (reported : ListFault) → IsReportedAs sounds fault reported
+    → comparison.IsSource fault → IsDevice reported
+is_device sounds side.Intervals reported is source = absurd source
+is_device sounds side.Memory reported is source = absurd source
+is_device sounds (side.Source file) (Source name) is source = omega arith
+is_device sounds (side.Source file) (Project of) is source = absurd is
+is_device sounds (side.Source file) Intervals is source = absurd is
+is_device sounds (side.Source file) Memory is source = absurd is
+
+holds_there : (sounds : List SoundFacts) (failed : List ℕ → Type 0) (fault : SideFault) (reported : ListFault)
+    → IsReportedAs sounds fault reported → comparison.FailsAt sounds fault failed → HoldsOfDevice reported failed
+holds_there sounds failed side.Intervals reported is fails = absurd fails
+holds_there sounds failed side.Memory reported is fails = absurd fails
+holds_there sounds failed (side.Source file) (Source name) is fails = subst failed (sym (is fails.0 fails.1)) fails.2
+holds_there sounds failed (side.Source file) (Project of) is fails = absurd is
+holds_there sounds failed (side.Source file) Intervals is fails = absurd is
+holds_there sounds failed (side.Source file) Memory is fails = absurd is
+
+-- ---- of two
+
+module _ (sounds others : List SoundFacts) where
+  pub answers_first : (due : Option Refusal) → due ≡ None → (fault : of_sums.CompareFault) (reported : CompareFault)
+      → IsReportedOfTwo sounds others fault reported → AnswersFirst {X = Compared} due (Err reported)
+  answers_first due none sums.EmptyRange reported is =
+      subst (λ (r : CompareFault). AnswersFirst {X = Compared} due (Err r)) (sym is) none
+  answers_first due none (sums.First fault) (First reported) is =
+      subst (λ (d : Option Refusal). IsDue (refusal_of reported) d) (sym none)
+      (due_of_sums reported (of_sums_only sounds fault reported is))
+  answers_first due none (sums.Second fault) (Second reported) is = none
+  answers_first due none (sums.First fault) (Second reported) is = absurd is
+  answers_first due none (sums.First fault) EmptyRange is = absurd is
+  answers_first due none (sums.Second fault) (First reported) is = absurd is
+  answers_first due none (sums.Second fault) EmptyRange is = absurd is
+
+  pub answers_second : (due : Option Refusal) → due ≡ None → (fault : of_sums.CompareFault) (reported : CompareFault)
+      → IsReportedOfTwo sounds others fault reported → AnswersSecond {X = Compared} due (Err reported)
+  answers_second due none sums.EmptyRange reported is =
+      subst (λ (r : CompareFault). AnswersSecond {X = Compared} due (Err r)) (sym is) none
+  answers_second due none (sums.First fault) (First reported) is = λ of. none
+  answers_second due none (sums.Second fault) (Second reported) is =
+      subst (λ (d : Option Refusal). IsDue (refusal_of reported) d) (sym none)
+      (due_of_sums reported (of_sums_only others fault reported is))
+  answers_second due none (sums.First fault) (Second reported) is = absurd is
+  answers_second due none (sums.First fault) EmptyRange is = absurd is
+  answers_second due none (sums.Second fault) (First reported) is = absurd is
+  answers_second due none (sums.Second fault) EmptyRange is = absurd is
+
+  pub answers_range : (extent : Extent) (fault : of_sums.CompareFault) (reported : CompareFault)
+      → IsReportedOfTwo sounds others fault reported
+      → IsErrOf {T = Comparison} (Err fault) sums.EmptyRange ↔ (extent.to ≤ extent.from)
+      → AnswersRange {X = Compared} extent (Err reported)
+  answers_range extent sums.EmptyRange reported is empty =
+      subst (λ (r : CompareFault). AnswersRange {X = Compared} extent (Err r)) (sym is) (empty.0 refl)
+  answers_range extent (sums.First fault) (First reported) is empty = λ of.
+      let some : ¬ (extent.to ≤ extent.from) =
+      λ below. let wrong : IsErrOf {T = Comparison} (Err (sums.First fault)) sums.EmptyRange = empty.1 below in cc in
+      omega (arith, some)
+  answers_range extent (sums.Second fault) (Second reported) is empty = λ of.
+      let some : ¬ (extent.to ≤ extent.from) =
+      λ below. let wrong : IsErrOf {T = Comparison} (Err (sums.Second fault)) sums.EmptyRange = empty.1 below in cc in
+      omega (arith, some)
+  answers_range extent (sums.First fault) (Second reported) is empty = absurd is
+  answers_range extent (sums.First fault) EmptyRange is empty = absurd is
+  answers_range extent (sums.Second fault) (First reported) is empty = absurd is
+  answers_range extent (sums.Second fault) EmptyRange is empty = absurd is
+
+  -- a predicate of all faults of sums of the first list, or of the second one
+  for_first : (P : ListFault → Type 0) → ((reported : ListFault) → IsOfSums reported → P reported)
+      → (fault : of_sums.CompareFault) (reported : CompareFault) → IsReportedOfTwo sounds others fault reported
+      → ForFirst P reported
+  for_first P each sums.EmptyRange reported is = subst (λ (r : CompareFault). ForFirst P r) (sym is) tt
+  for_first P each (sums.First fault) (First reported) is = each reported (of_sums_only sounds fault reported is)
+  for_first P each (sums.Second fault) (Second reported) is = tt
+  for_first P each (sums.First fault) (Second reported) is = absurd is
+  for_first P each (sums.First fault) EmptyRange is = absurd is
+  for_first P each (sums.Second fault) (First reported) is = absurd is
+  for_first P each (sums.Second fault) EmptyRange is = absurd is
+
+  for_second : (P : ListFault → Type 0) → ((reported : ListFault) → IsOfSums reported → P reported)
+      → (fault : of_sums.CompareFault) (reported : CompareFault) → IsReportedOfTwo sounds others fault reported
+      → ForSecond P reported
+  for_second P each sums.EmptyRange reported is = subst (λ (r : CompareFault). ForSecond P r) (sym is) tt
+  for_second P each (sums.First fault) (First reported) is = tt
+  for_second P each (sums.Second fault) (Second reported) is = each reported (of_sums_only others fault reported is)
+  for_second P each (sums.First fault) (Second reported) is = absurd is
+  for_second P each (sums.First fault) EmptyRange is = absurd is
+  for_second P each (sums.Second fault) (First reported) is = absurd is
+  for_second P each (sums.Second fault) EmptyRange is = absurd is
+
+  pub first_own : (text : List ℕ) (fault : of_sums.CompareFault) (reported : CompareFault)
+      → IsReportedOfTwo sounds others fault reported → ForFirst (IsOwn text) reported
+  first_own text = for_first (IsOwn text) (own_of_sums text)
+
+  pub second_own : (text : List ℕ) (fault : of_sums.CompareFault) (reported : CompareFault)
+      → IsReportedOfTwo sounds others fault reported → ForSecond (IsOwn text) reported
+  second_own text = for_second (IsOwn text) (own_of_sums text)
+
+  pub first_in_turn : (text : List ℕ) (files : Files) (fault : of_sums.CompareFault) (reported : CompareFault)
+      → IsReportedOfTwo sounds others fault reported → ForFirst (IsFirst text files) reported
+  first_in_turn text files = for_first (IsFirst text files) (first_of_sums text files)
+
+  pub second_in_turn : (text : List ℕ) (files : Files) (fault : of_sums.CompareFault) (reported : CompareFault)
+      → IsReportedOfTwo sounds others fault reported → ForSecond (IsFirst text files) reported
+  second_in_turn text files = for_second (IsFirst text files) (first_of_sums text files)
+
+  pub was_first : (fault : of_sums.CompareFault) (reported : CompareFault)
+      → IsReportedOfTwo sounds others fault reported → OfFirst IsDevice reported
+      → comparison.OfFirst comparison.IsSource fault
+  was_first sums.EmptyRange reported is device =
+      absurd (subst (λ (r : CompareFault). OfFirst IsDevice r) is device)
+  was_first (sums.First fault) (First reported) is device = was_device sounds fault reported is device
+  was_first (sums.Second fault) (Second reported) is device = absurd device
+  was_first (sums.First fault) (Second reported) is device = absurd is
+  was_first (sums.First fault) EmptyRange is device = absurd is
+  was_first (sums.Second fault) (First reported) is device = absurd is
+  was_first (sums.Second fault) EmptyRange is device = absurd is
+
+  pub is_first : (fault : of_sums.CompareFault) (reported : CompareFault) → IsReportedOfTwo sounds others fault reported
+      → comparison.OfFirst comparison.IsSource fault → OfFirst IsDevice reported
+  is_first sums.EmptyRange reported is source = absurd source
+  is_first (sums.First fault) (First reported) is source = is_device sounds fault reported is source
+  is_first (sums.Second fault) (Second reported) is source = absurd source
+  is_first (sums.First fault) (Second reported) is source = absurd is
+  is_first (sums.First fault) EmptyRange is source = absurd is
+  is_first (sums.Second fault) (First reported) is source = absurd is
+  is_first (sums.Second fault) EmptyRange is source = absurd is
+
+  pub holds_first : (failed : List ℕ → Type 0) (fault : of_sums.CompareFault) (reported : CompareFault)
+      → IsReportedOfTwo sounds others fault reported
+      → comparison.OfFirst (λ of. comparison.FailsAt sounds of failed) fault
+      → OfFirst (λ of. HoldsOfDevice of failed) reported
+  holds_first failed sums.EmptyRange reported is fails = absurd fails
+  holds_first failed (sums.First fault) (First reported) is fails = holds_there sounds failed fault reported is fails
+  holds_first failed (sums.Second fault) (Second reported) is fails = absurd fails
+  holds_first failed (sums.First fault) (Second reported) is fails = absurd is
+  holds_first failed (sums.First fault) EmptyRange is fails = absurd is
+  holds_first failed (sums.Second fault) (First reported) is fails = absurd is
+  holds_first failed (sums.Second fault) EmptyRange is fails = absurd is
+
+  pub was_second : (fault : of_sums.CompareFault) (reported : CompareFault)
+      → IsReportedOfTwo sounds others fault reported → OfSecond IsDevice reported
+      → comparison.OfSecond comparison.IsSource fault
+  was_second sums.EmptyRange reported is device =
+      absurd (subst (λ (r : CompareFault). OfSecond IsDevice r) is device)
+  was_second (sums.Second fault) (Second reported) is device = was_device others fault reported is device
+  was_second (sums.First fault) (First reported) is device = absurd device
+  was_second (sums.First fault) (Second reported) is device = absurd is
+  was_second (sums.First fault) EmptyRange is device = absurd is
+  was_second (sums.Second fault) (First reported) is device = absurd is
+  was_second (sums.Second fault) EmptyRange is device = absurd is
+
+  pub is_second : (fault : of_sums.CompareFault) (reported : CompareFault)
+      → IsReportedOfTwo sounds others fault reported → comparison.OfSecond comparison.IsSource fault
+      → OfSecond IsDevice reported
+  is_second sums.EmptyRange reported is source = absurd source
+  is_second (sums.Second fault) (Second reported) is source = is_device others fault reported is source
+  is_second (sums.First fault) (First reported) is source = absurd source
+  is_second (sums.First fault) (Second reported) is source = absurd is
+  is_second (sums.First fault) EmptyRange is source = absurd is
+  is_second (sums.Second fault) (First reported) is source = absurd is
+  is_second (sums.Second fault) EmptyRange is source = absurd is
+
+  pub holds_second : (failed : List ℕ → Type 0) (fault : of_sums.CompareFault) (reported : CompareFault)
+      → IsReportedOfTwo sounds others fault reported
+      → comparison.OfSecond (λ of. comparison.FailsAt others of failed) fault
+      → OfSecond (λ of. HoldsOfDevice of failed) reported
+  holds_second failed sums.EmptyRange reported is fails = absurd fails
+  holds_second failed (sums.Second fault) (Second reported) is fails = holds_there others failed fault reported is fails
+  holds_second failed (sums.First fault) (First reported) is fails = absurd fails
+  holds_second failed (sums.First fault) (Second reported) is fails = absurd is
+  holds_second failed (sums.First fault) EmptyRange is fails = absurd is
+  holds_second failed (sums.Second fault) (First reported) is fails = absurd is
+  holds_second failed (sums.Second fault) EmptyRange is fails = absurd is
