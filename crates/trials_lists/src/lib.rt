@@ -1,6 +1,9 @@
-//! Tests of lists: copies of their projects, consolidations by any passes, and works by the events of any workers.
+//! Tests of lists: copies of their projects, comparisons, consolidations by any passes, and works by the events of any
+//! workers.
 #![tactic(auto)]
 
+#[cfg(test)]
+mod comparisons;
 #[cfg(test)]
 mod consolidations;
 #[cfg(test)]
