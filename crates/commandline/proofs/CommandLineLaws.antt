@@ -13,7 +13,7 @@ use Rattle.clap.proofs.OnLiterals.{clap_on_literals}
 use Rattle.clap.proofs.WalkLemmas.{first_value-rows}
 use Rattle.sound_terms.specs.declared.Depth.{Depth}
 use Rattle.job_terms.specs.declared.Order.{Order}
-use Rattle.commandline.specs.CommandLine.{Asked, Check, Report, Show, explained, adlcons_app, channels_in, chosen_of, depth_in, handle_of, number_in, order_in, ordered_by, asked, asked_over, asked_to, asks_for_help, is_all, is_set, is_shown, named_by, request_of, tells_all, unless_faulty, words_fault}
+use Rattle.commandline.specs.CommandLine.{Asked, Check, Compare, Report, Selected, Show, are_both_input, asked_compare, compare_by, selected_by, selected_of, explained, adlcons_app, channels_in, chosen_of, depth_in, handle_of, number_in, order_in, ordered_by, asked, asked_over, asked_to, asks_for_help, is_all, is_set, is_shown, named_by, request_of, tells_all, unless_faulty, words_fault}
 
 -- one more rule over the command so far
 pub one_more : (more app known : App) (rule : Rule) → more ≡ with_rule app rule → app ≡ known → more ≡ with_rule known rule
@@ -85,31 +85,94 @@ asked-show name list media found other named one two =
       named,
     ) refl
 
-pub asked-without_out : (name list media : Text) (found : Found) → bytes_eq name (codes "check") ≡ false
-    → bytes_eq name (codes "show") ≡ false
-    → Some list ≡ first_value found (codes "LIST")
-    → Some media ≡ first_value found (codes "MEDIA") → None ≡ first_value found (codes "OUT")
-    → asked_over name (rows_of found) ≡ None
-asked-without_out name list media found other another one two missing =
+pub asked-compare : (name list media : Text) (found : Found) → bytes_eq name (codes "check") ≡ false
+    → bytes_eq name (codes "show") ≡ false → bytes_eq name (codes "compare") ≡ true
+    → Some list ≡ first_value found (codes "LIST") → Some media ≡ first_value found (codes "MEDIA")
+    → asked_over name (rows_of found) ≡ asked_compare list media (rows_of found)
+asked-compare name list media found other another named one two =
     rw (
       row_of_value found (codes "LIST") (Some list) one,
       row_of_value found (codes "MEDIA") (Some media) two,
       other,
       another,
+      named,
+    ) refl
+
+pub compared-without_list : (list media : Text) (found : Found) → None ≡ first_value found (codes "LIST2")
+    → asked_compare list media (rows_of found) ≡ None
+compared-without_list list media found missing = rw (row_of_value found (codes "LIST2") None missing) refl
+
+pub compared-without_media : (list media other : Text) (found : Found) → Some other ≡ first_value found (codes "LIST2")
+    → None ≡ first_value found (codes "MEDIA2") → asked_compare list media (rows_of found) ≡ None
+compared-without_media list media other found one missing =
+    rw (
+      row_of_value found (codes "LIST2") (Some other) one,
+      row_of_value found (codes "MEDIA2") None missing,
+    ) refl
+
+-- what is asked of a comparison, where both of the other places are among the words
+pub compared-all : (list media other other_media : Text) (found : Found)
+    → Some other ≡ first_value found (codes "LIST2") → Some other_media ≡ first_value found (codes "MEDIA2")
+    → asked_compare list media (rows_of found) ≡ compare_by list media other other_media (rows_of found)
+compared-all list media other other_media found one two =
+    rw (
+      row_of_value found (codes "LIST2") (Some other) one,
+      row_of_value found (codes "MEDIA2") (Some other_media) two,
+    ) refl
+
+pub compared-both_input : (list media other other_media : Text) (rows : List Row) → are_both_input list other ≡ true
+    → compare_by list media other other_media rows ≡ None
+compared-both_input list media other other_media rows both = rw both refl
+
+pub compared-one_input : (list media other other_media : Text) (rows : List Row) (selected : Option Selected)
+    → are_both_input list other ≡ false → selected ≡ selected_of rows
+    → compare_by list media other other_media rows
+    ≡ option_map (λ selected. Compare list media other other_media selected) selected
+compared-one_input list media other other_media rows selected one chosen = rw (one, chosen) refl
+
+pub selected-bad_channels : (found : Found) (channels : Option Text) → channels ≡ first_value found (codes "channels")
+    → None ≡ channels_in channels → selected_of (rows_of found) ≡ None
+selected-bad_channels found channels named bad = rw (row_of_value found (codes "channels") channels named, ← bad) refl
+
+pub selected-all : (found : Found) (channels from to : Option Text) (count : Option ℕ)
+    → channels ≡ first_value found (codes "channels") → Some count ≡ channels_in channels
+    → from ≡ first_value found (codes "from") → to ≡ first_value found (codes "to")
+    → selected_of (rows_of found) ≡ Some (record { from = from; to = to; channels = count })
+selected-all found channels from to count named is begin end =
+    rw (
+      row_of_value found (codes "channels") channels named,
+      ← is,
+      row_of_value found (codes "from") from begin,
+      row_of_value found (codes "to") to end,
+    ) refl
+
+pub asked-without_out : (name list media : Text) (found : Found) → bytes_eq name (codes "check") ≡ false
+    → bytes_eq name (codes "show") ≡ false → bytes_eq name (codes "compare") ≡ false
+    → Some list ≡ first_value found (codes "LIST")
+    → Some media ≡ first_value found (codes "MEDIA") → None ≡ first_value found (codes "OUT")
+    → asked_over name (rows_of found) ≡ None
+asked-without_out name list media found other another third one two missing =
+    rw (
+      row_of_value found (codes "LIST") (Some list) one,
+      row_of_value found (codes "MEDIA") (Some media) two,
+      other,
+      another,
+      third,
       row_of_value found (codes "OUT") None missing,
     ) refl
 
 pub asked-all : (name list media out : Text) (found : Found) → bytes_eq name (codes "check") ≡ false
-    → bytes_eq name (codes "show") ≡ false
+    → bytes_eq name (codes "show") ≡ false → bytes_eq name (codes "compare") ≡ false
     → Some list ≡ first_value found (codes "LIST")
     → Some media ≡ first_value found (codes "MEDIA") → Some out ≡ first_value found (codes "OUT")
     → asked_over name (rows_of found) ≡ asked_to name list media out (rows_of found)
-asked-all name list media out found other another one two three =
+asked-all name list media out found other another third one two three =
     rw (
       row_of_value found (codes "LIST") (Some list) one,
       row_of_value found (codes "MEDIA") (Some media) two,
       other,
       another,
+      third,
       row_of_value found (codes "OUT") (Some out) three,
     ) refl
 

@@ -51,16 +51,29 @@ consolidate_shape =
     let handled = with_rule (over_folders (codes "consolidate")) (default_rule (codes "handle") (codes "48000")) in
     (with_rule handled (flag_rule (codes "report"))).top
 
+-- with the times and the channels that may be chosen
+abbrev pub with_range : App → App
+with_range app =
+    let timed = with_rule (with_rule app (option_rule (codes "from"))) (option_rule (codes "to")) in
+    with_rule timed (option_rule (codes "channels"))
+
 -- with what may be chosen of a rendering
 abbrev pub with_choice : App → App
 with_choice app =
-    let timed = with_rule (with_rule app (option_rule (codes "from"))) (option_rule (codes "to")) in
-    let sounding = with_rule (with_rule timed (option_rule (codes "channels"))) (default_rule (codes "depth") (codes "24")) in
+    let sounding = with_rule (with_range app) (default_rule (codes "depth") (codes "24")) in
     with_rule sounding (default_rule (codes "order") (codes "time"))
 
 -- a command of this name that renders
 abbrev pub rendering_shape : Text → Shape
 rendering_shape name = (with_choice (over_folders name)).top
+
+-- over two lists, each with the folder of its media
+abbrev pub over_both : App
+over_both =
+    with_rule (with_rule (over_media (codes "compare")) (place_rule (codes "LIST2"))) (place_rule (codes "MEDIA2"))
+
+abbrev pub compare_shape : Shape
+compare_shape = (with_range over_both).top
 
 -- The program itself: it has a version and wants a command, and its words are those behind its name.
 abbrev pub top_app : App
@@ -79,13 +92,14 @@ abbrev pub explain_shape : Shape
 explain_shape =
     (with_rule (with_rule (new_app (codes "explain")) (new_rule (codes "WHAT"))) (new_rule (codes "NUMBER"))).top
 
--- the six commands; clap adds `help`
+-- the seven commands; clap adds `help`
 abbrev pub adlcons_app : App
 adlcons_app =
     let checking = with_subcommand top_app check_shape in
     let rendering = with_subcommand (with_subcommand checking consolidate_shape) (rendering_shape (codes "render")) in
     let writing = with_subcommand rendering (rendering_shape (codes "resume")) in
-    with_subcommand (with_subcommand writing show_shape) explain_shape
+    let comparing = with_subcommand writing compare_shape in
+    with_subcommand (with_subcommand comparing show_shape) explain_shape
 
 -- what is chosen of a rendering: times by their texts, a number of channels, the bits of a sample, the order of jobs
 pub record Chosen : Type 0 where
@@ -95,15 +109,23 @@ pub record Chosen : Type 0 where
   pub depth : Depth
   pub order : Order
 
+-- what is chosen of a comparison: times by their texts, a number of channels
+pub record Selected : Type 0 where
+  pub from : Option Text
+  pub to : Option Text
+  pub channels : Option ℕ
+
 -- What the program is asked for: a command with its list, the folder of its media, and the folder that is written to
--- (a resumed one goes on with what is in there), and whether a report is written; a report of a check, or a picture;
--- or what the number of a refusal or of a notice means, or all of them.
+-- (a resumed one goes on with what is in there), and whether a report is written; two lists to be compared, each with
+-- the folder of its media; a report of a check, or a picture; or what the number of a refusal or of a notice means, or
+-- all of them.
 pub data Asked : Type 0 where
   Check : (list media : Text) → Asked
   Report : (list media : Text) → Asked
   Render : (list media out : Text) → (chosen : Chosen) → Asked
   Resume : (list media out : Text) → (chosen : Chosen) → Asked
   Consolidate : (list media out : Text) → (handle : ℕ) → (report : Bool) → Asked
+  Compare : (list media other other_media : Text) → (selected : Selected) → Asked
   Show : (list media : Text) → (handle : ℕ) → Asked
   Explain : (number : Option Text) → Asked
   ExplainNotice : (number : Option Text) → Asked
@@ -164,6 +186,31 @@ chosen_of rows =
     option_and_then (λ depth. option_and_then (ordered_by rows depth) (channels_in (first_of (codes "channels") rows)))
     (option_and_then depth_in (first_of (codes "depth") rows))
 
+abbrev pub selected_by : List Row → Option ℕ → Selected
+selected_by rows channels = record {
+  from = first_of (codes "from") rows;
+  to = first_of (codes "to") rows;
+  channels = channels;
+}
+
+abbrev pub selected_of : List Row → Option Selected
+selected_of rows = option_map (selected_by rows) (channels_in (first_of (codes "channels") rows))
+
+-- two lists are standard input
+abbrev pub are_both_input : (list other : Text) → Bool
+are_both_input list other = bytes_eq list (codes "-") && bytes_eq other (codes "-")
+
+-- the comparison of two lists, of which one at most is standard input
+abbrev pub compare_by : (list media other other_media : Text) → List Row → Option Asked
+compare_by list media other other_media rows =
+    if are_both_input list other then None
+    else option_map (λ selected. Compare list media other other_media selected) (selected_of rows)
+
+abbrev pub asked_compare : (list media : Text) → List Row → Option Asked
+asked_compare list media rows =
+    option_and_then (λ other. option_and_then (λ other_media. compare_by list media other other_media rows)
+    (first_of (codes "MEDIA2") rows)) (first_of (codes "LIST2") rows)
+
 -- the command of this name that writes to a folder
 abbrev pub asked_to : Text → (list media out : Text) → List Row → Option Asked
 asked_to name list media out rows =
@@ -179,6 +226,7 @@ asked_by name list media rows =
     if bytes_eq name (codes "check")
     then Some (if is_set (codes "report") rows then Report list media else Check list media)
     else if bytes_eq name (codes "show") then option_map (λ handle. Show list media handle) (handle_of rows)
+    else if bytes_eq name (codes "compare") then asked_compare list media rows
     else option_and_then (λ out. asked_to name list media out rows) (first_of (codes "OUT") rows)
 
 abbrev pub asked_over : Text → List Row → Option Asked

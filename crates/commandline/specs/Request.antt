@@ -2,8 +2,9 @@
 use Rattle.std.specs.Prelude.{option_map}
 use Rattle.commandline.specs.CommandLine as words
 use Rattle.commandline.specs.declared.choice.Chosen.{Chosen}
+use Rattle.commandline.specs.declared.choice.Selected.{Selected}
 use Rattle.commandline.specs.declared.request.Request.{Request}
-use Rattle.commandline.specs.declared.request.Request.TheVariants.{Check, Report, Render, Resume, Consolidate, Show, Explain, ExplainNotice}
+use Rattle.commandline.specs.declared.request.Request.TheVariants.{Check, Report, Render, Resume, Consolidate, Compare, Show, Explain, ExplainNotice}
 
 -- what is chosen of a rendering
 abbrev pub chosen_of : Chosen → words.Chosen
@@ -15,6 +16,14 @@ chosen_of chosen = record {
   order = chosen.order;
 }
 
+-- what is chosen of a comparison
+abbrev pub selected_of : Selected → words.Selected
+selected_of selected = record {
+  from = option_map (λ text. text.now) selected.from;
+  to = option_map (λ text. text.now) selected.to;
+  channels = selected.channels;
+}
+
 -- what the request asks for
 abbrev pub asked_of : Request → words.Asked
 asked_of (Check list media) = words.Check list.now media.now
@@ -23,6 +32,8 @@ asked_of (Render places chosen) = words.Render places.list.now places.media.now 
 asked_of (Resume places chosen) = words.Resume places.list.now places.media.now places.out.now (chosen_of chosen)
 asked_of (Consolidate places handle report) =
     words.Consolidate places.list.now places.media.now places.out.now handle report
+asked_of (Compare places selected) = words.Compare places.list.now places.media.now places.other_list.now
+    places.other_media.now (selected_of selected)
 asked_of (Show list media handle) = words.Show list.now media.now handle
 asked_of (Explain number) = words.Explain (option_map (λ text. text.now) number)
 asked_of (ExplainNotice number) = words.ExplainNotice (option_map (λ text. text.now) number)

@@ -4,7 +4,7 @@ use Rattle.clap.specs.declared.error.ErrorKind.TheVariants.{DisplayHelp, Display
 use Rattle.clap.proofs.OnLiterals.{clap_on_literals}
 use Rattle.sound_terms.specs.declared.Depth.TheVariants.{Sixteen, TwentyFour, ThirtyTwo}
 use Rattle.job_terms.specs.declared.Order.TheVariants.{ByTime, BySource}
-use Rattle.commandline.specs.CommandLine.{Check, Chosen, Render, Report, Resume, Consolidate, Show, Explain, ExplainNotice, asks_for_help, named_by, request_of, tells_all, words_fault}
+use Rattle.commandline.specs.CommandLine.{Check, Chosen, Compare, Render, Report, Resume, Consolidate, Show, Explain, ExplainNotice, asks_for_help, named_by, request_of, tells_all, words_fault}
 
 -- ---- good words
 
@@ -143,6 +143,24 @@ consolidates_with_report : request_of (codes "consolidate" ∷ codes "--report" 
     ≡ Some (Consolidate (codes "L") (codes "M") (codes "O") 48000 true)
 unfolding words_fault named_by clap_on_literals
 consolidates_with_report = refl
+
+compares : request_of (codes "compare" ∷ codes "L" ∷ codes "M" ∷ codes "L2" ∷ codes "M2" ∷ [])
+    ≡ Some (Compare (codes "L") (codes "M") (codes "L2") (codes "M2")
+    (record { from = None; to = None; channels = None }))
+unfolding words_fault named_by clap_on_literals
+compares = refl
+
+compares_input : request_of (codes "compare" ∷ codes "L" ∷ codes "M" ∷ codes "-" ∷ codes "M2"
+    ∷ codes "--to=x" ∷ codes "--channels" ∷ codes "64" ∷ [])
+    ≡ Some (Compare (codes "L") (codes "M") (codes "-") (codes "M2")
+    (record { from = None; to = Some (codes "x"); channels = Some 64 }))
+unfolding words_fault named_by clap_on_literals
+compares_input = refl
+
+-- standard input is one of the lists at most
+compares_input_twice : request_of (codes "compare" ∷ codes "-" ∷ codes "M" ∷ codes "-" ∷ codes "M2" ∷ []) ≡ None
+unfolding words_fault named_by clap_on_literals
+compares_input_twice = refl
 
 shows : request_of (codes "show" ∷ codes "L.adl" ∷ codes "M" ∷ []) ≡ Some (Show (codes "L.adl") (codes "M") 48000)
 unfolding words_fault named_by clap_on_literals

@@ -1,4 +1,4 @@
-// What the words choose of a rendering.
+// What the words choose of a rendering, and of a comparison.
 ghost use Rattle.std.specs.Prelude.{◌≡◌, true};
 ghost use Rattle.commandline.specs.Channels.{are_few};
 
@@ -14,5 +14,14 @@ pub struct Chosen<'a> {
     pub channels: Option<u8>,
     pub depth: Depth,
     pub order: Order,
+    ghost few_channels: { are_few channels ≡ true },
+}
+
+/// What is chosen of a comparison: the texts of its times, and a number of channels from 1 to 64.
+#[derive(Clone, Copy, Debug, PartialEq, Eq)]
+pub struct Selected<'a> {
+    pub from: Option<&'a str>,
+    pub to: Option<&'a str>,
+    pub channels: Option<u8>,
     ghost few_channels: { are_few channels ≡ true },
 }

@@ -2,13 +2,13 @@
 ghost use Rattle.std.specs.Prelude.{◌≡◌, codes, IfOk, false};
 ghost use Rattle.clap.specs.Words.{app_of, new_rule, rule_of, shape_of, with_rule};
 ghost use Rattle.clap.specs.declared.Command.TheViews.{out-Command as fields_of};
-ghost use Rattle.commandline.specs.CommandLine.{adlcons_app, check_shape, consolidate_shape, default_rule, explain_shape, flag_rule, option_rule, over_folders, over_media, place_rule, rendering_shape, show_shape, top_app, with_choice};
+ghost use Rattle.commandline.specs.CommandLine.{adlcons_app, check_shape, compare_shape, consolidate_shape, default_rule, explain_shape, flag_rule, option_rule, over_both, over_folders, over_media, place_rule, rendering_shape, show_shape, top_app, with_choice, with_range};
 
 use clap::{Arg, ArgAction, Command};
 use std::alloc::{AllocError, Global};
 
 /// The program's command line: `check`, `consolidate`, `render`, `resume` and `show`, each over a list and its media,
-/// and `explain`. It reads the words behind the program's name.
+/// `compare` over two, and `explain`. It reads the words behind the program's name.
 pub fn command<'a>(alloc: Global) -> Result<Command<'a>, AllocError>
     ensures { IfOk result (λ command. app_of command ≡ adlcons_app) }
 {
@@ -17,6 +17,7 @@ pub fn command<'a>(alloc: Global) -> Result<Command<'a>, AllocError>
         .subcommand(consolidate_command(alloc)?)?
         .subcommand(render_command(alloc)?)?
         .subcommand(resume_command(alloc)?)?
+        .subcommand(compare_command(alloc)?)?
         .subcommand(show_command(alloc)?)?
         .subcommand(explain_command(alloc)?)
 }
@@ -126,9 +127,30 @@ fn resume_command<'a>(alloc: Global) -> Result<Command<'a>, AllocError>
     with_choice(alloc, command)
 }
 
+/// The command that compares two lists.
+fn compare_command<'a>(alloc: Global) -> Result<Command<'a>, AllocError>
+    ensures shape { IfOk result (λ command. shape_of command ≡ compare_shape) }
+    ensures local { IfOk result (λ command. (fields_of command).has_globals ≡ false) }
+{
+    let command = over_both(alloc)?;
+    with_range(alloc, command)
+}
+
 /// The command with what may be chosen of a rendering.
 fn with_choice<'a>(alloc: Global, command: Command<'a>) -> Result<Command<'a>, AllocError>
     ensures app { IfOk result (λ added. app_of added ≡ with_choice (app_of command.entry)) }
+    ensures local { IfOk result (λ added. (fields_of added).has_globals ≡ (fields_of command.entry).has_globals) }
+{
+    let command = with_range(alloc, command)?;
+    let depth = "Bits of a sample: 16, 24 or 32";
+    let command = with_default(alloc, command, "depth", "D", "24", depth)?;
+    let order = "Which sound is read first: time or source";
+    with_default(alloc, command, "order", "O", "time", order)
+}
+
+/// The command with the times and the channels that may be chosen.
+fn with_range<'a>(alloc: Global, command: Command<'a>) -> Result<Command<'a>, AllocError>
+    ensures app { IfOk result (λ added. app_of added ≡ with_range (app_of command.entry)) }
     ensures local { IfOk result (λ added. (fields_of added).has_globals ≡ (fields_of command.entry).has_globals) }
 {
     let from = "The first sample, hh.mm.ss.ff/rrrr [default: the first in]";
@@ -136,11 +158,7 @@ fn with_choice<'a>(alloc: Global, command: Command<'a>) -> Result<Command<'a>, A
     let to = "The time behind the last sample [default: the last out]";
     let command = with_option(alloc, command, "to", "T", to)?;
     let channels = "Channels, 1 to 64 [default: all that entries name]";
-    let command = with_option(alloc, command, "channels", "N", channels)?;
-    let depth = "Bits of a sample: 16, 24 or 32";
-    let command = with_default(alloc, command, "depth", "D", "24", depth)?;
-    let order = "Which sound is read first: time or source";
-    with_default(alloc, command, "order", "O", "time", order)
+    with_option(alloc, command, "channels", "N", channels)
 }
 
 /// A command over a list and the folder of its media, which may tell all that is at fault.
@@ -175,6 +193,23 @@ fn over_folders<'a>(
 {
     let command = over_media(alloc, name, about, example)?;
     with_place(alloc, command, "OUT", out)
+}
+
+/// The command over two lists, each with the folder of its media.
+fn over_both<'a>(alloc: Global) -> Result<Command<'a>, AllocError>
+    ensures app { IfOk result (λ command. app_of command ≡ over_both) }
+    ensures local { IfOk result (λ command. (fields_of command).has_globals ≡ false) }
+{
+    let command = over_media(
+        alloc,
+        "compare",
+        "Say whether two lists sound the same, sample for sample, or where they differ first",
+        "Example: adlcons compare session.adl sources consolidated/consolidated.adl consolidated",
+    )?;
+    let list = "The second list, a file; one of both may be -";
+    let command = with_place(alloc, command, "LIST2", list)?;
+    let media = "The folder of the second list's WAVE files";
+    with_place(alloc, command, "MEDIA2", media)
 }
 
 /// The command that tells what the numbers of refusals mean.

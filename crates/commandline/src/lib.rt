@@ -1,10 +1,11 @@
-//! What the words of a command line ask for: `check`, `consolidate`, `render`, `resume`, `show` or `explain`.
+//! What the words of a command line ask for: `check`, `consolidate`, `render`, `resume`,
+//! `compare`, `show` or `explain`.
 #![tactic(auto)]
 
 mod choice;
 mod command;
 mod request;
 
-pub use choice::Chosen;
+pub use choice::{Chosen, Selected};
 pub use command::VERSION;
-pub use request::{Parsed, Places, Request, parse};
+pub use request::{BothPlaces, Parsed, Places, Request, parse};

@@ -10,7 +10,7 @@ ghost use Rattle.commandline.specs.CommandLine.{asked, asked_over, asks_for_help
 ghost use Rattle.commandline.specs.Request as spec;
 ghost use Rattle.commandline.specs.Request.{asked_of};
 
-use crate::choice::Chosen;
+use crate::choice::{Chosen, Selected};
 use crate::command::command;
 use clap::error::ErrorKind;
 use clap::{ArgMatches, Error};
@@ -27,6 +27,15 @@ pub struct Places<'a> {
     pub out: &'a str,
 }
 
+/// The words of a comparison: two lists, each with the folder of its media. One list at most is `-`.
+#[derive(Clone, Copy, Debug, PartialEq, Eq)]
+pub struct BothPlaces<'a> {
+    pub list: &'a str,
+    pub media: &'a str,
+    pub other_list: &'a str,
+    pub other_media: &'a str,
+}
+
 /// What the program is asked for.
 #[derive(Clone, Copy, Debug, PartialEq, Eq)]
 pub enum Request<'a> {
@@ -40,6 +49,8 @@ pub enum Request<'a> {
     Resume(Places<'a>, Chosen<'a>),
     /// Writes a list over new media, with handles of so many frames, and a report where it is asked for.
     Consolidate(Places<'a>, u64, bool),
+    /// Compares two lists, each over the folder of its media.
+    Compare(BothPlaces<'a>, Selected<'a>),
     /// Draws the list over the folder of its media, with handles of so many frames.
     Show(&'a str, &'a str, u64),
     /// Tells what the number of a refusal means, or what all of them mean.
@@ -77,11 +88,15 @@ pub fn parse<'a>(alloc: Global, words: &'a [&'a str]) -> Result<Parsed<'a>, Erro
     }
 }
 
+/// What is reported of another number of channels.
+const FEW_CHANNELS: &str = "there are 1 to 64 channels";
+
 /// What is told of words that clap takes and that ask for nothing.
 fn mistake_of(matches: &ArgMatches<'_>) -> &'static str {
     match matches.subcommand() {
         Some(("consolidate" | "show", _)) => "a handle is 0 to 4147200000 frames",
         Some(("render" | "resume", words)) => mistake_of_rendering(words),
+        Some(("compare", words)) => mistake_of_comparison(words),
         _ => "one number can be explained, and behind the word notice that of a notice",
     }
 }
@@ -93,7 +108,15 @@ fn mistake_of_rendering(words: &ArgMatches<'_>) -> &'static str {
     } else if words.get_str("order").and_then(order_in).is_none() {
         "an order is time or source"
     } else {
-        "there are 1 to 64 channels"
+        FEW_CHANNELS
+    }
+}
+
+/// What is told of such words of a comparison.
+fn mistake_of_comparison(words: &ArgMatches<'_>) -> &'static str {
+    match (words.get_str("LIST"), words.get_str("LIST2")) {
+        (Some("-"), Some("-")) => "standard input can be one of the lists, and not both",
+        _ => FEW_CHANNELS,
     }
 }
 
@@ -166,6 +189,9 @@ fn request_over<'a>(name: &str, words: &ArgMatches<'a>) -> Option<Request<'a>>
     if name == "show" {
         return shown(list, media, words);
     }
+    if name == "compare" {
+        return compared(list, media, words);
+    }
     let out = words.get_str("OUT")?;
     request_to(name, Places { list, media, out }, words)
 }
@@ -190,6 +216,44 @@ fn shown<'a>(list: &'a str, media: &'a str, words: &ArgMatches<'_>) -> Option<Re
 {
     let handle = handle_in(words)?;
     Some(Request::Show(list, media, handle))
+}
+
+/// A comparison of this list over this folder with the one that the words name after it.
+fn compared<'a>(list: &'a str, media: &'a str, words: &ArgMatches<'a>) -> Option<Request<'a>>
+    ensures { option_map asked_of result
+        ≡ line.asked_compare list.entry.now media.entry.now (rows_of (found_of words.now)) }
+{
+    let other_list = words.get_str("LIST2")?;
+    let other_media = words.get_str("MEDIA2")?;
+    let places = BothPlaces {
+        list,
+        media,
+        other_list,
+        other_media,
+    };
+    if are_both_input(list, other_list) {
+        return None;
+    }
+    Some(Request::Compare(places, selected_in(words)?))
+}
+
+/// Whether two lists are standard input.
+fn are_both_input(list: &str, other: &str) -> bool
+    ensures { result ≡ line.are_both_input list.now other.now }
+{
+    list == "-" && other == "-"
+}
+
+/// What the words choose of a comparison.
+fn selected_in<'a>(words: &ArgMatches<'a>) -> Option<Selected<'a>>
+    ensures { option_map spec.selected_of result ≡ line.selected_of (rows_of (found_of words.now)) }
+{
+    let channels = channels_in(words.get_str("channels"))?;
+    Some(Selected {
+        from: words.get_str("from"),
+        to: words.get_str("to"),
+        channels,
+    })
 }
 
 /// A consolidation with this handle, and a report where the words ask for it.
