@@ -5,6 +5,8 @@ use Rattle.std.specs.Char.{is_control}
 use Rattle.std.specs.Str.{chars}
 use Rattle.percent_encoding.specs.Percent.{percent_encode_byte}
 use Rattle.list_terms.specs.declared.Notice.{Notice}
+use Rattle.console.specs.declared.lines.ListOfTwo.{ListOfTwo}
+use Rattle.console.specs.declared.lines.ListOfTwo.TheVariants.{First, Second}
 use Rattle.work_terms.specs.Refusals.{Where, Nowhere, Line, LineEntry, LineIndex, IndexFile, Index, Entry, File, Job}
 
 -- ALM, LRM and RLM, separators of lines and paragraphs, and the embeddings, overrides and isolates of direction
@@ -87,3 +89,20 @@ resumed_text = counts_text (codes "resumed ") (codes " frames ") (codes " blocks
 -- `written R media E entries`
 abbrev pub written_text : ℕ → ℕ → List ℕ
 written_text = counts_text (codes "written ") (codes " media ") (codes " entries")
+
+-- at the end of a line of one of two lists
+abbrev pub in_list : ListOfTwo → List ℕ
+in_list First = codes " in list 1"
+in_list Second = codes " in list 2"
+
+-- the notices of one of two lists, each in a line
+abbrev pub notices_of_list : ListOfTwo → List Notice → List ℕ
+notices_of_list list notices = flat_map (λ notice. (notice_text notice ++ in_list list) ++ 10 ∷ []) notices
+
+-- `same F frames C channels`
+abbrev pub same_text : ℕ → ℕ → List ℕ
+same_text = counts_text (codes "same ") (codes " frames ") (codes " channels")
+
+-- `differ at TIME channel C`, by the text of a time
+abbrev pub differ_text : List ℕ → ℕ → List ℕ
+differ_text time channel = codes "differ at " ++ (time ++ counted (codes " channel ") channel)

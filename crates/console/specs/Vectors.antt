@@ -1,8 +1,9 @@
--- Worked examples of the lines of refusals.
-use Rattle.std.specs.Prelude.{◌≡◌, refl, codes}
+-- Worked examples of the lines of refusals and comparisons.
+use Rattle.std.specs.Prelude.{◌≡◌, ◌++◌, refl, codes}
 use Rattle.std.specs.Fmt.{digits}
 use Rattle.work_terms.specs.Refusals.{Nowhere, Line, LineEntry, LineIndex, Index, Entry, Job}
-use Rattle.console.specs.Lines.{refusal_text}
+use Rattle.console.specs.declared.lines.ListOfTwo.TheVariants.{First, Second}
+use Rattle.console.specs.Lines.{differ_text, in_list, refusal_text, same_text}
 
 line_without_place : refusal_text 18 Nowhere ≡ codes "refused 18"
 unfolding digits
@@ -31,3 +32,19 @@ line_at_entry = refl
 line_at_job : refusal_text 66 (Job 0) ≡ codes "refused 66 at job 0"
 unfolding digits
 line_at_job = refl
+
+line_in_first : refusal_text 46 (Entry 9) ++ in_list First ≡ codes "refused 46 at entry 9 in list 1"
+unfolding digits
+line_in_first = refl
+
+line_without_place_in_second : refusal_text 57 Nowhere ++ in_list Second ≡ codes "refused 57 in list 2"
+unfolding digits
+line_without_place_in_second = refl
+
+line_same : same_text 115200 2 ≡ codes "same 115200 frames 2 channels"
+unfolding digits
+line_same = refl
+
+line_differ : differ_text (codes "01.00.00.00/0003") 64 ≡ codes "differ at 01.00.00.00/0003 channel 64"
+unfolding digits
+line_differ = refl

@@ -1,6 +1,6 @@
 // The lines of the output.
 ghost use Rattle.std.specs.Prelude.{◌++◌, ◌∷◌, []};
-ghost use Rattle.console.specs.Lines.{counts_text, notice_text, notices_text, refusal_text, refused, two_digits};
+ghost use Rattle.console.specs.Lines.{counts_text, differ_text, in_list, notice_text, notices_of_list, notices_text, refusal_text, refused, two_digits};
 ghost use Rattle.console.specs.Places.{where_of};
 ghost use Rattle.console.specs.Printing.{Prints};
 
@@ -45,9 +45,62 @@ pub fn put_notices<C: Console>(console: &mut C, notices: &[Notice])
     }
 }
 
-/// Prints a notice, and the end of its line: one of the list stands at its line, one of a file at its index.
+/// Prints a notice, and the end of its line.
 fn put_notice<C: Console>(console: &mut C, notice: Notice)
     ensures { Prints C.contents C.failures console.old console.new (notice_text notice ++ 10 ∷ []) }
+{
+    put_notice_text(console, notice);
+    console.put(b"\n");
+}
+
+/// One of two lists that are compared.
+#[derive(Clone, Copy, Debug, PartialEq, Eq)]
+pub enum ListOfTwo {
+    First,
+    Second,
+}
+
+/// Prints the notices of one of two lists, each in a line of its own that says of which.
+pub fn put_notices_of_list<C: Console>(console: &mut C, list: ListOfTwo, notices: &[Notice])
+    ensures { Prints C.contents C.failures console.old console.new (notices_of_list list notices.now) }
+{
+    for notice in notices {
+        put_notice_of_list(console, list, *notice);
+    }
+}
+
+/// Prints a notice of one of two lists, of which, and the end of the line.
+fn put_notice_of_list<C: Console>(console: &mut C, list: ListOfTwo, notice: Notice)
+    ensures { Prints C.contents C.failures console.old console.new
+        ((notice_text notice ++ in_list list) ++ 10 ∷ []) }
+{
+    put_notice_text(console, notice);
+    put_in_list(console, list);
+    console.put(b"\n");
+}
+
+/// Prints of which of two lists a line is, at its end.
+pub fn put_in_list<C: Console>(console: &mut C, list: ListOfTwo)
+    ensures { Prints C.contents C.failures console.old console.new (in_list list) }
+{
+    console.put(match list {
+        ListOfTwo::First => b" in list 1",
+        ListOfTwo::Second => b" in list 2",
+    });
+}
+
+/// Prints where two lists differ first, by the text of a time, without the line's end.
+pub fn put_difference<C: Console>(console: &mut C, time: &[u8], channel: u8)
+    ensures { Prints C.contents C.failures console.old console.new (differ_text time.now channel) }
+{
+    console.put(b"differ at ");
+    console.put(time);
+    put_counted(console, " channel ", u64::from(channel));
+}
+
+/// Prints a notice: one of the list stands at its line, one of a file at its index.
+fn put_notice_text<C: Console>(console: &mut C, notice: Notice)
+    ensures { Prints C.contents C.failures console.old console.new (notice_text notice) }
 {
     put_counted(console, "notice ", u64::from(notice.kind));
     let place = if notice.kind <= 2 {
@@ -56,7 +109,6 @@ fn put_notice<C: Console>(console: &mut C, notice: Notice)
         " at index "
     };
     put_counted(console, place, notice.at);
-    console.put(b"\n");
 }
 
 /// Words round two counts.
