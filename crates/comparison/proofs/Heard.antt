@@ -17,6 +17,8 @@ module _ (from to channels : ℕ) (mix mixed as_mix as_mixed : ℕ → ℕ → �
     before_end = differs.before_end;
     from_one = differs.from_one;
     to_last = differs.to_last;
+    sum = differs.sum ∙ same d.channel d.at;
+    other_sum = differs.other_sum ∙ others d.channel d.at;
     differ = λ alike. differs.differ (same d.channel d.at ∙ alike ∙ sym (others d.channel d.at));
     before = λ channel time first last begun ends.
         sym (same channel time) ∙ differs.before channel time first last begun ends ∙ others channel time;

@@ -199,16 +199,24 @@ module _ (selection : Selection) (events others : List Event) (mix mixed : ℕ �
             (grind (arith, nat_tests))
         by_test false there = outside_alike channel time is there
 
-  differ_everywhere : (time channel : ℕ) → DifferFirst (compared_in selection events others).from
-      (compared_in selection events others).to (compared_in selection events others).channels mix mixed time channel
-      → DifferAt selection mix mixed time channel
-  differ_everywhere time channel differs = record {
+  differ_everywhere : (found : Difference) → DifferFirst (compared_in selection events others).from
+      (compared_in selection events others).to (compared_in selection events others).channels mix mixed found
+      → DifferAt selection mix mixed found.at found.channel found.first found.second
+  differ_everywhere found differs = record {
     is_chosen = is_chosen;
+    sum = differs.sum;
+    other_sum = differs.other_sum;
     differ = differs.differ;
     before = λ any earlier less is. by_time any earlier less is
         (is_inside (compared_in selection events others) any earlier) refl;
     below = λ lower less. by_channel lower less (nat_le 1 lower) refl;
   } where
+    time : ℕ
+    time = found.at
+
+    channel : ℕ
+    channel = found.channel
+
     is_chosen : IsChosen selection channel time
     is_chosen = record {
       begun = chosen_from selection.from (extent_of (events ++ others)).from time differs.begun;
@@ -239,10 +247,11 @@ module _ (selection : Selection) (events others : List Event) (mix mixed : ℕ �
       (as_extent found told))
 
   pub found_differing : (found : Option Difference) (difference : Difference) → found ≡ Some difference
-      → IsCompared from to channels mix mixed found → DifferAt selection mix mixed difference.at difference.channel
+      → IsCompared from to channels mix mixed found
+      → DifferAt selection mix mixed difference.at difference.channel difference.first difference.second
   found_differing found difference some told =
       let e = compared_in selection events others in
-      differ_everywhere difference.at difference.channel
+      differ_everywhere difference
       (subst (λ (f : Option Difference). IsCompared e.from e.to e.channels mix mixed f) some (as_extent found told))
 
   pub found_in_day : (found : Option Difference) (difference : Difference) → found ≡ Some difference

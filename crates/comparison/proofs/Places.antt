@@ -37,25 +37,31 @@ module _ (frames channels start : ℕ) (sums other : List ℤ) (mix mixed : ℕ 
       → get_or sums at (pos 0) ≢ get_or other at (pos 0)
       → ((k : ℕ) → k < at → get_or sums k (pos 0) ≡ get_or other k (pos 0))
       → at / channels < frames → at % channels < channels
-      → DifferFirst start (start + frames) channels mix mixed (start + at / channels) (at % channels + 1)
+      → DifferFirst start (start + frames) channels mix mixed (record {
+        at = start + at / channels;
+        channel = at % channels + 1;
+        first = get_or sums at (pos 0);
+        second = get_or other at (pos 0);
+      })
   first_differs at some inside differ same below less =
       let i = at / channels in
       let j = at % channels in
       let whole : i * channels + (j + 1 - 1) ≡ at = omega (arith, div-add-mod at channels) in
       let times : start + i - start ≡ i = omega arith in
+      let mine : get_or sums at (pos 0) ≡ mix (j + 1) (start + i) =
+      ap (λ (k : ℕ). get_or sums k (pos 0)) (sym whole)
+      ∙ are i (j + 1) below (omega arith) (omega (arith, less)) in
+      let theirs : get_or other at (pos 0) ≡ mixed (j + 1) (start + i) =
+      ap (λ (k : ℕ). get_or other k (pos 0)) (sym whole)
+      ∙ others i (j + 1) below (omega arith) (omega (arith, less)) in
       record {
         begun = omega arith;
         before_end = omega (arith, below);
         from_one = omega arith;
         to_last = omega (arith, less);
-        differ = λ alike.
-            let mine : get_or sums at (pos 0) ≡ mix (j + 1) (start + i) =
-            ap (λ (k : ℕ). get_or sums k (pos 0)) (sym whole)
-            ∙ are i (j + 1) below (omega arith) (omega (arith, less)) in
-            let theirs : get_or other at (pos 0) ≡ mixed (j + 1) (start + i) =
-            ap (λ (k : ℕ). get_or other k (pos 0)) (sym whole)
-            ∙ others i (j + 1) below (omega arith) (omega (arith, less)) in
-            differ (mine ∙ alike ∙ sym theirs);
+        sum = mine;
+        other_sum = theirs;
+        differ = λ alike. differ (mine ∙ alike ∙ sym theirs);
         before = λ c time first last begun ends.
             let row : suc (time - start) * channels ≤ i * channels =
             mul-le-mul_right channels (omega (arith, begun, ends)) in

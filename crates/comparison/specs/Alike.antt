@@ -7,21 +7,22 @@ abbrev pub AreAlike : (from to channels : ℕ) → (mix other : ℕ → ℕ → 
 AreAlike from to channels mix other = (channel time : ℕ) → 1 ≤ channel → channel ≤ channels → from ≤ time → time < to
     → mix channel time ≡ other channel time
 
--- on this channel at this time the sums differ; at no earlier time, and then on no lower channel
-pub record DifferFirst (from to channels : ℕ) (mix other : ℕ → ℕ → ℤ) (time channel : ℕ) : Type 0 where
-  pub begun : from ≤ time
-  pub before_end : time < to
-  pub from_one : 1 ≤ channel
-  pub to_last : channel ≤ channels
-  pub differ : mix channel time ≢ other channel time
-  pub before : AreAlike from time channels mix other
-  pub below : (lower : ℕ) → 1 ≤ lower → lower < channel → mix lower time ≡ other lower time
+-- on this channel at this time the sums are these, and differ; at no earlier time, and then on no lower channel
+pub record DifferFirst (from to channels : ℕ) (mix other : ℕ → ℕ → ℤ) (found : Difference) : Type 0 where
+  pub begun : from ≤ found.at
+  pub before_end : found.at < to
+  pub from_one : 1 ≤ found.channel
+  pub to_last : found.channel ≤ channels
+  pub sum : found.first ≡ mix found.channel found.at
+  pub other_sum : found.second ≡ other found.channel found.at
+  pub differ : mix found.channel found.at ≢ other found.channel found.at
+  pub before : AreAlike from found.at channels mix other
+  pub below : (lower : ℕ) → 1 ≤ lower → lower < found.channel → mix lower found.at ≡ other lower found.at
 
 -- they are alike there, or this is where they differ first
 abbrev pub IsCompared : (from to channels : ℕ) → (mix other : ℕ → ℕ → ℤ) → Option Difference → Type 0
 IsCompared from to channels mix other None = AreAlike from to channels mix other
-IsCompared from to channels mix other (Some difference) =
-    DifferFirst from to channels mix other difference.at difference.channel
+IsCompared from to channels mix other (Some difference) = DifferFirst from to channels mix other difference
 
 -- the position at which two lists of numbers differ first
 abbrev pub IsFirstDiffering : (numbers others : List ℤ) → ℕ → Option ℕ → Type 0

@@ -10,9 +10,13 @@ abbrev pub SoundAlike : Selection → (mix other : ℕ → ℕ → ℤ) → Type
 SoundAlike selection mix other =
     (channel time : ℕ) → IsChosen selection channel time → mix channel time ≡ other channel time
 
--- the sums of this channel differ at this time; those of no channel at an earlier one, and then of no lower channel
-pub record DifferAt (selection : Selection) (mix other : ℕ → ℕ → ℤ) (time channel : ℕ) : Type 0 where
+-- the sums of this channel at this time are these, and differ; those of no channel at an earlier one, and then of no
+-- lower channel
+pub record DifferAt (selection : Selection) (mix other : ℕ → ℕ → ℤ) (time channel : ℕ) (first second : ℤ)
+    : Type 0 where
   pub is_chosen : IsChosen selection channel time
+  pub sum : first ≡ mix channel time
+  pub other_sum : second ≡ other channel time
   pub differ : mix channel time ≢ other channel time
   pub before : (any earlier : ℕ) → earlier < time → IsChosen selection any earlier → mix any earlier ≡ other any earlier
   pub below : (lower : ℕ) → lower < channel → mix lower time ≡ other lower time
@@ -20,9 +24,10 @@ pub record DifferAt (selection : Selection) (mix other : ℕ → ℕ → ℤ) (t
 -- what is reported of two mixes is so
 abbrev pub IsComparison : Selection → (mix other : ℕ → ℕ → ℤ) → Comparison → Type 0
 IsComparison selection mix other (Same frames channels) = SoundAlike selection mix other
-IsComparison selection mix other (Differs at channel) = DifferAt selection mix other at channel
+IsComparison selection mix other (Differs at channel first second) =
+    DifferAt selection mix other at channel first second
 
 -- so many frames and channels were compared
 abbrev pub HasCompared : Extent → Comparison → Type 0
 HasCompared extent (Same frames channels) = (frames ≡ extent.to - extent.from) × (channels ≡ extent.channels)
-HasCompared extent (Differs at channel) = Unit {0}
+HasCompared extent (Differs at channel first second) = Unit {0}

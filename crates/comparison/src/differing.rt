@@ -4,11 +4,14 @@ ghost use Rattle.sampletime.specs.TimeCode.{day};
 ghost use Rattle.blockmachine.specs.Exact.{AreSumsOf};
 ghost use Rattle.comparison.specs.Alike.{IsCompared, IsFirstDiffering};
 
-/// A sample of a channel, counted from 1 on, at a time of the day.
+/// A sample of a channel, counted from 1 on, at a time of the day, and the exact sums of two projects for it. Full scale
+/// is 2^47.
 #[derive(Clone, Copy, Debug, PartialEq, Eq)]
 pub struct Difference {
     pub at: u64,
     pub channel: u8,
+    pub first: i64,
+    pub second: i64,
 }
 
 /// Whether no two of these sums differ. A loop that never ends early is made wide.
@@ -65,5 +68,7 @@ pub fn first_difference(
     Some(Difference {
         at: start + (position / channels) as u64,
         channel: (position % channels) as u8 + 1,
+        first: sums[position],
+        second: others[position],
     })
 }

@@ -3,7 +3,7 @@
 //!
 //! `compare_projects` compares the exact sums of both, block by block; where neither plays nothing is read. It answers
 //! `Same` exactly where the sums are equal on every chosen channel at every chosen time, and else the first time at which
-//! they differ, with the lowest channel that differs there (`compared`). Files are only read (`first_read`,
+//! they differ, with the lowest channel that differs there and both sums (`compared`). Files are only read (`first_read`,
 //! `second_read`).
 #![tactic(auto)]
 

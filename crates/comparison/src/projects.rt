@@ -29,11 +29,20 @@ use sound_terms::Depth;
 use std::alloc::{AllocError, Global};
 
 /// How two projects compare: so many frames of so many channels are the same, or they differ first at this time, on
-/// this channel and on no lower one.
+/// this channel and on no lower one. `first` and `second` are the exact sums of either project for it, neither rounded
+/// nor clipped: full scale is 2^47.
 #[derive(Clone, Copy, Debug, PartialEq, Eq)]
 pub enum Comparison {
-    Same { frames: u64, channels: u8 },
-    Differs { at: SampleTime, channel: u8 },
+    Same {
+        frames: u64,
+        channels: u8,
+    },
+    Differs {
+        at: SampleTime,
+        channel: u8,
+        first: i64,
+        second: i64,
+    },
 }
 
 /// The plan of an extent of a project.
@@ -227,6 +236,8 @@ pub fn compare_projects<S: Shelf, T: Shelf>(
         Some(difference) => Ok(Comparison::Differs {
             at: time_of(difference.at),
             channel: difference.channel,
+            first: difference.first,
+            second: difference.second,
         }),
         None => Ok(Comparison::Same {
             frames: extent.to.get() - extent.from.get(),

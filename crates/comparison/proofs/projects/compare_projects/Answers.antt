@@ -1,4 +1,7 @@
-use Rattle.std.proofs.Common.{ℕ, ap, ◌∙◌, sym, subst, arith}
+use Rattle.std.proofs.Common.{ℕ, ap, ◌∙◌, sym, subst, arith, rules}
+use Rattle.std.proofs.lemmas.Int.{to_z-of_z}
+use mir.Syntax.{w64}
+use mir.Val.{SFits}
 use Rattle.list_terms.specs.Heard.{project_mix}
 use Rattle.list_terms.specs.Project.{ListProject}
 use Rattle.comparison.specs.Whole.{DifferAt}
@@ -32,7 +35,12 @@ returns-in-Some-clause-compared g c = λ honest sure.
     found_in_day c.args.selection.now one two mix mixed silent others_silent extent.from extent.to extent.channels
     said.from said.to said.channels found c.in-Some.difference c.in-Some.is compared in
     let time = c.time_of.ensures (omega (arith, inside, c.get.ensures.samples, c.get.ensures.in_day)) in
-    subst (λ (at : ℕ). DifferAt c.args.selection.now mix mixed at c.in-Some.difference.channel) (sym time) differs
+    let difference = c.in-Some.difference in
+    let fits : SFits w64 difference.first = search rules in
+    let other_fits : SFits w64 difference.second = search rules in
+    rw (to_z-of_z w64 difference.first fits, to_z-of_z w64 difference.second other_fits)
+    (subst (λ (at : ℕ). DifferAt c.args.selection.now mix mixed at difference.channel difference.first difference.second)
+    (sym time) differs)
 
 pub returns-in-None-clause-compared : goal.returns-in-None-clause-compared
 returns-in-None-clause-compared g c = λ honest sure.
