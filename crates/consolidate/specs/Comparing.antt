@@ -1,5 +1,6 @@
 -- What comparing two lists answers, and what it leaves of their sources.
 use Rattle.std.specs.Prelude.{◌≡◌, ℕ, ◌<◌, ◌≤◌, IsTrue, List, Option, None, Some, Result, Ok, Err, IfOk, IfErr, IsErrAnd}
+use Rattle.sampletime.specs.FrameRate.{frames_per_second}
 use Rattle.devices.specs.declared.source.Shelf as source
 use Rattle.devices.specs.Frame.{OnlyReads}
 use Rattle.work_terms.specs.Disk.{Files}
@@ -18,7 +19,8 @@ use Rattle.consolidate.specs.declared.compare_fault.CompareFault.{CompareFault}
 use Rattle.consolidate.specs.declared.compare_fault.CompareFault.TheVariants.{EmptyRange, First, Second}
 use Rattle.consolidate.specs.declared.compared.Compared.{Compared}
 
--- Both lists are accepted, and what is reported of their exact sums, at all that was chosen, is so.
+-- Both lists are accepted, and what is reported of their exact sums, at all that was chosen, is so. Times are written
+-- as in the first one.
 pub record Compares (text other : List ℕ) (selection : Selection) (files stored : Files) (reported : Compared) : Type 0
   where
     pub project : ListProject
@@ -32,6 +34,8 @@ pub record Compares (text other : List ℕ) (selection : Selection) (files store
     pub compared : IsComparison selection (project_mix files project binding)
         (project_mix stored other_project other_binding) reported.comparison
     pub counted : HasCompared (compared_in selection project.events other_project.events) reported.comparison
+    pub rate : frames_per_second reported.rate ≡ project.rate
+    pub separators : reported.separators ≡ project.separators
     pub notices : reported.first_notices.items ≡ all_notices project binding
     pub other_notices : reported.second_notices.items ≡ all_notices other_project other_binding
 

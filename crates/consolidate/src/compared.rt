@@ -8,12 +8,17 @@ use crate::opened::open_list;
 use comparison::{Comparison, Selection, compare_projects};
 use devices::Shelf;
 use list_terms::Notice;
+use sampletime::{Rate, Separators};
 use std::alloc::Global;
 
-/// How two lists compare, and what the user of each should know of.
+/// How two lists compare, the form of the first one's times, and what the user of each should know of.
 #[derive(Debug, Drop)]
 pub struct Compared {
     pub comparison: Comparison,
+    /// The rate of frames at which the first list's times are written.
+    pub rate: Rate,
+    /// The separators of its times.
+    pub separators: Separators,
     pub first_notices: Vec<Notice>,
     pub second_notices: Vec<Notice>,
 }
@@ -55,6 +60,8 @@ pub fn compare<S: Shelf, T: Shelf>(
     ) {
         Ok(comparison) => Ok(Compared {
             comparison,
+            rate: first.checked.project().rate(),
+            separators: first.checked.project().separators(),
             first_notices: first.notices,
             second_notices: second.notices,
         }),

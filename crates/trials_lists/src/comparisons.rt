@@ -51,7 +51,7 @@ type Ending = (&'static str, u64, u8);
 fn ending(comparison: Comparison) -> Ending {
     match comparison {
         Comparison::Same { frames, channels } => ("same", frames, channels),
-        Comparison::Differs { at, channel } => ("differs", at.get(), channel),
+        Comparison::Differs { at, channel, .. } => ("differs", at.get(), channel),
     }
 }
 

@@ -1,4 +1,4 @@
-use Rattle.std.proofs.Common.{Bool, IsTrue, Ok, Err, sym, ◌∙◌, subst, arith}
+use Rattle.std.proofs.Common.{Bool, IsTrue, Ok, Err, sym, ◌∙◌, subst, arith, rules}
 use Rattle.work_terms.specs.Disk.{Files}
 use Rattle.list_terms.specs.Heard.{project_fault, project_mix, sounds_of}
 use Rattle.list_terms.specs.Text.{text_value}
@@ -149,6 +149,8 @@ returns-in-Ok-compare_projects g c =
             (project_mix (g.S.Shelf.stored c.open_list.new.shelf) one.project one.bound)
             (project_mix files two.project two.bound) comparison) stocked.same found);
         counted = c.in-Ok-compare_projects.ensures.counted;
+        rate = search rules;
+        separators = search rules;
         notices = c.in-Ok.ensures.notices;
         other_notices = c.in-Ok-open_list.ensures.notices;
       };
