@@ -13,7 +13,7 @@ use Rattle.clap.proofs.OnLiterals.{clap_on_literals}
 use Rattle.clap.proofs.WalkLemmas.{first_value-rows}
 use Rattle.sound_terms.specs.declared.Depth.{Depth}
 use Rattle.job_terms.specs.declared.Order.{Order}
-use Rattle.commandline.specs.CommandLine.{Asked, Check, Compare, Report, Selected, Show, are_both_input, asked_compare, compare_by, selected_by, selected_of, explained, adlcons_app, channels_in, chosen_of, depth_in, handle_of, number_in, order_in, ordered_by, asked, asked_over, asked_to, asks_for_help, is_all, is_set, is_shown, named_by, request_of, tells_all, unless_faulty, words_fault}
+use Rattle.commandline.specs.CommandLine.{Asked, Check, Compare, Report, Selected, Show, are_both_input, asked_compare, compare_by, selected_of, explained, adlcons_app, channels_in, chosen_of, depth_in, handle_of, number_in, order_in, ordered_by, asked, asked_over, asked_to, asks_for_help, has_flag, is_flagged, is_set, is_shown, named_by, request_of, unless_faulty, words_fault}
 
 -- one more rule over the command so far
 pub one_more : (more app known : App) (rule : Rule) → more ≡ with_rule app rule → app ≡ known → more ≡ with_rule known rule
@@ -42,10 +42,10 @@ pub subcommand_of-adlcons : (app : App) (words : List Text) → app ≡ adlcons_
 unfolding named_by
 subcommand_of-adlcons app words same = ap (λ (a : App). option_and_then asked (subcommand_of a words)) same
 
-pub tells_all-adlcons : (app : App) (words : List Text) → app ≡ adlcons_app
-    → option_map_or is_all (subcommand_of app words) false ≡ tells_all words
-unfolding tells_all
-tells_all-adlcons app words same = ap (λ (a : App). option_map_or is_all (subcommand_of a words) false) same
+pub has_flag-adlcons : (id : Text) (app : App) (words : List Text) → app ≡ adlcons_app
+    → option_map_or (is_flagged id) (subcommand_of app words) false ≡ has_flag id words
+unfolding has_flag
+has_flag-adlcons id app words same = ap (λ (a : App). option_map_or (is_flagged id) (subcommand_of a words) false) same
 
 -- a value by its name, among the rows of a parse
 pub row_of_value : (found : Found) (id : Text) (value : Option Text) → value ≡ first_value found id

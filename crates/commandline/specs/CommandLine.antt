@@ -30,11 +30,11 @@ default_rule id default = record (option_rule id) { defaults = default ∷ [] }
 abbrev pub flag_rule : Text → Rule
 flag_rule id = record (new_rule id) { long = Some id; action = Some SetTrue }
 
--- a command over the list and the folder of its media, which may tell all that is at fault
+-- a command over the list and the folder of its media, which may list all that is at fault, and look for media below
 abbrev pub over_media : Text → App
 over_media name =
     let places = with_rule (with_rule (new_app name) (place_rule (codes "LIST"))) (place_rule (codes "MEDIA")) in
-    with_rule places (flag_rule (codes "all"))
+    with_rule (with_rule places (flag_rule (codes "all"))) (flag_rule (codes "search"))
 
 abbrev pub check_shape : Shape
 check_shape = (with_rule (over_media (codes "check")) (flag_rule (codes "report"))).top
@@ -264,13 +264,21 @@ unless_faulty (kind ∷ kinds) named = None
 abbrev pub request_of : List Text → Option Asked
 request_of words = unless_faulty (words_fault words) (named_by words)
 
--- the words of a command ask for all that is at fault
-abbrev pub is_all : Text × List Row → Bool
-is_all (name, rows) = is_set (codes "all") rows
+-- the words of a command have this option, which has no value
+abbrev pub is_flagged : Text → Text × List Row → Bool
+is_flagged id (name, rows) = is_set id rows
+
+-- the words name a command with this option
+unfoldable pub has_flag : Text → List Text → Bool
+has_flag id words = option_map_or (is_flagged id) (subcommand_of adlcons_app words) false
 
 -- the words ask for all that is at fault in a list, and not just for the first of it
-unfoldable pub tells_all : List Text → Bool
-tells_all words = option_map_or is_all (subcommand_of adlcons_app words) false
+abbrev pub tells_all : List Text → Bool
+tells_all = has_flag (codes "all")
+
+-- the words ask for media in the folders below that of the media
+abbrev pub searches : List Text → Bool
+searches = has_flag (codes "search")
 
 -- help or the version, which is no mistake
 abbrev pub is_shown : ErrorKind → Bool

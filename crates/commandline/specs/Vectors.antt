@@ -4,7 +4,7 @@ use Rattle.clap.specs.declared.error.ErrorKind.TheVariants.{DisplayHelp, Display
 use Rattle.clap.proofs.OnLiterals.{clap_on_literals}
 use Rattle.sound_terms.specs.declared.Depth.TheVariants.{Sixteen, TwentyFour, ThirtyTwo}
 use Rattle.job_terms.specs.declared.Order.TheVariants.{ByTime, BySource}
-use Rattle.commandline.specs.CommandLine.{Check, Chosen, Compare, Render, Report, Resume, Consolidate, Show, Explain, ExplainNotice, asks_for_help, named_by, request_of, tells_all, words_fault}
+use Rattle.commandline.specs.CommandLine.{Check, Chosen, Compare, Render, Report, Resume, Consolidate, Show, Explain, ExplainNotice, asks_for_help, has_flag, named_by, request_of, searches, tells_all, words_fault}
 
 -- ---- good words
 
@@ -47,16 +47,24 @@ unfolding words_fault named_by clap_on_literals
 checks_all = refl
 
 tells_all_asked : tells_all (codes "check" ∷ codes "L.adl" ∷ codes "M" ∷ codes "--all" ∷ []) ≡ true
-unfolding tells_all clap_on_literals
+unfolding has_flag clap_on_literals
 tells_all_asked = refl
 
 tells_all_unasked : tells_all (codes "check" ∷ codes "L.adl" ∷ codes "M" ∷ []) ≡ false
-unfolding tells_all clap_on_literals
+unfolding has_flag clap_on_literals
 tells_all_unasked = refl
 
 renders_all : tells_all (codes "render" ∷ codes "L" ∷ codes "M" ∷ codes "O" ∷ codes "--all" ∷ []) ≡ true
-unfolding tells_all clap_on_literals
+unfolding has_flag clap_on_literals
 renders_all = refl
+
+searches_asked : searches (codes "consolidate" ∷ codes "L" ∷ codes "M" ∷ codes "O" ∷ codes "--search" ∷ []) ≡ true
+unfolding has_flag clap_on_literals
+searches_asked = refl
+
+searches_unasked : searches (codes "check" ∷ codes "L.adl" ∷ codes "M" ∷ codes "--all" ∷ []) ≡ false
+unfolding has_flag clap_on_literals
+searches_unasked = refl
 
 -- ---- values that no option takes, which are mistakes
 

@@ -161,7 +161,8 @@ fn with_range<'a>(alloc: Global, command: Command<'a>) -> Result<Command<'a>, Al
     with_option(alloc, command, "channels", "N", channels)
 }
 
-/// A command over a list and the folder of its media, which may tell all that is at fault.
+/// A command over a list and the folder of its media, which may list all that is at fault, and look for media in the
+/// folders below.
 fn over_media<'a>(
     alloc: Global,
     name: &'a str,
@@ -177,7 +178,9 @@ fn over_media<'a>(
     let media = "The folder of the list's WAVE files";
     let command = with_place(alloc, command, "MEDIA", media)?;
     let all = "List every fault of a refused list";
-    with_flag(alloc, command, "all", all)
+    let command = with_flag(alloc, command, "all", all)?;
+    let search = "Look for missing media by name in the folders below";
+    with_flag(alloc, command, "search", search)
 }
 
 /// A command that writes to a folder besides, of which the help says this.

@@ -59,11 +59,13 @@ pub enum Request<'a> {
     ExplainNotice(Option<&'a str>),
 }
 
-/// What the words ask for, and whether standard error tells all that is at fault in a list that is refused.
+/// What the words ask for; whether standard error lists all that is at fault in a list that is refused; and whether a
+/// medium that isn't right inside its folder is looked for in the folders below.
 #[derive(Clone, Copy, Debug, PartialEq, Eq)]
 pub struct Parsed<'a> {
     pub request: Request<'a>,
     pub tells_all: bool,
+    pub searches: bool,
 }
 
 /// Reads the words behind the program's name. The error is clap's: a mistake in the words, a request for help or for
@@ -71,6 +73,7 @@ pub struct Parsed<'a> {
 pub fn parse<'a>(alloc: Global, words: &'a [&'a str]) -> Result<Parsed<'a>, Error>
     ensures read { IfOk result (λ parsed. request_of (texts words.entry.now) ≡ Some (asked_of parsed.request)) }
     ensures all { IfOk result (λ parsed. parsed.tells_all ≡ line.tells_all (texts words.entry.now)) }
+    ensures search { IfOk result (λ parsed. parsed.searches ≡ line.searches (texts words.entry.now)) }
     ensures no_help { IfOk result (λ _. asks_for_help (texts words.entry.now) ≡ false) }
     ensures refused { IfErr result
         (λ error. (kind_of error ≡ OutOfMemory) ⊎ (request_of (texts words.entry.now) ≡ None)) }
@@ -82,7 +85,8 @@ pub fn parse<'a>(alloc: Global, words: &'a [&'a str]) -> Result<Parsed<'a>, Erro
     match request_in(&matches) {
         Some(request) => Ok(Parsed {
             request,
-            tells_all: asks_for_all(&matches),
+            tells_all: asks_for("all", &matches),
+            searches: asks_for("search", &matches),
         }),
         None => Err(command.error(ErrorKind::ValueValidation, mistake_of(&matches))?),
     }
@@ -120,12 +124,12 @@ fn mistake_of_comparison(words: &ArgMatches<'_>) -> &'static str {
     }
 }
 
-/// Whether the words of the command ask for all that is at fault.
-fn asks_for_all(matches: &ArgMatches<'_>) -> bool
-    ensures { result ≡ option_map_or line.is_all (subcommand_rows_of matches.now) false }
+/// Whether an option without a value is among the words of the command.
+fn asks_for(id: &str, matches: &ArgMatches<'_>) -> bool
+    ensures { result ≡ option_map_or (line.is_flagged id.now) (subcommand_rows_of matches.now) false }
 {
     match matches.subcommand() {
-        Some((_, words)) => is_set("all", words),
+        Some((_, words)) => is_set(id, words),
         None => false,
     }
 }

@@ -10,5 +10,6 @@ returns-clause-app c =
     let named = ap app_of_fields c.after_help-command.ensures ∙ ap app_of_fields c.about.ensures ∙ c.new.ensures.app in
     let listed = one_more _ _ _ (place_rule (codes "LIST")) c.in_ok-command.ensures.app named in
     let placed = one_more _ _ _ (place_rule (codes "MEDIA")) c.in_ok-command-2.ensures.app listed in
-    IfOk-weaker c.with_flag.result _ _ (λ added adds. one_more _ _ _ (flag_rule (codes "all")) adds placed)
-    c.with_flag.ensures.app
+    let listing = one_more _ _ _ (flag_rule (codes "all")) c.in_ok-command-3.ensures.app placed in
+    IfOk-weaker c.with_flag-2.result _ _ (λ added adds. one_more _ _ _ (flag_rule (codes "search")) adds listing)
+    c.with_flag-2.ensures.app

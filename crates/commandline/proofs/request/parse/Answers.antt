@@ -1,10 +1,10 @@
-use Rattle.std.proofs.Common.{◌∙◌, Option, List, false, ap, inr, sym}
+use Rattle.std.proofs.Common.{◌∙◌, Option, List, false, ap, codes, inr, sym}
 use Rattle.std.specs.Option.{option_map_or}
 use Rattle.std.proofs.lemmas.Result.{err_from_is_err_and}
 use Rattle.clap.specs.Words.{Row, Text, subcommand_rows_of}
 use Rattle.clap.specs.Walk.{texts}
-use Rattle.commandline.specs.CommandLine.{is_all}
-use Rattle.commandline.proofs.CommandLineLaws.{helpless-by, is_free-adlcons, is_simple-adlcons, mistaken-by, refused-by, requested-by, tells_all-adlcons}
+use Rattle.commandline.specs.CommandLine.{is_flagged}
+use Rattle.commandline.proofs.CommandLineLaws.{helpless-by, is_free-adlcons, is_simple-adlcons, mistaken-by, refused-by, requested-by, has_flag-adlcons}
 use Rattle.commandline.proofs.request.parse.Goals as goal
 
 pub returns-in_err-matches-clause-refused : goal.returns-in_err-matches-clause-refused
@@ -43,7 +43,15 @@ returns-in-Some-clause-no_help c =
 pub returns-in-Some-clause-all : goal.returns-in-Some-clause-all
 returns-in-Some-clause-all c =
     let app = c.in_ok-command.ensures in
-    c.asks_for_all.ensures
-    ∙ ap (λ (rows : Option (Text × List Row)). option_map_or is_all rows false)
+    c.asks_for.ensures
+    ∙ ap (λ (rows : Option (Text × List Row)). option_map_or (is_flagged (codes "all")) rows false)
     (c.in_ok-matches.ensures.ok.2 (is_simple-adlcons _ app)).1
-    ∙ tells_all-adlcons _ (texts c.args.words.now) app
+    ∙ has_flag-adlcons (codes "all") _ (texts c.args.words.now) app
+
+pub returns-in-Some-clause-search : goal.returns-in-Some-clause-search
+returns-in-Some-clause-search c =
+    let app = c.in_ok-command.ensures in
+    c.asks_for-in-Some.ensures
+    ∙ ap (λ (rows : Option (Text × List Row)). option_map_or (is_flagged (codes "search")) rows false)
+    (c.in_ok-matches.ensures.ok.2 (is_simple-adlcons _ app)).1
+    ∙ has_flag-adlcons (codes "search") _ (texts c.args.words.now) app
