@@ -5,9 +5,11 @@ mod handle;
 mod identity;
 mod name;
 mod open_files;
+mod search;
 mod sources;
 mod state;
 
 pub use bench::FolderBench;
 pub use open_files::Overwrite;
+pub use search::FoundBelow;
 pub use sources::FolderShelf;

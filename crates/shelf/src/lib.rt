@@ -9,7 +9,7 @@ mod reason;
 mod zeros;
 
 pub use devices::{Bench, DeviceFault, Shelf, ShelfFault, Unwatched, Watch};
-pub use folder::{FolderBench, FolderShelf, Overwrite};
+pub use folder::{FolderBench, FolderShelf, FoundBelow, Overwrite};
 pub use memory::{MemoryBench, MemoryShelf};
 pub use reason::{Reason, Reasons};
 pub use zeros::ZeroShelf;

@@ -60,6 +60,8 @@ where
     handles: LruCache<String, Handle<R::File>>,
     /// How each source was when it was first opened.
     first_states: BTreeMap<String, State>,
+    /// The path from the folder on of each source that lies further below.
+    paths_below: BTreeMap<String, String>,
     /// Each output that was opened or made.
     outputs: BTreeMap<String, Output>,
     /// The open folder of outputs, for its syncs. It is a handle in reserve too, for the first output.
@@ -92,11 +94,32 @@ where
             access,
             handles: LruCache::new(alloc, NonZeroUsize::new(OPEN_FILES).unwrap())?,
             first_states: BTreeMap::new(alloc),
+            paths_below: BTreeMap::new(alloc),
             outputs: BTreeMap::new(alloc),
             open_folder,
             has_new_names: false,
             is_made: false,
         })
+    }
+
+    /// The file system.
+    pub fn files(&self) -> &R {
+        &self.files
+    }
+
+    /// The folder's path.
+    pub fn folder(&self) -> &str {
+        &self.folder
+    }
+
+    /// Has the source of this name opened under a path from the folder on.
+    pub fn put_below(&mut self, name: &str, path: &str) -> Result<(), AllocError>
+        ensures folder { self.new.folder ≡ self.old.folder }
+    {
+        let name = String::from_str(self.alloc, name)?;
+        let path = String::from_str(self.alloc, path)?;
+        self.paths_below.insert(name, path)?;
+        Ok(())
     }
 
     /// Whether the last create made its file.
@@ -362,7 +385,7 @@ where
     fn existing(&mut self, name: &str) -> io::Result<Option<Handle<R::File>>>
         requires { IsTrue (is_file_name name.now) }
     {
-        let path = self.path_of(name)?;
+        let path = self.source_path(name)?;
         let found = if self.access == Access::Read {
             fs::metadata(&self.files, &path)
         } else {
@@ -405,8 +428,19 @@ where
         if !is_file_name(name) {
             return None;
         }
-        let found = fs::metadata(&self.files, &self.path_of(name).ok()?).ok()?;
+        let found = fs::metadata(&self.files, &self.source_path(name).ok()?).ok()?;
         Some(State::of(&found))
+    }
+
+    /// The path of the file of this name: of a source that lies further below, the path that it was found under.
+    fn source_path(&self, name: &str) -> Result<String, AllocError>
+        requires { IsTrue (is_file_name name.now) }
+    {
+        let folder = self.folder.as_str();
+        match self.paths_below.get(name) {
+            Some(path) => format!(in self.alloc; "{folder}/{path}"),
+            None => self.path_of(name),
+        }
     }
 
     /// The path of the file of this name. It lies right inside the folder.
