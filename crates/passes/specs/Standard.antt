@@ -1,5 +1,5 @@
 -- The standard passes, and what of a sound is played where they have gone over it.
-use Rattle.std.specs.Prelude.{◌≡◌, ℕ, Bool, true, not, ◌&&◌, List, [], ◌∷◌}
+use Rattle.std.specs.Prelude.{◌≡◌, ℕ, Bool, true, false, not, ◌&&◌, List, [], ◌∷◌}
 use Rattle.std.specs.List.{list_any}
 use Rattle.sound_terms.specs.declared.piece.Piece.{Piece}
 use Rattle.sound_terms.specs.Mix.{Reading}
@@ -8,7 +8,7 @@ use Rattle.sound_terms.specs.Passes.{join_cuts, regroup, split_fades, without_si
 use Rattle.passes.specs.Silent.{is_silent_in}
 
 -- Four passes in the standard order: each piece alone, without what is silent, without cuts that aren't heard, and in
--- groups again. Only the second has to be told what is silent.
+-- groups again. Only the second is told what is silent.
 pub record AreStandard {B : Type 0} (looks : B → Bool) (gives : B → List (List Piece) → List Bool → List (List Piece))
     (passes : List B) : Type 0 where
   pub splitting : B
@@ -17,6 +17,7 @@ pub record AreStandard {B : Type 0} (looks : B → Bool) (gives : B → List (Li
   pub grouping : B
   pub are : passes ≡ splitting ∷ leaving_out ∷ joining ∷ grouping ∷ []
   pub looking : looks leaving_out ≡ true
+  pub quiet : (looks splitting ≡ false) × (looks joining ≡ false) × (looks grouping ≡ false)
   pub splits : (groups : List (List Piece)) (silent : List Bool) → gives splitting groups silent ≡ split_fades groups
   pub leaves_out : (groups : List (List Piece)) (silent : List Bool)
       → gives leaving_out groups silent ≡ without_silent groups silent

@@ -1,4 +1,4 @@
-use Rattle.std.proofs.Common.{◌≡◌, ◌∙◌, true, refl, ap, sym, inl, inr}
+use Rattle.std.proofs.Common.{◌≡◌, ◌∙◌, true, false, refl, ap, sym, inl, inr}
 use Rattle.commandline.specs.Request.{asked_of}
 use Rattle.sound_terms.specs.Passes.{join_cuts, regroup, split_fades, without_silent}
 use Rattle.passes.specs.contracts.turn as turn
@@ -17,6 +17,17 @@ returns-in_ok-passes-in-Consolidate-clause-consolidated g c place media target h
       looking = at_table
           (λ table v. ((turn.dyn-1-ghosts (own.own-1, own.lawful-own-1)).0.entry table).1.looking v ≡ true)
           _ _ c.into_dyn_box-in_ok-new-in-Consolidate-2.result.value c.into_dyn_box-in_ok-new-in-Consolidate-2.ensures.0 (λ v. refl);
+      quiet = (
+          at_table
+              (λ table v. ((turn.dyn-1-ghosts (own.own-1, own.lawful-own-1)).0.entry table).1.looking v ≡ false)
+              _ _ c.into_dyn_box.result.value c.into_dyn_box.ensures.0 (λ v. refl),
+          at_table
+              (λ table v. ((turn.dyn-1-ghosts (own.own-1, own.lawful-own-1)).0.entry table).1.looking v ≡ false)
+              _ _ c.into_dyn_box-in_ok-new-in-Consolidate-3.result.value c.into_dyn_box-in_ok-new-in-Consolidate-3.ensures.0 (λ v. refl),
+          at_table
+              (λ table v. ((turn.dyn-1-ghosts (own.own-1, own.lawful-own-1)).0.entry table).1.looking v ≡ false)
+              _ _ c.into_dyn_box-in_ok-new-in-Consolidate-4.result.value c.into_dyn_box-in_ok-new-in-Consolidate-4.ensures.0 (λ v. refl),
+      );
       splits = λ groups silent. at_table
           (λ table v. ((turn.dyn-1-ghosts (own.own-1, own.lawful-own-1)).0.entry table).1.gives v groups silent
           ≡ split_fades groups)
