@@ -1,7 +1,7 @@
 -- A work that is laid out, done and finished.
 use Rattle.std.proofs.Common.{◌≡◌, ◌⊎◌, ◌∙◌, ℕ, ◌<◌, Bool, true, false, IsTrue, Option, Some, None, Result, Ok, Err, List, length, take, refl, sym, ap, subst, inl, inr, arith}
 use Rattle.std.specs.Prelude.{IfErr, IsOk, OnErr, OnOk, not}
-use Rattle.work_terms.specs.Disk.{Files}
+use Rattle.work_terms.specs.Disk.{Files, IsDurable}
 use Rattle.devices.specs.Views.{CrashesLeave, OutputView, SourceView, Writes}
 use Rattle.devices.specs.ViewLaws.{crashes_then, crashes_weaker, reads_none, writes_then, writes_wider}
 use Rattle.job_terms.specs.declared.BoardEvent.{BoardEvent}
@@ -13,7 +13,7 @@ use Rattle.execution.specs.Ends.{end_of}
 use Rattle.execution.specs.EventRun.{MarkFails, Performed, Snapshot, listed, snapshot_of}
 use Rattle.execution.specs.Filled.{AreApart, AreFilled, AreParts, IsGood}
 use Rattle.execution.specs.Marking.{AreLeftBy, IsRight, IsRunningBy, LaysBy, LeavesBy, Marking, MarksOn, NoneStartedBy, done_of}
-use Rattle.execution.specs.Outcome.{EventsDone, Executed, Finished, HasFailed, NotFinished, NotLaidOut, Outcome, OutputFails, Resumed, SetsBy, Stopped, StopsWith}
+use Rattle.execution.specs.Outcome.{EventsDone, Executed, Finished, HasFailed, HasFinished, NotFinished, NotLaidOut, Outcome, OutputFails, Resumed, SetsBy, Stopped, StopsWith}
 use Rattle.execution.specs.Plan.{AreBlank, AreDurable, HoldJobs, HoldLast, IsForeign, IsLast, IsOwn, JobPlan, SourcesFit, Stays}
 use Rattle.execution.specs.Worlds.{Leads, state_of}
 use Rattle.execution.specs.declared.fault.ExecutionFault.{ExecutionFault}
@@ -138,6 +138,11 @@ module _ (in_rounds : Bool) (events : List BoardEvent) (p p2 : JobPlan) (board b
   has-failed (Err fault.Mark) stops mark = mark refl
   has-failed (Err (fault.Output file)) stops mark = absurd stops
 
+  unfinished : (r : Result Progress ExecutionFault) → StopsWith events h.count board2 h.stale r → HasFinished r → ⊥
+  unfinished (Ok progress) stops finished =
+      apart (sym stops.1 ∙ reported-finished progress board2 h.stale true stops.0 finished)
+  unfinished (Err e) stops finished = finished
+
   -- the events ended, or jobs are left
   pub stopped : StopsWith events h.count board2 h.stale result
       → Resumed events (snapshot_of p board 0 s o) had (snapshot_of p2 board2 0 s2 o2) result
@@ -149,6 +154,7 @@ module _ (in_rounds : Bool) (events : List BoardEvent) (p p2 : JobPlan) (board b
       output = writes_wider (Stays p) (IsForeign p) {old = o} {new = o2} (λ n f. f.stays) h.ran.kept.output;
       failed = has-failed result stops h.ran.kept.mark;
       order = λ honest i last stays before. h.ran.kept.output.others honest (p.output i) stays;
+      durable = λ honest finished. absurd (unfinished result stops finished);
     };
     outcome = λ honest whole fit separate resting. Stopped h.stale h.count
         (events-done honest whole fit.parts separate resting.marked.idle resting.filled) stops h.ran.kept.output
@@ -181,6 +187,8 @@ pub record Finishes (plan : JobPlan) (old new : OutputView) (result : Result (Un
   pub in_order : IsTrue old.honest → IfErr result (λ fault. (i : ℕ) → IsLast plan i → fault.file < i
       → new.files (plan.output i) ≡ old.files (plan.output i))
   pub durable : IsTrue old.honest → OnOk result (AreDurable plan new.files new.may_leave)
+  pub marks_durable : IsTrue old.honest → (sources : Files) (m : Marking) → plan.marking sources ≡ Some m
+      → OnOk result (IsDurable m.marks new.files new.may_leave)
   pub marks : IsTrue old.honest → (sources : Files) (done : ℕ → Bool)
       → IsRunningBy (plan.marking sources) done old.may_leave → IsRunningBy (plan.marking sources) done new.may_leave
   pub any_moment : IsTrue old.honest → (sources : Files) (done : ℕ → Bool)
@@ -238,6 +246,7 @@ module _ (in_rounds : Bool) (events : List BoardEvent) (p p2 p3 : JobPlan) (boar
       output = writes_then {stays = IsForeign p} {old = o} {mid = o2} {new = o3} written fin.output;
       failed = tt;
       order = λ honest i last stays before. absurd (apart (sym before ∙ finished));
+      durable = λ whole _. record { outputs = fin.durable (on whole); marks = fin.marks_durable (on whole) };
     };
     outcome = λ honest whole fit separate resting. Finished h.stale h.count o2.files
         (subst (λ (n : ℕ). EventsDone (λ laid. laid ≡ o.files) events (snapshot_of p board 0 s o) had board2 o2.files
@@ -272,6 +281,7 @@ module _ (in_rounds : Bool) (events : List BoardEvent) (p p2 p3 : JobPlan) (boar
           };
           order = λ whole i last stays before. fin.in_order (on whole) i last before
               ∙ h.ran.kept.output.others whole (p.output i) stays;
+          durable = λ whole ended. absurd ended;
         };
         outcome = λ honest whole fit separate resting. NotFinished f.file h.stale h.count o2.failures o2.files
             (did honest whole fit.parts separate resting.marked.idle resting.filled) all-done refl (fin.stays
@@ -291,8 +301,7 @@ module _ (in_rounds : Bool) (events : List BoardEvent) (p p2 p3 : JobPlan) (boar
 pub record LaysOut (plan : JobPlan) (old new : OutputView) (result : Result (Unit {0}) OutputFault) : Type 0 where
   pub laid : IsTrue old.honest → (sources : Files) → SourcesFit plan sources
       → OnOk result (AreBlank (jobs_over plan.jobs sources) (plan.whole sources) new.files)
-  pub marks : IsTrue old.honest → (sources : Files) → NoneStartedBy (plan.marking sources) old.may_leave
-      → (done : ℕ → Bool) → ((k : ℕ) → k < plan.jobs.count → done k ≡ false)
+  pub marks : IsTrue old.honest → (sources : Files) → (done : ℕ → Bool) → ((k : ℕ) → k < plan.jobs.count → done k ≡ false)
       → OnOk result (IsRunningBy (plan.marking sources) done new.may_leave)
   pub any_moment : IsTrue old.honest → (sources : Files) → NoneStartedBy (plan.marking sources) old.may_leave
       → CrashesLeave (LaysBy (plan.marking sources)) old new
@@ -340,9 +349,10 @@ not-laid events p p1 board s o o1 had untouched f reported is same lay un =
         output = writes_wider (Stays p) (IsForeign p) {old = o} {new = o1} (λ n f. f.stays) lay.output;
         failed = lay.failed;
         order = λ whole i last stays before. lay.output.others whole (p.output i) stays;
+        durable = λ whole ended. absurd ended;
       };
       outcome = λ honest whole fit separate fresh. NotLaidOut f.file un refl refl refl lay.output
-          (lay.left whole s.files fresh.unstarted);
+          (lay.left whole s.files);
       moments = λ honest whole fresh. crashes_weaker (LaysBy (p.marking s.files))
           (SetsBy (p.marking s.files) (done_of board)) {old = o} {new = o1}
           (λ c. lays-sets (p.marking s.files) (done_of board) c) (lay.any_moment whole s.files fresh.unstarted);
@@ -419,6 +429,7 @@ laid-then in_rounds events p p1 p2 board board2 s s2 o o1 o2 had untouched resul
     failed = has-failed-since p o o1 o2 result lay.output rest.bounded.failed;
     order = λ whole i last stays before. rest.bounded.order (on whole) i last stays before
         ∙ lay.output.others whole (p.output i) stays;
+    durable = λ whole ended. rest.bounded.durable (on whole) ended;
   };
   outcome = λ honest whole fit separate fresh.
       outcome-since (listed in_rounds p.jobs.count events) p board s o o1 had (lay.laid whole s.files fit)
@@ -428,7 +439,7 @@ laid-then in_rounds events p p1 p2 board board2 s s2 o o1 o2 had untouched resul
             (none fresh.none) (lay.laid whole s.files fit);
         marked = record {
           idle = fresh.idle;
-          running = lay.marks whole s.files fresh.unstarted (done_of board) (none fresh.none);
+          running = lay.marks whole s.files (done_of board) (none fresh.none);
         };
       }));
   moments = λ honest whole fresh. crashes_then {P = SetsBy (p.marking s.files) (done_of board2)} {old = o} {mid = o1}
@@ -439,8 +450,8 @@ laid-then in_rounds events p p1 p2 board board2 s s2 o o1 o2 had untouched resul
       (SetsBy (p.marking s.files) (done_of board2)) {old = o1} {new = o2}
       (λ c. leaves-sets (p.marking s.files) (done_of board) (done_of board2) c)
       (rest.moments honest (on whole) (record {
-        idle = fresh.idle;
-        running = lay.marks whole s.files fresh.unstarted (done_of board) (none fresh.none);
+        idle = fresh.fresh.idle;
+        running = lay.marks whole s.files (done_of board) (none fresh.fresh.none);
       })));
 }
   where

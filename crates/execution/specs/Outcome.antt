@@ -1,6 +1,6 @@
 -- How a whole work came out: its outputs laid out, its events done, and what comes last.
 use Rattle.std.specs.Prelude.{◌≡◌, ◌≤◌, ◌<◌, ℕ, ⊤, Bool, true, false, IsTrue, Option, None, Some, List, length, take, Result, Ok, Err}
-use Rattle.work_terms.specs.Disk.{Files, Rises}
+use Rattle.work_terms.specs.Disk.{Files, IsDurable, Rises}
 use Rattle.devices.specs.Views.{CrashesLeave, OutputView, Reads, Writes}
 use Rattle.job_terms.specs.declared.BoardEvent.{BoardEvent}
 use Rattle.job_terms.specs.declared.Progress.{Progress}
@@ -38,8 +38,19 @@ IsBefore (Ok progress) i = progress.finished ≡ false
 IsBefore (Err (fault.Output file)) i = file < i
 IsBefore (Err _) i = ⊤
 
+-- all jobs were done, and what comes last
+abbrev pub HasFinished : Result Progress ExecutionFault → Type 0
+HasFinished (Ok progress) = progress.finished ≡ true
+HasFinished (Err _) = ⊥
+
+-- a crash leaves all outputs, and the marks, as they are read
+pub record AreAllDurable (plan : JobPlan) (output : OutputView) : Type 0 where
+  pub outputs : AreDurable plan output.files output.may_leave
+  pub marks : (sources : Files) (m : Marking) → plan.marking sources ≡ Some m
+      → IsDurable m.marks output.files output.may_leave
+
 -- whatever the stores are: the same plan, as many jobs, nothing written but the work's own files, a failure at the file
--- that is named, and what comes last written in its order, once all jobs are done
+-- that is named, what comes last written in its order, once all jobs are done, and all of it durable where it is done
 pub record IsBounded (old new : Snapshot) (result : Result Progress ExecutionFault) : Type 0 where
   pub plan : new.plan ≡ old.plan
   pub size : length new.board.jobs ≡ length old.board.jobs
@@ -49,6 +60,7 @@ pub record IsBounded (old new : Snapshot) (result : Result Progress ExecutionFau
   pub order : IsTrue old.output.honest → (i : ℕ) → IsLast old.plan i → Stays old.plan
       (old.plan.output i) → IsBefore result i
       → new.output.files (old.plan.output i) ≡ old.output.files (old.plan.output i)
+  pub durable : IsTrue old.output.honest → HasFinished result → AreAllDurable old.plan new.output
 
 -- from files that may begin so, the first of these events led to these files and counts of failures
 pub record EventsDone (Begins : Files → Type 0) (events : List BoardEvent) (old : Snapshot) (had : ℕ → Hand)
@@ -81,7 +93,7 @@ pub data Outcome (Begins : Files → Type 0) (events : List BoardEvent) (old : S
     (untouched : Type 0) (result : Result Progress ExecutionFault) : Type 0 where
   NotLaidOut : (file : ℕ) → untouched → result ≡ Err (fault.Output file) → new.board ≡ old.board
       → new.source.failures ≡ old.source.failures → Writes (Stays old.plan) old.output new.output
-      → AreLeftBy (marking_of old) new.output.may_leave
+      → (NoneStartedBy (marking_of old) old.output.may_leave → AreLeftBy (marking_of old) new.output.may_leave)
       → Outcome Begins events old had new untouched result
   Stopped : (stale count : ℕ) → EventsDone Begins events old had new.board new.output.files new.source.failures
       new.output.failures stale count (end_of result)
@@ -112,10 +124,14 @@ pub record IsCall (Begins Leaving : Files → Type 0) (begun marked untouched : 
   pub moments : IsTrue old.source.honest → IsTrue old.output.honest → marked → CrashesLeave Leaving old.output
       new.output
 
--- no job is done and no worker holds anything; no outcome has marks that are started
+-- no job is done and no worker holds anything
 pub record IsFresh (old : Snapshot) (had : ℕ → Hand) : Type 0 where
   pub none : (k : ℕ) → k < length old.board.jobs → done_of old.board k ≡ false
   pub idle : (w : ℕ) → had w ≡ Nothing
+
+-- and no outcome has marks that are started
+pub record IsUnstarted (old : Snapshot) (had : ℕ → Hand) : Type 0 where
+  pub fresh : IsFresh old had
   pub unstarted : NoneStartedBy (marking_of old) old.output.may_leave
 
 -- marks that are started: none was set at first, and only those of jobs that are done are
@@ -128,7 +144,7 @@ abbrev pub Executed : List BoardEvent → Snapshot → (ℕ → Hand) → Snapsh
     → Type 0
 Executed events old had new untouched result = IsCall (AreBlank (jobs_of old) (whole_of old))
     (SetsBy (marking_of old) (done_of new.board)) (IsFresh old had)
-    (IsFresh old had) untouched events old had new result
+    (IsUnstarted old had) untouched events old had new result
 
 -- no worker holds anything, and the marks say what is done
 pub record IsMarked (old : Snapshot) (had : ℕ → Hand) : Type 0 where

@@ -1,6 +1,6 @@
 // What a work is, to a board.
 ghost use Rattle.std.specs.Prelude.{◌≡◌, ◌<◌, ℕ, ⊤, Bool, false, IfErr, List, length, IsTrue, IsErrOf, OnErr, OnOk, Some};
-ghost use Rattle.work_terms.specs.Disk.{Files};
+ghost use Rattle.work_terms.specs.Disk.{Files, IsDurable};
 ghost use Rattle.job_terms.specs.Workers.{jobs_over};
 ghost use Rattle.devices.specs.Frame.{OnlyReads, OnlyWrites};
 ghost use Rattle.devices.specs.Views.{CrashesLeave, output_view};
@@ -67,9 +67,7 @@ pub trait JobMaker {
             → OnOk result (AreBlank (jobs_over (plan self.old).jobs sources) ((plan self.old).whole sources)
             (B.stored bench.new)) }
         ensures same { plan self.new ≡ plan self.old }
-        ensures marks { IsTrue (B.honest bench.old) → (sources : Files)
-            → NoneStartedBy ((plan self.old).marking sources) (B.may_leave bench.old)
-            → (done : ℕ → Bool) → ((k : ℕ) → k < (plan self.old).jobs.count → done k ≡ false)
+        ensures marks { IsTrue (B.honest bench.old) → (sources : Files) → (done : ℕ → Bool) → ((k : ℕ) → k < (plan self.old).jobs.count → done k ≡ false)
             → OnOk result (IsRunningBy ((plan self.old).marking sources) done (B.may_leave bench.new)) }
         ensures any_moment { IsTrue (B.honest bench.old) → (sources : Files)
             → NoneStartedBy ((plan self.old).marking sources) (B.may_leave bench.old)
@@ -93,6 +91,9 @@ pub trait JobMaker {
             → fault.file < i → B.stored bench.new ((plan self.old).output i) ≡ B.stored bench.old ((plan self.old).output i)) }
         ensures durable { IsTrue (B.honest bench.old)
             → OnOk result (AreDurable (plan self.old) (B.stored bench.new) (B.may_leave bench.new)) }
+        ensures marks_durable { IsTrue (B.honest bench.old) → (sources : Files) (m : Marking)
+            → (plan self.old).marking sources ≡ Some m
+            → OnOk result (IsDurable m.marks (B.stored bench.new) (B.may_leave bench.new)) }
         ensures same { plan self.new ≡ plan self.old }
         ensures marks { IsTrue (B.honest bench.old) → (sources : Files) (done : ℕ → Bool)
             → IsRunningBy ((plan self.old).marking sources) done (B.may_leave bench.old)

@@ -249,6 +249,9 @@ done_at stretches k below = get_or-map (λ (s : Stretch). s.done) stretches k no
 
 -- ---- the two files are synced
 
+pub same_marking : (a b : Marking) → Some a ≡ Some b → a ≡ b
+same_marking a b e = cc
+
 module _ {B : Type 0} (g : bench.Ghosts B) where
   -- a call that lets fewer outcomes be
   pub crashes_fewer : (P : Files → Type 0) (old new : B)
@@ -267,9 +270,6 @@ module _ {B : Type 0} (g : bench.Ghosts B) where
       | inr left ↦ inr (holds c (back c left))
     ];
   }
-
-  same_marking : (a b : Marking) → Some a ≡ Some b → a ≡ b
-  same_marking a b e = cc
 
   -- a job is placed
   pub places_as : (marked : MarkedWork) (result : Result ⊤ PlaceFault) {old new : B} → IsRenderWork marked.work

@@ -23,6 +23,7 @@ returns-in-Ok-finish-clause-resumed g c = finished-all _ _ _ _ _ _ _ _ _ _ _ _ _
       last = c.in-Ok-finish.ensures.last;
       in_order = c.in-Ok-finish.ensures.in_order;
       durable = c.in-Ok-finish.ensures.durable;
+      marks_durable = c.in-Ok-finish.ensures.marks_durable;
       marks = c.in-Ok-finish.ensures.marks;
       any_moment = c.in-Ok-finish.ensures.any_moment;
       output = writes_of g.B.Bench {old = c.perform.new.bench} {new = c.finish.new.bench}
@@ -39,6 +40,7 @@ returns-in-Err-finish-clause-resumed g c = finish-failed _ _ _ _ _ _ _ _ _ _ _ _
       last = c.in-Err-finish.ensures.last;
       in_order = c.in-Err-finish.ensures.in_order;
       durable = c.in-Err-finish.ensures.durable;
+      marks_durable = c.in-Err-finish.ensures.marks_durable;
       marks = c.in-Err-finish.ensures.marks;
       any_moment = c.in-Err-finish.ensures.any_moment;
       output = writes_of g.B.Bench {old = c.perform.new.bench} {new = c.finish.new.bench}

@@ -7,7 +7,6 @@ returns-in-Ok-execute-clause-out g c honest whole = (all-written _ _ _ _ _ _ _ _
     (c.in-Ok-execute.ensures.executed.outcome honest whole (sources-fit _) (are-apart (g.S.Shelf.stored c.args.shelf.now)) (record {
       none = none-yet _ _ c.in-Ok-new.ensures.board c.in-Ok-new.ensures.open;
       idle = c.in-Ok-new.ensures.idle;
-      unstarted = tt;
     }))
     (c.in-Ok-execute.ensures.finished honest whole c.in-Ok-new.ensures.rest (c.in-Ok-new.ensures.idle 1))).0 0 (omega arith)
 
@@ -16,7 +15,6 @@ returns-in-Ok-execute-clause-list g c honest whole = (all-written _ _ _ _ _ _ _ 
     (c.in-Ok-execute.ensures.executed.outcome honest whole (sources-fit _) (are-apart (g.S.Shelf.stored c.args.shelf.now)) (record {
       none = none-yet _ _ c.in-Ok-new.ensures.board c.in-Ok-new.ensures.open;
       idle = c.in-Ok-new.ensures.idle;
-      unstarted = tt;
     }))
     (c.in-Ok-execute.ensures.finished honest whole c.in-Ok-new.ensures.rest (c.in-Ok-new.ensures.idle 1))).1 1 (omega arith, omega arith)
 

@@ -1,15 +1,15 @@
-use Rattle.std.proofs.Common.{◌∙◌, Some, ap, arith, sym}
+use Rattle.std.proofs.Common.{IsTrue, subst, ◌∙◌, Some, ap, arith, sym}
 use Rattle.std.specs.Prelude.{⊤}
-use Rattle.work_terms.specs.Disk.{Files}
+use Rattle.work_terms.specs.Disk.{Files, IsDurable}
 use Rattle.devices.specs.ViewLaws.{crashes_then}
 use Rattle.devices.specs.Views.{output_view}
-use Rattle.execution.specs.Marking.{LeavesBy}
+use Rattle.execution.specs.Marking.{LeavesBy, Marking}
 use Rattle.execution.specs.MarkingLaws.{running_fewer, running_leaves}
 use Rattle.execution.specs.Plan.{IsForeign}
 use Rattle.markfile.specs.Format.{sound_name}
 use Rattle.rendering.specs.Maker.{marks_of, plan_of}
 use Rattle.rendering.proofs.Calls.{writes_both}
-use Rattle.rendering.proofs.Works.{crashes_fewer, none_last, reads_as}
+use Rattle.rendering.proofs.Works.{crashes_fewer, none_last, reads_as, same_marking}
 use Rattle.rendering.proofs.maker.RenderingWorkJobMaker.finish.Goals as goal
 
 pub returns-in-Ok-sync-clause-last : goal.returns-in-Ok-sync-clause-last
@@ -21,6 +21,12 @@ returns-in-Ok-sync-clause-durable g c honest = record {
       ∙ sym (ap (λ (files : Files). files sound_name) c.in-Ok-sync.ensures.only_reads.same);
   last = λ i last. absurd (none_last c.args.self.now i last);
 }
+
+pub returns-in-Ok-sync-clause-marks_durable : goal.returns-in-Ok-sync-clause-marks_durable
+returns-in-Ok-sync-clause-marks_durable g c honest sources m is =
+    subst (λ (x : Marking). IsDurable x.marks (g.B.Bench.stored c.sync-2.new.self) (g.B.Bench.may_leave c.sync-2.new.self))
+    (same_marking (marks_of c.args.self.now sources) m is)
+    (c.in-Ok-sync.ensures.durable (subst IsTrue (sym c.in-Ok.ensures.only_reads.honest_same) honest))
 
 pub returns-in-Err-clause-in_order : goal.returns-in-Err-clause-in_order
 returns-in-Err-clause-in_order g c honest i last after = absurd (none_last c.args.self.now i last)

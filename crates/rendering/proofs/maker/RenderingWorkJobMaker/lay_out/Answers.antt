@@ -22,12 +22,11 @@ returns-clause-laid g c honest sources fit = subst (λ (x : MarkedWork). OnOk c.
     (c.lay_out_marked.ensures.laid honest sources)
 
 pub returns-clause-marks : goal.returns-clause-marks
-returns-clause-marks g c honest sources = subst (λ (x : MarkedWork). NoneStartedBy ((plan_of x).marking sources)
-    (g.B.Bench.may_leave c.args.bench.now) → (done : ℕ → Bool)
+returns-clause-marks g c honest sources = subst (λ (x : MarkedWork). (done : ℕ → Bool)
     → ((k : ℕ) → k < (plan_of x).jobs.count → done k ≡ false) → OnOk c.lay_out_marked.result
     (IsRunningBy ((plan_of x).marking sources) done (g.B.Bench.may_leave c.lay_out_marked.new.bench)))
     (ap (λ (run : RunId). record { work = c.self.inside.rendering; run = run }) c.self.invariant.2 ∙ c.self.view_is)
-    (λ none. c.lay_out_marked.ensures.marks honest sources)
+    (c.lay_out_marked.ensures.marks honest sources)
 
 pub returns-clause-any_moment : goal.returns-clause-any_moment
 returns-clause-any_moment g c honest sources = subst (λ (x : MarkedWork). NoneStartedBy ((plan_of x).marking sources)
