@@ -32,29 +32,31 @@ differ a b other = by_test (bytes_eq a b) refl where
   by_test true same = absurd (other ((bytes_eq-Decides a b).0 same))
   by_test false same = refl
 
-module _ (plan : MediaPlan) where
+module _ (media : ℕ) (reported : Bool) where
   -- the outputs after the media are those that come last
-  pub output_after : (position : ℕ) → output_name plan (length plan.runs + position) ≡ last_name plan.report position
+  pub output_after : (position : ℕ) → output_name media reported (media + position) ≡ last_name reported position
   output_after position =
-      let past : nat_lt (length plan.runs + position) (length plan.runs) ≡ false = grind (arith, nat_tests) in
-      let rest : length plan.runs + position - length plan.runs ≡ position = omega arith in
+      let past : nat_lt (media + position) media ≡ false = grind (arith, nat_tests) in
+      let rest : media + position - media ≡ position = omega arith in
       rw (past, rest) refl
 
   -- and those before are the media
-  pub output_medium : (i : ℕ) → i < length plan.runs → output_name plan i ≡ media_name (suc i)
+  pub output_medium : (i : ℕ) → i < media → output_name media reported i ≡ media_name (suc i)
   output_medium i below =
-      let among : nat_lt i (length plan.runs) ≡ true = grind (arith, nat_tests, below) in
+      let among : nat_lt i media ≡ true = grind (arith, nat_tests, below) in
       rw among refl
 
+module _ (plan : MediaPlan) where
   -- what holds of each position holds of each number
   pub by_position : (P : List ℕ → Type 0)
-      → ((position : ℕ) → position < last_count plan.report → P (last_name plan.report position))
-      → (i : ℕ) → IsLast (job_plan plan) i → P (output_name plan i)
+      → ((position : ℕ) → position < last_count (is_some plan.report)
+      → P (last_name (is_some plan.report) position))
+      → (i : ℕ) → IsLast (job_plan plan) i → P ((job_plan plan).output i)
   by_position P each i last =
       let position : ℕ = i - length plan.runs in
       let counted : length plan.runs + position ≡ i = omega (arith, last.0) in
-      subst (λ (n : ℕ). P (output_name plan n)) counted
-      (subst P (sym (output_after position)) (each position (omega (arith, last.0, last.1))))
+      subst (λ (n : ℕ). P ((job_plan plan).output n)) counted
+      (subst P (sym (output_after (length plan.runs) (is_some plan.report) position)) (each position (omega (arith, last.0, last.1))))
 
   -- a failure at a medium, by its number
   pub at_medium : (fault : OutputFault) (failed : List ℕ → Type 0) → FailsAtMedium (length plan.runs) fault failed
@@ -62,32 +64,32 @@ module _ (plan : MediaPlan) where
   at_medium fault failed fails =
       let next : fault.file + 1 ≡ suc fault.file = omega arith in (
         omega (arith, fails.0),
-        subst failed (ap media_name next ∙ sym (output_medium fault.file fails.0)) fails.1,
+        subst failed (ap media_name next ∙ sym (output_medium (length plan.runs) (is_some plan.report) fault.file fails.0))
+            fails.1,
       )
 
 -- what holds of the list and of the files of the report, where there is one
-abbrev pub OfLast : (List ℕ → Type 0) → Option Report → Type 0
-OfLast P None = P (codes "consolidated.adl")
-OfLast P (Some report) = P (codes "SHA256SUMS") × P (codes "consolidated.json") × P (codes "consolidated.adl")
+abbrev pub OfLast : (List ℕ → Type 0) → (reported : Bool) → Type 0
+OfLast P false = P (codes "consolidated.adl")
+OfLast P true = P (codes "SHA256SUMS") × P (codes "consolidated.json") × P (codes "consolidated.adl")
 
-pub each_last : (P : List ℕ → Type 0) (report : Option Report) → OfLast P report → (position : ℕ)
-    → position < last_count report → P (last_name report position)
-each_last P None of position below = of
-each_last P (Some report) of zero below = of.0
-each_last P (Some report) of (suc zero) below = of.1
-each_last P (Some report) of (suc (suc position)) below = of.2
+pub each_last : (P : List ℕ → Type 0) (reported : Bool) → OfLast P reported → (position : ℕ)
+    → position < last_count reported → P (last_name reported position)
+each_last P false of position below = of
+each_last P true of zero below = of.0
+each_last P true of (suc zero) below = of.1
+each_last P true of (suc (suc position)) below = of.2
 
 -- a file that is none of them
-pub is_behind : (report : Option Report) (n : List ℕ)
-    → ((position : ℕ) → position < last_count report → last_name report position ≢ n)
-    → IsBehind (is_some report) n
-is_behind None n other = record {
+pub is_behind : (reported : Bool) (n : List ℕ)
+    → ((position : ℕ) → position < last_count reported → last_name reported position ≢ n) → IsBehind reported n
+is_behind false n other = record {
   no_list = λ same. other 0 (omega arith) (sym same);
-  no_report = λ reported. absurd (cc);
+  no_report = λ told. absurd (cc);
 }
-is_behind (Some report) n other = record {
+is_behind true n other = record {
   no_list = λ same. other 2 (omega arith) (sym same);
-  no_report = λ reported. (λ same. other 0 (omega arith) (sym same), λ same. other 1 (omega arith) (sym same));
+  no_report = λ told. (λ same. other 0 (omega arith) (sym same), λ same. other 1 (omega arith) (sym same));
 }
 
 -- what stands in them is what the plan says of them
@@ -99,8 +101,9 @@ last_or text report others name =
 
 each_there : (text : List ℕ) (report : Option Report) (others : List ℕ → List ℕ) (written : Files)
     → written (codes "consolidated.adl") ≡ Some text → IsReportThere report written → (position : ℕ)
-    → position < last_count report
-    → written (last_name report position) ≡ Some (last_or text report others (last_name report position))
+    → position < last_count (is_some report)
+    → written (last_name (is_some report) position)
+    ≡ Some (last_or text report others (last_name (is_some report) position))
 each_there text None others written list there position below = list
 each_there text (Some report) others written list there zero below = there.0
 each_there text (Some report) others written list there (suc zero) below = there.1
@@ -108,37 +111,31 @@ each_there text (Some report) others written list there (suc (suc position)) bel
 
 -- and what stands in them tells the list and the report
 pub last_held : (text : List ℕ) (report : Option Report) (others : List ℕ → List ℕ) (written : Files)
-    → ((position : ℕ) → position < last_count report
-    → written (last_name report position) ≡ Some (last_or text report others (last_name report position)))
+    → ((position : ℕ) → position < last_count (is_some report)
+    → written (last_name (is_some report) position)
+    ≡ Some (last_or text report others (last_name (is_some report) position)))
     → (written (codes "consolidated.adl") ≡ Some text) × IsReportThere report written
 last_held text None others written each = (each 0 (omega arith), tt)
 last_held text (Some report) others written each =
     (each 2 (omega arith), (each 0 (omega arith), each 1 (omega arith)))
 
-pub durable_held : (report : Option Report) (stored : Files) (may_leave : Files → Type 0)
-    → ((position : ℕ) → position < last_count report → IsDurable (last_name report position) stored may_leave)
-    → IsDurable (codes "consolidated.adl") stored may_leave × IsReportDurable (is_some report) stored may_leave
-durable_held None stored may_leave each = (each 0 (omega arith), λ reported. absurd (cc))
-durable_held (Some report) stored may_leave each =
-    (each 2 (omega arith), λ reported. (each 0 (omega arith), each 1 (omega arith)))
-
 -- a file that is neither the list nor of the report is none of them
-pub of_elsewhere : (report : Option Report) (n : List ℕ) → n ≢ codes "consolidated.adl"
-    → IsNoReport (is_some report) n → OfLast (λ name. name ≢ n) report
-of_elsewhere None n no_list no_report = λ same. no_list (sym same)
-of_elsewhere (Some report) n no_list no_report =
+pub of_elsewhere : (reported : Bool) (n : List ℕ) → n ≢ codes "consolidated.adl" → IsNoReport reported n
+    → OfLast (λ name. name ≢ n) reported
+of_elsewhere false n no_list no_report = λ same. no_list (sym same)
+of_elsewhere true n no_list no_report =
     (λ same. (no_report refl).0 (sym same), λ same. (no_report refl).1 (sym same), λ same. no_list (sym same))
 
-of_durable : (report : Option Report) (stored : Files) (may_leave : Files → Type 0)
-    → IsDurable (codes "consolidated.adl") stored may_leave → IsReportDurable (is_some report) stored may_leave
-    → OfLast (λ n. IsDurable n stored may_leave) report
-of_durable None stored may_leave list durable = list
-of_durable (Some report) stored may_leave list durable = ((durable refl).0, (durable refl).1, list)
+of_durable : (reported : Bool) (stored : Files) (may_leave : Files → Type 0)
+    → IsDurable (codes "consolidated.adl") stored may_leave → IsReportDurable reported stored may_leave
+    → OfLast (λ n. IsDurable n stored may_leave) reported
+of_durable false stored may_leave list durable = list
+of_durable true stored may_leave list durable = ((durable refl).0, (durable refl).1, list)
 
 module _ (plan : MediaPlan) where
   pub last_there : (sources written : Files) → written (codes "consolidated.adl") ≡ Some plan.text
       → IsReportThere plan.report written → (i : ℕ) → IsLast (job_plan plan) i
-      → written (output_name plan i) ≡ Some (whole_output plan sources (output_name plan i))
+      → written ((job_plan plan).output i) ≡ Some (whole_output plan sources ((job_plan plan).output i))
   last_there sources written list report i last =
       by_position plan (λ n. written n ≡ Some (whole_output plan sources n))
       (each_there plan.text plan.report (whole_of plan sources) written list report) i last
@@ -146,17 +143,18 @@ module _ (plan : MediaPlan) where
   pub last_durable : (stored : Files) (may_leave : Files → Type 0)
       → IsDurable (codes "consolidated.adl") stored may_leave
       → IsReportDurable (is_some plan.report) stored may_leave → (i : ℕ) → IsLast (job_plan plan) i
-      → IsDurable (output_name plan i) stored may_leave
+      → IsDurable ((job_plan plan).output i) stored may_leave
   last_durable stored may_leave list durable i last =
       by_position plan (λ n. IsDurable n stored may_leave)
-      (each_last (λ n. IsDurable n stored may_leave) plan.report (of_durable plan.report stored may_leave list durable))
+      (each_last (λ n. IsDurable n stored may_leave) (is_some plan.report)
+      (of_durable (is_some plan.report) stored may_leave list durable))
       i last
 
   -- none of the files that the work writes is none that come last
   pub foreign_behind : (n : List ℕ) → IsForeign (job_plan plan) n → IsBehind (is_some plan.report) n
-  foreign_behind n foreign = is_behind plan.report n (λ position below same.
+  foreign_behind n foreign = is_behind (is_some plan.report) n (λ position below same.
       foreign.last (length plan.runs + position) (omega arith, omega (arith, below))
-      (output_after plan position ∙ same))
+      (output_after (length plan.runs) (is_some plan.report) position ∙ same))
 
 module _ (plan : MediaPlan) (is : IsMediaPlan plan) where
   -- the medium of each run has a job

@@ -1,5 +1,5 @@
 -- A consolidation as a work: its outputs by number, the media in the order of their runs and then those that come last.
-use Rattle.std.specs.Prelude.{◌≡◌, ◌⊎◌, ℕ, zero, suc, ◌+◌, ◌-◌, ◌<◌, nat_lt, cond, bytes_eq, false, List, [], length, Option, None, Some, codes}
+use Rattle.std.specs.Prelude.{◌≡◌, ◌⊎◌, ℕ, zero, suc, ◌+◌, ◌-◌, ◌<◌, nat_lt, cond, bytes_eq, Bool, false, true, List, [], length, Option, None, Some, is_some, codes}
 use Rattle.work_terms.specs.Disk.{Files}
 use Rattle.list_terms.specs.Renewed.{media_name}
 use Rattle.provenance.specs.declared.report.Report.{Report}
@@ -12,16 +12,23 @@ use Rattle.consolidation.specs.Planned.{MediaPlan}
 use Rattle.consolidation.specs.There.{AreThere}
 
 -- the file at a position among those that come last: the checksums and the report, where there is one, and the list
-abbrev pub last_name : Option Report → ℕ → List ℕ
-last_name None position = codes "consolidated.adl"
-last_name (Some report) zero = codes "SHA256SUMS"
-last_name (Some report) (suc zero) = codes "consolidated.json"
-last_name (Some report) (suc (suc position)) = codes "consolidated.adl"
+abbrev pub last_name : (reported : Bool) → ℕ → List ℕ
+last_name false position = codes "consolidated.adl"
+last_name true zero = codes "SHA256SUMS"
+last_name true (suc zero) = codes "consolidated.json"
+last_name true (suc (suc position)) = codes "consolidated.adl"
 
 -- how many these are
-abbrev pub last_count : Option Report → ℕ
-last_count None = 1
-last_count (Some report) = 3
+abbrev pub last_count : Bool → ℕ
+last_count false = 1
+last_count true = 3
+
+-- the name of the output of a number, counted from 0, of a consolidation to so many media
+abbrev pub output_name : (media : ℕ) (reported : Bool) → ℕ → List ℕ
+output_name media reported i = cond (nat_lt i media) (media_name (suc i)) (last_name reported (i - media))
+
+abbrev pub output_count : (media : ℕ) (reported : Bool) → ℕ
+output_count media reported = media + last_count reported
 
 abbrev pub sums_of : Option Report → List ℕ
 sums_of None = []
@@ -30,11 +37,6 @@ sums_of (Some report) = report.sums.items
 abbrev pub json_of : Option Report → List ℕ
 json_of None = []
 json_of (Some report) = report.json.items
-
--- the name of the output of a number, counted from 0
-abbrev pub output_name : MediaPlan → ℕ → List ℕ
-output_name plan i =
-    cond (nat_lt i (length plan.runs)) (media_name (suc i)) (last_name plan.report (i - length plan.runs))
 
 -- all bytes of the output of a name: a medium by what the sources hold, and what comes last as it is planned
 abbrev pub whole_output : MediaPlan → Files → List ℕ → List ℕ
@@ -50,9 +52,9 @@ job_plan plan = record {
   marks = false;
   marking = λ _. None;
   whole = whole_output plan;
-  output = output_name plan;
+  output = output_name (length plan.runs) (is_some plan.report);
   last = length plan.runs;
-  outputs = length plan.runs + last_count plan.report;
+  outputs = output_count (length plan.runs) (is_some plan.report);
 }
 
 -- sources that are there hold what was planned of them, and the bytes of no two jobs meet

@@ -4,7 +4,7 @@ ghost use Rattle.work_terms.specs.Disk.{IsDurable};
 ghost use Rattle.devices.specs.Frame.{OnlyWrites};
 ghost use Rattle.execution.specs.Plan.{IsAt, IsLast};
 ghost use Rattle.consolidation.specs.Consolidated.{IsBehind};
-ghost use Rattle.consolidation.specs.Outputs.{FailsAtReport, job_plan, output_name};
+ghost use Rattle.consolidation.specs.Outputs.{FailsAtReport, job_plan};
 ghost use Rattle.consolidation.specs.Reported.{IsNoReport, IsReportDurable, IsReportThere};
 
 use crate::Consolidation;
@@ -72,7 +72,7 @@ impl<'a> Consolidation<'a> {
             → OnOk result (IsDurable (codes "consolidated.adl") (B.stored bench.new) (B.may_leave bench.new)) }
         ensures in_order { IsTrue (B.honest bench.old) → IfErr result (λ fault. (i : ℕ) → IsLast (job_plan self.now) i
             → fault.file < i
-            → B.stored bench.new (output_name self.now i) ≡ B.stored bench.old (output_name self.now i)) }
+            → B.stored bench.new ((job_plan self.now).output i) ≡ B.stored bench.old ((job_plan self.now).output i)) }
         ensures only_writes { OnlyWrites B.Bench (IsBehind (is_some self.now.report)) bench.old bench.new result
             (λ _. ⊤) (λ fault failed. IsAt (job_plan self.now) fault.file failed) }
         ensures later { B.moment bench.old ≤ B.moment bench.new }

@@ -1,15 +1,15 @@
 // What a consolidation is once its outputs are whole, and which output couldn't be written.
-ghost use Rattle.std.specs.Prelude.{◌≡◌, ◌≢◌, ◌<◌, ◌+◌, ℕ, Bool, List, Option, IsTrue, is_some, length, true};
+ghost use Rattle.std.specs.Prelude.{◌≡◌, ◌≢◌, ◌<◌, ◌≤◌, ◌+◌, ◌^◌, ℕ, Bool, List, Option, IsTrue, codes, is_some, length, true};
 ghost use Rattle.work_terms.specs.Disk.{Files};
 ghost use Rattle.passes.specs.Left.{Leaving};
 ghost use Rattle.list_terms.specs.Binding.{Binding};
 ghost use Rattle.list_terms.specs.Heard.{IsAccepted};
 ghost use Rattle.list_terms.specs.Project.{ListProject};
-ghost use Rattle.execution.specs.Plan as execution;
+ghost use Rattle.list_terms.specs.Renewed.{media_name};
 ghost use Rattle.execution.specs.Plan.{HoldJobs, HoldLast, IsForeign};
-ghost use Rattle.consolidation.specs.Consolidated.{AreDurable, IsConsolidated};
+ghost use Rattle.consolidation.specs.Consolidated.{IsConsolidated};
 ghost use Rattle.consolidation.specs.Fault.{IsOfOutput, output_of};
-ghost use Rattle.consolidation.specs.Outputs.{job_plan, output_name};
+ghost use Rattle.consolidation.specs.Outputs.{job_plan, output_count, output_name};
 ghost use Rattle.consolidation.specs.Planned.{IsPlanOf};
 ghost use Rattle.consolidation.specs.Sizes.{written_of};
 ghost use Rattle.consolidation.specs.There.{AreThere};
@@ -17,47 +17,50 @@ ghost use Rattle.consolidation.specs.Work.{SoundsTheSame};
 ghost use Rattle.consolidation.specs.declared.fault.WriteFault.TheVariants as fault;
 
 use crate::{Consolidation, WriteFault, Written};
-use devices::Bench;
 
 impl<'a> Consolidation<'a> {
-    /// What is reported of it once each of its outputs is whole on a bench: those of its jobs, and those that come last.
-    pub fn outcome<B: Bench>(&self, bench: &B) -> Written
+    /// What is reported of it once each of its outputs is whole: those of its jobs, and those that come last. It may be
+    /// asked before any of them is written.
+    pub fn outcome(&self) -> Written
         ensures value { result ≡ written_of self.now }
         ensures same_sound { (text : List ℕ) (leave : Leaving) (project : ListProject) (binding : Binding) (handle : ℕ)
-            (asked : Option (List ℕ)) (sources : Files) → IsAccepted text sources project binding
+            (asked : Option (List ℕ)) (sources written : Files) → IsAccepted text sources project binding
             → IsPlanOf leave project binding handle asked true sources self.now → AreThere sources self.now.sounds
-            → HoldJobs (job_plan self.now) sources (B.stored bench.now)
-            → HoldLast (job_plan self.now) sources (B.stored bench.now)
-            → SoundsTheSame text sources (B.stored bench.now) }
+            → HoldJobs (job_plan self.now) sources written → HoldLast (job_plan self.now) sources written
+            → SoundsTheSame text sources written }
         ensures consolidated { (leave : Leaving) (project : ListProject) (binding : Binding) (handle : ℕ)
-            (asked : Option (List ℕ)) (sources old : Files)
+            (asked : Option (List ℕ)) (sources old written : Files)
             → IsPlanOf leave project binding handle asked true sources self.now → AreThere sources self.now.sounds
-            → HoldJobs (job_plan self.now) sources (B.stored bench.now)
-            → HoldLast (job_plan self.now) sources (B.stored bench.now)
-            → ((n : List ℕ) → IsForeign (job_plan self.now) n → B.stored bench.now n ≡ old n)
-            → IsConsolidated leave project binding handle asked sources old (B.stored bench.now) result }
-        ensures durable { execution.AreDurable (job_plan self.now) (B.stored bench.now) (B.may_leave bench.now)
-            → AreDurable (is_some self.now.report) result.media (B.stored bench.now) (B.may_leave bench.now) }
+            → HoldJobs (job_plan self.now) sources written → HoldLast (job_plan self.now) sources written
+            → ((n : List ℕ) → IsForeign (job_plan self.now) n → written n ≡ old n)
+            → IsConsolidated leave project binding handle asked sources old written result }
+        ensures media { (k : ℕ) → k < result.media → (j : ℕ) × (j < (job_plan self.now).jobs.count)
+            × ((job_plan self.now).jobs.name j ≡ media_name (1 + k)) }
+        ensures list { (i : ℕ) → i + 1 ≡ (job_plan self.now).outputs → ((job_plan self.now).last ≤ i)
+            × ((job_plan self.now).output i ≡ codes "consolidated.adl") }
+        ensures report { IsTrue (is_some self.now.report) → ((job_plan self.now).outputs ≡ result.media + 3)
+            × ((job_plan self.now).output result.media ≡ codes "SHA256SUMS")
+            × ((job_plan self.now).output (result.media + 1) ≡ codes "consolidated.json") }
     {
-        let _ = bench;
         // It is known to be a plan from here on.
         let _ = self.count();
         self.written()
     }
+}
 
-    /// The output of this number, by its name: what couldn't be written.
-    pub fn fault_at(&self, file: u32) -> WriteFault
-        requires { file < (job_plan self.now).outputs }
-        ensures named { output_of result ≡ output_name self.now file }
-        ensures of_output { IsOfOutput (is_some self.now.report) result }
-        ensures before_list { result ≢ fault.List → file + 1 < (job_plan self.now).outputs }
-        ensures before_report { result ≢ fault.List → result ≢ fault.Report → file < length self.now.runs + 1 }
+impl WriteFault {
+    /// The output of this number, counted from 0, of a consolidation to so many media, with a report or without one.
+    pub fn of_output(media: u32, reported: bool, file: u32) -> WriteFault
+        requires { file < output_count media reported }
+        ensures named { output_of result ≡ output_name media reported file }
+        ensures reported { IsOfOutput reported result }
+        ensures before_list { result ≢ fault.List → file + 1 < output_count media reported }
+        ensures before_report { result ≢ fault.List → result ≢ fault.Report → file < media + 1 }
     {
-        let media = self.runs.len() as u32;
         if file < media {
             return WriteFault::Medium { number: file + 1 };
         }
-        if self.report.is_none() {
+        if !reported {
             return WriteFault::List;
         }
         match file - media {
