@@ -3,3 +3,4 @@ pub mod Heard
 pub mod Outside
 pub mod Places
 pub mod SilentSides
+pub mod StoredFrames

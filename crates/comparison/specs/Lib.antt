@@ -2,4 +2,5 @@ pub mod Alike
 pub mod Fault
 pub mod Range
 pub mod Side
+pub mod Stored
 pub mod Whole

@@ -1,7 +1,8 @@
 -- One of two sides of a comparison: what its plan's pieces sound like, block by block.
-use Rattle.std.specs.Prelude.{ℕ, ◌+◌, min, ℤ, List}
+use Rattle.std.specs.Prelude.{◌≡◌, ℕ, ◌+◌, ◌*◌, ◌<◌, ◌≤◌, min, ℤ, List, length}
 use Rattle.std.specs.List.{All}
-use Rattle.sound_terms.specs.Blocks.{block_frames, block_start}
+use Rattle.sound_terms.specs.declared.block.Instruction.{Instruction}
+use Rattle.sound_terms.specs.Blocks.{BlockState, LiesInFiles, PlaysFull, block_frames, block_start, executed_all}
 use Rattle.sound_terms.specs.Groups.{sum_of}
 use Rattle.sound_terms.specs.Media.{IsPieceOf}
 use Rattle.sound_terms.specs.Render.{Range}
@@ -9,6 +10,7 @@ use Rattle.sound_terms.specs.Sounds.{SoundFacts, reading_by}
 use Rattle.work_terms.specs.Disk.{Files}
 use Rattle.renderplan.specs.Planned.{IsPlan, Planned}
 use Rattle.blockmachine.specs.Exact.{AreSumsOf}
+use Rattle.comparison.specs.declared.room.Room.{Room}
 
 -- a plan over opened files
 pub record SideWork : Type 0 where
@@ -28,6 +30,19 @@ heard work sources = sum_of (reading_by sources work.sounds) work.planned.pieces
 abbrev pub AreBlockSums : Range → (ℕ → ℕ → ℤ) → ℕ → List ℤ → Type 0
 AreBlockSums range mix k sums =
     AreSumsOf (block_frames range k) range.channels sums (λ i channel. mix channel (block_start range k + i))
+
+-- these instructions play what the side plays in block k
+pub record IsBlockOf (work : SideWork) (k : ℕ) (lines : List Instruction) : Type 0 where
+  pub inside : All (LiesInFiles work.sounds) lines
+  pub sums : (sources : Files) → All (PlaysFull (reading_by sources work.sounds)) lines → (start : BlockState)
+      → (i channel : ℕ) → i < block_frames work.planned.range k → channel ≤ work.planned.range.channels
+      → (executed_all (reading_by sources work.sounds) work.planned.range.channels lines start).sums i channel
+      ≡ heard work sources channel (block_start work.planned.range k + i)
+
+-- there is room for the program and the sums of any block of a side
+pub record HasRoom (work : SideWork) (room : Room) : Type 0 where
+  pub program : length work.planned.pieces + 2 ≤ room.program.room
+  pub sums : length room.sums.items ≡ 4096 * work.planned.range.channels
 
 -- the time that is reached before block k
 abbrev pub reached : Range → ℕ → ℕ

@@ -1,18 +1,20 @@
 //! Whether two projects without a fault sound the same, sample for sample before any rounding, and where they differ
 //! first.
 //!
-//! `compare_projects` compares the exact sums of both, block by block; where neither plays nothing is read. It answers
-//! `Same` exactly where the sums are equal on every chosen channel at every chosen time, and else the first time at which
-//! they differ, with the lowest channel that differs there and both sums (`compared`). Files are only read (`first_read`,
-//! `second_read`).
+//! `compare_projects` compares the exact sums of both, block by block; where neither plays nothing is read, and where
+//! both add the same stored frames nothing is summed. It answers `Same` exactly where the sums are equal on every chosen
+//! channel at every chosen time, and else the first time at which they differ, with the lowest channel that differs
+//! there and both sums (`compared`). Files are only read (`first_read`, `second_read`).
 #![tactic(auto)]
 
 mod differing;
 mod fault;
 mod projects;
 mod range;
+mod room;
 mod side;
 mod sides;
+mod stored;
 
 pub use fault::{CompareFault, SideFault};
 pub use projects::{Comparison, compare_projects};

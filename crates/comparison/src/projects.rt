@@ -10,13 +10,14 @@ ghost use Rattle.list_terms.specs.Heard.{project_mix, reading_of, sounds_of};
 ghost use Rattle.devices.specs.Frame.{OnlyReads};
 ghost use Rattle.comparison.specs.Alike.{IsCompared};
 ghost use Rattle.comparison.specs.Fault.{FailsAt, IsMemory, IsSource, IsAny, OfEither, OfFirst, OfSecond};
-ghost use Rattle.comparison.specs.Side.{heard};
+ghost use Rattle.comparison.specs.Side.{HasRoom, heard};
 ghost use Rattle.comparison.specs.Range as range;
 ghost use Rattle.comparison.specs.Range.{HasChannels};
 ghost use Rattle.comparison.specs.Whole.{HasCompared, IsComparison};
 
 use crate::differing::Difference;
 use crate::range::{Extent, Selection, compared_in};
+use crate::room::Room;
 use crate::side::Side;
 use crate::sides::compare_sides;
 use crate::{CompareFault, SideFault};
@@ -26,7 +27,7 @@ use projectcheck::Checked;
 use renderplan::Plan;
 use sampletime::SampleTime;
 use sound_terms::Depth;
-use std::alloc::{AllocError, Global};
+use std::alloc::Global;
 
 /// How two projects compare: so many frames of so many channels are the same, or they differ first at this time, on
 /// this channel and on no lower one. `first` and `second` are the exact sums of either project for it, neither rounded
@@ -91,23 +92,13 @@ fn side_of<'a>(alloc: Global, checked: &'a Checked, extent: &Extent) -> Result<S
     Ok(side)
 }
 
-/// Room for the sums of a block of so many channels.
-fn room_for(alloc: Global, channels: u8) -> Result<Vec<i64>, AllocError>
-    requires { channels ≤ 64 }
-    ensures { IfOk result (λ sums. length sums.items ≡ 4096 * channels) }
-{
-    let mut sums = Vec::new(alloc);
-    sums.resize(4096 * usize::from(channels), 0)?;
-    Ok(sums)
-}
-
-/// Two sides of one extent, and room for their sums.
+/// Two sides of one extent, each with room for its blocks.
 #[derive(Drop)]
 struct Sides<'a, 'b> {
     first: Side<'a>,
     second: Side<'b>,
-    first_sums: Vec<i64>,
-    second_sums: Vec<i64>,
+    first_room: Room,
+    second_room: Room,
 }
 
 /// Both sides of an extent of two projects.
@@ -128,29 +119,31 @@ fn sides_of<'a, 'b>(
         → heard sides.first files channel time ≡ project_mix files first.now.project first.now.bound channel time) }
     ensures second_mixes { IfOk result (λ sides. (files : Files) (channel time : ℕ)
         → heard sides.second files channel time ≡ project_mix files second.now.project second.now.bound channel time) }
-    ensures first_room { IfOk result (λ sides. length sides.first_sums.items ≡ 4096 * extent.now.channels) }
-    ensures second_room { IfOk result (λ sides. length sides.second_sums.items ≡ 4096 * extent.now.channels) }
+    ensures first_room { IfOk result (λ sides. HasRoom sides.first sides.first_room) }
+    ensures second_room { IfOk result (λ sides. HasRoom sides.second sides.second_room) }
     ensures only_memory { IfErr result (OfEither IsMemory) }
 {
     let first = match side_of(alloc, first, extent) {
         Ok(side) => side,
         Err(fault) => return Err(CompareFault::First(fault)),
     };
-    let Ok(first_sums) = room_for(alloc, extent.channels) else {
-        return Err(CompareFault::First(SideFault::Memory));
+    let first_room = match first.room(alloc) {
+        Ok(room) => room,
+        Err(fault) => return Err(CompareFault::First(fault)),
     };
     let second = match side_of(alloc, second, extent) {
         Ok(side) => side,
         Err(fault) => return Err(CompareFault::Second(fault)),
     };
-    let Ok(second_sums) = room_for(alloc, extent.channels) else {
-        return Err(CompareFault::Second(SideFault::Memory));
+    let second_room = match second.room(alloc) {
+        Ok(room) => room,
+        Err(fault) => return Err(CompareFault::Second(fault)),
     };
     Ok(Sides {
         first,
         second,
-        first_sums,
-        second_sums,
+        first_room,
+        second_room,
     })
 }
 
@@ -179,14 +172,14 @@ fn compare_in<S: Shelf, T: Shelf>(
 {
     let sides = sides_of(alloc, first, second, extent)?;
     let (mut one, mut two) = (sides.first, sides.second);
-    let (mut first_sums, mut second_sums) = (sides.first_sums, sides.second_sums);
+    let (mut first_room, mut second_room) = (sides.first_room, sides.second_room);
     compare_sides(
         &mut one,
         &mut two,
         first_shelf,
         second_shelf,
-        first_sums.as_mut_slice(),
-        second_sums.as_mut_slice(),
+        &mut first_room,
+        &mut second_room,
     )
 }
 

@@ -1,5 +1,5 @@
 // One of two sides of a comparison.
-ghost use Rattle.std.specs.Prelude.{◌≡◌, ◌+◌, ◌*◌, ◌<◌, ◌≤◌, ℕ, pos, IfErr, IfOk, IsTrue, OnOk, length};
+ghost use Rattle.std.specs.Prelude.{◌≡◌, ◌+◌, ◌*◌, ◌<◌, ◌≤◌, ℕ, pos, IfErr, IfOk, IsTrue, OnOk, length, take};
 ghost use Rattle.std.specs.List.{All};
 ghost use Rattle.sampletime.specs.TimeCode.{day};
 ghost use Rattle.work_terms.specs.Disk.{Files};
@@ -7,10 +7,11 @@ ghost use Rattle.sound_terms.specs.Blocks.{block_count, block_frames, block_star
 ghost use Rattle.sound_terms.specs.Media.{IsPieceOf};
 ghost use Rattle.devices.specs.Frame.{OnlyReads};
 ghost use Rattle.comparison.specs.Fault.{FailsAt, IsSource};
-ghost use Rattle.comparison.specs.Side.{AreBlockSums, heard};
+ghost use Rattle.comparison.specs.Side.{AreBlockSums, HasRoom, IsBlockOf, heard};
 ghost use Rattle.comparison.specs.declared.fault.SideFault.TheVariants.{Memory};
 
 use crate::SideFault;
+use crate::room::Room;
 use blockmachine::{Machine, MachineFault};
 use devices::Shelf;
 use renderplan::{Plan, Program};
@@ -21,18 +22,20 @@ use wavread::Sound;
 /// The frames of a block, of which the last one may have fewer.
 const BLOCK_LENGTH: u32 = 4096;
 
-/// The blocks of a plan over opened files, a machine that sums them, and room for the program of any one. A clause sees
-/// the plan and the files.
+/// How many bytes of its files are read of a block for each channel, at most: as many samples of 32 bits as two channels
+/// have.
+const STORED_LENGTH: usize = 8 * 4096;
+
+/// The blocks of a plan over opened files, and a machine that sums them. A clause sees the plan and the files.
 #[derive(Drop)]
 pub struct Side<'a> {
     plan: Plan,
     sounds: &'a [Sound],
     machine: Machine,
-    program: Program,
 }
 
 impl<'a> Model for Side<'a> {
-    ghost use Rattle.std.specs.Prelude.{◌≡◌, ◌+◌, ◌≤◌, length};
+    ghost use Rattle.std.specs.Prelude.{◌≡◌};
     ghost use Rattle.comparison.specs.Side.{IsSide, SideWork};
 
     ghost Value = { SideWork };
@@ -40,8 +43,7 @@ impl<'a> Model for Side<'a> {
     ghost view = { λ s. record { planned = s.plan; sounds = s.sounds.now } };
 
     ghost invariant = { λ s. IsSide (record { planned = s.plan; sounds = s.sounds.now })
-        × (s.machine ≡ record { frames = 4096; channels = s.plan.range.channels })
-        × (length s.plan.pieces + 2 ≤ s.program.room) };
+        × (s.machine ≡ record { frames = 4096; channels = s.plan.range.channels }) };
 }
 
 /// Sums block k of a plan over opened files. There is room for its program, and for just its sums.
@@ -89,13 +91,36 @@ impl<'a> Side<'a> {
         let Ok(machine) = Machine::new(alloc, BLOCK_LENGTH, channels) else {
             return Err(SideFault::Memory);
         };
-        let program = Program::with_room(alloc, plan.most_instructions())?;
         Ok(Side {
             plan,
             sounds,
             machine,
-            program,
         })
+    }
+
+    /// Room for its blocks.
+    pub fn room(&self, alloc: Global) -> Result<Room, SideFault>
+        ensures room { IfOk result (HasRoom self.now) }
+        ensures only_memory { IfErr result (λ fault. fault ≡ Memory) }
+    {
+        let channels = usize::from(self.channels());
+        let program = Program::with_room(alloc, self.plan.most_instructions())?;
+        let mut sums = Vec::new(alloc);
+        sums.resize(4096 * channels, 0)?;
+        let mut bytes = Vec::new(alloc);
+        bytes.resize(STORED_LENGTH * channels, 0)?;
+        Ok(Room {
+            program,
+            sums,
+            bytes,
+        })
+    }
+
+    /// The files.
+    pub fn sounds(&self) -> &'a [Sound]
+        ensures { result.now ≡ self.now.sounds }
+    {
+        self.sounds
     }
 
     /// How many blocks there are.
@@ -141,24 +166,41 @@ impl<'a> Side<'a> {
         self.plan.is_silent(k)
     }
 
-    /// Sums block k over `sums`, which has room for just these. A file that can't be read fails it.
+    /// Writes the program of block k over another that has room for it.
+    pub fn fill(&self, k: u64, program: &mut Program)
+        requires there { k < block_count self.now.planned.range }
+        requires room { length self.now.planned.pieces + 2 ≤ program.old.room }
+        ensures program { IsBlockOf self.now k program.new.lines }
+        ensures room { program.new.room ≡ program.old.room }
+    {
+        self.plan.sums_exactly();
+        self.plan.fill(k, program);
+    }
+
+    /// Sums block k over the first of `sums`. There is room for the program and the sums of any block. A file that can't be
+    /// read fails it.
     pub fn sum<S: Shelf>(
         &mut self,
         k: u64,
+        program: &mut Program,
         shelf: &mut S,
         sums: &mut [i64],
     ) -> Result<(), SideFault>
         requires there { k < block_count self.old.planned.range }
-        requires room { length sums.old ≡ block_frames self.old.planned.range k * self.old.planned.range.channels }
+        requires program { length self.old.planned.pieces + 2 ≤ program.old.room }
+        requires room { length sums.old ≡ 4096 * self.old.planned.range.channels }
         ensures summed { IsTrue (S.honest shelf.old) → OnOk result
-            (AreBlockSums self.old.planned.range (heard self.old (S.stored shelf.old)) k sums.new) }
+            (AreBlockSums self.old.planned.range (heard self.old (S.stored shelf.old)) k
+            (take (block_frames self.old.planned.range k * self.old.planned.range.channels) sums.new)) }
         ensures ready { self.new ≡ self.old }
+        ensures program { program.new.room ≡ program.old.room }
         ensures source { IfErr result IsSource }
         ensures only_reads { OnlyReads S.Shelf shelf.old shelf.new result (λ fault. IsSource fault)
             (λ fault failed. FailsAt self.old.sounds fault failed) }
     {
+        let count = self.sums_of(k);
+        let sums = &mut sums[..count];
         let machine = &mut self.machine;
-        let program = &mut self.program;
         sum_block(&self.plan, k, self.sounds, shelf, machine, program, sums)
     }
 }

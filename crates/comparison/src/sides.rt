@@ -1,55 +1,66 @@
 // Two sides, block by block.
-ghost use Rattle.std.specs.Prelude.{◌≡◌, ◌+◌, ◌*◌, ◌<◌, ◌≤◌, IfErr, IfOk, IsTrue, OnOk, length};
+ghost use Rattle.std.specs.Prelude.{◌≡◌, ◌+◌, ◌*◌, ◌<◌, ◌≤◌, IfErr, IfOk, IsTrue, OnOk, length, take};
 ghost use Rattle.sound_terms.specs.Blocks.{block_count, block_frames, block_start};
 ghost use Rattle.devices.specs.Frame.{OnlyReads};
-ghost use Rattle.comparison.specs.Alike.{IsCompared};
+ghost use Rattle.comparison.specs.Alike.{AreAlike, IsCompared};
 ghost use Rattle.comparison.specs.Fault.{FailsAt, IsSource, OfEither, OfFirst, OfSecond};
-ghost use Rattle.comparison.specs.Side.{AreBlockSums, heard};
+ghost use Rattle.comparison.specs.Side.{AreBlockSums, HasRoom, heard};
 
 use crate::CompareFault;
 use crate::differing::{Difference, first_difference};
+use crate::room::Room;
 use crate::side::Side;
+use crate::stored::sum_alike;
 use devices::Shelf;
+use renderplan::Program;
 
-/// Sums block k of the first side.
+/// Sums block k of the first side. There is room for the program and the sums of any block.
 fn sum_first<S: Shelf>(
     side: &mut Side,
     k: u64,
+    program: &mut Program,
     shelf: &mut S,
     sums: &mut [i64],
 ) -> Result<(), CompareFault>
     requires there { k < block_count side.old.planned.range }
-    requires room { length sums.old ≡ block_frames side.old.planned.range k * side.old.planned.range.channels }
+    requires program { length side.old.planned.pieces + 2 ≤ program.old.room }
+    requires room { length sums.old ≡ 4096 * side.old.planned.range.channels }
     ensures summed { IsTrue (S.honest shelf.old) → OnOk result
-        (AreBlockSums side.old.planned.range (heard side.old (S.stored shelf.old)) k sums.new) }
+        (AreBlockSums side.old.planned.range (heard side.old (S.stored shelf.old)) k
+        (take (block_frames side.old.planned.range k * side.old.planned.range.channels) sums.new)) }
     ensures ready { side.new ≡ side.old }
+    ensures program { program.new.room ≡ program.old.room }
     ensures source { IfErr result (OfFirst IsSource) }
     ensures only_reads { OnlyReads S.Shelf shelf.old shelf.new result (λ fault. OfFirst IsSource fault)
         (λ fault failed. OfFirst (λ of. FailsAt side.old.sounds of failed) fault) }
 {
-    match side.sum(k, shelf, sums) {
+    match side.sum(k, program, shelf, sums) {
         Ok(()) => Ok(()),
         Err(fault) => Err(CompareFault::First(fault)),
     }
 }
 
-/// Sums block k of the second side.
+/// Sums block k of the second side, in the same way.
 fn sum_second<S: Shelf>(
     side: &mut Side,
     k: u64,
+    program: &mut Program,
     shelf: &mut S,
     sums: &mut [i64],
 ) -> Result<(), CompareFault>
     requires there { k < block_count side.old.planned.range }
-    requires room { length sums.old ≡ block_frames side.old.planned.range k * side.old.planned.range.channels }
+    requires program { length side.old.planned.pieces + 2 ≤ program.old.room }
+    requires room { length sums.old ≡ 4096 * side.old.planned.range.channels }
     ensures summed { IsTrue (S.honest shelf.old) → OnOk result
-        (AreBlockSums side.old.planned.range (heard side.old (S.stored shelf.old)) k sums.new) }
+        (AreBlockSums side.old.planned.range (heard side.old (S.stored shelf.old)) k
+        (take (block_frames side.old.planned.range k * side.old.planned.range.channels) sums.new)) }
     ensures ready { side.new ≡ side.old }
+    ensures program { program.new.room ≡ program.old.room }
     ensures source { IfErr result (OfSecond IsSource) }
     ensures only_reads { OnlyReads S.Shelf shelf.old shelf.new result (λ fault. OfSecond IsSource fault)
         (λ fault failed. OfSecond (λ of. FailsAt side.old.sounds of failed) fault) }
 {
-    match side.sum(k, shelf, sums) {
+    match side.sum(k, program, shelf, sums) {
         Ok(()) => Ok(()),
         Err(fault) => Err(CompareFault::Second(fault)),
     }
@@ -62,13 +73,13 @@ fn compare_sums<S: Shelf, T: Shelf>(
     second: &mut Side,
     first_shelf: &mut S,
     second_shelf: &mut T,
-    first_sums: &mut [i64],
-    second_sums: &mut [i64],
+    first_room: &mut Room,
+    second_room: &mut Room,
 ) -> Result<Option<Difference>, CompareFault>
     requires there { k < block_count first.old.planned.range }
     requires same { second.old.planned.range ≡ first.old.planned.range }
-    requires first_room { length first_sums.old ≡ 4096 * first.old.planned.range.channels }
-    requires second_room { length second_sums.old ≡ 4096 * first.old.planned.range.channels }
+    requires first_room { HasRoom first.old first_room.old }
+    requires second_room { HasRoom second.old second_room.old }
     ensures compared { IsTrue (S.honest first_shelf.old) → IsTrue (T.honest second_shelf.old)
         → IfOk result (IsCompared
         (block_start first.old.planned.range k)
@@ -77,34 +88,81 @@ fn compare_sums<S: Shelf, T: Shelf>(
         (heard second.old (T.stored second_shelf.old))) }
     ensures first_ready { first.new ≡ first.old }
     ensures second_ready { second.new ≡ second.old }
+    ensures first_room { HasRoom first.old first_room.new }
+    ensures second_room { HasRoom second.old second_room.new }
     ensures source { IfErr result (OfEither IsSource) }
     ensures first_read { OnlyReads S.Shelf first_shelf.old first_shelf.new result (λ fault. OfFirst IsSource fault)
         (λ fault failed. OfFirst (λ of. FailsAt first.old.sounds of failed) fault) }
     ensures second_read { OnlyReads T.Shelf second_shelf.old second_shelf.new result (λ fault. OfSecond IsSource fault)
         (λ fault failed. OfSecond (λ of. FailsAt second.old.sounds of failed) fault) }
 {
+    let sums = first_room.sums.as_mut_slice();
+    sum_first(first, k, &mut first_room.program, first_shelf, sums)?;
+    let others = second_room.sums.as_mut_slice();
+    sum_second(second, k, &mut second_room.program, second_shelf, others)?;
     let count = first.sums_of(k);
-    let sums = &mut first_sums[..count];
-    let others = &mut second_sums[..count];
-    sum_first(first, k, first_shelf, sums)?;
-    sum_second(second, k, second_shelf, others)?;
+    let sums = &first_room.sums.as_slice()[..count];
+    let others = &second_room.sums.as_slice()[..count];
     Ok(first_difference(sums, others, first.channels(), first.start_of(k)))
 }
 
-/// Where the sums of two sides differ first in block k. What neither plays is neither read nor summed.
+/// Whether both sides play the same stored frames in block k. There is room for their programs.
+fn is_stored_alike<S: Shelf, T: Shelf>(
+    k: u64,
+    first: &Side,
+    second: &Side,
+    first_shelf: &mut S,
+    second_shelf: &mut T,
+    first_room: &mut Room,
+    second_room: &mut Room,
+) -> Result<bool, CompareFault>
+    requires there { k < block_count first.now.planned.range }
+    requires same { second.now.planned.range ≡ first.now.planned.range }
+    requires first_room { HasRoom first.now first_room.old }
+    requires second_room { HasRoom second.now second_room.old }
+    ensures alike { IsTrue (S.honest first_shelf.old) → IsTrue (T.honest second_shelf.old)
+        → IfOk result (λ alike. IsTrue alike → AreAlike
+        (block_start first.now.planned.range k)
+        (block_start first.now.planned.range k + block_frames first.now.planned.range k)
+        first.now.planned.range.channels (heard first.now (S.stored first_shelf.old))
+        (heard second.now (T.stored second_shelf.old))) }
+    ensures first_room { HasRoom first.now first_room.new }
+    ensures second_room { HasRoom second.now second_room.new }
+    ensures source { IfErr result (OfEither IsSource) }
+    ensures first_read { OnlyReads S.Shelf first_shelf.old first_shelf.new result (λ fault. OfFirst IsSource fault)
+        (λ fault failed. OfFirst (λ of. FailsAt first.now.sounds of failed) fault) }
+    ensures second_read { OnlyReads T.Shelf second_shelf.old second_shelf.new result (λ fault. OfSecond IsSource fault)
+        (λ fault failed. OfSecond (λ of. FailsAt second.now.sounds of failed) fault) }
+{
+    first.fill(k, &mut first_room.program);
+    second.fill(k, &mut second_room.program);
+    sum_alike(
+        first_room.program.as_slice(),
+        second_room.program.as_slice(),
+        first.sounds(),
+        second.sounds(),
+        first_shelf,
+        second_shelf,
+        first_room.bytes.as_mut_slice(),
+        second_room.bytes.as_mut_slice(),
+    )
+}
+
+/// Where the sums of two sides differ first in block k. What neither plays is neither read nor summed, and what is stored
+/// alike isn't summed.
 fn compare_block<S: Shelf, T: Shelf>(
     k: u64,
     first: &mut Side,
     second: &mut Side,
     first_shelf: &mut S,
     second_shelf: &mut T,
-    first_sums: &mut [i64],
-    second_sums: &mut [i64],
+    first_room: &mut Room,
+    second_room: &mut Room,
 ) -> Result<Option<Difference>, CompareFault>
     requires there { k < block_count first.old.planned.range }
     requires same { second.old.planned.range ≡ first.old.planned.range }
-    requires first_room { length first_sums.old ≡ 4096 * first.old.planned.range.channels }
-    requires second_room { length second_sums.old ≡ 4096 * first.old.planned.range.channels }
+    requires first_room { HasRoom first.old first_room.old }
+    requires second_room { HasRoom second.old second_room.old }
     ensures compared { IsTrue (S.honest first_shelf.old) → IsTrue (T.honest second_shelf.old)
         → IfOk result (IsCompared
         (block_start first.old.planned.range k)
@@ -113,6 +171,8 @@ fn compare_block<S: Shelf, T: Shelf>(
         (heard second.old (T.stored second_shelf.old))) }
     ensures first_ready { first.new ≡ first.old }
     ensures second_ready { second.new ≡ second.old }
+    ensures first_room { HasRoom first.old first_room.new }
+    ensures second_room { HasRoom second.old second_room.new }
     ensures source { IfErr result (OfEither IsSource) }
     ensures first_read { OnlyReads S.Shelf first_shelf.old first_shelf.new result (λ fault. OfFirst IsSource fault)
         (λ fault failed. OfFirst (λ of. FailsAt first.old.sounds of failed) fault) }
@@ -122,30 +182,42 @@ fn compare_block<S: Shelf, T: Shelf>(
     if first.is_silent(k) && second.is_silent(k) {
         return Ok(None);
     }
+    let alike = is_stored_alike(
+        k,
+        first,
+        second,
+        first_shelf,
+        second_shelf,
+        first_room,
+        second_room,
+    )?;
+    if alike {
+        return Ok(None);
+    }
     compare_sums(
         k,
         first,
         second,
         first_shelf,
         second_shelf,
-        first_sums,
-        second_sums,
+        first_room,
+        second_room,
     )
 }
 
 /// Where two sides differ first, on the channels and in the samples that both plans have; `None` where they sound
-/// alike. There is room for the sums of any block. Blocks are summed in turn, and none after the one that differs.
+/// alike. There is room for any block. Blocks are compared in turn, and none after the one that differs.
 pub fn compare_sides<S: Shelf, T: Shelf>(
     first: &mut Side,
     second: &mut Side,
     first_shelf: &mut S,
     second_shelf: &mut T,
-    first_sums: &mut [i64],
-    second_sums: &mut [i64],
+    first_room: &mut Room,
+    second_room: &mut Room,
 ) -> Result<Option<Difference>, CompareFault>
     requires same { second.old.planned.range ≡ first.old.planned.range }
-    requires first_room { length first_sums.old ≡ 4096 * first.old.planned.range.channels }
-    requires second_room { length second_sums.old ≡ 4096 * first.old.planned.range.channels }
+    requires first_room { HasRoom first.old first_room.old }
+    requires second_room { HasRoom second.old second_room.old }
     ensures compared { IsTrue (S.honest first_shelf.old) → IsTrue (T.honest second_shelf.old)
         → IfOk result (IsCompared
         first.old.planned.range.from first.old.planned.range.to first.old.planned.range.channels
@@ -163,8 +235,8 @@ pub fn compare_sides<S: Shelf, T: Shelf>(
             second,
             first_shelf,
             second_shelf,
-            first_sums,
-            second_sums,
+            first_room,
+            second_room,
         )?;
         if found.is_some() {
             return Ok(found);

@@ -1,7 +1,7 @@
 use Rattle.std.proofs.Common.{◌≡◌, IsTrue}
 use Rattle.devices.specs.Frame.{IsQuiet}
 use Rattle.comparison.specs.Alike.{AreAlike}
-use Rattle.comparison.specs.Side.{heard, reached}
+use Rattle.comparison.specs.Side.{HasRoom, heard, reached}
 use Rattle.comparison.proofs.sides.compare_sides.Given as goal
 
 -- the blocks before k are alike
@@ -11,6 +11,8 @@ invariant-loop-k g l = record {
   second_ready : l.second ≡ l.fn.second;
   first_quiet : IsQuiet g.S.Shelf l.fn.first_shelf l.first_shelf;
   second_quiet : IsQuiet g.T.Shelf l.fn.second_shelf l.second_shelf;
+  first_room : HasRoom l.fn.first l.first_room;
+  second_room : HasRoom l.fn.second l.second_room;
   alike : IsTrue (g.S.Shelf.honest l.fn.first_shelf) → IsTrue (g.T.Shelf.honest l.fn.second_shelf)
       → AreAlike l.fn.first.planned.range.from (reached l.fn.first.planned.range l.k) l.fn.first.planned.range.channels
       (heard l.fn.first (g.S.Shelf.stored l.fn.first_shelf)) (heard l.fn.second (g.T.Shelf.stored l.fn.second_shelf));

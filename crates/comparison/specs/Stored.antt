@@ -1,0 +1,45 @@
+-- What two blocks add to their sums from the same stored bytes.
+use Rattle.std.specs.Prelude.{◌≡◌, ℕ, ◌+◌, ◌*◌, ◌/◌, ◌<◌, ◌≤◌, List, Some, length, slice_get, slice_index_or}
+use Rattle.sound_terms.specs.declared.block.Stretch.{Stretch}
+use Rattle.sound_terms.specs.declared.block.Instruction.{Instruction}
+use Rattle.sound_terms.specs.Blocks.{BlockState, IsFull, PlaysFull, executed}
+use Rattle.sound_terms.specs.Depth.{bits_of}
+use Rattle.sound_terms.specs.Mix.{Reading}
+use Rattle.sound_terms.specs.Sounds.{SoundFacts}
+
+-- two stretches of the same samples and channels of a block, which play files of the same channels and depth: so many
+-- bytes of each
+pub record AreStoredAlike (sounds others : List SoundFacts) (stretch part : Stretch) (count : ℕ) : Type 0 where
+  pub layout : part ≡ record stretch { file = part.file; frame = part.frame }
+  pub from_one : 1 ≤ stretch.first
+  pub facts : SoundFacts
+  pub there : slice_get sounds stretch.file ≡ Some facts
+  pub other_facts : SoundFacts
+  pub other_there : slice_get others part.file ≡ Some other_facts
+  pub channels_alike : other_facts.channels ≡ facts.channels
+  pub depth_alike : other_facts.depth ≡ facts.depth
+  pub long : count ≡ stretch.length * facts.channels * (bits_of facts.depth / 8)
+
+-- two stretches of the same samples and channels of a block play the same, and no sample outside full scale
+pub record PlayAlike (reading other : Reading) (stretch part : Stretch) : Type 0 where
+  pub layout : part ≡ record stretch { file = part.file; frame = part.frame }
+  pub samples : (j i : ℕ) → j < stretch.width → i < stretch.length
+      → reading stretch.file (stretch.first + j) (stretch.frame + i)
+      ≡ other part.file (part.first + j) (part.frame + i)
+  pub full : IsFull reading stretch
+  pub other_full : IsFull other part
+
+-- two instructions leave the same sums where they find the same, and play no sample outside full scale
+pub record AddAlike (reading other : Reading) (line counterpart : Instruction) : Type 0 where
+  pub sums : (channels : ℕ) (before after : BlockState)
+      → ((i channel : ℕ) → before.sums i channel ≡ after.sums i channel) → (i channel : ℕ)
+      → (executed reading channels line before).sums i channel
+      ≡ (executed other channels counterpart after).sums i channel
+  pub full : PlaysFull reading line
+  pub other_full : PlaysFull other counterpart
+
+-- as many instructions on both sides, each of which does so with its counterpart
+pub record SumAlike (reading other : Reading) (lines counterparts : List Instruction) : Type 0 where
+  pub alike_many : length lines ≡ length counterparts
+  pub each : (k : ℕ) (d : Instruction) → k < length lines
+      → AddAlike reading other (slice_index_or lines k d) (slice_index_or counterparts k d)
