@@ -6,11 +6,11 @@ use Rattle.list_terms.specs.Renewed.{media_name}
 use Rattle.execution.specs.Plan.{HoldJobs, HoldLast, IsForeign}
 use Rattle.consolidation.specs.Consolidated.{IsElsewhere}
 use Rattle.consolidation.specs.Jobs.{HoldsMedia, whole_of}
-use Rattle.consolidation.specs.Outputs.{job_plan, output_count, output_name, whole_output}
+use Rattle.consolidation.specs.Outputs.{AreNamedOutputs, job_plan, output_count, output_name, whole_output}
 use Rattle.consolidation.specs.Pieces.{job_of}
 use Rattle.consolidation.specs.Planned.{IsMediaPlan, MediaPlan}
 use Rattle.consolidation.specs.Reported.{IsReportThere}
-use Rattle.consolidation.proofs.Numbers.{by_position, each_last, has_job, last_held, medium_whole, of_elsewhere, output_after}
+use Rattle.consolidation.proofs.Numbers.{by_position, each_last, has_job, last_held, last_stays, medium_whole, of_elsewhere, output_after}
 use Rattle.consolidation.proofs.Wholes.{job_named}
 
 module _ (plan : MediaPlan) (is : IsMediaPlan plan) where
@@ -42,7 +42,7 @@ module _ (plan : MediaPlan) (is : IsMediaPlan plan) where
   }
 
   -- each medium is the output of a job
-  pub medium_job : (k : ℕ) → k < length plan.runs
+  medium_job : (k : ℕ) → k < length plan.runs
       → (j : ℕ) × (j < (job_plan plan).jobs.count) × ((job_plan plan).jobs.name j ≡ media_name (1 + k))
   medium_job k below =
       let has = has_job plan is k below in
@@ -50,7 +50,7 @@ module _ (plan : MediaPlan) (is : IsMediaPlan plan) where
       (has.job, has.among, ap (λ (n : ℕ). media_name (suc n)) has.medium ∙ ap media_name counted)
 
 -- the list is the last output
-pub list_output : (media : ℕ) (reported : Bool) (i : ℕ) → i + 1 ≡ output_count media reported
+list_output : (media : ℕ) (reported : Bool) (i : ℕ) → i + 1 ≡ output_count media reported
     → (media ≤ i) × (output_name media reported i ≡ codes "consolidated.adl")
 list_output media false i last =
     let counted : i ≡ media + 0 = omega (arith, last) in
@@ -60,10 +60,20 @@ list_output media true i last =
     (omega (arith, last), ap (output_name media true) counted ∙ output_after media true 2)
 
 -- and the files of the report are the two before it
-pub report_outputs : (media : ℕ) (reported : Bool) → IsTrue reported → (output_count media reported ≡ media + 3)
+report_outputs : (media : ℕ) (reported : Bool) → IsTrue reported → (output_count media reported ≡ media + 3)
     × (output_name media reported media ≡ codes "SHA256SUMS")
     × (output_name media reported (media + 1) ≡ codes "consolidated.json")
 report_outputs media false told = absurd (cc)
 report_outputs media true told =
     let counted : media ≡ media + 0 = omega arith in
     (refl, ap (output_name media true) counted ∙ output_after media true 0, output_after media true 1)
+
+module _ (plan : MediaPlan) (is : IsMediaPlan plan) where
+  pub named_outputs : AreNamedOutputs plan
+  named_outputs = record {
+    media = medium_job plan is;
+    list = list_output (length plan.runs) (is_some plan.report);
+    report = report_outputs (length plan.runs) (is_some plan.report);
+    last = last_stays plan is;
+    elsewhere = foreign_elsewhere plan is (is_some plan.report) refl;
+  }

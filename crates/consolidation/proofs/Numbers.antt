@@ -190,6 +190,28 @@ module _ (plan : MediaPlan) (is : IsMediaPlan plan) where
     no_report = media_no_report number (is_some plan.report);
   }
 
+  -- no medium is one of them
+  pub last_stays : (i : ℕ) → IsLast (job_plan plan) i → Stays (job_plan plan) ((job_plan plan).output i)
+  last_stays = by_position plan (Stays (job_plan plan)) (each_last (Stays (job_plan plan)) (is_some plan.report)
+      (of_stays (is_some plan.report)))
+    where
+      beside : (n : List ℕ) → ((number : ℕ) → number < 100000 → media_name number ≢ n) → Stays (job_plan plan) n
+      beside n no_name = record {
+        jobs = λ k below same.
+            let few = is.few in
+            let named = job_named plan is k below in
+            no_name (suc (job_of plan.runs k).run) (omega (arith, few, named)) same;
+        marks = λ sources m is_marked. absurd (cc);
+      }
+
+      of_stays : (reported : Bool) → OfLast (Stays (job_plan plan)) reported
+      of_stays false = beside (codes "consolidated.adl") (λ number few. media_name-no_list number few)
+      of_stays true = (
+        beside (codes "SHA256SUMS") (λ number few. (media_no_report number true refl).0),
+        beside (codes "consolidated.json") (λ number few. (media_no_report number true refl).1),
+        beside (codes "consolidated.adl") (λ number few. media_name-no_list number few),
+      )
+
   pub own_behind : (n : List ℕ) → IsOwn (job_plan plan) n → IsBehind (is_some plan.report) n
   own_behind n (OfJob k below same) =
       let few = is.few in

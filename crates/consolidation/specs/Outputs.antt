@@ -1,12 +1,13 @@
 -- A consolidation as a work: its outputs by number, the media in the order of their runs and then those that come last.
-use Rattle.std.specs.Prelude.{◌≡◌, ◌⊎◌, ℕ, zero, suc, ◌+◌, ◌-◌, ◌<◌, nat_lt, cond, bytes_eq, Bool, false, true, List, [], length, Option, None, Some, is_some, codes}
+use Rattle.std.specs.Prelude.{◌≡◌, ◌⊎◌, ℕ, zero, suc, ◌+◌, ◌-◌, ◌<◌, ◌≤◌, nat_lt, cond, bytes_eq, Bool, IsTrue, false, true, List, [], length, Option, None, Some, is_some, codes}
 use Rattle.work_terms.specs.Disk.{Files}
 use Rattle.list_terms.specs.Renewed.{media_name}
 use Rattle.provenance.specs.declared.report.Report.{Report}
 use Rattle.job_terms.specs.Workers.{jobs_over}
 use Rattle.execution.specs.Filled.{AreApart}
-use Rattle.execution.specs.Plan.{JobPlan, SourcesFit}
+use Rattle.execution.specs.Plan.{IsForeign, IsLast, JobPlan, SourcesFit, Stays}
 use Rattle.execution.specs.declared.fault.OutputFault.{OutputFault}
+use Rattle.consolidation.specs.Consolidated.{IsElsewhere}
 use Rattle.consolidation.specs.Jobs.{whole_of, work_of}
 use Rattle.consolidation.specs.Planned.{MediaPlan}
 use Rattle.consolidation.specs.There.{AreThere}
@@ -61,6 +62,20 @@ job_plan plan = record {
 abbrev pub FitsSources : MediaPlan → Type 0
 FitsSources plan = (sources : Files) → AreThere sources plan.sounds
     → SourcesFit (job_plan plan) sources × AreApart (jobs_over (job_plan plan).jobs sources)
+
+-- which names the outputs have: each medium is that of a job, the list is the last of all and the files of the report
+-- come before it; what comes last is no output of a job, and a file that is none of a consolidation is no output
+pub record AreNamedOutputs (plan : MediaPlan) : Type 0 where
+  pub media : (k : ℕ) → k < length plan.runs
+      → (j : ℕ) × (j < (job_plan plan).jobs.count) × ((job_plan plan).jobs.name j ≡ media_name (1 + k))
+  pub list : (i : ℕ) → i + 1 ≡ (job_plan plan).outputs → (length plan.runs ≤ i)
+      × ((job_plan plan).output i ≡ codes "consolidated.adl")
+  pub report : IsTrue (is_some plan.report) → ((job_plan plan).outputs ≡ length plan.runs + 3)
+      × ((job_plan plan).output (length plan.runs) ≡ codes "SHA256SUMS")
+      × ((job_plan plan).output (length plan.runs + 1) ≡ codes "consolidated.json")
+  pub last : (i : ℕ) → IsLast (job_plan plan) i → Stays (job_plan plan) ((job_plan plan).output i)
+  pub elsewhere : (n : List ℕ) → IsElsewhere (is_some plan.report) (length plan.runs) n
+      → IsForeign (job_plan plan) n
 
 -- the device failed at the medium of this number, one of so many
 abbrev pub FailsAtMedium : ℕ → OutputFault → (List ℕ → Type 0) → Type 0

@@ -5,11 +5,10 @@ ghost use Rattle.passes.specs.Left.{Leaving};
 ghost use Rattle.list_terms.specs.Binding.{Binding};
 ghost use Rattle.list_terms.specs.Heard.{IsAccepted};
 ghost use Rattle.list_terms.specs.Project.{ListProject};
-ghost use Rattle.list_terms.specs.Renewed.{media_name};
 ghost use Rattle.execution.specs.Plan.{HoldJobs, HoldLast, IsForeign};
 ghost use Rattle.consolidation.specs.Consolidated.{IsConsolidated};
 ghost use Rattle.consolidation.specs.Fault.{IsOfOutput, output_of};
-ghost use Rattle.consolidation.specs.Outputs.{job_plan, output_count, output_name};
+ghost use Rattle.consolidation.specs.Outputs.{AreNamedOutputs, job_plan, output_count, output_name};
 ghost use Rattle.consolidation.specs.Planned.{IsPlanOf};
 ghost use Rattle.consolidation.specs.Sizes.{written_of};
 ghost use Rattle.consolidation.specs.There.{AreThere};
@@ -34,13 +33,8 @@ impl<'a> Consolidation<'a> {
             → HoldJobs (job_plan self.now) sources written → HoldLast (job_plan self.now) sources written
             → ((n : List ℕ) → IsForeign (job_plan self.now) n → written n ≡ old n)
             → IsConsolidated leave project binding handle asked sources old written result }
-        ensures media { (k : ℕ) → k < result.media → (j : ℕ) × (j < (job_plan self.now).jobs.count)
-            × ((job_plan self.now).jobs.name j ≡ media_name (1 + k)) }
-        ensures list { (i : ℕ) → i + 1 ≡ (job_plan self.now).outputs → ((job_plan self.now).last ≤ i)
-            × ((job_plan self.now).output i ≡ codes "consolidated.adl") }
-        ensures report { IsTrue (is_some self.now.report) → ((job_plan self.now).outputs ≡ result.media + 3)
-            × ((job_plan self.now).output result.media ≡ codes "SHA256SUMS")
-            × ((job_plan self.now).output (result.media + 1) ≡ codes "consolidated.json") }
+        ensures names { AreNamedOutputs self.now }
+        ensures few { result.media ≤ 32767 }
     {
         // It is known to be a plan from here on.
         let _ = self.count();

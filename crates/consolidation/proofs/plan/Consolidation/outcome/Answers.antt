@@ -1,6 +1,5 @@
-use Rattle.std.proofs.Common.{◌<◌, length}
 use Rattle.std.specs.Prelude.{is_some}
-use Rattle.consolidation.proofs.AllWhole.{foreign_elsewhere, holds_last, holds_media, list_output, medium_job, report_outputs}
+use Rattle.consolidation.proofs.AllWhole.{foreign_elsewhere, holds_last, holds_media, named_outputs}
 use Rattle.consolidation.proofs.Ended.{consolidated, same_sound}
 use Rattle.consolidation.proofs.plan.Consolidation.outcome.Goals as goal
 
@@ -20,14 +19,8 @@ returns-clause-consolidated c = λ leave project binding handle asked sources ol
     (holds_media plan is sources written holds) held.0 old
     (λ n elsewhere. others n (foreign_elsewhere plan is (is_some asked) of.is_asked n elsewhere)) held.1)
 
-pub returns-clause-media : goal.returns-clause-media
-returns-clause-media c = λ k below.
-    let within : k < length c.args.self.now.runs = rw c.written.ensures at below in
-    medium_job c.args.self.now c.count.ensures.planned k within
+pub returns-clause-names : goal.returns-clause-names
+returns-clause-names c = named_outputs c.args.self.now c.count.ensures.planned
 
-pub returns-clause-list : goal.returns-clause-list
-returns-clause-list c = list_output (length c.args.self.now.runs) (is_some c.args.self.now.report)
-
-pub returns-clause-report : goal.returns-clause-report
-returns-clause-report c = λ reported.
-    rw c.written.ensures (report_outputs (length c.args.self.now.runs) (is_some c.args.self.now.report) reported)
+pub returns-clause-few : goal.returns-clause-few
+returns-clause-few c = rw c.written.ensures c.count.ensures.planned.few
