@@ -221,12 +221,14 @@ impl<'a> RenderingWork<'a> {
     ) -> Result<Option<u32>, MarksFault>
         ensures running { IsTrue (B.honest bench.old) → (sources : Files)
             → AreLeftBy ((plan_of self.old).marking sources) (B.may_leave bench.old)
-            → IfOk result (λ found. IfSome found (λ _. IsRunningBy ((plan_of self.new).marking sources)
-            (done_before self.new.work) (B.may_leave bench.new))) }
+            → (done : ℕ → Bool) → ((k : ℕ) → k < (plan_of self.new).jobs.count → done k ≡ done_before self.new.work k)
+            → IfOk result (λ found. IfSome found (λ _. IsRunningBy ((plan_of self.new).marking sources) done
+            (B.may_leave bench.new))) }
         ensures filled { IsTrue (B.honest bench.old) → (sources : Files)
             → AreLeftBy ((plan_of self.old).marking sources) (B.may_leave bench.old)
+            → (done : ℕ → Bool) → ((k : ℕ) → k < (plan_of self.new).jobs.count → done k ≡ done_before self.new.work k)
             → IfOk result (λ found. IfSome found (λ _. AreFilled (jobs_over (plan_of self.new).jobs sources)
-            ((plan_of self.new).whole sources) (done_before self.new.work) (B.stored bench.new))) }
+            ((plan_of self.new).whole sources) done (B.stored bench.new))) }
         ensures unstarted { IsTrue (B.honest bench.old) → (sources : Files) → IfOk result (λ found. found ≡ None
             → NoneStartedBy ((plan_of self.new).marking sources) (B.may_leave bench.new)) }
         ensures found { IsTrue (B.honest bench.old)

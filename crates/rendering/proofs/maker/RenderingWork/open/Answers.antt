@@ -7,10 +7,10 @@ use Rattle.work_terms.specs.Disk.{Files}
 use Rattle.markfile.specs.Opened.{Answers, AreFound, AreSettled, opened_of}
 use Rattle.execution.specs.Marking.{AreLeftBy}
 use Rattle.rendering.specs.Maker.{HasSoundJobs, IsMarkedWork, plan_of}
-use Rattle.rendering.specs.Marked.{IsFoundAs, MarkedWork}
+use Rattle.rendering.specs.Marked.{IsFoundAs, MarkedWork, marking_of}
 use Rattle.rendering.specs.Work.{AreCutBy, done_before}
 use Rattle.rendering.proofs.Forms.{left_as, runs_as}
-use Rattle.rendering.proofs.Resuming.{goes_on_running, same_run}
+use Rattle.rendering.proofs.Resuming.{goes_on_running, running_as, same_run}
 use Rattle.rendering.proofs.Works.{filled_by, sound_jobs}
 use Rattle.rendering.proofs.maker.RenderingWork.open.Goals as goal
 
@@ -31,7 +31,7 @@ invariant_of-self-in-Err-cut_by g c =
     )
 
 pub returns-in-Ok-cut_by-clause-running : goal.returns-in-Ok-cut_by-clause-running
-returns-in-Ok-cut_by-clause-running g c honest sources left =
+returns-in-Ok-cut_by-clause-running g c honest sources left done agrees =
     let cut = c.in-Ok-cut_by.ensures in
     let files = g.B.Bench.stored c.args.bench.now in
     let marked = c.in-Some.marks.marked.items in
@@ -46,21 +46,22 @@ returns-in-Ok-cut_by-clause-running g c honest sources left =
     cut.cut.uniform in
     let settled = subst (λ (f : Files). (x : Files) → g.B.Bench.may_leave c.open_marks.new.bench x → AreSettled f x)
     c.in-Ok.ensures.only_reads.same (c.in-Ok.ensures.settled honest) in
-    runs_as now sources (done_before now.work) (g.B.Bench.may_leave c.open_marks.new.bench)
+    runs_as now sources done (g.B.Bench.may_leave c.open_marks.new.bench)
+    (running_as (marking_of now sources) (done_before now.work) done (g.B.Bench.may_leave c.open_marks.new.bench) agrees
     (goes_on_running c.self.inside.rendering c.cut_by.new.self c.self.inside.run sources cut.whole
     (same_run c.self.inside.rendering c.cut_by.new.self c.self.inside.run cut.planned c.self.invariant.1) cut.planned
     cut.sounds (g.B.Bench.may_leave c.args.bench.now) (g.B.Bench.may_leave c.open_marks.new.bench) files marked found
     (left_as was sources (g.B.Bench.may_leave c.args.bench.now) was_left) c.in-Ok.ensures.untouched.crash settled
-    uniform)
+    uniform))
 
 pub returns-in-Ok-cut_by-clause-filled : goal.returns-in-Ok-cut_by-clause-filled
-returns-in-Ok-cut_by-clause-filled g c honest sources left =
+returns-in-Ok-cut_by-clause-filled g c honest sources left done agrees =
     let cut = c.in-Ok-cut_by.ensures in
     let now : MarkedWork = record { work = c.cut_by.new.self; run = c.self.inside.run } in
     filled_by now sources cut.whole
     (same_run c.self.inside.rendering c.cut_by.new.self c.self.inside.run cut.planned c.self.invariant.1)
-    (done_before now.work) (g.B.Bench.may_leave c.open_marks.new.bench) (g.B.Bench.stored c.open_marks.new.bench)
-    (returns-in-Ok-cut_by-clause-running g c honest sources left)
+    done (g.B.Bench.may_leave c.open_marks.new.bench) (g.B.Bench.stored c.open_marks.new.bench)
+    (returns-in-Ok-cut_by-clause-running g c honest sources left done agrees)
     (g.met.B.Bench.reads_now c.open_marks.new.bench
     (subst IsTrue (sym c.in-Ok.ensures.only_reads.honest_same) honest))
 
