@@ -150,7 +150,7 @@ module _ (plan : MediaPlan) where
       (of_durable (is_some plan.report) stored may_leave list durable))
       i last
 
-  -- none of the files that the work writes is none that come last
+  -- a file that the work doesn't write is none that comes last
   pub foreign_behind : (n : List ℕ) → IsForeign (job_plan plan) n → IsBehind (is_some plan.report) n
   foreign_behind n foreign = is_behind (is_some plan.report) n (λ position below same.
       foreign.last (length plan.runs + position) (omega arith, omega (arith, below))
