@@ -1,3 +1,4 @@
+pub mod Counts
 pub mod Events
 pub mod Heard
 pub mod Outside

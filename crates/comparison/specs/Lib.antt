@@ -1,4 +1,5 @@
 pub mod Alike
+pub mod Counted
 pub mod Fault
 pub mod Range
 pub mod Side

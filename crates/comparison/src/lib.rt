@@ -5,8 +5,11 @@
 //! both add the same stored frames nothing is summed. It answers `Same` exactly where the sums are equal on every chosen
 //! channel at every chosen time, and else the first time at which they differ, with the lowest channel that differs
 //! there and both sums (`compared`). Files are only read (`first_read`, `second_read`).
+//!
+//! `differing_in` counts, channel by channel, at how many samples of a stretch they differ (`counted`).
 #![tactic(auto)]
 
+mod counting;
 mod differing;
 mod fault;
 mod projects;
@@ -15,7 +18,9 @@ mod room;
 mod side;
 mod sides;
 mod stored;
+mod stretches;
 
 pub use fault::{CompareFault, SideFault};
 pub use projects::{Comparison, compare_projects};
 pub use range::Selection;
+pub use stretches::{DifferingCounts, differing_in};

@@ -94,15 +94,15 @@ fn side_of<'a>(alloc: Global, checked: &'a Checked, extent: &Extent) -> Result<S
 
 /// Two sides of one extent, each with room for its blocks.
 #[derive(Drop)]
-struct Sides<'a, 'b> {
-    first: Side<'a>,
-    second: Side<'b>,
-    first_room: Room,
-    second_room: Room,
+pub struct Sides<'a, 'b> {
+    pub first: Side<'a>,
+    pub second: Side<'b>,
+    pub first_room: Room,
+    pub second_room: Room,
 }
 
 /// Both sides of an extent of two projects.
-fn sides_of<'a, 'b>(
+pub fn sides_of<'a, 'b>(
     alloc: Global,
     first: &'a Checked,
     second: &'b Checked,
@@ -184,7 +184,7 @@ fn compare_in<S: Shelf, T: Shelf>(
 }
 
 /// So many samples as a time of the day.
-fn time_of(samples: u64) -> SampleTime
+pub fn time_of(samples: u64) -> SampleTime
     ensures { samples ≤ day → result ≡ samples }
 {
     SampleTime::new(samples).unwrap_or(SampleTime::DAY)

@@ -125,7 +125,8 @@ impl<'a> Side<'a> {
 
     /// How many blocks there are.
     pub fn blocks(&self) -> u64
-        ensures { result ≡ block_count self.now.planned.range }
+        ensures count { result ≡ block_count self.now.planned.range }
+        ensures in_day { self.now.planned.range.to ≤ day }
     {
         self.plan.blocks()
     }
@@ -145,6 +146,14 @@ impl<'a> Side<'a> {
         ensures few { result ≤ 4096 * self.now.planned.range.channels }
     {
         self.plan.frames_of(k) as usize * usize::from(self.channels())
+    }
+
+    /// The frames of block k, 4096 at most.
+    pub fn frames_of(&self, k: u64) -> usize
+        ensures frames { result ≡ block_frames self.now.planned.range k }
+        ensures few { result ≤ 4096 }
+    {
+        self.plan.frames_of(k) as usize
     }
 
     /// The time at which block k begins.

@@ -66,6 +66,43 @@ fn sum_second<S: Shelf>(
     }
 }
 
+/// Sums block k of both sides, over the first sums of their rooms.
+pub fn sum_both<S: Shelf, T: Shelf>(
+    k: u64,
+    first: &mut Side,
+    second: &mut Side,
+    first_shelf: &mut S,
+    second_shelf: &mut T,
+    first_room: &mut Room,
+    second_room: &mut Room,
+) -> Result<(), CompareFault>
+    requires there { k < block_count first.old.planned.range }
+    requires same { second.old.planned.range ≡ first.old.planned.range }
+    requires first_room { HasRoom first.old first_room.old }
+    requires second_room { HasRoom second.old second_room.old }
+    ensures summed { IsTrue (S.honest first_shelf.old) → OnOk result
+        (AreBlockSums first.old.planned.range (heard first.old (S.stored first_shelf.old)) k
+        (take (block_frames first.old.planned.range k * first.old.planned.range.channels) first_room.new.sums.items)) }
+    ensures others_summed { IsTrue (T.honest second_shelf.old) → OnOk result
+        (AreBlockSums first.old.planned.range (heard second.old (T.stored second_shelf.old)) k
+        (take (block_frames first.old.planned.range k * first.old.planned.range.channels) second_room.new.sums.items)) }
+    ensures first_ready { first.new ≡ first.old }
+    ensures second_ready { second.new ≡ second.old }
+    ensures first_room { HasRoom first.old first_room.new }
+    ensures second_room { HasRoom second.old second_room.new }
+    ensures source { IfErr result (OfEither IsSource) }
+    ensures first_read { OnlyReads S.Shelf first_shelf.old first_shelf.new result (λ fault. OfFirst IsSource fault)
+        (λ fault failed. OfFirst (λ of. FailsAt first.old.sounds of failed) fault) }
+    ensures second_read { OnlyReads T.Shelf second_shelf.old second_shelf.new result (λ fault. OfSecond IsSource fault)
+        (λ fault failed. OfSecond (λ of. FailsAt second.old.sounds of failed) fault) }
+{
+    let sums = first_room.sums.as_mut_slice();
+    sum_first(first, k, &mut first_room.program, first_shelf, sums)?;
+    let others = second_room.sums.as_mut_slice();
+    sum_second(second, k, &mut second_room.program, second_shelf, others)?;
+    Ok(())
+}
+
 /// Sums block k of both sides, and gives where the sums differ first. There is room for the sums of any block.
 fn compare_sums<S: Shelf, T: Shelf>(
     k: u64,
@@ -96,10 +133,15 @@ fn compare_sums<S: Shelf, T: Shelf>(
     ensures second_read { OnlyReads T.Shelf second_shelf.old second_shelf.new result (λ fault. OfSecond IsSource fault)
         (λ fault failed. OfSecond (λ of. FailsAt second.old.sounds of failed) fault) }
 {
-    let sums = first_room.sums.as_mut_slice();
-    sum_first(first, k, &mut first_room.program, first_shelf, sums)?;
-    let others = second_room.sums.as_mut_slice();
-    sum_second(second, k, &mut second_room.program, second_shelf, others)?;
+    sum_both(
+        k,
+        first,
+        second,
+        first_shelf,
+        second_shelf,
+        first_room,
+        second_room,
+    )?;
     let count = first.sums_of(k);
     let sums = &first_room.sums.as_slice()[..count];
     let others = &second_room.sums.as_slice()[..count];
@@ -148,8 +190,50 @@ fn is_stored_alike<S: Shelf, T: Shelf>(
     )
 }
 
-/// Where the sums of two sides differ first in block k. What neither plays is neither read nor summed, and what is stored
-/// alike isn't summed.
+/// Whether two sides sum alike in block k, as far as that shows before anything is summed: neither plays there, or both
+/// add the same stored frames.
+pub fn is_alike<S: Shelf, T: Shelf>(
+    k: u64,
+    first: &Side,
+    second: &Side,
+    first_shelf: &mut S,
+    second_shelf: &mut T,
+    first_room: &mut Room,
+    second_room: &mut Room,
+) -> Result<bool, CompareFault>
+    requires there { k < block_count first.now.planned.range }
+    requires same { second.now.planned.range ≡ first.now.planned.range }
+    requires first_room { HasRoom first.now first_room.old }
+    requires second_room { HasRoom second.now second_room.old }
+    ensures alike { IsTrue (S.honest first_shelf.old) → IsTrue (T.honest second_shelf.old)
+        → IfOk result (λ alike. IsTrue alike → AreAlike
+        (block_start first.now.planned.range k)
+        (block_start first.now.planned.range k + block_frames first.now.planned.range k)
+        first.now.planned.range.channels (heard first.now (S.stored first_shelf.old))
+        (heard second.now (T.stored second_shelf.old))) }
+    ensures first_room { HasRoom first.now first_room.new }
+    ensures second_room { HasRoom second.now second_room.new }
+    ensures source { IfErr result (OfEither IsSource) }
+    ensures first_read { OnlyReads S.Shelf first_shelf.old first_shelf.new result (λ fault. OfFirst IsSource fault)
+        (λ fault failed. OfFirst (λ of. FailsAt first.now.sounds of failed) fault) }
+    ensures second_read { OnlyReads T.Shelf second_shelf.old second_shelf.new result (λ fault. OfSecond IsSource fault)
+        (λ fault failed. OfSecond (λ of. FailsAt second.now.sounds of failed) fault) }
+{
+    if first.is_silent(k) && second.is_silent(k) {
+        return Ok(true);
+    }
+    is_stored_alike(
+        k,
+        first,
+        second,
+        first_shelf,
+        second_shelf,
+        first_room,
+        second_room,
+    )
+}
+
+/// Where the sums of two sides differ first in block k.
 fn compare_block<S: Shelf, T: Shelf>(
     k: u64,
     first: &mut Side,
@@ -179,10 +263,7 @@ fn compare_block<S: Shelf, T: Shelf>(
     ensures second_read { OnlyReads T.Shelf second_shelf.old second_shelf.new result (λ fault. OfSecond IsSource fault)
         (λ fault failed. OfSecond (λ of. FailsAt second.old.sounds of failed) fault) }
 {
-    if first.is_silent(k) && second.is_silent(k) {
-        return Ok(None);
-    }
-    let alike = is_stored_alike(
+    let alike = is_alike(
         k,
         first,
         second,

@@ -1,8 +1,6 @@
-use Rattle.std.proofs.Common.{◌≡◌, ℕ, ◌+◌, ◌*◌, ◌≤◌, List, sym, ap, ◌∙◌, subst, length, length-take, take, drop, arith}
+use Rattle.std.proofs.Common.{◌≡◌, ℕ, ◌+◌, ◌*◌, ◌≤◌, List, sym, ap, ◌∙◌, subst, length, length-take, take, arith}
 use Rattle.std.specs.Prelude.{ℤ}
-use Rattle.std.proofs.lemmas.List.{take_at}
 use Rattle.sound_terms.specs.Blocks.{block_frames, block_start}
-use Rattle.sound_terms.specs.Render.{Range}
 use Rattle.blockmachine.specs.Exact.{AreSumsOf}
 use Rattle.comparison.specs.Alike.{IsCompared}
 use Rattle.comparison.specs.Side.{AreBlockSums, SideWork, heard}
@@ -15,7 +13,7 @@ returns-clause-compared g c = λ honest sure.
     let frames = block_frames range k in
     let mix : ℕ → ℕ → ℤ = heard c.args.first.now (g.S.Shelf.stored c.args.first_shelf.now) in
     let mixed : ℕ → ℕ → ℤ = heard c.args.second.now (g.T.Shelf.stored c.args.second_shelf.now) in
-    let ready = c.sum_first.ensures.ready in
+    let ready = c.sum_both.ensures.first_ready in
     let channels : c.channels.result ≡ range.channels =
     c.channels.ensures.channels ∙ ap (λ (w : SideWork). w.planned.range.channels) ready in
     let start : c.start_of.result ≡ block_start range k =
@@ -28,25 +26,15 @@ returns-clause-compared g c = λ honest sure.
     c.sums_of-count.ensures.few in
     let sums : List ℤ = take c.sums_of-count.result c.as_slice.result.now in
     let others : List ℤ = take c.sums_of-count.result c.as_slice-2.result.now in
-    let first_read : c.as_slice.result.now ≡ c.sum_first.new.sums =
-    c.as_slice.ensures.value ∙ take_at c.sum_first.new.sums
-    (drop (length c.sum_first.new.sums) c.args.first_room.now.sums.items) c.args.first_room.now.sums.len
-    (c.sum_first.auto.sums ∙ c.as_mut_slice-sums.ensures.len) in
-    let second_read : c.as_slice-2.result.now ≡ c.sum_second.new.sums =
-    c.as_slice-2.ensures.value ∙ take_at c.sum_second.new.sums
-    (drop (length c.sum_second.new.sums) c.args.second_room.now.sums.items) c.args.second_room.now.sums.len
-    (c.sum_second.auto.sums ∙ c.as_mut_slice-others.ensures.len) in
-    let first : sums ≡ take (frames * range.channels) c.sum_first.new.sums =
-    ap (λ (n : ℕ). take n c.as_slice.result.now) many ∙ ap (take (frames * range.channels)) first_read in
-    let second : others ≡ take (frames * range.channels) c.sum_second.new.sums =
+    let first : sums ≡ take (frames * range.channels) c.sum_both.new.first_room.sums.items =
+    ap (λ (n : ℕ). take n c.as_slice.result.now) many ∙ ap (take (frames * range.channels)) c.as_slice.ensures.value in
+    let second : others ≡ take (frames * range.channels) c.sum_both.new.second_room.sums.items =
     ap (λ (n : ℕ). take n c.as_slice-2.result.now) many
-    ∙ ap (take (frames * range.channels)) second_read in
+    ∙ ap (take (frames * range.channels)) c.as_slice-2.ensures.value in
     let mine : AreBlockSums range mix k sums =
-    subst (λ (l : List ℤ). AreBlockSums range mix k l) (sym first) (c.in_ok-sum_first.ensures.summed honest) in
+    subst (λ (l : List ℤ). AreBlockSums range mix k l) (sym first) (c.in_ok-sum_both.ensures.summed honest) in
     let theirs : AreBlockSums range mixed k others =
-    subst (λ (l : List ℤ). AreBlockSums range mixed k l) (sym second)
-    (subst (λ (r : Range). AreBlockSums r mixed k (take (block_frames r k * r.channels) c.sum_second.new.sums))
-    c.requires.same (c.in_ok-sum_second.ensures.summed sure)) in
+    subst (λ (l : List ℤ). AreBlockSums range mixed k l) (sym second) (c.in_ok-sum_both.ensures.others_summed sure) in
     let here : (n t : ℕ) → n ≡ range.channels → t ≡ block_start range k
     → AreSumsOf frames n sums (λ i channel. mix channel (t + i)) =
     λ n t same begun.
@@ -59,8 +47,7 @@ returns-clause-compared g c = λ honest sure.
     (subst (λ (u : ℕ). AreSumsOf frames range.channels others (λ i channel. mixed channel (u + i))) (sym begun)
     theirs) in
     let whole : length c.as_slice.result.now ≡ 4096 * range.channels =
-    ap (length {A = ℤ}) first_read ∙ c.sum_first.auto.sums ∙ ap (length {A = ℤ}) c.as_mut_slice-sums.ensures.value
-    ∙ c.requires.first_room.sums in
+    ap (length {A = ℤ}) c.as_slice.ensures.value ∙ c.sum_both.ensures.first_room.sums in
     let cut : length sums ≡ c.sums_of-count.result = omega (arith, length-take {A = ℤ}, few, whole) in
     let long : length sums ≡ frames * c.channels.result = cut ∙ many ∙ ap (λ (n : ℕ). frames * n) (sym channels) in
     let found = c.first_difference.ensures frames mix mixed long (here c.channels.result c.start_of.result channels start)

@@ -1,0 +1,48 @@
+use Rattle.std.proofs.Common.{ℕ, ◌-◌, List, subst}
+use Rattle.std.specs.Prelude.{ℤ, ⊤, Result, Ok, Err, OnOk}
+use Rattle.list_terms.specs.Heard.{project_mix}
+use Rattle.devices.specs.Frame.{OnlyReads}
+use Rattle.sound_terms.specs.Render.{Range}
+use Rattle.sound_terms.specs.Sounds.{SoundFacts}
+use Rattle.comparison.specs.declared.fault.CompareFault.{CompareFault}
+use Rattle.comparison.specs.Counted.{AreCounts}
+use Rattle.comparison.specs.Fault.{FailsAt, IsSource, OfFirst, OfSecond}
+use Rattle.comparison.specs.Side.{heard}
+use Rattle.comparison.proofs.Counts.{counts_as}
+use Rattle.comparison.proofs.stretches.count_in.Goals as goal
+
+-- what follows where it went well
+well_gives : (P Q : Type 0) → (P → Q) → (result : Result ⊤ CompareFault) → OnOk result P → OnOk result Q
+well_gives P Q gives (Ok done) said = gives said
+well_gives P Q gives (Err fault) said = tt
+
+pub returns-clause-counted : goal.returns-clause-counted
+returns-clause-counted g c = λ honest sure.
+    let files = g.S.Shelf.stored c.args.first_shelf.now in
+    let stored = g.T.Shelf.stored c.args.second_shelf.now in
+    let sides = c.in_ok-sides.sides in
+    let extent = c.args.extent.now in
+    let new = c.count_sides.new.counts in
+    let mix : ℕ → ℕ → ℤ = project_mix files c.args.first.now.project c.args.first.now.bound in
+    let mixed : ℕ → ℕ → ℤ = project_mix stored c.args.second.now.project c.args.second.now.bound in
+    let told = subst (λ (r : Range). OnOk c.count_sides.result
+    (AreCounts (heard sides.first files) (heard sides.second stored) r.from (r.to - r.from) new))
+    c.in_ok-sides.ensures.range (c.count_sides.ensures.counted honest sure) in
+    well_gives (AreCounts (heard sides.first files) (heard sides.second stored) extent.from (extent.to - extent.from) new)
+    (AreCounts mix mixed extent.from (extent.to - extent.from) new)
+    (counts_as (heard sides.first files) (heard sides.second stored) mix mixed extent.from (extent.to - extent.from) new
+    (c.in_ok-sides.ensures.first_mixes files) (c.in_ok-sides.ensures.second_mixes stored)) c.count_sides.result told
+
+pub returns-clause-first_read : goal.returns-clause-first_read
+returns-clause-first_read g c =
+    subst (λ (sounds : List SoundFacts). OnlyReads g.S.Shelf c.args.first_shelf.now c.count_sides.new.first_shelf
+    c.count_sides.result (λ fault. OfFirst IsSource fault)
+    (λ fault failed. OfFirst (λ of. FailsAt sounds of failed) fault))
+    c.in_ok-sides.ensures.first_sounds c.count_sides.ensures.first_read
+
+pub returns-clause-second_read : goal.returns-clause-second_read
+returns-clause-second_read g c =
+    subst (λ (sounds : List SoundFacts). OnlyReads g.T.Shelf c.args.second_shelf.now c.count_sides.new.second_shelf
+    c.count_sides.result (λ fault. OfSecond IsSource fault)
+    (λ fault failed. OfSecond (λ of. FailsAt sounds of failed) fault))
+    c.in_ok-sides.ensures.second_sounds c.count_sides.ensures.second_read

@@ -1,0 +1,160 @@
+// At how many samples of a stretch two projects differ, channel by channel.
+ghost use Rattle.std.specs.Prelude.{◌≡◌, ◌+◌, ◌-◌, ◌≤◌, ℕ, max, min, IfErr, IfOk, IsTrue, OnOk, length, slice_index_or};
+ghost use Rattle.sound_terms.specs.declared.Depth.TheVariants.{TwentyFour};
+ghost use Rattle.list_terms.specs.Heard.{project_mix, sounds_of};
+ghost use Rattle.devices.specs.Frame.{OnlyReads};
+ghost use Rattle.comparison.specs.Counted as spec;
+ghost use Rattle.comparison.specs.Counted.{AreCounts};
+ghost use Rattle.comparison.specs.Fault.{FailsAt, IsAny, IsSource, OfEither, OfFirst, OfSecond};
+ghost use Rattle.comparison.specs.Range as range;
+ghost use Rattle.comparison.specs.Range.{HasChannels};
+
+use crate::counting::count_sides;
+use crate::projects::{sides_of, time_of};
+use crate::range::{Extent, Selection, compared_in};
+use crate::{CompareFault, SideFault};
+use devices::Shelf;
+use projectcheck::Checked;
+use sampletime::SampleTime;
+use std::alloc::{AllocError, Global};
+use std::marker::Model;
+
+/// At how many samples two projects differ on each channel, on channel 1 first.
+#[derive(Drop)]
+pub struct DifferingCounts {
+    counts: Vec<u32>,
+}
+
+impl Model for DifferingCounts {
+    ghost use Rattle.std.specs.Prelude.{ℕ, List};
+
+    ghost Value = { List ℕ };
+
+    ghost view = { λ c. c.counts.items };
+}
+
+impl DifferingCounts {
+    /// The counts, one a channel.
+    pub fn as_slice(&self) -> &[u32]
+        ensures { result.now ≡ self.now }
+    {
+        self.counts.as_slice()
+    }
+}
+
+/// So many frames of an extent, at most, from a time on.
+fn stretch_in(extent: &Extent, from: SampleTime, frames: u64) -> Extent
+    ensures from { result.from ≡ max extent.now.from from }
+    ensures to { result.to ≡ min extent.now.to (from + frames) }
+    ensures channels { result.channels ≡ extent.now.channels }
+{
+    let end = from.get().saturating_add(frames);
+    Extent {
+        from: extent.from.max(from),
+        to: time_of(extent.to.get().min(end)),
+        channels: extent.channels,
+    }
+}
+
+/// A count of zero for each channel.
+fn zeros_for(alloc: Global, channels: u8) -> Result<Vec<u32>, AllocError>
+    ensures wide { IfOk result (λ counts. length counts.items ≡ channels) }
+    ensures zero { IfOk result (λ counts. (k : ℕ) → slice_index_or counts.items k 0 ≡ 0) }
+{
+    let mut counts = Vec::new(alloc);
+    counts.resize(usize::from(channels), 0)?;
+    Ok(counts)
+}
+
+/// Writes over the count of each channel, which is zero, at how many samples of an extent two projects differ. Nothing is
+/// read where it is empty.
+fn count_in<S: Shelf, T: Shelf>(
+    alloc: Global,
+    first: &Checked,
+    second: &Checked,
+    extent: &Extent,
+    first_shelf: &mut S,
+    second_shelf: &mut T,
+    counts: &mut [u32],
+) -> Result<(), CompareFault>
+    requires channels { (1 ≤ extent.now.channels) × (extent.now.channels ≤ 64) }
+    requires wide { length counts.old ≡ extent.now.channels }
+    requires zero { (k : ℕ) → slice_index_or counts.old k 0 ≡ 0 }
+    ensures counted { IsTrue (S.honest first_shelf.old) → IsTrue (T.honest second_shelf.old) → OnOk result (AreCounts
+        (project_mix (S.stored first_shelf.old) first.now.project first.now.bound)
+        (project_mix (T.stored second_shelf.old) second.now.project second.now.bound)
+        extent.now.from (extent.now.to - extent.now.from) counts.new) }
+    ensures of_sums { IfErr result (OfEither IsAny) }
+    ensures first_read { OnlyReads S.Shelf first_shelf.old first_shelf.new result (λ fault. OfFirst IsSource fault)
+        (λ fault failed. OfFirst (λ of. FailsAt (sounds_of first.now.bound) of failed) fault) }
+    ensures second_read { OnlyReads T.Shelf second_shelf.old second_shelf.new result
+        (λ fault. OfSecond IsSource fault)
+        (λ fault failed. OfSecond (λ of. FailsAt (sounds_of second.now.bound) of failed) fault) }
+{
+    if extent.to.get() <= extent.from.get() {
+        return Ok(());
+    }
+    let sides = sides_of(alloc, first, second, extent)?;
+    let (mut one, mut two) = (sides.first, sides.second);
+    let (mut first_room, mut second_room) = (sides.first_room, sides.second_room);
+    count_sides(
+        &mut one,
+        &mut two,
+        first_shelf,
+        second_shelf,
+        &mut first_room,
+        &mut second_room,
+        counts,
+    )
+}
+
+/// At how many samples two projects differ on each channel, by their exact sums, in a stretch of what
+/// `compare_projects` compares: so many frames at most, from a time on. No block is read that has none of them. Counts of
+/// an empty stretch are zero.
+pub fn differing_in<S: Shelf, T: Shelf>(
+    alloc: Global,
+    first: &Checked,
+    second: &Checked,
+    selection: &Selection,
+    from: SampleTime,
+    frames: u64,
+    first_shelf: &mut S,
+    second_shelf: &mut T,
+) -> Result<DifferingCounts, CompareFault>
+    requires { HasChannels selection.now }
+    ensures counted { let stretch = spec.stretch_in
+        (range.compared_in selection.now first.now.project.events second.now.project.events) from frames in
+        IsTrue (S.honest first_shelf.old) → IsTrue (T.honest second_shelf.old) → IfOk result (AreCounts
+        (project_mix (S.stored first_shelf.old) first.now.project first.now.bound)
+        (project_mix (T.stored second_shelf.old) second.now.project second.now.bound)
+        stretch.from (stretch.to - stretch.from)) }
+    ensures wide { IfOk result (λ counts. length counts
+        ≡ (range.compared_in selection.now first.now.project.events second.now.project.events).channels) }
+    ensures of_sums { IfErr result (OfEither IsAny) }
+    ensures first_read { OnlyReads S.Shelf first_shelf.old first_shelf.new result (λ fault. OfFirst IsSource fault)
+        (λ fault failed. OfFirst (λ of. FailsAt (sounds_of first.now.bound) of failed) fault) }
+    ensures second_read { OnlyReads T.Shelf second_shelf.old second_shelf.new result
+        (λ fault. OfSecond IsSource fault)
+        (λ fault failed. OfSecond (λ of. FailsAt (sounds_of second.now.bound) of failed) fault) }
+{
+    let extent = compared_in(
+        selection,
+        first.project().events(),
+        second.project().events(),
+    );
+    let stretch = stretch_in(&extent, from, frames);
+    let Ok(mut counts) = zeros_for(alloc, stretch.channels) else {
+        return Err(CompareFault::First(SideFault::Memory));
+    };
+    let written = counts.as_mut_slice();
+    count_in(
+        alloc,
+        first,
+        second,
+        &stretch,
+        first_shelf,
+        second_shelf,
+        written,
+    )?;
+    Ok(DifferingCounts { counts })
+}
