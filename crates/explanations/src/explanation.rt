@@ -5,7 +5,7 @@ use crate::meanings::{Meaning, Spot, meaning_at};
 use crate::names::PrintedName;
 use crate::remedies::{SystemWord, remedy_by};
 use adlread::AdlFault;
-use consolidate::{Fault, MARKS, MarksFault, OutputFile};
+use consolidate::{Fault, ListFault, MARKS, MarksFault, OutputFile};
 use shelf::Reason;
 use std::fmt;
 use std::fmt::Display;
@@ -79,6 +79,21 @@ impl<'a> Explanation<'a> {
         }
     }
 
+    /// The explanation of a fault of one of two lists that are compared: what was found in that list, and what the
+    /// system said of the source that failed.
+    pub fn of_list(
+        fault: &'a ListFault,
+        list: &'a [u8],
+        source: Option<Reason>,
+    ) -> Explanation<'a> {
+        Explanation {
+            number: fault.number(),
+            spot: list_spot(fault),
+            is_rendering: false,
+            findings: Findings::of_list(fault, list, source),
+        }
+    }
+
     /// The explanation of a refusal that names a file or nothing, with what the system said, or the name of something
     /// that lies in a folder which isn't empty.
     pub fn by(number: u8, reason: Option<Error>, inside: Option<&'a str>) -> Explanation<'a> {
@@ -145,6 +160,15 @@ fn spot_of(fault: &Fault) -> Spot {
         Fault::Output(_) | Fault::Marks(MarksFault::Sound | MarksFault::Marks) => Spot::File,
         Fault::GivenUp { .. } => Spot::Job,
         _ => Spot::Nowhere,
+    }
+}
+
+/// What a fault of one of two lists names.
+fn list_spot(fault: &ListFault) -> Spot {
+    match fault {
+        ListFault::Project(fault) => project_spot(fault),
+        ListFault::Source { .. } => Spot::File,
+        ListFault::Intervals | ListFault::Memory => Spot::Nowhere,
     }
 }
 
@@ -235,6 +259,27 @@ impl<'a> Findings<'a> {
             reason: reason_of(fault, source, output).map(|reason| reason.error),
             unfinished: unfinished_after(fault, output),
         }
+    }
+
+    /// What is found of a fault of one of two lists.
+    fn of_list(fault: &'a ListFault, list: &'a [u8], source: Option<Reason>) -> Findings<'a> {
+        let line = match fault {
+            ListFault::Project(fault) => ListLines::new(list).at(fault),
+            _ => None,
+        };
+        let reason = reason_of_list(fault, source).map(|reason| reason.error);
+        Findings {
+            line,
+            ..Findings::by(reason, None)
+        }
+    }
+}
+
+/// What the system said of the source of one of two lists at which a call failed.
+fn reason_of_list(fault: &ListFault, source: Option<Reason>) -> Option<Reason> {
+    match fault {
+        ListFault::Project(opening::Fault::Media { .. }) | ListFault::Source { .. } => source,
+        ListFault::Project(_) | ListFault::Intervals | ListFault::Memory => None,
     }
 }
 

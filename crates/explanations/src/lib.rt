@@ -3,6 +3,7 @@
 
 mod changed;
 mod column;
+mod differing;
 mod explanation;
 mod file_kind;
 mod found_format;
@@ -20,6 +21,7 @@ mod saved;
 mod shown;
 
 pub use changed::ChangedSources;
+pub use differing::{Agreement, ExactSample, NamedList, SoundingEntries};
 pub use explanation::{Explanation, FoundFolder, FurtherExplanation};
 pub use found_format::FoundFormat;
 pub use found_sound::FoundSound;

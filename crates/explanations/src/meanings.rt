@@ -212,7 +212,8 @@ pub static MEANINGS: [Meaning; 55] = [
         number: 22,
         spot: Spot::IndexFile,
         meaning: "the file can't be read",
-        cause: "the device failed, the file may not be read, or it was changed meanwhile",
+        cause: "the device failed, the file may not be read, or it was changed meanwhile; \
+                a comparison names the file alone where that comes while it makes its sums",
         remedy: "check the file and its permissions, and run again into an empty folder",
         is_answered: true,
     },
@@ -343,7 +344,7 @@ pub static MEANINGS: [Meaning; 55] = [
         number: 47,
         spot: Spot::Nowhere,
         meaning: "out of memory for the entries",
-        cause: "there are more entries than free memory can hold",
+        cause: "there are more entries than free memory can hold, where two lists are compared those of both",
         remedy: "free memory, or split the list",
         is_answered: true,
     },
@@ -398,7 +399,7 @@ pub static MEANINGS: [Meaning; 55] = [
     Meaning {
         number: 57,
         spot: Spot::Nowhere,
-        meaning: "out of memory for a rendering",
+        meaning: "out of memory for a rendering or a comparison",
         cause: "there are more entries than free memory can hold",
         remedy: "free memory, or split the list",
         is_answered: true,
@@ -408,7 +409,7 @@ pub static MEANINGS: [Meaning; 55] = [
         spot: Spot::Nowhere,
         meaning: "nothing lies in the range",
         cause: "it ends where it starts or before; without --from and --to it goes from the first entry's start \
-                to the last one's end",
+                to the last one's end, of both lists where two are compared",
         remedy: "name a range by --from and --to, or check the list's entries",
         is_answered: true,
     },

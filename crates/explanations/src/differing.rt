@@ -1,0 +1,140 @@
+// What is reported of the first difference of two lists.
+use console::ListOfTwo;
+use sampletime::{Rate, SampleTime, Separators, text_of};
+use sound_terms::Event;
+use std::fmt;
+use std::fmt::Display;
+
+/// How many entries are named.
+const MOST: usize = 20;
+
+/// How many digits a fraction of a sum has at most.
+const DIGITS: u32 = 24;
+
+/// The bits of an exact sum below a sample of 24 bits.
+const FRACTION: u64 = 0xFF_FFFF;
+
+/// One of two lists by its number: `list 1` or `list 2`.
+#[derive(Clone, Copy)]
+pub struct NamedList(pub ListOfTwo);
+
+impl fmt::Display for NamedList {
+    fn fmt<W: fmt::Write>(&self, f: &mut fmt::Formatter<W>) -> fmt::Result {
+        f.write_str(match self.0 {
+            ListOfTwo::First => "list 1",
+            ListOfTwo::Second => "list 2",
+        })
+    }
+}
+
+/// An exact sum, at full scale 2^47, as a sample of 24 bits: in decimals, with all digits of its fraction.
+#[derive(Clone, Copy)]
+pub struct ExactSample(pub i64);
+
+impl fmt::Display for ExactSample {
+    fn fmt<W: fmt::Write>(&self, f: &mut fmt::Formatter<W>) -> fmt::Result {
+        if self.0 < 0 {
+            f.write_str("-")?;
+        }
+        let magnitude = self.0.unsigned_abs();
+        let whole = magnitude >> 24;
+        write!(f, "{whole}")?;
+        fmt_fraction(magnitude & FRACTION, f)
+    }
+}
+
+/// Writes a fraction, in units of 2^-24, as the digits after a point; nothing where it is zero.
+fn fmt_fraction<W: fmt::Write>(fraction: u64, f: &mut fmt::Formatter<W>) -> fmt::Result {
+    let mut rest = fraction;
+    if rest == 0 {
+        return Ok(());
+    }
+    f.write_str(".")?;
+    for _ in 0..DIGITS {
+        if rest == 0 {
+            return Ok(());
+        }
+        let tenfold = rest.saturating_mul(10);
+        let digit = tenfold >> 24;
+        write!(f, "{digit}")?;
+        rest = tenfold & FRACTION;
+    }
+    Ok(())
+}
+
+/// The entries of a list that may sound at a time on a channel, by their numbers: whose span holds the time, and whose
+/// channels hold the channel. At most 20 are named, and how many more there are.
+#[derive(Clone, Copy)]
+pub struct SoundingEntries<'a> {
+    pub events: &'a [Event],
+    pub at: SampleTime,
+    pub channel: u8,
+}
+
+impl SoundingEntries<'_> {
+    /// Whether an entry is one of them.
+    fn has(&self, event: &Event) -> bool {
+        event.dest_in <= self.at
+            && self.at < event.dest_out
+            && event.dest.first <= self.channel
+            && self.channel <= event.dest.last
+    }
+}
+
+impl fmt::Display for SoundingEntries<'_> {
+    fn fmt<W: fmt::Write>(&self, f: &mut fmt::Formatter<W>) -> fmt::Result {
+        let mut count: usize = 0;
+        for event in self.events {
+            if self.has(event) {
+                if count < MOST {
+                    let (comma, number) = (if count == 0 { "" } else { ", " }, event.number);
+                    write!(f, "{comma}entry {number}")?;
+                }
+                count = count.saturating_add(1);
+            }
+        }
+        match count.checked_sub(MOST) {
+            None if count == 0 => f.write_str("no entry"),
+            None | Some(0) => Ok(()),
+            Some(more) => write!(f, " and {more} more"),
+        }
+    }
+}
+
+/// How long two lists are the same before they differ, and from when on, by the times of the first list.
+#[derive(Clone, Copy)]
+pub struct Agreement {
+    pub from: SampleTime,
+    pub to: SampleTime,
+    pub rate: Rate,
+    pub separators: Separators,
+}
+
+impl fmt::Display for Agreement {
+    fn fmt<W: fmt::Write>(&self, f: &mut fmt::Formatter<W>) -> fmt::Result {
+        let samples = self.to.get().saturating_sub(self.from.get());
+        let Some(length) = SampleTime::new(samples) else {
+            return Ok(());
+        };
+        if samples == 0 {
+            return f.write_str("they differ from the first sample on");
+        }
+        f.write_str("before it they are the same, from ")?;
+        self.fmt_time(self.from, f)?;
+        let counted = if samples == 1 { "sample" } else { "samples" };
+        write!(f, " on: {samples} {counted} (")?;
+        self.fmt_time(length, f)?;
+        f.write_str(")")
+    }
+}
+
+impl Agreement {
+    /// Writes a time as the first list does.
+    fn fmt_time<W: fmt::Write>(&self, time: SampleTime, f: &mut fmt::Formatter<W>) -> fmt::Result {
+        for byte in text_of(time, self.separators, self.rate) {
+            let character = char::from(byte);
+            write!(f, "{character}")?;
+        }
+        Ok(())
+    }
+}
