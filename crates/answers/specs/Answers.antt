@@ -1,6 +1,6 @@
 -- What the program prints and answers of a command.
 use Rattle.std.specs.Prelude.{◌≡◌, ℕ, Bool, true, false, IsOk, IsErr, ⊤, List, [], ◌∷◌, ◌++◌, Option, None, Some, Result, Ok, Err, codes, if◌then◌else◌}
-use Rattle.work_terms.specs.Refusals.{Refusal, Where, Index, IndexFile}
+use Rattle.work_terms.specs.Refusals.{Refusal, Where, Nowhere, Index, IndexFile}
 use Rattle.opening.specs.declared.checking.Accepted.{Accepted}
 use Rattle.devices.specs.declared.source.Shelf as source
 use Rattle.opening.specs.Further.{WasRead}
@@ -10,15 +10,27 @@ use Rattle.list_terms.specs.Text.{rate_of}
 use Rattle.consolidate.specs.Commands.{IsChecking, IsRendering}
 use Rattle.consolidate.specs.Resuming.{IsResuming}
 use Rattle.consolidate.specs.Fault.{refusal_of}
+use Rattle.consolidate.specs.Comparing.{IsComparing}
+use Rattle.consolidate.specs.CompareFault as comparing
+use Rattle.consolidate.specs.declared.compare_fault.CompareFault.{CompareFault}
+use Rattle.consolidate.specs.declared.compare_fault.CompareFault.TheVariants as compare
+use Rattle.consolidate.specs.declared.compared.Compared.{Compared}
+use Rattle.comparison.specs.declared.projects.Comparison.{Comparison}
+use Rattle.comparison.specs.declared.projects.Comparison.TheVariants.{Same, Differs}
+use Rattle.comparison.specs.declared.range.Selection.{Selection}
+use Rattle.sampletime.specs.FrameRate.{frames_per_second}
+use Rattle.sampletime.specs.TimeCode.{text_of}
 use Rattle.consolidate.specs.declared.Fault.{Fault}
 use Rattle.consolidate.specs.declared.Rendered.{Rendered}
 use Rattle.consolidate.specs.declared.Resumed.{Resumed}
 use Rattle.consolidate.specs.declared.Written.{Written}
-use Rattle.commandline.specs.CommandLine.{Asked, Chosen, Check, Report, Render, Resume, Consolidate, Show, Explain, ExplainNotice}
+use Rattle.commandline.specs.CommandLine.{Asked, Chosen, Selected, Check, Report, Render, Resume, Consolidate, Compare, Show, Explain, ExplainNotice}
 use Rattle.console.specs.declared.console.Console as console
-use Rattle.console.specs.Lines.{accepted_text, notices_text, refusal_text, rendered_text, resumed_text, written_text}
+use Rattle.console.specs.declared.lines.ListOfTwo.{ListOfTwo}
+use Rattle.console.specs.declared.lines.ListOfTwo.TheVariants.{First, Second}
+use Rattle.console.specs.Lines.{accepted_text, differ_text, in_list, notices_of_list, notices_text, refusal_text, rendered_text, resumed_text, same_text, written_text}
 use Rattle.console.specs.Printing.{Prints}
-use Rattle.answers.specs.Times.{values_of}
+use Rattle.answers.specs.Times.{selection_of, values_of}
 
 -- the version of this program, where a report is asked for
 abbrev pub asking : Bool → Option (List ℕ)
@@ -60,18 +72,65 @@ abbrev pub status_of : {X : Type 0} → Result X Fault → ℕ
 status_of (Ok report) = 0
 status_of (Err fault) = 1
 
+-- the line of a refusal of one of two lists
+abbrev pub list_refusal_line : ListOfTwo → (is_named : Bool) → Refusal → List ℕ
+list_refusal_line list is_named refusal =
+    (refusal_text refusal.number (place_told is_named refusal.place) ++ in_list list) ++ 10 ∷ []
+
+-- of a comparison, which is refused by one of them, or since no sample was chosen
+abbrev pub comparison_refusal_line : (is_named : Bool) → CompareFault → List ℕ
+comparison_refusal_line is_named (compare.First fault) = list_refusal_line First is_named (comparing.refusal_of fault)
+comparison_refusal_line is_named (compare.Second fault) = list_refusal_line Second is_named (comparing.refusal_of fault)
+comparison_refusal_line is_named compare.EmptyRange = refusal_text 58 Nowhere ++ 10 ∷ []
+
+-- how two lists compare, by times at a rate of frames with these separators
+abbrev pub comparison_text : (rate : ℕ) → (separators : List ℕ) → Comparison → List ℕ
+comparison_text rate separators (Same frames channels) = same_text frames channels
+comparison_text rate separators (Differs at channel first second) = differ_text (text_of rate at separators) channel
+
+-- the notices of both lists, and how they compare
+abbrev pub compared_lines : Compared → List ℕ
+compared_lines told = ((notices_of_list First told.first_notices.items
+    ++ notices_of_list Second told.second_notices.items)
+    ++ comparison_text (frames_per_second told.rate) told.separators told.comparison) ++ 10 ∷ []
+
+-- the lines of a comparison
+abbrev pub comparison_lines : (is_named : Bool) → Result Compared CompareFault → List ℕ
+comparison_lines is_named (Ok told) = compared_lines told
+comparison_lines is_named (Err fault) = comparison_refusal_line is_named fault
+
+-- 0 where two lists sound the same, 1 where they differ
+abbrev pub status_of_comparison : Comparison → ℕ
+status_of_comparison (Same frames channels) = 0
+status_of_comparison (Differs at channel first second) = 1
+
+-- and where one is refused
+abbrev pub comparison_status : Result Compared CompareFault → ℕ
+comparison_status (Ok told) = status_of_comparison told.comparison
+comparison_status (Err fault) = 1
+
 -- this text was printed, unless a print failed
 abbrev pub Tells : {O : Type 0} → console.Ghosts O → O → O → List ℕ → Type 0
 Tells out = Prints out.contents out.failures
 
--- A command was called; its status is the answer, and its lines were printed.
-pub record IsAnswered {X O : Type 0} (call : Result X Fault → Type 0) (report_lines : X → List ℕ)
-    (out : console.Ghosts O) (old new : O) (status : ℕ) : Type 0 where
-  pub outcome : Result X Fault
+-- A command was called, whatever its faults are; its status is the answer, and its lines were printed.
+pub record IsAnsweredBy {X F O : Type 0} (call : Result X F → Type 0) (status_by : Result X F → ℕ)
+    (lines_by : Bool → Result X F → List ℕ) (out : console.Ghosts O) (old new : O) (status : ℕ) : Type 0 where
+  pub outcome : Result X F
   pub called : call outcome
-  pub status_is : status ≡ status_of outcome
+  pub status_is : status ≡ status_by outcome
   pub is_named : Bool
-  pub printed : Tells out old new (lines_of report_lines is_named outcome)
+  pub printed : Tells out old new (lines_by is_named outcome)
+
+-- a command over one list
+abbrev pub IsAnswered : {X O : Type 0} → (Result X Fault → Type 0) → (X → List ℕ) → console.Ghosts O → (old new : O)
+    → (status : ℕ) → Type 0
+IsAnswered call report_lines = IsAnsweredBy call status_of (lines_of report_lines)
+
+-- a comparison
+abbrev pub IsCompared : {O : Type 0} → (Result Compared CompareFault → Type 0) → console.Ghosts O → (old new : O)
+    → (status : ℕ) → Type 0
+IsCompared call = IsAnsweredBy call comparison_status comparison_lines
 
 -- the list was checked over these sources, which were only read then, and not at all where it was accepted
 pub record IsChecked {S : Type 0} (shelf : source.Ghosts S) (list : List ℕ) (old new : S)
@@ -95,13 +154,21 @@ pub record ResumesBy {S B : Type 0} (shelf : source.Ghosts S) (bench : output.Gh
   pub read : values_of (rate_of list) chosen ≡ Ok values
   pub resuming : IsResuming shelf bench list values shelf_old shelf_new bench_old bench_new result
 
--- what is asked for can't be done: a time that can't be read, or a number that nothing has
+-- two lists were compared at what the words choose, whose times are read at the first one's rate of frames
+pub record ComparesBy {S T : Type 0} (shelf : source.Ghosts S) (stock : source.Ghosts T) (selected : Selected)
+    (list other : List ℕ) (old new : S) (other_old other_new : T) (result : Result Compared CompareFault) : Type 0 where
+  pub selection : Selection
+  pub read : selection_of (rate_of list) selected ≡ Ok selection
+  pub comparing : IsComparing shelf stock list other selection old new other_old other_new result
+
+-- what is asked for can't be done: a time that can't be read, a number that nothing has, or two lists over one
 abbrev pub MayBeMistaken : ℕ → Asked → Type 0
 MayBeMistaken rate (Check list media) = ⊥
 MayBeMistaken rate (Report list media) = ⊥
 MayBeMistaken rate (Render list media out chosen) = IsErr (values_of rate chosen)
 MayBeMistaken rate (Resume list media out chosen) = IsErr (values_of rate chosen)
 MayBeMistaken rate (Consolidate list media out handle report) = ⊥
+MayBeMistaken rate (Compare list media other other_media selected) = ⊤
 MayBeMistaken rate (Show list media handle) = ⊥
 MayBeMistaken rate (Explain number) = ⊤
 MayBeMistaken rate (ExplainNotice number) = ⊤

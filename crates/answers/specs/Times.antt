@@ -1,9 +1,10 @@
--- What the options of a rendering say, their times at the rate of frames of its list.
+-- What the options of a rendering or of a comparison say, their times at the rate of frames of the list.
 use Rattle.std.specs.Prelude.{ℕ, ◌∷◌, [], ◌++◌, List, Option, None, Some, Result, Ok, Err, option_map, codes}
 use Rattle.sampletime.specs.TimeCode.{samples_of}
 use Rattle.list_terms.specs.Accepted.{OptionValues}
 use Rattle.clap.specs.Walk.{Text}
-use Rattle.commandline.specs.CommandLine.{Chosen}
+use Rattle.comparison.specs.declared.range.Selection.{Selection}
+use Rattle.commandline.specs.CommandLine.{Chosen, Selected}
 
 -- the time that an option's text spells, at so many frames a second
 abbrev pub time_in : ℕ → Option Text → Option (Option ℕ)
@@ -17,6 +18,16 @@ values_of rate chosen = elim (time_in rate chosen.from) [
   | Some from ↦ elim (time_in rate chosen.to) [
     | None ↦ Err (codes "--to")
     | Some to ↦ Ok (record { from = from; to = to; channels = chosen.channels; depth = chosen.depth })
+  ]
+]
+
+-- of a comparison likewise
+abbrev pub selection_of : ℕ → Selected → Result Selection Text
+selection_of rate selected = elim (time_in rate selected.from) [
+  | None ↦ Err (codes "--from")
+  | Some from ↦ elim (time_in rate selected.to) [
+    | None ↦ Err (codes "--to")
+    | Some to ↦ Ok (record { from = from; to = to; channels = selected.channels })
   ]
 ]
 

@@ -39,7 +39,7 @@ use shelf::{Bench, Reasons, Shelf};
 use std::alloc::Global;
 
 /// The status of a command that is done, or of a text that was asked for.
-const DONE: u8 = 0;
+pub const DONE: u8 = 0;
 
 /// The status of a command that is refused.
 pub const REFUSED: u8 = 1;
@@ -49,8 +49,8 @@ pub const MISTAKE: u8 = 2;
 
 /// Runs the command that is asked for over the list, the shelf and the bench, prints the notices and one line, and
 /// answers the status: 0 done, 1 refused, 2 where a time can't be read, which is told on `err`. A consolidation lets the
-/// passes go over the pieces of the entries. A refusal is explained
-/// there too, in a line of its own; behind that of a check stand the list's further faults. What numbers mean is printed
+/// passes go over the pieces of the entries. A comparison, which is of two lists, is answered by `answer_compare`, and is
+/// a mistake here. A refusal is explained on `err` too, in a line of its own; behind that of a check stand the list's further faults. What numbers mean is printed
 /// on `out`, with 0, or with 2 where nothing has the number.
 #[tactic(auto, using(crate::proofs::Rates::answered_by, crate::proofs::Rates::resumed_by))]
 pub fn answer_request<
@@ -141,6 +141,7 @@ pub fn answer_request<
                 alloc, list, handle, passes, asked, shelf, bench, out, err, meter, asides,
             )
         }
+        Request::Compare(_, _) => refuse_two_lists(err),
         Request::Show(name, _, handle) => {
             answer_picture(alloc, name, list, handle, shelf, out, err, asides)
         }
@@ -357,8 +358,16 @@ fn answer_consolidate<
     }
 }
 
+/// Prints that two lists are compared, of which one was given, and answers the status.
+fn refuse_two_lists<E: Console>(err: &mut E) -> u8
+    ensures { result ≡ 2 }
+{
+    err.print_line("two lists are compared, each over its sources");
+    MISTAKE
+}
+
 /// Prints which option's time can't be read, and answers the status.
-fn refuse_time<E: Console>(bad: BadTime, err: &mut E) -> u8
+pub fn refuse_time<E: Console>(bad: BadTime, err: &mut E) -> u8
     ensures status { result ≡ 2 }
     ensures told { Prints E.contents E.failures err.old err.new (bad_time_line (name_of bad)) }
 {

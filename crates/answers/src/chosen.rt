@@ -1,16 +1,17 @@
-// What the words choose of a rendering, as its options.
+// What the words choose of a rendering or of a comparison, as its options.
 ghost use Rattle.std.specs.Prelude.{◌≡◌, Err, IfErr, IfOk, Ok, option_map};
 ghost use Rattle.sampletime.specs.FrameRate.{frames_per_second};
 ghost use Rattle.rendering.specs.Rendering as rendering;
 ghost use Rattle.rendering.specs.Rendering.{HaveChannels};
 ghost use Rattle.answers.specs.BadTime.{name_of};
-ghost use Rattle.answers.specs.Times.{bad_time_line, time_in, values_of};
-ghost use Rattle.commandline.specs.Request.{chosen_of};
+ghost use Rattle.answers.specs.Times.{bad_time_line, selection_of, time_in, values_of};
+ghost use Rattle.comparison.specs.Range.{HasChannels};
+ghost use Rattle.commandline.specs.Request.{chosen_of, selected_of};
 ghost use Rattle.console.specs.Printing.{Prints};
 
-use commandline::Chosen;
+use commandline::{Chosen, Selected};
 use console::Console;
-use consolidate::Options;
+use consolidate::{Options, Selection};
 use sampletime::{Rate, SampleTime, parse_time};
 
 /// The option whose time can't be read.
@@ -49,6 +50,23 @@ pub fn options_of(chosen: Chosen<'_>, rate: Rate) -> Result<Options, BadTime>
         channels: chosen.channels,
         depth: chosen.depth,
         order: chosen.order,
+    })
+}
+
+/// What of two lists is compared by what the words choose, with times at this rate. `--from` is looked at before `--to`.
+pub fn selection_of(selected: Selected<'_>, rate: Rate) -> Result<Selection, BadTime>
+    ensures read { IfOk result (λ selection. selection_of (frames_per_second rate) (selected_of selected.entry)
+        ≡ Ok selection) }
+    ensures channels { IfOk result HasChannels }
+    ensures bad { IfErr result (λ bad. selection_of (frames_per_second rate) (selected_of selected.entry)
+        ≡ Err (name_of bad)) }
+{
+    let from = time_of(selected.from, rate).ok_or(BadTime::From)?;
+    let to = time_of(selected.to, rate).ok_or(BadTime::To)?;
+    Ok(Selection {
+        from,
+        to,
+        channels: selected.channels,
     })
 }
 

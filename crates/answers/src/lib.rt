@@ -6,6 +6,8 @@ mod answer;
 mod asides;
 mod check_report;
 mod chosen;
+mod comparing;
+mod difference;
 mod drawing;
 mod meter;
 mod refusal;
@@ -18,6 +20,7 @@ pub use answer::{MISTAKE, REFUSED, answer_error, answer_request, explain, explai
 pub use asides::Asides;
 pub use check_report::answer_report;
 pub use chosen::BadTime;
+pub use comparing::answer_compare;
 pub use drawing::answer_picture;
 pub use meter::Meter;
 pub use standard::answer_standard;

@@ -4,6 +4,7 @@ ghost use Rattle.work_terms.specs.Refusals.{File, IndexFile};
 ghost use Rattle.adlread.specs.Fault as text;
 ghost use Rattle.sourceindex.specs.Fault.{name_of_source};
 ghost use Rattle.opening.specs.Faults as project;
+ghost use Rattle.consolidate.specs.CompareFault as comparing;
 ghost use Rattle.consolidate.specs.Fault.{name_of_output, place_of_marks, refusal_of};
 ghost use Rattle.console.specs.Lines.{place_text, refusal_text};
 ghost use Rattle.console.specs.Places.{where_of};
@@ -15,7 +16,7 @@ use crate::second_look::SecondLook;
 use adlmodel::{Source, place_of};
 use adlread::AdlFault;
 use console::{Console, Place, Refusal, put_place, put_refusal, put_refused};
-use consolidate::{Fault, LIST, MARKS, MarksFault, OutputFile, REPORT, SOUND, SUMS};
+use consolidate::{Fault, LIST, ListFault, MARKS, MarksFault, OutputFile, REPORT, SOUND, SUMS};
 use explanations::{Explanation, Look};
 use list_terms::Location;
 use std::alloc::Global;
@@ -63,10 +64,51 @@ fn tell_explanation<E: Console, A: Asides>(
 /// What a second look at the media finds about a fault of a command over this list.
 pub fn look_at<A: Asides>(alloc: Global, list: &[u8], fault: &Fault, asides: &A) -> Look {
     match fault {
-        Fault::Project(fault) => {
-            SecondLook::new(asides.sources(alloc)).at(alloc, list, fault, asides)
-        }
+        Fault::Project(fault) => look_at_project(alloc, list, fault, asides),
         _ => Look::nothing(),
+    }
+}
+
+/// What it finds about a fault of one of two lists.
+pub fn look_at_list<A: Asides>(alloc: Global, list: &[u8], fault: &ListFault, asides: &A) -> Look {
+    match fault {
+        ListFault::Project(fault) => look_at_project(alloc, list, fault, asides),
+        _ => Look::nothing(),
+    }
+}
+
+/// What it finds about a fault of the list, of a file that it names, or of an entry.
+fn look_at_project<A: Asides>(
+    alloc: Global,
+    list: &[u8],
+    fault: &opening::Fault,
+    asides: &A,
+) -> Look {
+    SecondLook::new(asides.sources(alloc)).at(alloc, list, fault, asides)
+}
+
+/// Prints the refusal of one of two lists, without its line's end. It is false where no memory remained for the name of
+/// an index's file, without which the refusal is printed then.
+pub fn put_list_fault<C: Console>(alloc: Global, fault: &ListFault, console: &mut C) -> bool
+    ensures { Prints C.contents C.failures console.old console.new
+        (refusal_text (comparing.refusal_of fault.now).number
+        (place_told result (comparing.refusal_of fault.now).place)) }
+{
+    match fault {
+        ListFault::Project(of_list) => {
+            put_refused(console, of_list.number());
+            put_project_place(alloc, of_list, console)
+        }
+        ListFault::Intervals | ListFault::Memory => {
+            let number = fault.number();
+            let place = Place::Nowhere;
+            put_refusal(console, Refusal { number, place });
+            true
+        }
+        ListFault::Source { name } => {
+            put_refusal(console, Refusal::of_file(22, name.as_str()));
+            true
+        }
     }
 }
 

@@ -30,11 +30,33 @@ pub fn tell_done<C: Console>(
 /// Prints what the notices mean, each kind once, and what of the list is passed over without a notice.
 pub fn tell_meanings<E: Console>(notices: &[Notice], list: &[u8], err: &mut E) {
     for meaning in &NOTICES {
-        if notices.iter().any(|notice| notice.kind == meaning.kind) {
+        if has_kind(notices, meaning.kind) {
             err.print_line(*meaning);
         }
     }
     err.print(PassedWords(list));
+}
+
+/// Prints what the notices of two lists mean, each kind once, and what of either is passed over without a notice.
+pub fn tell_meanings_of_two<E: Console>(
+    notices: &[Notice],
+    others: &[Notice],
+    list: &[u8],
+    other: &[u8],
+    err: &mut E,
+) {
+    for meaning in &NOTICES {
+        if has_kind(notices, meaning.kind) || has_kind(others, meaning.kind) {
+            err.print_line(*meaning);
+        }
+    }
+    err.print(PassedWords(list));
+    err.print(PassedWords(other));
+}
+
+/// Whether one of these notices is of this kind.
+fn has_kind(notices: &[Notice], kind: u8) -> bool {
+    notices.iter().any(|notice| notice.kind == kind)
 }
 
 /// Tells which sources were changed or taken away since they were opened.

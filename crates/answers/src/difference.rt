@@ -1,0 +1,96 @@
+// What is reported on standard error of the first difference of two lists.
+use adlmodel::Project;
+use adlread::read;
+use console::{Console, ListOfTwo};
+use consolidate::{Compared, Comparison, Selection};
+use explanations::{Agreement, ExactSample, NamedList, SoundingEntries};
+use sampletime::SampleTime;
+use sound_terms::Event;
+use std::alloc::Global;
+
+/// A sample of one of two lists: its time, its channel and its exact sum.
+#[derive(Clone, Copy)]
+struct SampleOfList {
+    list: ListOfTwo,
+    at: SampleTime,
+    channel: u8,
+    sum: i64,
+}
+
+/// Prints the sums of both lists where they differ first, which entries sound then, and how long the lists are the same
+/// before; nothing where they don't differ. The lists are read once more for it: where no memory remains for that, the
+/// sums are printed alone.
+pub fn report_difference<E: Console>(
+    alloc: Global,
+    first_list: &[u8],
+    second_list: &[u8],
+    selection: &Selection,
+    compared: &Compared,
+    err: &mut E,
+) {
+    let Comparison::Differs {
+        at,
+        channel,
+        first,
+        second,
+    } = compared.comparison
+    else {
+        return;
+    };
+    let one = read(alloc, first_list).ok();
+    let other = read(alloc, second_list).ok();
+    let (one, other) = (events_of(&one), events_of(&other));
+    let sample = SampleOfList {
+        list: ListOfTwo::First,
+        at,
+        channel,
+        sum: first,
+    };
+    report_sample(sample, one, err);
+    let sample = SampleOfList {
+        list: ListOfTwo::Second,
+        at,
+        channel,
+        sum: second,
+    };
+    report_sample(sample, other, err);
+    if let Some(from) = selection.from.or(first_in(one, other)) {
+        err.print_line(Agreement {
+            from,
+            to: at,
+            rate: compared.rate,
+            separators: compared.separators,
+        });
+    }
+}
+
+/// The entries of a project that could be read.
+fn events_of(project: &Option<Project>) -> &[Event] {
+    match project {
+        Some(project) => project.events(),
+        None => &[],
+    }
+}
+
+/// Prints the sum of a sample of a list, and the entries that sound then.
+fn report_sample<E: Console>(sample: SampleOfList, events: &[Event], err: &mut E) {
+    let (list, sum) = (NamedList(sample.list), ExactSample(sample.sum));
+    let entries = SoundingEntries {
+        events,
+        at: sample.at,
+        channel: sample.channel,
+    };
+    err.print_line(format_args!("{list} has {sum} at 24 bits: {entries}"));
+}
+
+/// The time at which the first of these entries begins.
+fn first_in(events: &[Event], others: &[Event]) -> Option<SampleTime> {
+    let mut least = None;
+    for event in events.iter().chain(others.iter()) {
+        least = match least {
+            Some(time) if time <= event.dest_in => Some(time),
+            _ => Some(event.dest_in),
+        };
+    }
+    least
+}
