@@ -24,7 +24,7 @@ use Rattle.execution.proofs.Firsts.{rises-after}
 use Rattle.execution.proofs.Laws.{laws-kept}
 use Rattle.execution.proofs.LeadLaws.{leads-good, leads-keeps}
 use Rattle.execution.proofs.Marked.{leaves-wider}
-use Rattle.execution.proofs.Rests.{finished-done}
+use Rattle.execution.specs.BoardLaws.{finished_done}
 
 apart : false ≡ true → ⊥
 apart h = cc
@@ -81,7 +81,7 @@ module _ (in_rounds : Bool) (events : List BoardEvent) (p p2 : JobPlan) (board b
     run = led;
     filled = (leads-good p.marks jobs (p.whole s.files) (take h.count events) old new has parts idle good).filled;
     complete = λ finished k lt. filled-whole jobs (jobs.name k) (p.whole s.files (jobs.name k)) (done_of board2)
-        (o2.files (jobs.name k)) (λ j below. finished-done board2 finished j (all j below))
+        (o2.files (jobs.name k)) (λ j below. finished_done board2 finished j (all j below))
         ((leads-good p.marks jobs (p.whole s.files) (take h.count events) old new has parts idle good).filled.each k
         lt);
     laws = laws-kept p.marks jobs (p.whole s.files) events (take h.count events) old new has parts separate good refl

@@ -3,12 +3,11 @@ use Rattle.std.proofs.Common.{◌≡◌, ◌∙◌, ℕ, zero, suc, ◌+◌, ◌
 use Rattle.std.proofs.lemmas.Bool.{cases_eq}
 use Rattle.std.proofs.lemmas.Bool.Decides.{nat_tests}
 use Rattle.std.specs.List.{count_by}
-use Rattle.std.proofs.lemmas.List.Sums.{sum_by-set, sum_by-cons, count_by-le-length}
+use Rattle.std.proofs.lemmas.List.Sums.{sum_by-set, sum_by-cons}
 use Rattle.job_terms.specs.declared.Job.{Job}
 use Rattle.job_terms.specs.declared.Standing.{Standing}
 use Rattle.job_terms.specs.declared.Standing.TheVariants.{Open, Out, Done}
 use Rattle.job_terms.specs.Board.{Board, can_give, given_out, is_current, is_done, is_finished, is_givable, is_open, is_out, job_at, no_job, ticket_of, with_job}
-use Rattle.execution.specs.Marking.{done_of}
 use Rattle.execution.specs.Alone.{Accepted, AtRest, Failed, Finished, IsAtRest, Turned, Waits, all_rounds_left, rounds_left}
 use Rattle.execution.proofs.Firsts.{givable-there}
 
@@ -38,28 +37,6 @@ count-all p (x ∷ xs) all =
       count-all p xs (λ k lt. all (suc k)
           (omega (arith, lt))),
     )
-
-all-counted : (p : Job → Bool) (xs : List Job) → count_by p xs ≡ length xs → (k : ℕ) → k < length xs → p
-    (get_or xs k no_job) ≡ true
-all-counted p [] e k lt = absurd (omega (arith, lt))
-all-counted p (x ∷ xs) e zero lt = go (p x) refl
-  where
-    go : (b : Bool) → p x ≡ b → p x ≡ true
-    go true h = h
-    go false h = absurd (let first : cond (p x) 1 0 ≡ 0 = ap {B = ℕ} (λ b. cond b 1 0) h in
-        omega (arith, sum_by-cons (λ y. cond (p y) 1 0) x xs, first, e, count_by-le-length p xs))
-all-counted p (x ∷ xs) e (suc k) lt = all-counted p xs (rest (p x) refl) k (omega (arith, lt))
-  where
-    rest : (b : Bool) → p x ≡ b → count_by p xs ≡ length xs
-    rest true h = let first : cond (p x) 1 0 ≡ 1 = ap {B = ℕ} (λ b. cond b 1 0) h in
-        omega (arith, sum_by-cons (λ y. cond (p y) 1 0) x xs, first, e)
-    rest false h = absurd (let first : cond (p x) 1 0 ≡ 0 = ap {B = ℕ} (λ b. cond b 1 0) h in
-        omega (arith, sum_by-cons (λ y. cond (p y) 1 0) x xs, first, e, count_by-le-length p xs))
-
--- a finished board's jobs are done
-pub finished-done : (board : Board) → is_finished board ≡ true → (k : ℕ) → k < length board.jobs → done_of board k ≡
-    true
-finished-done board e k lt = all-counted (λ job. is_done job.standing) board.jobs (grind (arith, nat_tests, e)) k lt
 
 waits-givable : (job : Job) → is_open job.standing ≡ true → job.given ≤ 2 → is_givable job ≡ true
 waits-givable job free few = ap (λ b. b && nat_lt job.given 4294967295) free ∙ grind (arith, nat_tests, few)

@@ -13,7 +13,8 @@ use Rattle.job_terms.specs.Workers.{BoardRun, BoardStep, CantMake, CantMark, Can
 use Rattle.execution.specs.Alone.{Accepted, AtRest, Failed, Turned, all_rounds_left, rounds_left}
 use Rattle.execution.specs.EventRun.{Performed, Snapshot, jobs_of, state_at}
 use Rattle.execution.proofs.Firsts.{givable-there}
-use Rattle.execution.proofs.Rests.{current-given, finished-done, front, left-done, left-given, open-not_done, rest-finished, rest-given, turned-rest}
+use Rattle.execution.specs.BoardLaws.{finished_done}
+use Rattle.execution.proofs.Rests.{current-given, front, left-done, left-given, open-not_done, rest-finished, rest-given, turned-rest}
 
 apart : true ≡ false → ⊥
 apart h = cc
@@ -194,7 +195,7 @@ round-rest marks jobs s0 s1 s2 s3 h0 h1 h2 h3 rest empty none still (Gives k h c
       rest = after.0;
       empty = after.2;
       either = inl after.1;
-      still = λ finished. absurd (apart (sym (finished-done s0.board finished k (givable-there s0.board k can))
+      still = λ finished. absurd (apart (sym (finished_done s0.board finished k (givable-there s0.board k can))
           ∙ open-not_done (job_at s0.board k).standing (front (is_open (job_at s0.board k).standing) _ can)));
     }
 round-rest marks jobs s0 s1 s2 s3 h0 h1 h2 h3 rest empty none still (NoneLeft h all n m) work deliver =

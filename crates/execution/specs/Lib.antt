@@ -1,4 +1,5 @@
 pub mod Alone
+pub mod BoardLaws
 pub mod Boards
 pub mod Desks
 pub mod Ends
