@@ -13,9 +13,11 @@ use Rattle.list_terms.specs.Binding.{Binding}
 use Rattle.list_terms.specs.Heard.{project_mix, reading_of}
 use Rattle.list_terms.specs.Project.{ListProject}
 use Rattle.blockcut.specs.declared.stretch.Stretch.{Stretch}
+use Rattle.blockcut.specs.Cut.{AreEven}
 use Rattle.blockcut.specs.Laws.{cut-covers}
-use Rattle.rendering.specs.Planned.{IsPlanFor, IsRenderingOf}
-use Rattle.rendering.specs.Work.{AreAtOnce, IsRenderWork, RenderWork, done_before, heard, no_stretch, whole_of}
+use Rattle.renderplan.specs.Planned.{Planned}
+use Rattle.rendering.specs.Planned.{IsPlanFor, IsRenderingBy, IsRenderingOf}
+use Rattle.rendering.specs.Work.{IsRenderWork, RenderWork, at_once, heard, no_stretch, stretch_at, whole_of}
 use Rattle.rendering.proofs.Frames.{rendering_same}
 use Rattle.rendering.proofs.Parts.{are_apart, are_parts}
 
@@ -31,11 +33,27 @@ whole_asked project binding values work sources is =
     ∙ ap (λ (sounds : List SoundFacts). rendering_of range (sum_of (reading_by sources sounds) pieces)) is.sounds
     ∙ rendering_same range played mix (is.mixes sources)
 
-none_done : (work : RenderWork) → AreAtOnce work.planned.range work.stretches → (k : ℕ) → done_before work k ≡ false
-none_done work even k = elim (cases_lt k (length work.stretches)) [
+even_fresh : (most count : ℕ) (stretches : List Stretch) → AreEven most count stretches → (k : ℕ)
+    → (stretch_at stretches k).done ≡ false
+even_fresh most count stretches even k = elim (cases_lt k (length stretches)) [
   | inl below ↦ ap (λ (s : Stretch). s.done) (even k no_stretch below)
-  | inr past ↦ ap (λ (s : Stretch). s.done) (get_or_past work.stretches k no_stretch past)
+  | inr past ↦ ap (λ (s : Stretch). s.done) (get_or_past stretches k no_stretch past)
 ]
+
+-- the same rendering in other jobs
+pub asked_by : (blocks : ℕ) (project : ListProject) (binding : Binding) (values : OptionValues) (was is : RenderWork)
+    → IsRenderingOf project binding values was → is.planned ≡ was.planned → is.sounds ≡ was.sounds
+    → AreEven blocks (block_count is.planned.range) is.stretches → IsRenderingBy blocks project binding values is
+asked_by blocks project binding values was is asked_of planned sounds even = record {
+  range = ap (λ (p : Planned). p.range) planned ∙ asked_of.range;
+  even = even;
+  fresh = even_fresh blocks (block_count is.planned.range) is.stretches even;
+  whole = λ sources.
+      ap (λ (p : Planned). rendering_of p.range (heard p is.sounds sources)) planned
+      ∙ ap (λ (s : List SoundFacts). rendering_of was.planned.range (heard was.planned s sources)) sounds
+      ∙ asked_of.whole sources;
+  reads_back = asked_of.reads_back;
+}
 
 pub asked : (project : ListProject) (binding : Binding) (values : OptionValues) (work : RenderWork)
     → IsPlanFor project binding values work → IsRenderWork work → IsRenderingOf project binding values work
@@ -48,7 +66,7 @@ asked project binding values work is whole =
       cut = whole.cut;
       even = is.even;
       some = omega (arith, first.there);
-      fresh = none_done work is.even;
+      fresh = even_fresh (at_once work.planned.range) (block_count work.planned.range) work.stretches is.even;
       parts = λ sources. are_parts work sources whole;
       apart = λ sources. are_apart work sources whole;
       whole = λ sources. whole_asked project binding values work sources is;

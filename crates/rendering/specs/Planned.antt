@@ -10,7 +10,7 @@ use Rattle.list_terms.specs.Heard.{project_mix, reading_of, sounds_of}
 use Rattle.list_terms.specs.Project.{ListProject}
 use Rattle.job_terms.specs.Workers.{jobs_over}
 use Rattle.schedule.specs.Filled.{AreApart, AreParts}
-use Rattle.blockcut.specs.Cut.{IsCut}
+use Rattle.blockcut.specs.Cut.{AreEven, IsCut}
 use Rattle.sound_terms.specs.Blocks.{block_count}
 use Rattle.rendering.specs.Work.{AreAtOnce, RenderWork, done_before, whole_of, work_of}
 
@@ -27,6 +27,18 @@ pub record IsPlanFor (project : ListProject) (binding : Binding) (values : Optio
   pub sounds : work.sounds ≡ sounds_of binding
   pub mixes : MixAs project binding work.planned.pieces
   pub even : AreAtOnce work.planned.range work.stretches
+  pub reads_back : (mix : ℕ → ℕ → ℤ)
+      → ReadsBack (range_of project values) mix (rendering_of (range_of project values) mix)
+
+-- Its jobs are all blocks of what was chosen of a bound project, so many in each but the last, none of them done, and make
+-- its rendering, which reads back, whatever the sources hold.
+pub record IsRenderingBy (blocks : ℕ) (project : ListProject) (binding : Binding) (values : OptionValues)
+    (work : RenderWork) : Type 0 where
+  pub range : work.planned.range ≡ range_of project values
+  pub even : AreEven blocks (block_count work.planned.range) work.stretches
+  pub fresh : (k : ℕ) → done_before work k ≡ false
+  pub whole : (sources : Files) → whole_of work sources
+      ≡ rendering_of (range_of project values) (project_mix sources project binding)
   pub reads_back : (mix : ℕ → ℕ → ℤ)
       → ReadsBack (range_of project values) mix (rendering_of (range_of project values) mix)
 

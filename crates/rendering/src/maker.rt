@@ -1,5 +1,5 @@
 // A marked rendering as a work of an execution.
-ghost use Rattle.std.specs.Prelude.{◌≡◌, ◌<◌, ℕ, Bool, IfOk, IfSome, IsErrOf, IsTrue, List, None, Ok, OnErr, OnOk, Some, false, length, slice_index_or, ⊤};
+ghost use Rattle.std.specs.Prelude.{◌≡◌, ◌<◌, ◌≤◌, ℕ, Bool, IfOk, IfSome, IsErrOf, IsTrue, List, None, Ok, OnErr, OnOk, Some, false, length, slice_index_or, ⊤};
 ghost use Rattle.std.specs.List.{range_with_len};
 ghost use Rattle.work_terms.specs.Disk.{Files, IsUntouched};
 ghost use Rattle.work_terms.specs.Refusals.{Answers};
@@ -10,18 +10,21 @@ ghost use Rattle.job_terms.specs.Workers.{jobs_over};
 ghost use Rattle.workboard.specs.Indexed.{IsOrder};
 ghost use Rattle.markfile.specs.Fault.{ReadsMarks};
 ghost use Rattle.markfile.specs.Opened.{opened_of};
+ghost use Rattle.sound_terms.specs.Blocks.{block_count};
+ghost use Rattle.blockcut.specs.Cut.{AreEven};
 ghost use Rattle.execution.specs.Filled.{AreFilled};
 ghost use Rattle.execution.specs.Marking.{AreLeftBy, IsRunningBy, LaysBy, NoneStartedBy};
 ghost use Rattle.execution.specs.Plan.{AreBlank, IsAt, Stays};
 ghost use Rattle.rendering.specs.Fault.{refusal_of};
 ghost use Rattle.rendering.specs.Maker.{HasSoundJobs, IsMarkedWork, plan_of};
 ghost use Rattle.rendering.specs.Marked.{IsFoundAs, IsRunOf, run_of};
-ghost use Rattle.rendering.specs.Planned.{IsRenderingOf};
+ghost use Rattle.rendering.specs.Planned.{IsRenderingBy, IsRenderingOf};
 ghost use Rattle.rendering.specs.Rendering.{HasRange, HaveChannels, render_fault, values_of};
 ghost use Rattle.rendering.specs.Work.{AreCutBy, IsRenderWork, done_before, work_of};
 
 use crate::marked::{FRONT, MOST_BLOCKS, count_of};
 use crate::{Options, Order, RenderFault, Rendered, Rendering};
+use blockcut::fresh_stretches;
 use devices::{Bench, DeviceFault, Shelf};
 use execution::{JobMaker, OutputFault, PlaceFault, place_marked};
 use markfile::{FreshMarks, MARKS, MarksFault, RunId, SOUND, open_marks, start};
@@ -59,6 +62,23 @@ impl<'a> Model for RenderingWork<'a> {
 }
 
 impl<'a> Rendering<'a> {
+    /// Cuts its blocks into jobs of so many, the last of which has what remains; none of them is done.
+    fn cut_evenly(&mut self, alloc: Global, blocks: u32) -> Result<(), AllocError>
+        requires { (1 ≤ blocks) × (blocks ≤ 1024) }
+        ensures planned { self.new.planned ≡ self.old.planned }
+        ensures sounds { self.new.sounds ≡ self.old.sounds }
+        ensures even { OnOk result (AreEven blocks (block_count self.new.planned.range) self.new.stretches) }
+        ensures whole { IsRenderWork self.new }
+    {
+        match fresh_stretches(alloc, self.blocks.count(), blocks) {
+            Ok(stretches) => {
+                self.stretches = stretches;
+                return Ok(());
+            }
+            Err(fault) => return Err(fault),
+        }
+    }
+
     /// How many jobs it has.
     fn job_count(&self) -> u32
         ensures { result ≡ (work_of self.now).count }
@@ -193,6 +213,42 @@ impl<'a> RenderingWork<'a> {
             Ok(rendering) => rendering,
             Err(fault) => return Err(fault),
         };
+        let run = rendering.run(list);
+        match FreshMarks::of(alloc, &run) {
+            Ok(fresh) => Ok(RenderingWork {
+                rendering,
+                run,
+                fresh,
+            }),
+            Err(_) => Err(RenderFault::Memory),
+        }
+    }
+
+    /// The same, with so many blocks in each job but the last.
+    pub fn plan_by(
+        alloc: Global,
+        checked: &'a Checked,
+        options: &Options,
+        list: &[u8],
+        blocks: u32,
+    ) -> Result<Self, RenderFault>
+        requires channels { HaveChannels options.now }
+        requires blocks { (1 ≤ blocks) × (blocks ≤ 1024) }
+        ensures planned { IfOk result (λ marked. IsRenderingBy blocks checked.now.project checked.now.bound
+            (values_of options.now) marked.work) }
+        ensures run { IfOk result (λ marked. marked.run ≡ run_of list.now marked.work.planned.range) }
+        ensures whole { IfOk result (λ marked. IsMarkedWork marked) }
+        ensures jobs { IfOk result (λ marked. HasSoundJobs marked) }
+        ensures refusals { Answers refusal_of result (render_fault checked.now.project (values_of options.now)) }
+    {
+        let mut rendering = match Rendering::plan(alloc, checked, options) {
+            Ok(rendering) => rendering,
+            Err(fault) => return Err(fault),
+        };
+        match rendering.cut_evenly(alloc, blocks) {
+            Ok(()) => {}
+            Err(_) => return Err(RenderFault::Memory),
+        }
         let run = rendering.run(list);
         match FreshMarks::of(alloc, &run) {
             Ok(fresh) => Ok(RenderingWork {
