@@ -1,22 +1,19 @@
--- Frames of two files that are stored alike play alike; what adds such frames sums alike.
-use Rattle.std.proofs.Common.{◌≡◌, ℕ, suc, ◌+◌, ◌-◌, ◌*◌, ◌/◌, ◌^◌, ◌<◌, ◌≤◌, Bool, true, false, List, [], ◌∷◌, Some, length, take, drop, get_or, refl, sym, ap, ◌∙◌, subst, arith}
-use Rattle.std.specs.Prelude.{ℤ, pos, negsuc, neg_ℤ, ◌≤ℤ◌, nat_le, nat_lt, Option, IfSome, slice_get}
+-- Frames of two files that are stored alike play alike, and programs that add alike sum alike.
+use Rattle.std.proofs.Common.{◌≡◌, ℕ, suc, ◌+◌, ◌-◌, ◌*◌, ◌/◌, ◌^◌, ◌<◌, ◌≤◌, true, List, [], ◌∷◌, Some, length, take, drop, get_or, refl, sym, ap, ◌∙◌, subst, arith}
+use Rattle.std.specs.Prelude.{ℤ, pos, negsuc, neg_ℤ, ◌≤ℤ◌, nat_le, nat_lt, slice_get}
 use Rattle.std.specs.List.{All}
 use Rattle.std.proofs.lemmas.Bool.Decides.{nat_tests}
 use Rattle.std.proofs.lemmas.Int.{ints}
-use Rattle.std.proofs.lemmas.Option.{same_Some}
 use Rattle.std.proofs.Math.IntN.{negsuc-*ℤ-pos, pos-*ℤ-pos}
 use Rattle.sound_terms.specs.declared.Depth.{Depth}
 use Rattle.sound_terms.specs.declared.Depth.TheVariants.{Sixteen, TwentyFour, ThirtyTwo}
 use Rattle.sound_terms.specs.declared.block.Stretch.{Stretch}
 use Rattle.sound_terms.specs.declared.block.Instruction.{Instruction}
-use Rattle.sound_terms.specs.declared.block.Instruction.TheVariants.{Start, Flat, Rise, Fall, Emit}
-use Rattle.sound_terms.specs.declared.piece.Shape.{Shape}
-use Rattle.sound_terms.specs.declared.piece.Shape.TheVariants as kind
+use Rattle.sound_terms.specs.declared.block.Instruction.TheVariants.{Start}
 use Rattle.sound_terms.specs.Depth.{bits_of}
 use Rattle.sound_terms.specs.Media.{frame_length}
 use Rattle.sound_terms.specs.Mix.{Reading, full_scale}
-use Rattle.sound_terms.specs.Blocks.{BlockState, IsFull, PlaysFull, addition_of, block_frames, block_start, executed, executed_all, is_on, sums_with}
+use Rattle.sound_terms.specs.Blocks.{BlockState, IsFull, PlaysFull, block_frames, block_start, executed, executed_all}
 use Rattle.sound_terms.specs.Render.{Range}
 use Rattle.sound_terms.specs.Sounds.{SoundFacts, reading_by}
 use Rattle.sound_terms.specs.Waves.{sample_of}
@@ -114,7 +111,7 @@ module _ (files : Files) (sounds : List SoundFacts) (facts : SoundFacts) (part :
       (full_sample facts.depth (get_or (samples_in bits n bytes) k (pos 0))
       (all_fit facts.depth n bytes small k (pos 0) within))
 
--- ---- what is added
+-- ---- what is played
 
 -- two stretches that play the same frames play alike
 pub plays_alike : (reading other : Reading) (stretch part : Stretch) (channels depth : ℕ) (frames : List ℤ)
@@ -156,56 +153,6 @@ stored_play reading other sounds others stretch part count bytes other_bytes ali
     (sym same) of_length in
     plays_alike reading other stretch part channels bits (samples_in bits (stretch.length * channels) bytes)
     alike.layout mine of_bytes full other_full
-
--- under one shape they leave the same sums
-sums_alike : (reading other : Reading) (stretch part : Stretch) (shape : Shape)
-    → PlayAlike reading other stretch part → (sums others : ℕ → ℕ → ℤ)
-    → ((i channel : ℕ) → sums i channel ≡ others i channel) → (i channel : ℕ)
-    → sums_with reading stretch shape sums i channel ≡ sums_with other part shape others i channel
-sums_alike reading other stretch part shape alike sums others same i channel =
-    by_test (is_on stretch i channel) refl where
-      by_test : (x : Bool) → is_on stretch i channel ≡ x
-          → sums_with reading stretch shape sums i channel ≡ sums_with other part shape others i channel
-      by_test true on =
-          let there : is_on part i channel ≡ true = ap (λ (s : Stretch). is_on s i channel) alike.layout ∙ on in
-          let dest : part.dest ≡ stretch.dest = ap (λ (s : Stretch). s.dest) alike.layout in
-          let at : part.at ≡ stretch.at = ap (λ (s : Stretch). s.at) alike.layout in
-          let here = alike.samples (channel - stretch.dest) (i - stretch.at) (grind (arith, nat_tests, on))
-          (grind (arith, nat_tests, on)) in
-          rw (on, there, same i channel, dest, at, here) refl
-      by_test false off =
-          let there : is_on part i channel ≡ false = ap (λ (s : Stretch). is_on s i channel) alike.layout ∙ off in
-          rw (off, there) (same i channel)
-
--- an instruction that adds a stretch under a shape
-executed_adds : (reading : Reading) (channels : ℕ) (line : Instruction) (stretch : Stretch) (shape : Shape)
-    → addition_of line ≡ Some (stretch, shape) → (state : BlockState)
-    → (executed reading channels line state).sums ≡ sums_with reading stretch shape state.sums
-executed_adds reading channels (Start frames) stretch shape is state = cc
-executed_adds reading channels (Flat other) stretch shape is state =
-    ap (λ (p : Stretch × Shape). sums_with reading p.0 p.1 state.sums)
-    (same_Some (other, kind.Flat) (stretch, shape) is)
-executed_adds reading channels (Rise other offset den) stretch shape is state =
-    ap (λ (p : Stretch × Shape). sums_with reading p.0 p.1 state.sums)
-    (same_Some (other, kind.Rise offset den) (stretch, shape) is)
-executed_adds reading channels (Fall other offset den) stretch shape is state =
-    ap (λ (p : Stretch × Shape). sums_with reading p.0 p.1 state.sums)
-    (same_Some (other, kind.Fall offset den) (stretch, shape) is)
-executed_adds reading channels (Emit depth) stretch shape is state = cc
-
-pub adds_alike : (reading other : Reading) (line counterpart : Instruction) (stretch part : Stretch) (shape : Shape)
-    → addition_of line ≡ Some (stretch, shape) → addition_of counterpart ≡ Some (part, shape)
-    → PlayAlike reading other stretch part → AddAlike reading other line counterpart
-adds_alike reading other line counterpart stretch part shape is others alike = record {
-  sums = λ channels before after same i channel.
-      ap (λ (sums : ℕ → ℕ → ℤ). sums i channel) (executed_adds reading channels line stretch shape is before)
-      ∙ sums_alike reading other stretch part shape alike before.sums after.sums same i channel
-      ∙ sym (ap (λ (sums : ℕ → ℕ → ℤ). sums i channel)
-      (executed_adds other channels counterpart part shape others after));
-  full = subst (λ (o : Option (Stretch × Shape)). IfSome o (λ added. IsFull reading added.0)) (sym is) alike.full;
-  other_full =
-      subst (λ (o : Option (Stretch × Shape)). IfSome o (λ added. IsFull other added.0)) (sym others) alike.other_full;
-}
 
 -- ---- programs
 

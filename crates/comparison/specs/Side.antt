@@ -39,7 +39,7 @@ pub record IsBlockOf (work : SideWork) (k : ℕ) (lines : List Instruction) : Ty
       → (executed_all (reading_by sources work.sounds) work.planned.range.channels lines start).sums i channel
       ≡ heard work sources channel (block_start work.planned.range k + i)
 
--- there is room for the program and the sums of any block of a side
+-- a room holds the program and the sums of any block of a side
 pub record HasRoom (work : SideWork) (room : Room) : Type 0 where
   pub program : length work.planned.pieces + 2 ≤ room.program.room
   pub sums : length room.sums.items ≡ 4096 * work.planned.range.channels

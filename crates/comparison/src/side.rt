@@ -175,7 +175,7 @@ impl<'a> Side<'a> {
         self.plan.is_silent(k)
     }
 
-    /// Writes the program of block k over another that has room for it.
+    /// Writes the program of block k over another that has room for that of any block.
     pub fn fill(&self, k: u64, program: &mut Program)
         requires there { k < block_count self.now.planned.range }
         requires room { length self.now.planned.pieces + 2 ≤ program.old.room }
@@ -186,8 +186,8 @@ impl<'a> Side<'a> {
         self.plan.fill(k, program);
     }
 
-    /// Sums block k over the first of `sums`. There is room for the program and the sums of any block. A file that can't be
-    /// read fails it.
+    /// Sums block k over the first of `sums`, which hold those of any block, as the program does its instructions. A file
+    /// that can't be read fails it.
     pub fn sum<S: Shelf>(
         &mut self,
         k: u64,

@@ -14,7 +14,7 @@ use crate::stored::sum_alike;
 use devices::Shelf;
 use renderplan::Program;
 
-/// Sums block k of the first side. There is room for the program and the sums of any block.
+/// Sums block k of the first side, as `Side::sum` does.
 fn sum_first<S: Shelf>(
     side: &mut Side,
     k: u64,
@@ -148,7 +148,7 @@ fn compare_sums<S: Shelf, T: Shelf>(
     Ok(first_difference(sums, others, first.channels(), first.start_of(k)))
 }
 
-/// Whether both sides play the same stored frames in block k. There is room for their programs.
+/// Whether both sides add the same stored frames in block k.
 fn is_stored_alike<S: Shelf, T: Shelf>(
     k: u64,
     first: &Side,
@@ -190,8 +190,8 @@ fn is_stored_alike<S: Shelf, T: Shelf>(
     )
 }
 
-/// Whether two sides sum alike in block k, as far as that shows before anything is summed: neither plays there, or both
-/// add the same stored frames.
+/// Whether two sides sum alike in block k, as far as that shows before anything is summed: neither plays, or both add the
+/// same stored frames.
 pub fn is_alike<S: Shelf, T: Shelf>(
     k: u64,
     first: &Side,
@@ -287,7 +287,7 @@ fn compare_block<S: Shelf, T: Shelf>(
 }
 
 /// Where two sides differ first, on the channels and in the samples that both plans have; `None` where they sound
-/// alike. There is room for any block. Blocks are compared in turn, and none after the one that differs.
+/// alike. The rooms hold any block. Blocks are compared in turn, and none after the one that differs.
 pub fn compare_sides<S: Shelf, T: Shelf>(
     first: &mut Side,
     second: &mut Side,

@@ -156,8 +156,8 @@ fn stored_length(
     Some(stretch.length as usize * frame)
 }
 
-/// Whether two stretches play the same: they lie alike, and their frames are stored alike. Where there is no room to
-/// read these the answer is no.
+/// Whether two stretches play the same: they lie alike, and their frames are stored alike. Where these don't fit into the
+/// bytes the answer is no.
 fn play_alike<S: Shelf, T: Shelf>(
     stretch: &Stretch,
     part: &Stretch,

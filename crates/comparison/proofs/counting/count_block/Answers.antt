@@ -24,11 +24,11 @@ returns-clause-counted g c = λ honest sure.
     let frames = block_frames range c.args.k in
     let read = c.in_ok-alike.ensures.first_read in
     let other_read = c.in_ok-alike.ensures.second_read in
-    let told = c.count_sums.ensures.counted (subst IsTrue (sym read.honest_same) honest)
+    let said = c.count_sums.ensures.counted (subst IsTrue (sym read.honest_same) honest)
     (subst IsTrue (sym other_read.honest_same) sure) in
     let mine = subst (λ (stored : Files). OnOk c.count_sums.result (HasCounted (heard one stored)
     (heard two (g.T.Shelf.stored c.is_alike.new.second_shelf)) start frames c.args.counts.now
-    c.count_sums.new.counts)) read.same told in
+    c.count_sums.new.counts)) read.same said in
     subst (λ (stored : Files). OnOk c.count_sums.result (HasCounted
     (heard one (g.S.Shelf.stored c.args.first_shelf.now)) (heard two stored) start frames c.args.counts.now
     c.count_sums.new.counts)) other_read.same mine

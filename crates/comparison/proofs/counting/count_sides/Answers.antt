@@ -51,11 +51,11 @@ loop-k-preserved g c =
       counted = λ honest sure.
           let files : Files = g.S.Shelf.stored c.args.first_shelf.now in
           let others : Files = g.T.Shelf.stored c.args.second_shelf.now in
-          let told = c.in_ok-count_block.ensures.counted (subst IsTrue (sym quiet.honest_same) honest)
+          let said = c.in_ok-count_block.ensures.counted (subst IsTrue (sym quiet.honest_same) honest)
           (subst IsTrue (sym others_quiet.honest_same) sure) in
           let of_one = subst (λ (w : SideWork). HasCounted (heard w (g.S.Shelf.stored c.loop-k.first_shelf))
           (heard c.loop-k.second (g.T.Shelf.stored c.loop-k.second_shelf)) (block_start w.planned.range k)
-          (block_frames w.planned.range k) old new) c.loop-k.invariant.first_ready told in
+          (block_frames w.planned.range k) old new) c.loop-k.invariant.first_ready said in
           let of_two = subst (λ (w : SideWork). HasCounted (heard one (g.S.Shelf.stored c.loop-k.first_shelf))
           (heard w (g.T.Shelf.stored c.loop-k.second_shelf)) (block_start range k) (block_frames range k) old new)
           c.loop-k.invariant.second_ready of_one in

@@ -33,7 +33,7 @@ returns-in-Ok-clause-plays g c = λ honest facts there.
     let found : slice_get sounds part.file ≡ Some sound =
     slice_get_read sounds (length sounds) part.file sound refl
     (slice_get_within sounds part.file lies.facts lies.there) c.index-sounds-stretch.is in
-    let told : lies.facts ≡ sound = same_Some lies.facts sound (sym lies.there ∙ found) in
+    let said : lies.facts ≡ sound = same_Some lies.facts sound (sym lies.there ∙ found) in
     let same : sound ≡ facts = same_Some sound facts (sym found ∙ there) in
     let files = g.S.Shelf.stored c.args.shelf.now in
     let bytes = c.read_bytes.new.bytes in
@@ -43,7 +43,7 @@ returns-in-Ok-clause-plays g c = λ honest facts there.
     (samples_in (bits_of f.depth) (part.length * f.channels) bytes))
     same
     (read_plays files sounds sound part bytes found (c.in-Ok.ensures.bytes honest) whole c.requires.first
-    (rw told at lies.channels) (rw told at lies.frames))
+    (rw said at lies.channels) (rw said at lies.frames))
 
 pub returns-in-Ok-clause-full : goal.returns-in-Ok-clause-full
 returns-in-Ok-clause-full g c = λ honest.
@@ -54,13 +54,13 @@ returns-in-Ok-clause-full g c = λ honest.
     let found : slice_get sounds part.file ≡ Some sound =
     slice_get_read sounds (length sounds) part.file sound refl
     (slice_get_within sounds part.file lies.facts lies.there) c.index-sounds-stretch.is in
-    let told : lies.facts ≡ sound = same_Some lies.facts sound (sym lies.there ∙ found) in
+    let said : lies.facts ≡ sound = same_Some lies.facts sound (sym lies.there ∙ found) in
     let files = g.S.Shelf.stored c.args.shelf.now in
     let bytes = c.read_bytes.new.bytes in
     let whole : length bytes ≡ part.length * sound.channels * (bits_of sound.depth / 8) =
     c.read_bytes.auto.bytes ∙ c.requires.whole sound found in
     read_full files sounds sound part bytes found (c.in-Ok.ensures.bytes honest) whole c.requires.first
-    (rw told at lies.channels) (rw told at lies.frames) (λ k. search rules)
+    (rw said at lies.channels) (rw said at lies.frames) (λ k. search rules)
 
 pub returns-in-Err-clause-only_reads : goal.returns-in-Err-clause-only_reads
 returns-in-Err-clause-only_reads g c =

@@ -25,13 +25,13 @@ returns-clause-counted g c = λ honest sure.
     let new = c.count_sides.new.counts in
     let mix : ℕ → ℕ → ℤ = project_mix files c.args.first.now.project c.args.first.now.bound in
     let mixed : ℕ → ℕ → ℤ = project_mix stored c.args.second.now.project c.args.second.now.bound in
-    let told = subst (λ (r : Range). OnOk c.count_sides.result
+    let said = subst (λ (r : Range). OnOk c.count_sides.result
     (AreCounts (heard sides.first files) (heard sides.second stored) r.from (r.to - r.from) new))
     c.in_ok-sides.ensures.range (c.count_sides.ensures.counted honest sure) in
     well_gives (AreCounts (heard sides.first files) (heard sides.second stored) extent.from (extent.to - extent.from) new)
     (AreCounts mix mixed extent.from (extent.to - extent.from) new)
     (counts_as (heard sides.first files) (heard sides.second stored) mix mixed extent.from (extent.to - extent.from) new
-    (c.in_ok-sides.ensures.first_mixes files) (c.in_ok-sides.ensures.second_mixes stored)) c.count_sides.result told
+    (c.in_ok-sides.ensures.first_mixes files) (c.in_ok-sides.ensures.second_mixes stored)) c.count_sides.result said
 
 pub returns-clause-first_read : goal.returns-clause-first_read
 returns-clause-first_read g c =
