@@ -28,8 +28,8 @@ struct Walk<'a, R> {
     found: FilesBelow,
 }
 
-/// The files in the folders below this one. A folder that can't be listed has none. Folders to which links lead aren't
-/// entered, so the walk ends.
+/// The plain files in the folders below this one. A folder that can't be listed has none. No link is followed: so the walk
+/// ends, and no file is one of the outputs under another name that isn't counted by its links.
 pub fn files_below<'a, R: Files + AllocGlobal + Clone + Drop>(
     rt: &'a R,
     alloc: Global,
@@ -117,7 +117,7 @@ fn is_folder<R: Files>(rt: &R, path: &str) -> bool {
     fs::symlink_metadata(rt, path).is_ok_and(|found| found.is_dir())
 }
 
-/// Whether a plain file lies there, or a link to one.
+/// Whether a plain file lies there, and no link to one.
 fn is_file<R: Files>(rt: &R, path: &str) -> bool {
-    fs::metadata(rt, path).is_ok_and(|found| found.is_file())
+    fs::symlink_metadata(rt, path).is_ok_and(|found| found.is_file())
 }
