@@ -1,9 +1,13 @@
 // Projects that are copied, and made anew of their parts.
 use adlmodel::{Project, Sources};
 use adlread::read;
-use adlwrite::text_of;
+use adlwrite::{text_of, write};
+use shelf::{Bench, MemoryBench};
 use std::alloc::{AllocError, Global};
 use std::test::Fail;
+
+/// The name of a list.
+const LIST: &str = "copy.adl";
 
 /// A list of all sections that are kept, in the form in which it is written.
 const WRITTEN: &str = "<ADL>\r
@@ -33,17 +37,29 @@ const WRITTEN: &str = "<ADL>\r
 </ADL>\r
 ";
 
-/// Whether a project is written as that list.
-fn is_written(alloc: Global, project: &Project) -> Result<bool, AllocError> {
-    let text = text_of(alloc, project)?;
-    Ok(text.as_slice() == WRITTEN.as_bytes())
-}
+/// Two indexes of one file, and an entry of each.
+const SHARED_FILE: &str = "<ADL>
+<SEQUENCE>
+(SEQ_SAMPLE_RATE) S48000
+(SEQ_FRAME_RATE) 25
+</SEQUENCE>
+<SOURCE_INDEX>
+(Index) 1 (F) \"URL:file://localhost/A.wav\" _ 00.00.00.00/0000 _
+(Index) 2 (F) \"URL:file://localhost/A.wav\" _ 01.00.00.00/0000 _
+</SOURCE_INDEX>
+<EVENT_LIST>
+(Entry) 1 (Cut) I 1 1 1 00.00.00.00/0100 01.00.00.00/0000 01.00.00.00/0200
+(Entry) 2 (Cut) I 2 1 1 01.00.00.00/0200 02.00.00.00/0000 02.00.00.00/0200
+</EVENT_LIST>
+</ADL>
+";
 
-#[test]
-fn a_copy_is_the_same_project(rt: HostRuntime) -> Result<(), Fail> {
-    let copy = read(rt.alloc(), WRITTEN.as_bytes())?.try_copy()?;
-    assert!(rt; is_written(rt.alloc(), &copy)?);
-    Ok(())
+/// The list of a project as `write` leaves it on a bench.
+fn written(alloc: Global, project: &Project) -> Result<MemoryBench, Fail> {
+    let mut bench = MemoryBench::new(alloc);
+    bench.create(LIST)?;
+    write(project, &mut bench, LIST)?;
+    Ok(bench)
 }
 
 /// The project of the same parts, with its header.
@@ -54,9 +70,22 @@ fn made_anew(alloc: Global, project: &Project) -> Result<Project, AllocError> {
 }
 
 #[test]
-fn a_project_of_the_same_parts_is_the_same_list(rt: HostRuntime) -> Result<(), Fail> {
-    let anew = made_anew(rt.alloc(), &read(rt.alloc(), WRITTEN.as_bytes())?)?;
-    assert!(rt; is_written(rt.alloc(), &anew)?);
+fn a_copy_and_a_project_of_the_same_parts_are_the_same_list(rt: HostRuntime) -> Result<(), Fail> {
+    for text in [WRITTEN, SHARED_FILE] {
+        let project = read(rt.alloc(), text.as_bytes())?;
+        let given = written(rt.alloc(), &project)?;
+        for other in [project.try_copy()?, made_anew(rt.alloc(), &project)?] {
+            assert!(rt; written(rt.alloc(), &other)?.bytes(LIST) == given.bytes(LIST));
+        }
+    }
+    Ok(())
+}
+
+#[test]
+fn a_list_in_its_written_form_is_written_as_it_is(rt: HostRuntime) -> Result<(), Fail> {
+    let project = read(rt.alloc(), WRITTEN.as_bytes())?;
+    assert!(rt; text_of(rt.alloc(), &project)?.as_slice() == WRITTEN.as_bytes());
+    assert!(rt; written(rt.alloc(), &project)?.bytes(LIST) == Some(WRITTEN.as_bytes()));
     Ok(())
 }
 
