@@ -5,10 +5,11 @@ _adlcons() {
         check) options='--all --report --help' ;;
         consolidate) options='--all --handle --report --help' ;;
         show) options='--all --handle --help' ;;
+        compare) options='--all --from --to --channels --help' ;;
         render | resume) options='--all --from --to --channels --depth --order --help' ;;
     esac
     if ((COMP_CWORD == 1)); then
-        local commands='check consolidate render resume show explain help --help --version'
+        local commands='check consolidate render resume compare show explain help --help --version'
         mapfile -t COMPREPLY < <(compgen -W "$commands" -- "$word")
     elif [[ $last == --depth ]]; then
         mapfile -t COMPREPLY < <(compgen -W "16 24 32" -- "$word")
@@ -35,13 +36,18 @@ _adlcons() {
                 fi
                 ;;
             2:help)
-                mapfile -t COMPREPLY < <(compgen -W 'check consolidate render resume show explain' -- "$word")
+                mapfile -t COMPREPLY < <(compgen -W 'check consolidate render resume compare show explain' -- "$word")
                 ;;
-            2:check | 2:consolidate | 2:render | 2:resume | 2:show) mapfile -t COMPREPLY < <(compgen -f -- "$word") ;;
-            3:check | 3:consolidate | 3:render | 3:resume | 3:show | 4:consolidate | 4:render | 4:resume)
+            2:check | 2:consolidate | 2:render | 2:resume | 2:show | 2:compare | 4:compare)
+                mapfile -t COMPREPLY < <(compgen -f -- "$word")
+                ;;
+            3:check | 3:consolidate | 3:render | 3:resume | 3:show | 4:consolidate | 4:render | 4:resume | \
+                3:compare | 5:compare)
                 mapfile -t COMPREPLY < <(compgen -d -- "$word")
                 ;;
-            *:check | *:consolidate | *:render | *:resume | *:show) mapfile -t COMPREPLY < <(compgen -W "$options" -- "$word") ;;
+            *:check | *:consolidate | *:render | *:resume | *:compare | *:show)
+                mapfile -t COMPREPLY < <(compgen -W "$options" -- "$word")
+                ;;
         esac
     fi
 }

@@ -34,6 +34,12 @@ MISTAKES = {
     "a handle below zero": ("consolidate", LIST, MEDIA, OUT, "--handle=-1"),
     "a handle past all numbers": ("consolidate", LIST, MEDIA, OUT, "--handle", "18446744073709551616"),
     "a handle of a time": ("consolidate", LIST, MEDIA, OUT, "--handle", "00.00.00.00/0001"),
+    "no second list": ("compare", LIST, MEDIA),
+    "no second media": ("compare", LIST, MEDIA, LIST),
+    "a fifth place": ("compare", LIST, MEDIA, LIST, MEDIA, OUT),
+    "two lists on standard input": ("compare", "-", MEDIA, "-", MEDIA),
+    "a comparison of 65 channels": ("compare", LIST, MEDIA, LIST, MEDIA, "--channels", "65"),
+    "a depth of a comparison": ("compare", LIST, MEDIA, LIST, MEDIA, "--depth", "16"),
     "an unknown option": ("render", "--loud", LIST, MEDIA, OUT),
     "an unknown option behind": ("consolidate", LIST, MEDIA, OUT, "--loud"),
     "an unknown short option": ("render", "-x", LIST, MEDIA, OUT),
@@ -51,7 +57,8 @@ MISTAKES = {
 
 SHOWN = (
     ("--help",), ("-h",), ("check", "--help"), ("render", "--help"), ("consolidate", "--help"), ("resume", "--help"),
-    ("show", "--help"), ("explain", "--help"), ("--version",), ("-V",), ("help",), ("help", "render"))
+    ("compare", "--help"), ("show", "--help"), ("explain", "--help"), ("--version",), ("-V",), ("help",),
+    ("help", "render"))
 
 
 def prepared(scene: Scene) -> None:

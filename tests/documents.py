@@ -143,7 +143,9 @@ def completion(scene: Scene) -> None:
     same("those that are answered", completed(scene, "explain", "4"), ["41", "42", "43", "44", "46", "47"])
     same("notices", completed(scene, "explain", "no"), ["notice"])
     same("their numbers", completed(scene, "explain", "notice", ""), list("1234567"))
-    same("what help explains", completed(scene, "help", "c"), ["check", "consolidate"])
+    same("what help explains", completed(scene, "help", "c"), ["check", "consolidate", "compare"])
+    same("the second list", completed(scene, "compare", "L.adl", "M", "L"), ["L.adl"])
+    same("the second media", completed(scene, "compare", "L.adl", "M", "L.adl", "O"), ["OUT"])
 
 
 def named_files(_: Scene) -> None:

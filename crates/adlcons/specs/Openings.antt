@@ -1,14 +1,16 @@
 -- Why a command doesn't come to its stores, and what it is to come to them.
-use Rattle.std.specs.Prelude.{◌≡◌, ℕ, IsTrue, true, false, List, Result}
+use Rattle.std.specs.Prelude.{◌≡◌, ℕ, IsTrue, true, false, List, [], Result}
 use Rattle.work_terms.specs.Refusals.{Refusal, Where, Nowhere, File}
 use Rattle.devices.specs.declared.source.Shelf as source
 use Rattle.shelf.specs.Folder.{OutputFolder, SourceFolder, folder_named}
 use Rattle.shelf.specs.declared.Overwrite.{Overwrite}
 use Rattle.shelf.specs.declared.Overwrite.TheVariants.{Files, Never}
-use Rattle.commandline.specs.CommandLine.{Asked, Resume}
+use Rattle.commandline.specs.CommandLine.{Asked, Resume, Selected}
 use Rattle.consolidate.specs.declared.Fault.{Fault}
 use Rattle.console.specs.declared.console.Console as console
-use Rattle.answers.specs.Answers.{IsAnswered, IsChecked, Tells, accepted_lines, refusal_line}
+use Rattle.console.specs.declared.lines.ListOfTwo.{ListOfTwo}
+use Rattle.console.specs.declared.lines.ListOfTwo.TheVariants.{First, Second}
+use Rattle.answers.specs.Answers.{ComparesBy, IsAnswered, IsChecked, IsCompared, Tells, accepted_lines, list_refusal_line, refusal_line}
 use Rattle.checkreport.specs.Reported.{IsReported}
 use Rattle.adlcons.specs.declared.folders.OpenFault.{OpenFault}
 use Rattle.adlcons.specs.declared.folders.OpenFault.TheVariants as opened
@@ -41,6 +43,34 @@ pub record IsKeptOut {O : Type 0} (out : console.Ghosts O) (list folder : List �
   pub fault : OpenFault
   pub status_is : status ≡ 1
   pub printed : Tells out old new (refusal_line true (refusal_of_opening fault list folder))
+
+-- the path of one of two lists
+abbrev pub path_of : ListOfTwo → (list other : List ℕ) → List ℕ
+path_of First list other = list
+path_of Second list other = other
+
+-- a comparison didn't come to the sources of both lists, and that is its line
+pub record IsOneKeptOut {O : Type 0} (out : console.Ghosts O) (list other : List ℕ) (old new : O) (status : ℕ)
+    : Type 0 where
+  pub which : ListOfTwo
+  pub fault : OpenFault
+  pub status_is : status ≡ 1
+  pub printed : Tells out old new
+      (list_refusal_line which true (refusal_of_opening fault (path_of which list other) []))
+
+-- two lists were compared, each over the files of its folder
+pub record ComparesFolders {O : Type 0} (shelf : source.Ghosts SourceFolder) (out : console.Ghosts O)
+    (selected : Selected) (media other_media : List ℕ) (old new : O) (status : ℕ) : Type 0 where
+  pub list : List ℕ
+  pub other : List ℕ
+  pub before : SourceFolder
+  pub after : SourceFolder
+  pub other_before : SourceFolder
+  pub other_after : SourceFolder
+  pub folder : before.folder ≡ folder_named media
+  pub other_folder : other_before.folder ≡ folder_named other_media
+  pub answered : IsCompared (ComparesBy shelf shelf selected list other before after other_before other_after) out old
+      new status
 
 -- a list was checked over the files of this folder
 pub record ChecksFolder {O : Type 0} (shelf : source.Ghosts SourceFolder) (out : console.Ghosts O)

@@ -8,10 +8,11 @@ ghost use Rattle.commandline.specs.Request.{asked_of};
 ghost use Rattle.console.specs.Places.{where_of};
 ghost use Rattle.sound_terms.specs.Passes.{standard_groups};
 ghost use Rattle.answers.specs.Answers.{RendersBy, ResumesBy, asking, rendered_lines, resumed_lines, written_lines};
-ghost use Rattle.adlcons.specs.Openings.{ChecksFolder, IsKeptOut, ReportsFolder, WorksInFolders, overwrite_for, refusal_of_opening};
+ghost use Rattle.adlcons.specs.Openings.{ChecksFolder, ComparesFolders, IsKeptOut, IsOneKeptOut, ReportsFolder, WorksInFolders, overwrite_for, refusal_of_opening};
 ghost use Rattle.shelf.specs.declared.Overwrite.TheVariants as overwrite;
 
 use crate::asides::{FolderAsides, listed};
+use crate::comparing::compare_folders;
 use crate::looks::{report_folder, show_folder};
 use crate::output::{HeldFolder, Lock, hold_folder, require_ready_folder, require_unshared};
 use crate::reading::{ReadFault, read_list};
@@ -28,6 +29,10 @@ use std::alloc::AllocError;
 use std::fs::Files;
 use std::os::unix::fs::FileExt;
 use std::{fs, io};
+
+/// What a time is, for a user who wrote another.
+pub const TIMES: &str =
+    "a time is hh.mm.ss.ff/rrrr: hours to 24, frames below the list's rate, and samples of a frame";
 
 /// Why a command didn't come to its stores.
 #[derive(Clone, Copy, Debug)]
@@ -52,7 +57,7 @@ pub enum OpenFault {
 
 impl OpenFault {
     /// The refusal of a command over this list that writes to this folder.
-    fn refusal<'a>(self, list: &'a str, out: &'a str) -> Refusal<'a>
+    pub fn refusal<'a>(self, list: &'a str, out: &'a str) -> Refusal<'a>
         ensures number { result.number ≡ (refusal_of_opening self list.entry.now out.entry.now).number }
         ensures place { where_of result.place ≡ (refusal_of_opening self list.entry.now out.entry.now).place }
     {
@@ -136,6 +141,11 @@ where
         (λ list. IsConsolidation ⟦<FolderShelf<R> as devices::Shelf>⟧ ⟦<FolderBench<R> as devices::Bench>⟧ standard_groups
         list handle (asking report))
         written_lines O.Console media target out.old out.new result }
+    ensures compared { (list media other other_media : Text) (selected : asked.Selected)
+        → request_of (texts words.now) ≡ Some (asked.Compare list media other other_media selected) → result ≢ 2
+        → IsOneKeptOut O.Console list other out.old out.new result
+        ⊎ ComparesFolders ⟦<FolderShelf<R> as devices::Shelf>⟧ O.Console selected media other_media out.old out.new
+        result }
     ensures statuses { result ≤ 2 }
     ensures help { asks_for_help (texts words.now) ≡ true → result ≢ 1 }
     ensures refused_words { request_of (texts words.now) ≡ None → asks_for_help (texts words.now) ≡ false → result ≡ 2 }
@@ -150,6 +160,9 @@ where
         Request::ExplainNotice(number) => explain_notice(number, out, err),
         Request::Check(list, media) => check_folder(rt, list, media, all, out, err, meter),
         Request::Report(list, media) => report_folder(rt, list, media, all, out, err),
+        Request::Compare(places, selected) => {
+            compare_folders(rt, places, selected, all, out, err)
+        }
         Request::Show(list, media, handle) => show_folder(rt, list, media, handle, all, out, err),
         Request::Render(places, chosen) => {
             let request = Request::Render(places, chosen);
@@ -186,7 +199,7 @@ pub fn keep_out<O: Console, E: Console>(
 }
 
 /// What is told of such a refusal beside its line.
-fn explanation_of(fault: OpenFault, number: u8, inside: Option<&str>) -> Explanation<'_> {
+pub fn explanation_of(fault: OpenFault, number: u8, inside: Option<&str>) -> Explanation<'_> {
     let explanation = Explanation::by(number, fault.reason(), inside);
     match fault {
         OpenFault::Busy => explanation.with_folder(FoundFolder::Busy),
@@ -362,9 +375,7 @@ where
         tell_all_further(rt, &list, places.media, err);
     }
     if status == MISTAKE {
-        err.print_line(
-            "a time is hh.mm.ss.ff/rrrr: hours to 24, frames below the list's rate, and samples of a frame",
-        );
+        err.print_line(TIMES);
     } else {
         tell_unlisted(places.media, unlisted, err);
     }
@@ -403,17 +414,17 @@ where
     Ok(held)
 }
 
-/// Tells all that is at fault in a list over the folder of its media behind its first fault, if it has one.
-pub fn tell_all_further<R, E: Console>(rt: &R, list: &[u8], media: &str, err: &mut E)
+/// Tells all that is at fault in a list over the folder of its media behind its first fault, and whether it has one.
+pub fn tell_all_further<R, E: Console>(rt: &R, list: &[u8], media: &str, err: &mut E) -> bool
 where
     R: Files + Input + AllocGlobal + Clone + Drop,
     R::File: FileExt,
 {
     let Ok(other) = rt.clone() else {
-        return;
+        return false;
     };
     let Ok(mut shelf) = FolderShelf::new(rt.alloc(), other, media) else {
-        return;
+        return false;
     };
     if let Err(fault) = check_project(rt.alloc(), list, &mut shelf) {
         let asides = FolderAsides::new(rt, media, true);
@@ -426,7 +437,9 @@ where
             &asides,
             err,
         );
+        return true;
     }
+    false
 }
 
 /// Why a folder of media can't be listed, if it can't. It is as an empty one then.

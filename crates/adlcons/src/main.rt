@@ -1,8 +1,9 @@
-//! `adlcons`: checks, consolidates and renders audio decision lists over folders of sound files. With no words it
+//! `adlcons`: checks, consolidates, renders and compares audio decision lists over folders of sound files. With no words it
 //! renders a stored example over memory and prints what came of it.
 #![tactic(auto)]
 
 mod asides;
+mod comparing;
 mod example;
 mod folders;
 mod looks;

@@ -1,7 +1,7 @@
 use Rattle.std.proofs.Common.{◌≡◌, Some, refl, rules}
-use Rattle.commandline.specs.CommandLine.{Consolidate, Render, Resume}
-use Rattle.commandline.specs.Request.{chosen_of}
-use Rattle.commandline.specs.RequestLaws.{consolidate_fields, render_fields, resume_fields}
+use Rattle.commandline.specs.CommandLine.{Compare, Consolidate, Render, Resume}
+use Rattle.commandline.specs.Request.{chosen_of, selected_of}
+use Rattle.commandline.specs.RequestLaws.{compare_fields, consolidate_fields, render_fields, resume_fields}
 use Rattle.adlcons.proofs.folders.answer_words.Goals as goal
 
 pub returns-in-Render-clause-rendered : goal.returns-in-Render-clause-rendered
@@ -49,3 +49,17 @@ returns-in-Consolidate-clause-consolidated g c = λ list media target handle rep
     rw (← the_list, ← the_media, ← the_target, ← the_handle, ← the_report)
     (λ some. c.work_in_folders-in-Consolidate.ensures.consolidated places.list.now places.media.now
     places.out.now c.in-Consolidate.handle c.in-Consolidate.report refl)
+
+pub returns-in-Compare-clause-compared : goal.returns-in-Compare-clause-compared
+returns-in-Compare-clause-compared g c = λ list media other other_media selected request.
+    let places = c.in-Compare.places in
+    let same : Some (Compare places.list.now places.media.now places.other_list.now places.other_media.now
+    (selected_of c.in-Compare.selected)) ≡ Some (Compare list media other other_media selected) = search rules in
+    let parts = compare_fields places.list.now places.media.now places.other_list.now places.other_media.now
+    (selected_of c.in-Compare.selected) list media other other_media selected same in
+    let the_list : places.list.now ≡ list = parts.0 in
+    let the_media : places.media.now ≡ media = parts.1 in
+    let the_other : places.other_list.now ≡ other = parts.2 in
+    let the_other_media : places.other_media.now ≡ other_media = parts.3 in
+    let the_choice : selected_of c.in-Compare.selected ≡ selected = parts.4 in
+    rw (← the_list, ← the_media, ← the_other, ← the_other_media, ← the_choice) c.compare_folders.ensures.answered

@@ -1,0 +1,188 @@
+// A comparison of two lists, each over the folder of its media.
+ghost use Rattle.std.specs.Prelude.{◌≡◌, ◌≢◌, ◌≤◌, ◌⊎◌, IfOk, OnErr};
+ghost use Rattle.shelf.specs.Folder.{folder_named};
+ghost use Rattle.commandline.specs.Request.{selected_of};
+ghost use Rattle.adlcons.specs.Openings.{ComparesFolders, IsOneKeptOut, path_of};
+
+use crate::asides::FolderAsides;
+use crate::folders::{
+    OpenFault, TIMES, explanation_of, tell_all_further, tell_unlisted, unlisted_reason,
+};
+use crate::reading::read_list;
+use answers::{MISTAKE, REFUSED, answer_compare};
+use commandline::{BothPlaces, Selected};
+use console::{Console, ListOfTwo, put_in_list, put_refusal};
+use explanations::NamedList;
+use shelf::FolderShelf;
+use std::fs::Files;
+use std::io;
+use std::os::unix::fs::FileExt;
+
+/// Why a comparison didn't come to the sources of one of two lists.
+#[derive(Clone, Copy, Debug)]
+struct Unopened {
+    list: ListOfTwo,
+    fault: OpenFault,
+}
+
+/// A list as it was read, over the folder of its media.
+#[derive(Drop)]
+struct OpenedList<R: Files + AllocGlobal + Clone + Drop>
+where
+    R::File: FileExt,
+{
+    text: Vec<u8>,
+    shelf: FolderShelf<R>,
+    /// Why the folder can't be listed, if it can't.
+    unlisted: Option<io::Error>,
+}
+
+/// Compares these lists over these folders at what the words choose, and answers the status. What kept it from a list is
+/// printed.
+pub fn compare_folders<R, O: Console, E: Console>(
+    rt: &R,
+    places: BothPlaces<'_>,
+    selected: Selected<'_>,
+    tells_all: bool,
+    out: &mut O,
+    err: &mut E,
+) -> u8
+where
+    R: Files + Input + AllocGlobal + Clone + Drop,
+    R::File: FileExt,
+    ensures answered { result ≢ 2
+        → IsOneKeptOut O.Console places.entry.list.now places.entry.other_list.now out.old out.new result
+        ⊎ ComparesFolders ⟦<FolderShelf<R> as devices::Shelf>⟧ O.Console (selected_of selected.entry)
+        places.entry.media.now places.entry.other_media.now out.old out.new result }
+    ensures statuses { result ≤ 2 }
+{
+    match try_compare(rt, places, selected, tells_all, out, err) {
+        Ok(status) => status,
+        Err(unopened) => keep_one_out(unopened, places, out, err),
+    }
+}
+
+/// The status of a comparison that doesn't come to the sources of one of its lists. Why is printed.
+fn keep_one_out<O: Console, E: Console>(
+    unopened: Unopened,
+    places: BothPlaces<'_>,
+    out: &mut O,
+    err: &mut E,
+) -> u8
+    ensures { IsOneKeptOut O.Console places.entry.list.now places.entry.other_list.now out.old out.new result }
+{
+    let path = path_of(unopened.list, places);
+    let refusal = unopened.fault.refusal(path, "");
+    put_refusal(out, refusal);
+    put_in_list(out, unopened.list);
+    out.end_line();
+    let (list, explanation) = (
+        NamedList(unopened.list),
+        explanation_of(unopened.fault, refusal.number, None),
+    );
+    err.print_line(format_args!("{list}: {explanation}"));
+    1
+}
+
+/// The path of one of both lists.
+fn path_of<'a>(list: ListOfTwo, places: BothPlaces<'a>) -> &'a str
+    ensures { result.now ≡ path_of list places.entry.list.now places.entry.other_list.now }
+{
+    match list {
+        ListOfTwo::First => places.list,
+        ListOfTwo::Second => places.other_list,
+    }
+}
+
+/// Compares these lists, where both can be read: the first one is read first.
+fn try_compare<R, O: Console, E: Console>(
+    rt: &R,
+    places: BothPlaces<'_>,
+    selected: Selected<'_>,
+    tells_all: bool,
+    out: &mut O,
+    err: &mut E,
+) -> Result<u8, Unopened>
+where
+    R: Files + Input + AllocGlobal + Clone + Drop,
+    R::File: FileExt,
+    ensures answered { IfOk result (λ status. status ≢ 2
+        → ComparesFolders ⟦<FolderShelf<R> as devices::Shelf>⟧ O.Console (selected_of selected.entry)
+        places.entry.media.now places.entry.other_media.now out.old out.new status) }
+    ensures statuses { IfOk result (λ status. status ≤ 2) }
+    ensures nothing { OnErr result (out.new ≡ out.old) }
+{
+    let mut first = open_one(rt, ListOfTwo::First, places.list, places.media)?;
+    let mut second = open_one(rt, ListOfTwo::Second, places.other_list, places.other_media)?;
+    let asides = FolderAsides::new(rt, places.media, tells_all);
+    let other_asides = FolderAsides::new(rt, places.other_media, tells_all);
+    let status = answer_compare(
+        rt.alloc(),
+        selected,
+        &first.text,
+        &second.text,
+        &mut first.shelf,
+        &mut second.shelf,
+        out,
+        err,
+        &asides,
+        &other_asides,
+    );
+    if status == MISTAKE {
+        err.print_line(TIMES);
+    } else {
+        if status == REFUSED && tells_all {
+            report_further(rt, places, &first.text, &second.text, err);
+        }
+        tell_unlisted(places.media, first.unlisted, err);
+        tell_unlisted(places.other_media, second.unlisted, err);
+    }
+    Ok(status)
+}
+
+/// Opens one of two lists over this folder.
+fn open_one<R>(rt: &R, list: ListOfTwo, path: &str, media: &str) -> Result<OpenedList<R>, Unopened>
+where
+    R: Files + Input + AllocGlobal + Clone + Drop,
+    R::File: FileExt,
+    ensures { IfOk result (λ opened. opened.shelf.folder ≡ folder_named media.now) }
+{
+    match open_list(rt, path, media) {
+        Ok(opened) => Ok(opened),
+        Err(fault) => Err(Unopened { list, fault }),
+    }
+}
+
+/// Opens a list over this folder.
+fn open_list<R>(rt: &R, path: &str, media: &str) -> Result<OpenedList<R>, OpenFault>
+where
+    R: Files + Input + AllocGlobal + Clone + Drop,
+    R::File: FileExt,
+    ensures { IfOk result (λ opened. opened.shelf.folder ≡ folder_named media.now) }
+{
+    let text = read_list(rt, path)?;
+    let shelf = FolderShelf::new(rt.alloc(), rt.clone()?, media)?;
+    let unlisted = unlisted_reason(rt, media);
+    Ok(OpenedList {
+        text,
+        shelf,
+        unlisted,
+    })
+}
+
+/// Prints the further faults of the first list that has one.
+fn report_further<R, E: Console>(
+    rt: &R,
+    places: BothPlaces<'_>,
+    list: &[u8],
+    other: &[u8],
+    err: &mut E,
+)
+where
+    R: Files + Input + AllocGlobal + Clone + Drop,
+    R::File: FileExt,
+{
+    if !tell_all_further(rt, list, places.media, err) {
+        tell_all_further(rt, other, places.other_media, err);
+    }
+}
