@@ -337,7 +337,7 @@ def elsewhere(scene: Scene) -> None:
     (scene.folder / MEDIA / "Edits").mkdir()
     (scene.folder / MEDIA / "Edits" / "A.wav").write_bytes(wave())
     for command in model.COMMANDS:
-        said = ("; found in Edits/; put it into the folder itself",)
+        said = ("; found in Edits/; add --search, or put it into the folder itself",)
         expect_said(scene.run(*words_of(command)), f"{line}A.wav", said)
     scene.put(with_url(rb"URL:file://localhost/C:\Audio Files\VO.wav"), {"VO.wav": wave()})
     said = "; VO.wav is there: write / for \\; correct the list"

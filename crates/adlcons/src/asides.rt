@@ -1,4 +1,5 @@
 // What a command tells on standard error beside the refusal and its explanation.
+use crate::media::{Manner, open_media};
 use answers::Asides;
 use explanations::Near;
 use shelf::FolderShelf;
@@ -19,17 +20,13 @@ const MOST_NAMES: usize = 1_048_576;
 pub struct FolderAsides<'a, R> {
     rt: &'a R,
     media: &'a str,
-    tells_all: bool,
+    manner: Manner,
 }
 
 impl<'a, R> FolderAsides<'a, R> {
-    /// Of a refusal over this folder all that is at fault, or a few faults.
-    pub fn new(rt: &'a R, media: &'a str, tells_all: bool) -> Self {
-        FolderAsides {
-            rt,
-            media,
-            tells_all,
-        }
+    /// What is told of a refusal over this folder, in this manner: all that is at fault, or a few faults.
+    pub fn new(rt: &'a R, media: &'a str, manner: Manner) -> Self {
+        FolderAsides { rt, media, manner }
     }
 }
 
@@ -101,7 +98,11 @@ where
     type Sources = FolderShelf<R>;
 
     fn most(&self) -> usize {
-        if self.tells_all { usize::MAX } else { FEW }
+        if self.manner.tells_all {
+            usize::MAX
+        } else {
+            FEW
+        }
     }
 
     fn near(&self, alloc: Global, name: &str) -> Option<Near> {
@@ -114,9 +115,8 @@ where
         Some(Near::Folder(self.folder_of(alloc, name)?))
     }
 
-    fn sources(&self, alloc: Global) -> Option<FolderShelf<R>> {
-        let rt = self.rt.clone().ok()?;
-        FolderShelf::new(alloc, rt, self.media).ok()
+    fn sources(&self, _: Global) -> Option<FolderShelf<R>> {
+        open_media(self.rt, self.media, self.manner).ok()
     }
 }
 

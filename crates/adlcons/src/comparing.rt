@@ -8,6 +8,7 @@ use crate::asides::FolderAsides;
 use crate::folders::{
     OpenFault, TIMES, explanation_of, tell_all_further, tell_unlisted, unlisted_reason,
 };
+use crate::media::{Manner, open_media, report_found};
 use crate::reading::read_list;
 use answers::{MISTAKE, REFUSED, answer_compare};
 use commandline::{BothPlaces, Selected};
@@ -43,7 +44,7 @@ pub fn compare_folders<R, O: Console, E: Console>(
     rt: &R,
     places: BothPlaces<'_>,
     selected: Selected<'_>,
-    tells_all: bool,
+    manner: Manner,
     out: &mut O,
     err: &mut E,
 ) -> u8
@@ -56,7 +57,7 @@ where
         places.entry.media.now places.entry.other_media.now out.old out.new result }
     ensures statuses { result ≤ 2 }
 {
-    match try_compare(rt, places, selected, tells_all, out, err) {
+    match try_compare(rt, places, selected, manner, out, err) {
         Ok(status) => status,
         Err(unopened) => keep_one_out(unopened, places, out, err),
     }
@@ -99,7 +100,7 @@ fn try_compare<R, O: Console, E: Console>(
     rt: &R,
     places: BothPlaces<'_>,
     selected: Selected<'_>,
-    tells_all: bool,
+    manner: Manner,
     out: &mut O,
     err: &mut E,
 ) -> Result<u8, Unopened>
@@ -112,10 +113,16 @@ where
     ensures statuses { IfOk result (λ status. status ≤ 2) }
     ensures nothing { OnErr result (out.new ≡ out.old) }
 {
-    let mut first = open_one(rt, ListOfTwo::First, places.list, places.media)?;
-    let mut second = open_one(rt, ListOfTwo::Second, places.other_list, places.other_media)?;
-    let asides = FolderAsides::new(rt, places.media, tells_all);
-    let other_asides = FolderAsides::new(rt, places.other_media, tells_all);
+    let mut first = open_one(rt, ListOfTwo::First, places.list, places.media, manner)?;
+    let mut second = open_one(
+        rt,
+        ListOfTwo::Second,
+        places.other_list,
+        places.other_media,
+        manner,
+    )?;
+    let asides = FolderAsides::new(rt, places.media, manner);
+    let other_asides = FolderAsides::new(rt, places.other_media, manner);
     let status = answer_compare(
         rt.alloc(),
         selected,
@@ -131,9 +138,11 @@ where
     if status == MISTAKE {
         err.print_line(TIMES);
     } else {
-        if status == REFUSED && tells_all {
-            report_further(rt, places, &first.text, &second.text, err);
+        if status == REFUSED && manner.tells_all {
+            report_further(rt, places, &first.text, &second.text, manner, err);
         }
+        report_found(&first.shelf, manner, err);
+        report_found(&second.shelf, manner, err);
         tell_unlisted(places.media, first.unlisted, err);
         tell_unlisted(places.other_media, second.unlisted, err);
     }
@@ -141,27 +150,33 @@ where
 }
 
 /// Opens one of two lists over this folder.
-fn open_one<R>(rt: &R, list: ListOfTwo, path: &str, media: &str) -> Result<OpenedList<R>, Unopened>
+fn open_one<R>(
+    rt: &R,
+    list: ListOfTwo,
+    path: &str,
+    media: &str,
+    manner: Manner,
+) -> Result<OpenedList<R>, Unopened>
 where
     R: Files + Input + AllocGlobal + Clone + Drop,
     R::File: FileExt,
     ensures { IfOk result (λ opened. opened.shelf.folder ≡ folder_named media.now) }
 {
-    match open_list(rt, path, media) {
+    match open_list(rt, path, media, manner) {
         Ok(opened) => Ok(opened),
         Err(fault) => Err(Unopened { list, fault }),
     }
 }
 
 /// Opens a list over this folder.
-fn open_list<R>(rt: &R, path: &str, media: &str) -> Result<OpenedList<R>, OpenFault>
+fn open_list<R>(rt: &R, path: &str, media: &str, manner: Manner) -> Result<OpenedList<R>, OpenFault>
 where
     R: Files + Input + AllocGlobal + Clone + Drop,
     R::File: FileExt,
     ensures { IfOk result (λ opened. opened.shelf.folder ≡ folder_named media.now) }
 {
     let text = read_list(rt, path)?;
-    let shelf = FolderShelf::new(rt.alloc(), rt.clone()?, media)?;
+    let shelf = open_media(rt, media, manner)?;
     let unlisted = unlisted_reason(rt, media);
     Ok(OpenedList {
         text,
@@ -176,13 +191,14 @@ fn report_further<R, E: Console>(
     places: BothPlaces<'_>,
     list: &[u8],
     other: &[u8],
+    manner: Manner,
     err: &mut E,
 )
 where
     R: Files + Input + AllocGlobal + Clone + Drop,
     R::File: FileExt,
 {
-    if !tell_all_further(rt, list, places.media, err) {
-        tell_all_further(rt, other, places.other_media, err);
+    if !tell_all_further(rt, list, places.media, manner, err) {
+        tell_all_further(rt, other, places.other_media, manner, err);
     }
 }

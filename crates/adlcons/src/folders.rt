@@ -14,6 +14,7 @@ ghost use Rattle.shelf.specs.declared.Overwrite.TheVariants as overwrite;
 use crate::asides::{FolderAsides, listed};
 use crate::comparing::compare_folders;
 use crate::looks::{report_folder, show_folder};
+use crate::media::{Manner, open_media, report_found};
 use crate::output::{HeldFolder, Lock, hold_folder, require_ready_folder, require_unshared};
 use crate::reading::{ReadFault, read_list};
 use answers::{
@@ -154,27 +155,32 @@ where
         Ok(parsed) => parsed,
         Err(error) => return answer_error(rt.alloc(), error, out, err),
     };
-    let all = parsed.tells_all;
+    let manner = Manner {
+        tells_all: parsed.tells_all,
+        searches: parsed.searches,
+    };
     match parsed.request {
         Request::Explain(number) => explain(number, out, err),
         Request::ExplainNotice(number) => explain_notice(number, out, err),
-        Request::Check(list, media) => check_folder(rt, list, media, all, out, err, meter),
-        Request::Report(list, media) => report_folder(rt, list, media, all, out, err),
+        Request::Check(list, media) => check_folder(rt, list, media, manner, out, err, meter),
+        Request::Report(list, media) => report_folder(rt, list, media, manner, out, err),
         Request::Compare(places, selected) => {
-            compare_folders(rt, places, selected, all, out, err)
+            compare_folders(rt, places, selected, manner, out, err)
         }
-        Request::Show(list, media, handle) => show_folder(rt, list, media, handle, all, out, err),
+        Request::Show(list, media, handle) => show_folder(
+            rt, list, media, handle, manner, out, err,
+        ),
         Request::Render(places, chosen) => {
             let request = Request::Render(places, chosen);
-            work_in_folders(rt, request, places, all, out, err, meter)
+            work_in_folders(rt, request, places, manner, out, err, meter)
         }
         Request::Resume(places, chosen) => {
             let request = Request::Resume(places, chosen);
-            work_in_folders(rt, request, places, all, out, err, meter)
+            work_in_folders(rt, request, places, manner, out, err, meter)
         }
         Request::Consolidate(places, handle, report) => {
             let request = Request::Consolidate(places, handle, report);
-            work_in_folders(rt, request, places, all, out, err, meter)
+            work_in_folders(rt, request, places, manner, out, err, meter)
         }
     }
 }
@@ -214,7 +220,7 @@ fn check_folder<R, O: Console, E: Console, M: Meter>(
     rt: &R,
     list: &str,
     media: &str,
-    tells_all: bool,
+    manner: Manner,
     out: &mut O,
     err: &mut E,
     meter: &mut M,
@@ -226,7 +232,7 @@ where
         ⊎ ChecksFolder ⟦<FolderShelf<R> as devices::Shelf>⟧ O.Console media.now out.old out.new result }
     ensures statuses { result ≤ 1 }
 {
-    match try_check(rt, list, media, tells_all, out, err, meter) {
+    match try_check(rt, list, media, manner, out, err, meter) {
         Ok(status) => status,
         Err(fault) => keep_out(fault, list, "", None, out, err),
     }
@@ -237,7 +243,7 @@ fn try_check<R, O: Console, E: Console, M: Meter>(
     rt: &R,
     list: &str,
     media: &str,
-    tells_all: bool,
+    manner: Manner,
     out: &mut O,
     err: &mut E,
     meter: &mut M,
@@ -252,10 +258,10 @@ where
 {
     let request = Request::Check(list, media);
     let list = read_list(rt, list)?;
-    let mut shelf = FolderShelf::new(rt.alloc(), rt.clone()?, media)?;
+    let mut shelf = open_media(rt, media, manner)?;
     let mut bench = MemoryBench::new(rt.alloc());
     let unlisted = unlisted_reason(rt, media);
-    let asides = FolderAsides::new(rt, media, tells_all);
+    let asides = FolderAsides::new(rt, media, manner);
     let status = answer_request(
         rt.alloc(),
         request,
@@ -268,6 +274,7 @@ where
         meter,
         &asides,
     );
+    report_found(&shelf, manner, err);
     tell_unlisted(media, unlisted, err);
     Ok(status)
 }
@@ -277,7 +284,7 @@ fn work_in_folders<R, O: Console, E: Console, M: Meter>(
     rt: &R,
     request: Request<'_>,
     places: Places<'_>,
-    tells_all: bool,
+    manner: Manner,
     out: &mut O,
     err: &mut E,
     meter: &mut M,
@@ -306,7 +313,7 @@ where
         written_lines O.Console places.entry.media.now places.entry.out.now out.old out.new result }
     ensures statuses { result ≤ 2 }
 {
-    match try_places(rt, request, places, tells_all, out, err, meter) {
+    match try_places(rt, request, places, manner, out, err, meter) {
         Ok(status) => status,
         Err(fault) => {
             let inside = name_inside(rt, fault, places.out);
@@ -323,7 +330,7 @@ fn try_places<R, O: Console, E: Console, M: Meter>(
     rt: &R,
     request: Request<'_>,
     places: Places<'_>,
-    tells_all: bool,
+    manner: Manner,
     out: &mut O,
     err: &mut E,
     meter: &mut M,
@@ -354,9 +361,9 @@ where
     let overwrite = overwrite_for(&request);
     let _held = ready_output(rt, places, &list, overwrite, err)?;
     let mut bench = FolderBench::new(rt.alloc(), rt.clone()?, places.out, overwrite)?;
-    let mut shelf = FolderShelf::new(rt.alloc(), rt.clone()?, places.media)?;
+    let mut shelf = open_media(rt, places.media, manner)?;
     let unlisted = unlisted_reason(rt, places.media);
-    let asides = FolderAsides::new(rt, places.media, tells_all);
+    let asides = FolderAsides::new(rt, places.media, manner);
     let answered = answer_standard(
         rt.alloc(),
         request,
@@ -371,12 +378,13 @@ where
     let Ok(status) = answered else {
         return Err(OpenFault::Passes);
     };
-    if status == REFUSED && tells_all {
-        tell_all_further(rt, &list, places.media, err);
+    if status == REFUSED && manner.tells_all {
+        tell_all_further(rt, &list, places.media, manner, err);
     }
     if status == MISTAKE {
         err.print_line(TIMES);
     } else {
+        report_found(&shelf, manner, err);
         tell_unlisted(places.media, unlisted, err);
     }
     Ok(status)
@@ -415,19 +423,22 @@ where
 }
 
 /// Tells all that is at fault in a list over the folder of its media behind its first fault, and whether it has one.
-pub fn tell_all_further<R, E: Console>(rt: &R, list: &[u8], media: &str, err: &mut E) -> bool
+pub fn tell_all_further<R, E: Console>(
+    rt: &R,
+    list: &[u8],
+    media: &str,
+    manner: Manner,
+    err: &mut E,
+) -> bool
 where
     R: Files + Input + AllocGlobal + Clone + Drop,
     R::File: FileExt,
 {
-    let Ok(other) = rt.clone() else {
-        return false;
-    };
-    let Ok(mut shelf) = FolderShelf::new(rt.alloc(), other, media) else {
+    let Ok(mut shelf) = open_media(rt, media, manner) else {
         return false;
     };
     if let Err(fault) = check_project(rt.alloc(), list, &mut shelf) {
-        let asides = FolderAsides::new(rt, media, true);
+        let asides = FolderAsides::new(rt, media, manner);
         tell_further(
             rt.alloc(),
             list,

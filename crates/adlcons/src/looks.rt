@@ -4,6 +4,7 @@ ghost use Rattle.adlcons.specs.Openings.{IsKeptOut, ReportsFolder};
 
 use crate::asides::FolderAsides;
 use crate::folders::{OpenFault, keep_out, tell_all_further, tell_unlisted, unlisted_reason};
+use crate::media::{Manner, open_media, report_found};
 use crate::reading::read_list;
 use answers::{REFUSED, answer_picture, answer_report};
 use console::Console;
@@ -16,7 +17,7 @@ pub fn report_folder<R, O: Console, E: Console>(
     rt: &R,
     list: &str,
     media: &str,
-    tells_all: bool,
+    manner: Manner,
     out: &mut O,
     err: &mut E,
 ) -> u8
@@ -27,7 +28,7 @@ where
         ⊎ ReportsFolder ⟦<FolderShelf<R> as devices::Shelf>⟧ O.Console media.now out.old out.new result }
     ensures statuses { result ≤ 1 }
 {
-    match try_report(rt, list, media, tells_all, out, err) {
+    match try_report(rt, list, media, manner, out, err) {
         Ok(status) => status,
         Err(fault) => keep_out(fault, list, "", None, out, err),
     }
@@ -38,7 +39,7 @@ fn try_report<R, O: Console, E: Console>(
     rt: &R,
     list: &str,
     media: &str,
-    tells_all: bool,
+    manner: Manner,
     out: &mut O,
     err: &mut E,
 ) -> Result<u8, OpenFault>
@@ -51,13 +52,14 @@ where
     ensures nothing { OnErr result (out.new ≡ out.old) }
 {
     let list = read_list(rt, list)?;
-    let mut shelf = FolderShelf::new(rt.alloc(), rt.clone()?, media)?;
+    let mut shelf = open_media(rt, media, manner)?;
     let unlisted = unlisted_reason(rt, media);
-    let asides = FolderAsides::new(rt, media, tells_all);
+    let asides = FolderAsides::new(rt, media, manner);
     let status = answer_report(rt.alloc(), &list, &mut shelf, out, err, &asides);
-    if status == REFUSED && tells_all {
-        tell_all_further(rt, &list, media, err);
+    if status == REFUSED && manner.tells_all {
+        tell_all_further(rt, &list, media, manner, err);
     }
+    report_found(&shelf, manner, err);
     tell_unlisted(media, unlisted, err);
     Ok(status)
 }
@@ -69,7 +71,7 @@ pub fn show_folder<R, O: Console, E: Console>(
     list: &str,
     media: &str,
     handle: u64,
-    tells_all: bool,
+    manner: Manner,
     out: &mut O,
     err: &mut E,
 ) -> u8
@@ -78,7 +80,7 @@ where
     R::File: FileExt,
     ensures { result ≤ 1 }
 {
-    match try_show(rt, list, media, handle, tells_all, out, err) {
+    match try_show(rt, list, media, handle, manner, out, err) {
         Ok(status) => status,
         Err(fault) => keep_out(fault, list, "", None, out, err),
     }
@@ -90,7 +92,7 @@ fn try_show<R, O: Console, E: Console>(
     list: &str,
     media: &str,
     handle: u64,
-    tells_all: bool,
+    manner: Manner,
     out: &mut O,
     err: &mut E,
 ) -> Result<u8, OpenFault>
@@ -100,9 +102,9 @@ where
     ensures { IfOk result (λ status. status ≤ 1) }
 {
     let text = read_list(rt, list)?;
-    let mut shelf = FolderShelf::new(rt.alloc(), rt.clone()?, media)?;
+    let mut shelf = open_media(rt, media, manner)?;
     let unlisted = unlisted_reason(rt, media);
-    let asides = FolderAsides::new(rt, media, tells_all);
+    let asides = FolderAsides::new(rt, media, manner);
     let status = answer_picture(
         rt.alloc(),
         list,
@@ -113,9 +115,10 @@ where
         err,
         &asides,
     );
-    if status == REFUSED && tells_all {
-        tell_all_further(rt, &text, media, err);
+    if status == REFUSED && manner.tells_all {
+        tell_all_further(rt, &text, media, manner, err);
     }
+    report_found(&shelf, manner, err);
     tell_unlisted(media, unlisted, err);
     Ok(status)
 }

@@ -7,6 +7,7 @@ mod comparing;
 mod example;
 mod folders;
 mod looks;
+mod media;
 mod meter;
 mod output;
 mod reading;

@@ -21,7 +21,7 @@ impl Near {
             Near::Spelled(_) => {
                 "rename that file, or write its name in the list as it is in the folder"
             }
-            Near::Folder(_) => "put it into the folder itself, or name the folder that has it",
+            Near::Folder(_) => "add --search, or put it into the folder itself",
             Near::Backslash(_) => "correct the list, in which \\ is a part of the name",
         }
     }

@@ -1,0 +1,81 @@
+// The folder of a list's media.
+ghost use Rattle.std.specs.Prelude.{◌≡◌, IfOk};
+ghost use Rattle.shelf.specs.Folder.{folder_named};
+
+use console::Console;
+use explanations::PrintedName;
+use shelf::{FolderShelf, FoundBelow};
+use std::alloc::AllocError;
+use std::fs::Files;
+use std::os::unix::fs::FileExt;
+
+/// How many media from folders below are reported where not all are asked for.
+const FEW: usize = 20;
+
+/// What the words ask for beside the request: whether standard error lists all that is at fault in a refused list, and
+/// whether media are looked for in the folders below.
+#[derive(Clone, Copy, Debug)]
+pub struct Manner {
+    pub tells_all: bool,
+    pub searches: bool,
+}
+
+/// The sources of this folder.
+pub fn open_media<R>(rt: &R, media: &str, manner: Manner) -> Result<FolderShelf<R>, AllocError>
+where
+    R: Files + AllocGlobal + Clone + Drop,
+    R::File: FileExt,
+    ensures folder { IfOk result (λ shelf. shelf.folder ≡ folder_named media.now) }
+    ensures failures { IfOk result (λ shelf. shelf.failures ≡ 0) }
+{
+    let shelf = FolderShelf::new(rt.alloc(), rt.clone()?, media)?;
+    Ok(if manner.searches {
+        shelf.searching()
+    } else {
+        shelf
+    })
+}
+
+/// Prints which sources were taken from folders below, and which weren't, since two files have the name.
+pub fn report_found<R: Files + Drop, E: Console>(
+    shelf: &FolderShelf<R>,
+    manner: Manner,
+    err: &mut E,
+)
+where
+    R::File: FileExt,
+{
+    let found = shelf.found_below();
+    let most = if manner.tells_all {
+        found.len()
+    } else {
+        found.len().min(FEW)
+    };
+    for file in &found[..most] {
+        print_found(file, err);
+    }
+    if most < found.len() {
+        let more = found.len() - most;
+        err.print_line(format_args!("and {more} more media from folders below"));
+    }
+}
+
+/// Prints where a file lies.
+fn print_found<E: Console>(found: &FoundBelow, err: &mut E) {
+    let path = PrintedName(found.path.as_str());
+    let name = PrintedName(last_part(found.path.as_str()));
+    match &found.other {
+        None => err.print_line(format_args!("{name} is taken from {path}")),
+        Some(other) => {
+            let other = PrintedName(other.as_str());
+            err.print_line(format_args!(
+                "{name} lies in two folders below, so neither is taken: {path} and {other}"
+            ));
+        }
+    }
+}
+
+/// The name at the end of a path.
+fn last_part(path: &str) -> &str {
+    path.rsplit('/').next().unwrap_or(path)
+}
