@@ -2,11 +2,11 @@
 _adlcons() {
     local word=${COMP_WORDS[COMP_CWORD]} last=${COMP_WORDS[COMP_CWORD - 1]} options=--help
     case ${COMP_WORDS[1]} in
-        check) options='--all --report --help' ;;
-        consolidate) options='--all --handle --report --help' ;;
-        show) options='--all --handle --help' ;;
-        compare) options='--all --from --to --channels --help' ;;
-        render | resume) options='--all --from --to --channels --depth --order --help' ;;
+        check) options='--all --search --report --help' ;;
+        consolidate) options='--all --search --handle --report --help' ;;
+        show) options='--all --search --handle --help' ;;
+        compare) options='--all --search --from --to --channels --help' ;;
+        render | resume) options='--all --search --from --to --channels --depth --order --help' ;;
     esac
     if ((COMP_CWORD == 1)); then
         local commands='check consolidate render resume compare show explain help --help --version'

@@ -36,7 +36,9 @@ class Options(NamedTuple):
     def words(self, command: str) -> list:
         """The words for what isn't chosen by default."""
         rendering = "from", "to", "channels", "depth"
-        options = {"consolidate": ("handle",), "render": rendering, "resume": rendering}.get(command, ())
+        options = {
+            "consolidate": ("handle",), "render": rendering, "resume": rendering, "compare": rendering[:3],
+        }.get(command, ())
         chosen = {
             "handle": self.handle, "from": self.begin, "to": self.end, "channels": self.channels, "depth": self.depth}
         standard = {"handle": 48_000, "from": None, "to": None, "channels": None, "depth": 24}

@@ -1,0 +1,75 @@
+"""Comparing a project with its consolidation, beside `cmp` of the same files: 30 minutes, stereo, 24 bits."""
+
+import shutil
+import subprocess
+import sys
+from pathlib import Path
+
+from measuring import Bench, Cut, Job, block_of, line, list_text, make_sound, table
+from mixing import FRAMES, LAYERS, SECOND, SECONDS, crossfaded, cut_anew, layers
+
+MIXES = {
+    "one file": [Cut(0, 0, FRAMES)],
+    "a thousand cuts": cut_anew(),
+    "ten crossfades": crossfaded(),
+    "two layers": layers(2),
+    "one fade over all": [Cut(0, 0, FRAMES, FRAMES)],
+    "sixteen layers": layers(LAYERS),
+}
+BLOCK = SECOND, 2, 24
+
+
+def new_folder(bench: Bench) -> Path:
+    return bench.folder / "new"
+
+
+def consolidated(bench: Bench, text: Path) -> Path:
+    """The list of a consolidation, which stays beside its media while jobs write to other folders."""
+    folder = new_folder(bench)
+    shutil.rmtree(folder, ignore_errors=True)
+    folder.mkdir()
+    subprocess.run([bench.program, "consolidate", text, bench.media(), folder], check=True, capture_output=True)
+    return folder / "consolidated.adl"
+
+
+def compare_job(bench: Bench, text: Path, other: Path) -> Job:
+    return Job([bench.program, "compare", text, bench.media(), other, other.parent])
+
+
+def mix_line(bench: Bench, name: str, cuts: list) -> str:
+    """A mix compared with its consolidation; beside it `cmp` of the source with a copy."""
+    text = bench.put(list_text(cuts, channels="1~2"))
+    jobs = {
+        "compare": compare_job(bench, text, consolidated(bench, text)),
+        "cmp": Job(["cmp", bench.media() / "A.wav", bench.folder / "B.wav"]),
+    }
+    costs = bench.costs_of(jobs)
+    shutil.rmtree(new_folder(bench))
+    return line(f"`compare`: {name} and its consolidation", costs["compare"], (costs["cmp"],))
+
+
+def last_sample(bench: Bench) -> str:
+    """A difference in the very last sample."""
+    other = bench.folder / "other"
+    other.mkdir()
+    shutil.copy(bench.media() / "A.wav", other / "A.wav")
+    with (other / "A.wav").open("r+b") as file:
+        file.seek(-1, 2)
+        file.write(b"\x55")
+    text = bench.put(list_text([Cut(0, 0, FRAMES)], channels="1~2"))
+    words = [bench.program, "compare", text, bench.media(), text, other]
+    found = subprocess.run(words, capture_output=True, text=True).stdout
+    if found != "differ at 00.29.59.24/1919 channel 2\n":
+        sys.exit(f"bench: the last sample differs, and compare says {found}")
+    costs = bench.costs_of({
+        "compare": Job(words, status=1), "cmp": Job(["cmp", bench.media() / "A.wav", other / "A.wav"], status=1)})
+    shutil.rmtree(other)
+    return line("`compare`: the last sample differs", costs["compare"], (costs["cmp"],))
+
+
+def lines(bench: Bench) -> list:
+    source = bench.media() / "A.wav"
+    make_sound(source, block_of(*BLOCK), SECONDS, 2, 24)
+    shutil.copy(source, bench.folder / "B.wav")
+    rows = [mix_line(bench, name, cuts) for name, cuts in MIXES.items()]
+    return [*table("Job", "Seconds", "Peak memory, KB", "Time to `cmp`"), *rows, last_sample(bench)]
