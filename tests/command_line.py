@@ -89,7 +89,7 @@ def shown(scene: Scene) -> None:
         same(f"status and standard error of {words}", (got.status, got.error), (0, b""))
         if not got.output.strip() or max(map(len, got.output.splitlines())) > 80:
             raise Mismatch(f"{words} prints {got.output!r}")
-    for words in SHOWN[2:8]:
+    for words in SHOWN[2:9]:
         if b"Example" not in scene.run(*words).output:
             raise Mismatch(f"{words} shows no example")
 
@@ -103,6 +103,7 @@ Commands:
   consolidate  Write new media of just the frames that a list plays, and a list
   render       Render a list to one sound file, OUT/render.wav
   resume       Go on with a rendering that was stopped, by the same words
+  compare      Say whether two lists sound the same, or where they differ first
   show         Draw a list as SVG: entries over time, and what of files is kept
   explain      Tell what the number of a refusal or notice means, and what to do
   help         Print this message or the help of the given subcommand(s)
@@ -151,6 +152,26 @@ Options:
 Example: adlcons consolidate session.adl sources consolidated --handle 96000
 """
 
+COMPARE_HELP = """Say whether two lists sound the same, or where they differ first
+
+Usage: adlcons compare [OPTIONS] <LIST> <MEDIA> <LIST2> <MEDIA2>
+
+Arguments:
+  <LIST>    The list, a file; - is standard input
+  <MEDIA>   The folder of the list's WAVE files
+  <LIST2>   The second list, a file; one of both may be -
+  <MEDIA2>  The folder of the second list's WAVE files
+
+Options:
+      --all           List every fault of a refused list
+      --from <T>      The first sample, hh.mm.ss.ff/rrrr [default: the first in]
+      --to <T>        The time behind the last sample [default: the last out]
+      --channels <N>  Channels, 1 to 64 [default: all that entries name]
+  -h, --help          Print help
+
+Example: adlcons compare session.adl sources new/consolidated.adl new
+"""
+
 NO_OUT = """error: the following required arguments were not provided:
   <OUT>
 
@@ -173,6 +194,7 @@ def texts(scene: Scene) -> None:
     """What help, the version and mistakes say."""
     for words, text in (
         (("--help",), HELP), (("check", "-h"), CHECK_HELP), (("consolidate", "-h"), CONSOLIDATE_HELP),
+        (("compare", "-h"), COMPARE_HELP),
         (("help",), HELP), (("--version",), "adlcons 1.0.0\n"),
     ):
         same(f"the text of {words}", scene.run(*words).output.decode(), text)

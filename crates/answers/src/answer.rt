@@ -49,9 +49,9 @@ pub const MISTAKE: u8 = 2;
 
 /// Runs the command that is asked for over the list, the shelf and the bench, prints the notices and one line, and
 /// answers the status: 0 done, 1 refused, 2 where a time can't be read, which is told on `err`. A consolidation lets the
-/// passes go over the pieces of the entries. A comparison, which is of two lists, is answered by `answer_compare`, and is
-/// a mistake here. A refusal is explained on `err` too, in a line of its own; behind that of a check stand the list's further faults. What numbers mean is printed
-/// on `out`, with 0, or with 2 where nothing has the number.
+/// passes go over the pieces of the entries. A refusal is explained on `err` too, in a line of its own; behind that of a
+/// check stand the list's further faults. What numbers mean is printed on `out`, with 0, or with 2 where nothing has the
+/// number. A comparison is a mistake here (2): it is of two lists, and `answer_compare` answers it.
 #[tactic(auto, using(crate::proofs::Rates::answered_by, crate::proofs::Rates::resumed_by))]
 pub fn answer_request<
     S: Shelf + Reasons,

@@ -206,8 +206,8 @@ fn over_both<'a>(alloc: Global) -> Result<Command<'a>, AllocError>
     let command = over_media(
         alloc,
         "compare",
-        "Say whether two lists sound the same, sample for sample, or where they differ first",
-        "Example: adlcons compare session.adl sources consolidated/consolidated.adl consolidated",
+        "Say whether two lists sound the same, or where they differ first",
+        "Example: adlcons compare session.adl sources new/consolidated.adl new",
     )?;
     let list = "The second list, a file; one of both may be -";
     let command = with_place(alloc, command, "LIST2", list)?;
