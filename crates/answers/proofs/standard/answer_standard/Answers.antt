@@ -18,15 +18,15 @@ returns-in_ok-passes-in-Consolidate-clause-consolidated g c place media target h
           (λ table v. ((turn.dyn-1-ghosts (own.own-1, own.lawful-own-1)).0.entry table).1.looking v ≡ true)
           _ _ c.into_dyn_box-in_ok-new-in-Consolidate-2.result.value c.into_dyn_box-in_ok-new-in-Consolidate-2.ensures.0 (λ v. refl);
       quiet = (
-          at_table
-              (λ table v. ((turn.dyn-1-ghosts (own.own-1, own.lawful-own-1)).0.entry table).1.looking v ≡ false)
-              _ _ c.into_dyn_box.result.value c.into_dyn_box.ensures.0 (λ v. refl),
-          at_table
-              (λ table v. ((turn.dyn-1-ghosts (own.own-1, own.lawful-own-1)).0.entry table).1.looking v ≡ false)
-              _ _ c.into_dyn_box-in_ok-new-in-Consolidate-3.result.value c.into_dyn_box-in_ok-new-in-Consolidate-3.ensures.0 (λ v. refl),
-          at_table
-              (λ table v. ((turn.dyn-1-ghosts (own.own-1, own.lawful-own-1)).0.entry table).1.looking v ≡ false)
-              _ _ c.into_dyn_box-in_ok-new-in-Consolidate-4.result.value c.into_dyn_box-in_ok-new-in-Consolidate-4.ensures.0 (λ v. refl),
+        at_table
+            (λ table v. ((turn.dyn-1-ghosts (own.own-1, own.lawful-own-1)).0.entry table).1.looking v ≡ false)
+            _ _ c.into_dyn_box.result.value c.into_dyn_box.ensures.0 (λ v. refl),
+        at_table
+            (λ table v. ((turn.dyn-1-ghosts (own.own-1, own.lawful-own-1)).0.entry table).1.looking v ≡ false)
+            _ _ c.into_dyn_box-in_ok-new-in-Consolidate-3.result.value c.into_dyn_box-in_ok-new-in-Consolidate-3.ensures.0 (λ v. refl),
+        at_table
+            (λ table v. ((turn.dyn-1-ghosts (own.own-1, own.lawful-own-1)).0.entry table).1.looking v ≡ false)
+            _ _ c.into_dyn_box-in_ok-new-in-Consolidate-4.result.value c.into_dyn_box-in_ok-new-in-Consolidate-4.ensures.0 (λ v. refl),
       );
       splits = λ groups silent. at_table
           (λ table v. ((turn.dyn-1-ghosts (own.own-1, own.lawful-own-1)).0.entry table).1.gives v groups silent
