@@ -128,6 +128,7 @@ Arguments:
 
 Options:
       --all     List every fault of a refused list
+      --search  Look for missing media by name in the folders below
       --report  Print all that is found as JSON
   -h, --help    Print help
 
@@ -145,6 +146,7 @@ Arguments:
 
 Options:
       --all         List every fault of a refused list
+      --search      Look for missing media by name in the folders below
       --handle <N>  Frames kept on each side of what plays [default: 48000]
       --report      Write where the media come from, and checksums
   -h, --help        Print help
@@ -164,6 +166,7 @@ Arguments:
 
 Options:
       --all           List every fault of a refused list
+      --search        Look for missing media by name in the folders below
       --from <T>      The first sample, hh.mm.ss.ff/rrrr [default: the first in]
       --to <T>        The time behind the last sample [default: the last out]
       --channels <N>  Channels, 1 to 64 [default: all that entries name]
