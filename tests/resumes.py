@@ -289,6 +289,36 @@ BROKEN = {
 }
 
 
+def changed_by_hand(scene: Scene) -> None:
+    """A byte before or after the samples that isn't the rendering's is told with its position, and stays; the answer and
+    all else do too. Where marks aren't started, or the file has another length, nothing is told."""
+    frames = BLOCK + 3
+    samples = random.Random(SEED).randbytes(3 * frames)
+    data = b"data" + len(samples).to_bytes(4, "little") + samples + b"\0"
+    scene.put(
+        model.list_text(
+            [model.source_line(1, "A.wav", MIDNIGHT)], [model.entry_line(1, 1, MIDNIGHT, MIDNIGHT, model.time_text(frames))]),
+        {"A.wav": riff_file(format_chunk(bits=24), data)})
+    same("the status", scene.run(*RENDER).status, 0)
+    whole = scene.files()
+    same("the length of the file is even by its pad", (len(samples) % 2, len(whole[SOUND]) % 2), (1, 0))
+    for position in (0, 4, 56, 394, 689, len(whole[SOUND]) - 1):
+        sound = bytearray(whole[SOUND])
+        sound[position] ^= 0x21
+        files = {SOUND: bytes(sound), MARKS: whole[MARKS]}
+        scene.put_out(files)
+        got = scene.run(*RESUME)
+        same("standard output", got.output.decode(), f"resumed {frames} frames 2 blocks were marked\n")
+        same("standard error", got.error.decode(), (
+            f"{OUT}/{SOUND} was changed by another hand at byte {position}, where it has no samples; it stays so\n"))
+        same_files(scene.files(), files)
+    for files in (whole, {SOUND: bytes(sound), MARKS: b"\0" + whole[MARKS][1:]}):
+        scene.put_out(files)
+        got = scene.run(*RESUME)
+        same("the status and standard error", (got.status, got.error), (0, b""))
+        same_files(scene.files(), whole)
+
+
 def no_folder(scene: Scene) -> None:
     """An output that isn't there is 62 at its first file, and never 20; standard error names the folder first."""
     text, media = plain(2)
@@ -378,6 +408,7 @@ def run(suite: Suite) -> None:
         suite.case(f"another rendering: {name}", broken(67, ANOTHER, change, words, text))
     for name, change in BROKEN.items():
         suite.case(f"damaged: {name}", broken(68, DAMAGED, change))
+    suite.case("a head or a pad that was changed", changed_by_hand)
     suite.case("no folder", no_folder)
     suite.case("links in the output", links)
     suite.case("other files in the output", beside_others)

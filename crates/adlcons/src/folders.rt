@@ -13,6 +13,7 @@ ghost use Rattle.shelf.specs.declared.Overwrite.TheVariants as overwrite;
 
 use crate::asides::{FolderAsides, listed};
 use crate::comparing::compare_folders;
+use crate::head::{changed_position, report_change};
 use crate::looks::{report_folder, show_folder};
 use crate::media::{Manner, open_media, report_found};
 use crate::output::{HeldFolder, Lock, hold_folder, require_ready_folder, require_unshared};
@@ -360,6 +361,7 @@ where
     let list = read_list(rt, places.list)?;
     let overwrite = overwrite_for(&request);
     let _held = ready_output(rt, places, &list, overwrite, err)?;
+    let changed = changed_position(rt, request, &list);
     let mut bench = FolderBench::new(rt.alloc(), rt.clone()?, places.out, overwrite)?;
     let mut shelf = open_media(rt, places.media, manner)?;
     let unlisted = unlisted_reason(rt, places.media);
@@ -380,6 +382,9 @@ where
     };
     if status == REFUSED && manner.tells_all {
         tell_all_further(rt, &list, places.media, manner, err);
+    }
+    if let (0, Some(position)) = (status, changed) {
+        report_change(places.out, position, err);
     }
     if status == MISTAKE {
         err.print_line(TIMES);

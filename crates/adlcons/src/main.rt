@@ -6,6 +6,7 @@ mod asides;
 mod comparing;
 mod example;
 mod folders;
+mod head;
 mod looks;
 mod media;
 mod meter;
