@@ -1,5 +1,5 @@
 -- One run after another.
-use Rattle.std.proofs.Common.{◌≡◌, ◌∙◌, ℕ, ◌<◌, Bool, true, false, cond, IsTrue, Option, Some, None, Err, List, [], ◌∷◌, ◌++◌, length, length-set, take, get_or, ◌+◌, refl, sym, ap, subst, arith}
+use Rattle.std.proofs.Common.{◌≡◌, ◌∙◌, ℕ, ◌<◌, Bool, true, false, cond, IsTrue, Option, Some, None, Err, List, [], ◌∷◌, ◌++◌, length, length-set, take, get_or, ◌+◌, refl, sym, ap, subst, arith, eq-eqb}
 use Rattle.std.proofs.lemmas.List.{append-nil, take_more}
 use Rattle.std.specs.Prelude.{IsErrOf}
 use Rattle.work_terms.specs.Disk.{Files}
@@ -19,6 +19,7 @@ use Rattle.execution.specs.declared.fault.JobFault.{JobFault}
 use Rattle.execution.specs.declared.fault.JobFault.TheVariants as job_fault
 use Rattle.execution.specs.declared.fault.ExecutionFault.{ExecutionFault}
 use Rattle.execution.specs.declared.fault.ExecutionFault.TheVariants as fault
+use Rattle.execution.specs.Turns.{ActionTurn}
 use Rattle.execution.specs.Worlds.{IsWorld, Leads, state_of}
 use Rattle.devices.specs.Views.{OutputView, Reads, SourceView, Writes}
 use Rattle.execution.proofs.Firsts.{rises-after}
@@ -28,6 +29,7 @@ use Rattle.execution.proofs.MarkSteps.{marks-quiet}
 use Rattle.execution.proofs.Marked.{leaves-wider}
 use Rattle.execution.proofs.Rights.{leads-right}
 use Rattle.execution.proofs.Runs.{hand-leads, leads-more}
+use Rattle.execution.proofs.TurnLaws.{turns-one, turns-then}
 
 -- ---- what holds of the plan and of the sources of one snapshot holds of another's
 
@@ -68,6 +70,7 @@ pub run-none : (a : Snapshot) (had has : ℕ → Hand) → ((c : Files) → a.ou
     → ((v : ℕ) → has v ≡ had v) → EventRun a had [] a has None
 run-none a had has only same = record {
   kept = confined-none a;
+  turned = λ none. (refl, same);
   run = λ honest whole. leads-none a.plan.marks (jobs_of a) (state_at a None) had has same;
   marks = λ honest whole right run. marks-quiet (marking_of a) (done_of a.board) (done_of a.board) a.output None only
       (λ e. cc) (λ k. refl) run;
@@ -79,6 +82,7 @@ pub run-then : (a b c : Snapshot) (ha hb hc : ℕ → Hand) (es fs : List BoardE
     → EventRun b hb fs c hc e → EventRun a ha (es ++ fs) c hc e
 run-then a b c ha hb hc es fs e g h = record {
   kept = confined-then a b c e g.kept h.kept;
+  turned = λ none. turns-then es fs a.board b.board c.board ha hb hc (g.turned refl) (h.turned none);
   run = λ honest whole. leads-append a.plan.marks (jobs_of a) es fs (state_at a None) (state_at b None) (state_at c e)
       ha hb hc refl (g.run honest whole) (second honest whole);
   marks = λ honest whole right run. both honest whole right (g.marks honest whole right run)
@@ -141,10 +145,13 @@ acts marks sources p Lose number s t had has h = h
 
 pub run-step : (a b : Snapshot) (action : Action) (number : ℕ) (had has : ℕ → Hand) (hand now : Hand) (e : Option End)
     → hand ≡ had number → ((v : ℕ) → has v ≡ with_hand had number now v)
-    → WorkerStep (ActionStep a.plan.marks (jobs_of a) action) a hand b now e → EventRun a had
+    → WorkerStep (ActionStep a.plan.marks (jobs_of a) action) (ActionTurn action) a hand b now e → EventRun a had
     (event_of action number ∷ []) b has e
 run-step a b action number had has hand now e is after h = record {
   kept = h.kept;
+  turned = λ none. turns-one action number a.board b.board had has (subst (λ (x : Hand). ActionTurn action a.board x
+      b.board (has number)) is (subst (λ (x : Hand). ActionTurn action a.board hand b.board x) (sym (after number ∙ here number))
+      (h.turned none)));
   run = λ honest whole. leads-more a.plan.marks (jobs_of a) [] (event_of action number) (state_at a None)
       (state_at a None) (state_at b e) had had has refl
       (leads-none a.plan.marks (jobs_of a) (state_at a None) had had (λ v. refl))
@@ -153,9 +160,13 @@ run-step a b action number had has hand now e is after h = record {
       is (h.taken honest whole) after));
   marks = λ honest whole right run. h.marks honest whole (subst (IsRight (jobs_of a)) (sym is) (right number)) run;
 }
+  where
+    here : (w : ℕ) → with_hand had w now w ≡ now
+    here w = ap (λ (b : Bool). cond b now (had w)) (eq-eqb w w refl)
 
 -- a step that writes nothing
-pub step-quiet : (by : State → Hand → State → Hand → Type 0) (p p' : JobPlan) (board board' : Board) (stale stale' : ℕ)
+pub step-quiet : (by : State → Hand → State → Hand → Type 0) (turn : Board → Hand → Board → Hand → Type 0)
+    (p p' : JobPlan) (board board' : Board) (stale stale' : ℕ)
     (s s' : SourceView) (o : OutputView) (hand now : Hand) (e : Option End) → p' ≡ p → length board'.jobs ≡ length
     board.jobs
     → Reads s s' → ((c : Files) → o.left_since o.moment c → o.may_leave c) → (e ≡ Some MarkFailed → ⊥)
@@ -164,8 +175,10 @@ pub step-quiet : (by : State → Hand → State → Hand → Type 0) (p p' : Job
     now)
     → (by (state_at (snapshot_of p board stale s o) None) hand (state_at (snapshot_of p' board' stale' s' o) e) now
     → (k : ℕ) → done_of board' k ≡ done_of board k)
-    → WorkerStep by (snapshot_of p board stale s o) hand (snapshot_of p' board' stale' s' o) now e
-step-quiet by p p' board board' stale stale' s s' o hand now e plan size reads only no_mark step done = record {
+    → (e ≡ None → turn board hand board' now)
+    → WorkerStep by turn (snapshot_of p board stale s o) hand (snapshot_of p' board' stale' s' o) now e
+step-quiet by turn p p' board board' stale stale' s s' o hand now e plan size reads only no_mark step done turned = record {
+  turned = turned;
   kept = record {
     plan = plan;
     size = size;
@@ -200,6 +213,7 @@ reclaimed : (p : JobPlan) (board board' : Board) (stale : ℕ) (s : SourceView) 
     → length board'.jobs ≡ length board.jobs
     → EventRun (snapshot_of p board stale s o) had (event.Reclaim k ∷ []) (snapshot_of p board' stale s o) had None
 reclaimed p board board' stale s o had k only is size = record {
+  turned = λ none. (board', had, tt, (refl, λ w. refl));
   kept = record {
     plan = refl;
     size = size;
@@ -259,10 +273,10 @@ run-reclaim p board board' stale s o had k is_event same only is =
 
 -- what a worker did, by the name of it
 pub step-as : (action kind : Action) (marks : Bool) (jobs : Jobs) (a b : Snapshot) (hand now : Hand) (e : Option End)
-    → action ≡ kind → WorkerStep (ActionStep marks jobs kind) a hand b now e → WorkerStep
-    (ActionStep marks jobs action) a hand b now e
+    → action ≡ kind → WorkerStep (ActionStep marks jobs kind) (ActionTurn kind) a hand b now e
+    → WorkerStep (ActionStep marks jobs action) (ActionTurn action) a hand b now e
 step-as action kind marks jobs a b hand now e is h =
-    subst (λ (x : Action). WorkerStep (ActionStep marks jobs x) a hand b now e) (sym is) h
+    subst (λ (x : Action). WorkerStep (ActionStep marks jobs x) (ActionTurn x) a hand b now e) (sym is) h
 
 -- ---- a list of events
 

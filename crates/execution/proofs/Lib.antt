@@ -16,3 +16,4 @@ mod Runs
 mod Sound
 mod Starts
 mod Stretches
+mod TurnLaws

@@ -11,6 +11,7 @@ use Rattle.execution.specs.Ends.{StopsBefore, end_of}
 use Rattle.execution.specs.declared.fault.ExecutionFault.{ExecutionFault}
 use Rattle.execution.specs.Marking.{IsRight, IsRunningBy, Marking, MarksOn, done_of}
 use Rattle.execution.specs.Plan.{JobPlan, Stays}
+use Rattle.execution.specs.Turns.{Turns}
 use Rattle.execution.specs.Worlds.{Leads, state_of}
 use Rattle.execution.specs.declared.action.Action.{Action}
 use Rattle.execution.specs.declared.action.Action.TheVariants.{Deliver, Fault, Give, Lose, Work}
@@ -53,10 +54,10 @@ pub record IsConfined (old new : Snapshot) (ended : Option End) : Type 0 where
   pub mark : ended ≡ Some MarkFailed → MarkFails old.plan old.output new.output
 
 -- one worker's step
-pub record WorkerStep (by : State → Hand → State → Hand → Type 0) (old : Snapshot) (hand : Hand) (new : Snapshot)
-    (now : Hand)
-    (ended : Option End) : Type 0 where
+pub record WorkerStep (by : State → Hand → State → Hand → Type 0) (turn : Board → Hand → Board → Hand → Type 0)
+    (old : Snapshot) (hand : Hand) (new : Snapshot) (now : Hand) (ended : Option End) : Type 0 where
   pub kept : IsConfined old new ended
+  pub turned : ended ≡ None → turn old.board hand new.board now
   pub taken : IsTrue old.source.honest → IsTrue old.output.honest → by (state_at old None) hand (state_at new ended)
       now
   pub marks : IsTrue old.source.honest → IsTrue old.output.honest → IsRight (jobs_of old) hand
@@ -82,6 +83,7 @@ ActionStep marks jobs Lose = λ old _ new now. (new ≡ old) × (now ≡ Nothing
 pub record EventRun (old : Snapshot) (had : ℕ → Hand) (events : List BoardEvent) (new : Snapshot) (has : ℕ → Hand)
     (ended : Option End) : Type 0 where
   pub kept : IsConfined old new ended
+  pub turned : ended ≡ None → Turns events old.board had new.board has
   pub run : IsTrue old.source.honest → IsTrue old.output.honest → Leads (λ world next. BoardRun old.plan.marks
       (jobs_of old) world events next) (state_at old None) had (state_at new ended) has
   pub marks : IsTrue old.source.honest → IsTrue old.output.honest → ((v : ℕ) → IsRight (jobs_of old) (had v))

@@ -10,7 +10,9 @@ pub mod Laws
 pub mod Marking
 pub mod MarkingLaws
 pub mod Outcome
+pub mod OutcomeLaws
 pub mod Placed
 pub mod Plan
+pub mod Turns
 pub mod View
 pub mod Worlds

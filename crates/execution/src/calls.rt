@@ -145,8 +145,8 @@ impl<W: JobMaker> Execution<W> {
             (output_view B.Bench bench.old)) (hands_at self.old)
             (snapshot_of (W.plan self.new.work) self.new.board 0 (source_view S.Shelf shelf.new)
             (output_view B.Bench bench.new)) (shelf.new ≡ shelf.old) result }
-        ensures finished { IsTrue (S.honest shelf.old) → IsTrue (B.honest bench.old) → AtRest self.old.board
-            → hands_at self.old 1 ≡ Nothing → OnOk result (is_finished self.new.board ≡ true) }
+        ensures finished { AtRest self.old.board → hands_at self.old 1 ≡ Nothing
+            → OnOk result (is_finished self.new.board ≡ true) }
         ensures memory { IsErrOf result execution_fault.Memory → ⊥ }
         ensures job_memory { IsErrOf result execution_fault.JobMemory → ⊥ }
     {
@@ -208,8 +208,8 @@ impl<W: JobMaker> Execution<W> {
             (output_view B.Bench bench.old)) (hands_at self.old)
             (snapshot_of (W.plan self.new.work) self.new.board 0 (source_view S.Shelf shelf.new)
             (output_view B.Bench bench.new)) result }
-        ensures finished { IsTrue (S.honest shelf.old) → IsTrue (B.honest bench.old) → AtRest self.old.board
-            → hands_at self.old 1 ≡ Nothing → OnOk result (is_finished self.new.board ≡ true) }
+        ensures finished { AtRest self.old.board → hands_at self.old 1 ≡ Nothing
+            → OnOk result (is_finished self.new.board ≡ true) }
         ensures memory { IsErrOf result execution_fault.Memory → ⊥ }
         ensures job_memory { IsErrOf result execution_fault.JobMemory → ⊥ }
     {
@@ -269,8 +269,8 @@ impl<W: JobMaker> Execution<W> {
             (output_view B.Bench bench.old)) (hands_at self.old)
             (λ stale. snapshot_of (W.plan self.new.work) self.new.board stale (source_view S.Shelf shelf.new)
             (output_view B.Bench bench.new)) (hands_at self.new) result }
-        ensures finished { IsTrue (S.honest shelf.old) → IsTrue (B.honest bench.old) → AtRest self.old.board
-            → hands_at self.old 1 ≡ Nothing → OnOk result (is_finished self.new.board ≡ true) }
+        ensures finished { AtRest self.old.board → hands_at self.old 1 ≡ Nothing
+            → OnOk result (is_finished self.new.board ≡ true) }
         ensures memory { IsErrOf result execution_fault.Memory → ⊥ }
         ensures job_memory { IsErrOf result execution_fault.JobMemory → ⊥ }
     {

@@ -35,8 +35,8 @@ pub fn resume<W: JobMaker, S: Shelf, B: Bench, T: Watch>(
         (hands_in hands.old)
         (snapshot_of (W.plan maker.new) board.new 0 (source_view S.Shelf shelf.new) (output_view B.Bench bench.new))
         result }
-    ensures finished { IsTrue (S.honest shelf.old) → IsTrue (B.honest bench.old) → in_rounds ≡ true → AtRest board.old
-        → hands_in hands.old 1 ≡ Nothing → OnOk result (is_finished board.new ≡ true) }
+    ensures finished { in_rounds ≡ true → AtRest board.old → hands_in hands.old 1 ≡ Nothing
+        → OnOk result (is_finished board.new ≡ true) }
     ensures ready { IsReady (W.plan maker.new).jobs board.new hands.new }
     ensures memory { IsErrOf result execution_fault.Memory → in_rounds ≡ false }
     ensures job_memory { IsErrOf result execution_fault.JobMemory → in_rounds ≡ false }
@@ -74,8 +74,8 @@ pub fn execute<W: JobMaker, S: Shelf, B: Bench, T: Watch>(
         (hands_in hands.old)
         (snapshot_of (W.plan maker.new) board.new 0 (source_view S.Shelf shelf.new) (output_view B.Bench bench.new))
         (shelf.new ≡ shelf.old) result }
-    ensures finished { IsTrue (S.honest shelf.old) → IsTrue (B.honest bench.old) → in_rounds ≡ true → AtRest board.old
-        → hands_in hands.old 1 ≡ Nothing → OnOk result (is_finished board.new ≡ true) }
+    ensures finished { in_rounds ≡ true → AtRest board.old → hands_in hands.old 1 ≡ Nothing
+        → OnOk result (is_finished board.new ≡ true) }
     ensures ready { IsReady (W.plan maker.new).jobs board.new hands.new }
     ensures memory { IsErrOf result execution_fault.Memory → in_rounds ≡ false }
     ensures job_memory { IsErrOf result execution_fault.JobMemory → in_rounds ≡ false }

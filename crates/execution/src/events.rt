@@ -5,6 +5,7 @@ ghost use Rattle.execution.specs.Ends.{NeedsPlace, NeedsRoom, end_of, ended_of, 
 ghost use Rattle.execution.specs.Held.{IsReady, hands_in};
 ghost use Rattle.execution.specs.EventRun.{ActionStep, EventRun, WorkerStep, event_of, snapshot_of};
 ghost use Rattle.execution.specs.Desks.{FitsHand, FitsRoom};
+ghost use Rattle.execution.specs.Turns.{ActionTurn};
 ghost use Rattle.devices.specs.Views.{output_view, source_view};
 ghost use Rattle.execution.specs.declared.action.Action.TheVariants as action_kind;
 ghost use Rattle.execution.specs.declared.fault.ExecutionFault.TheVariants as execution_fault;
@@ -36,6 +37,7 @@ fn turn<W: JobMaker, S: Shelf, B: Bench>(
     requires room { action ≡ action_kind.Work → FitsRoom (W.plan maker.old).jobs worker.old }
     requires few { stale.old + 1 < 2 ^ 64 }
     ensures went { WorkerStep (ActionStep (W.plan maker.old).marks (jobs_over (W.plan maker.old).jobs (S.stored shelf.old)) action)
+        (ActionTurn action)
         (snapshot_of (W.plan maker.old) board.old stale.old (source_view S.Shelf shelf.old) (output_view B.Bench bench.old))
         worker.old.hand
         (snapshot_of (W.plan maker.new) board.new stale.new (source_view S.Shelf shelf.new) (output_view B.Bench bench.new))

@@ -9,6 +9,8 @@ ghost use Rattle.execution.specs.Ends.{ended_of};
 ghost use Rattle.execution.specs.Plan.{Stays};
 ghost use Rattle.execution.specs.EventRun.{MarkFails};
 ghost use Rattle.execution.specs.Desks.{FitsHand, FitsRoom};
+ghost use Rattle.execution.specs.Alone.{Turned};
+ghost use Rattle.execution.specs.Turns.{DeliverTurn, WorkTurn};
 ghost use Rattle.execution.specs.Worlds.{state_of};
 ghost use Rattle.devices.specs.Views.{Reads, Writes, output_view, source_view};
 ghost use Rattle.execution.specs.declared.fault.JobFault.TheVariants as fault;
@@ -44,6 +46,8 @@ fn failed(board: &mut Board, ticket: Ticket) -> Result<(), JobFault>
     ensures step { (files : Files) (stale shelf bench : ℕ) →
         state_of board.new files stale shelf bench (ended_of result)
         ≡ after_fault (state_of board.old files stale shelf bench None) ticket }
+    ensures turned { ended_of result ≡ None → is_current board.old ticket ≡ true
+        → Turned board.old ticket board.new }
     ensures only { IfErr result (λ f. f ≡ fault.GivenUp ticket.job) }
     ensures size { length board.new.jobs ≡ length board.old.jobs }
 {
@@ -90,6 +94,7 @@ pub fn make<W: JobMaker, S: Shelf>(
         WorkStep (jobs_over (W.plan maker.old).jobs (S.stored shelf.old))
         (state_of board.old files stale (S.failures shelf.old) bench None) worker.old.hand
         (state_of board.new files stale (S.failures shelf.new) bench (ended_of result)) worker.new.hand }
+    ensures turned { ended_of result ≡ None → WorkTurn board.old worker.old.hand board.new worker.new.hand }
     ensures fits { FitsHand (W.plan maker.old).jobs worker.new.hand }
     ensures same { W.plan maker.new ≡ W.plan maker.old }
     ensures source { Reads (source_view S.Shelf shelf.old) (source_view S.Shelf shelf.new) }
@@ -146,6 +151,7 @@ pub fn deliver<W: JobMaker, B: Bench>(
         → IsRunningBy ((W.plan maker.old).marking sources) (done_of board.old) (B.may_leave bench.old)
         → MarksOn ((W.plan maker.old).marking sources) (done_of board.old) (output_view B.Bench bench.old)
         (done_of board.new) (output_view B.Bench bench.new) (ended_of result) }
+    ensures turned { ended_of result ≡ None → DeliverTurn board.old worker.old.hand board.new worker.new.hand }
     ensures fits { FitsHand (W.plan maker.old).jobs worker.new.hand }
     ensures same { W.plan maker.new ≡ W.plan maker.old }
     ensures output { Writes (Stays (W.plan maker.old)) (output_view B.Bench bench.old) (output_view B.Bench bench.new) }

@@ -1,19 +1,16 @@
 -- What an execution of the listed work leaves.
-use Rattle.std.proofs.Common.{◌≡◌, ◌∙◌, ℕ, ◌+◌, ◌<◌, true, false, Ok, Err, List, [], ◌∷◌, ◌≢◌, codes, length, get_or, replicate, refl, sym, ap, subst, inl, inr, arith}
+use Rattle.std.proofs.Common.{◌≡◌, ◌∙◌, ℕ, ◌+◌, ◌<◌, false, Err, List, [], ◌∷◌, ◌≢◌, codes, length, get_or, replicate, refl, sym, ap, subst, inl, inr, arith}
 use Rattle.std.proofs.lemmas.Bool.{cases_lt}
 use Rattle.std.proofs.lemmas.List.{get_or-replicate, length-replicate}
 use Rattle.work_terms.specs.Disk.{Files}
-use Rattle.devices.specs.Views.{OutputView, SourceView}
-use Rattle.job_terms.specs.declared.BoardEvent.{BoardEvent}
-use Rattle.job_terms.specs.declared.Progress.{Progress}
-use Rattle.job_terms.specs.Board.{Board, fresh_job, is_finished}
-use Rattle.job_terms.specs.Workers.{Hand, jobs_over}
-use Rattle.execution.specs.EventRun.{Snapshot, snapshot_of}
+use Rattle.devices.specs.Views.{OutputView}
+use Rattle.job_terms.specs.Board.{Board, fresh_job}
+use Rattle.job_terms.specs.Workers.{jobs_over}
 use Rattle.execution.specs.Boards.{fresh_board}
 use Rattle.execution.specs.Filled.{AreApart}
 use Rattle.execution.specs.Marking.{done_of}
-use Rattle.execution.specs.Outcome.{Finished, HasFailed, IsBefore, NotFinished, NotLaidOut, Outcome, Stopped}
-use Rattle.execution.specs.Plan.{HoldJobs, HoldLast, OfJob, SourcesFit, Stays}
+use Rattle.execution.specs.Outcome.{HasFailed, IsBefore}
+use Rattle.execution.specs.Plan.{SourcesFit, Stays}
 use Rattle.execution.specs.declared.fault.ExecutionFault.{ExecutionFault}
 use Rattle.execution.specs.declared.fault.ExecutionFault.TheVariants as fault
 use Rattle.trials_execution.specs.Listed.{plan_of}
@@ -36,27 +33,6 @@ are-apart sources j k there also other same = elim (cases_lt j k) [
   | inl less ↦ inl (omega (arith, less))
   | inr ge ↦ inr (omega (arith, ge, other))
 ]
-
--- an execution that answers Ok, all jobs done, leaves every output whole
-pub all-written : (Begins : Files → Type 0) (events : List BoardEvent) (board : Board) (s : SourceView) (o : OutputView)
-    (had : ℕ → Hand) (new : Snapshot) (untouched : Type 0) (progress : Progress)
-    → Outcome Begins events (snapshot_of plan_of board 0 s o) had new untouched (Ok progress)
-    → is_finished new.board ≡ true
-    → HoldJobs plan_of s.files new.output.files × HoldLast plan_of s.files new.output.files
-all-written Begins events board s o had new untouched progress (NotLaidOut file un is same quiet writes laid) finished =
-    absurd (cc)
-all-written Begins events board s o had new untouched progress (Stopped stale count did stops writes runs) finished =
-    absurd (apart (sym stops.1 ∙ finished))
-  where
-    apart : false ≡ true → ⊥
-    apart h = cc
-all-written Begins events board s o had new untouched progress (NotFinished file stale count failures files did all is
-    own rose runs) finished = absurd (cc)
-all-written Begins events board s o had new untouched progress (Finished stale count files did all is own last durable
-    runs) finished = (
-      λ k lt. own (plan_of.jobs.name k) (OfJob k lt refl) ∙ did.complete all k lt,
-      last,
-    )
 
 -- no job of a fresh board is done
 pub none-yet : (board : Board) (order : List ℕ) → board ≡ fresh_board 64 order

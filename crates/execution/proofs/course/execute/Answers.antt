@@ -1,4 +1,4 @@
-use Rattle.std.proofs.Common.{IsTrue, refl, sym, subst}
+use Rattle.std.proofs.Common.{refl}
 use Rattle.devices.specs.ViewLaws.{writes_of}
 use Rattle.execution.proofs.Firsts.{raised}
 use Rattle.execution.proofs.Outcomes.{laid-then, not-laid}
@@ -44,5 +44,5 @@ returns-in-Err-resume-clause-executed g c = laid-then c.args.in_rounds c.args.ev
     }) c.requires.whole c.in-Err-resume.ensures.resumed
 
 pub returns-in-Ok-resume-clause-finished : goal.returns-in-Ok-resume-clause-finished
-returns-in-Ok-resume-clause-finished g c honest whole in_turn rest empty = c.in-Ok-resume.ensures.finished honest
-    (subst IsTrue (sym c.in-Ok.ensures.only_writes.honest_same) whole) in_turn rest empty
+returns-in-Ok-resume-clause-finished g c in_turn rest empty = c.in-Ok-resume.ensures.finished
+    in_turn rest empty

@@ -53,7 +53,7 @@ returns-in-Err-finish-clause-resumed g c = finish-failed _ _ _ _ _ _ _ _ _ _ _ _
     })
 
 pub returns-then-not-progress-clause-finished : goal.returns-then-not-progress-clause-finished
-returns-then-not-progress-clause-finished g c honest whole in_turn rest empty =
+returns-then-not-progress-clause-finished g c in_turn rest empty =
     (performed-finished (g.W.JobMaker.plan c.args.maker.now).jobs.count
     (snapshot_of (g.W.JobMaker.plan c.args.maker.now) c.args.board.now 0 (source_view g.S.Shelf c.args.shelf.now)
     (output_view g.B.Bench c.args.bench.now))
@@ -65,11 +65,10 @@ returns-then-not-progress-clause-finished g c honest whole in_turn rest empty =
     (output_view g.B.Bench c.args.bench.now)) (hands_in c.args.hands.now)
     (λ stale. snapshot_of (g.W.JobMaker.plan c.perform.new.maker) c.perform.new.board stale
     (source_view g.S.Shelf c.perform.new.shelf) (output_view g.B.Bench c.perform.new.bench))
-    (hands_in c.perform.new.hands) (Ok c.in-Ok.progress)) in_turn c.in-Ok.ensures.performed) c.requires.whole honest
-    whole rest empty).1
+    (hands_in c.perform.new.hands) (Ok c.in-Ok.progress)) in_turn c.in-Ok.ensures.performed) c.requires.whole rest empty).1
 
 pub returns-in-Ok-finish-clause-finished : goal.returns-in-Ok-finish-clause-finished
-returns-in-Ok-finish-clause-finished g c honest whole in_turn rest empty =
+returns-in-Ok-finish-clause-finished g c in_turn rest empty =
     (performed-finished (g.W.JobMaker.plan c.args.maker.now).jobs.count
     (snapshot_of (g.W.JobMaker.plan c.args.maker.now) c.args.board.now 0 (source_view g.S.Shelf c.args.shelf.now)
     (output_view g.B.Bench c.args.bench.now))
@@ -81,5 +80,4 @@ returns-in-Ok-finish-clause-finished g c honest whole in_turn rest empty =
     (output_view g.B.Bench c.args.bench.now)) (hands_in c.args.hands.now)
     (λ stale. snapshot_of (g.W.JobMaker.plan c.perform.new.maker) c.perform.new.board stale
     (source_view g.S.Shelf c.perform.new.shelf) (output_view g.B.Bench c.perform.new.bench))
-    (hands_in c.perform.new.hands) (Ok c.in-Ok.progress)) in_turn c.in-Ok.ensures.performed) c.requires.whole honest
-    whole rest empty).1
+    (hands_in c.perform.new.hands) (Ok c.in-Ok.progress)) in_turn c.in-Ok.ensures.performed) c.requires.whole rest empty).1

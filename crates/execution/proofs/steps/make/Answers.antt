@@ -3,6 +3,7 @@ use Rattle.job_terms.specs.Workers.{Makes, CantMake, Made, State, Hand}
 use Rattle.execution.specs.Desks.{Desk}
 use Rattle.execution.specs.Worlds.{state_of}
 use Rattle.execution.proofs.Firsts.{hand-is, raised, take_front}
+use Rattle.execution.proofs.TurnLaws.{makes-work}
 use Rattle.execution.proofs.steps.make.Goals as goal
 
 pub returns-in-Ok-clause-step : goal.returns-in-Ok-clause-step
@@ -20,6 +21,13 @@ returns-in-Ok-clause-step g c honest files stale bench =
     (hand-is c.worker.inside.ticket c.in-Some.ticket true true _ c.in-Some.is refl
     ∙ ap {B = Hand} (λ (b : List ℕ). Made c.in-Some.ticket b) (ap (λ (x : List ℕ). take c.size-size.result x) whole ∙
     c.in-Ok.ensures.made honest))
+
+pub returns-in-Ok-clause-turned : goal.returns-in-Ok-clause-turned
+returns-in-Ok-clause-turned g c none = makes-work c.args.board.now c.args.worker.now.hand _ c.in-Some.ticket _
+    (ap {B = Hand} (λ (d : Desk). d.hand) (sym c.worker.view_is) ∙ hand-is c.worker.inside.ticket c.in-Some.ticket
+    c.worker.inside.made false (take c.worker.inside.size c.worker.inside.bytes.items) c.in-Some.is
+    c.if-worker.false)
+    (hand-is c.worker.inside.ticket c.in-Some.ticket true true _ c.in-Some.is refl)
 
 pub returns-in-Err-clause-step : goal.returns-in-Err-clause-step
 returns-in-Err-clause-step g c honest files stale bench = CantMake c.in-Some.ticket (g.S.Shelf.failures

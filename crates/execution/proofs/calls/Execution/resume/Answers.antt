@@ -24,6 +24,6 @@ returns-in-Err-clause-resumed g c = subst (λ (r : ExecutionView g.row.W.Denot).
     (output_view g.B.Bench c.resume.new.bench)) (Err c.in-Err.fault)) c.self.view_is c.in-Err.ensures.resumed
 
 pub returns-in-Ok-clause-finished : goal.returns-in-Ok-clause-finished
-returns-in-Ok-clause-finished g c honest whole rest empty = c.in-Ok.ensures.finished honest whole refl
+returns-in-Ok-clause-finished g c rest empty = c.in-Ok.ensures.finished refl
     (subst (λ (r : ExecutionView g.row.W.Denot). AtRest r.board) (sym c.self.view_is) rest)
     (subst (λ (r : ExecutionView g.row.W.Denot). r.first.hand ≡ Nothing) (sym c.self.view_is) empty)

@@ -28,12 +28,12 @@ returns-in-Err-clause-performed g c = subst (λ (r : ExecutionView g.row.W.Denot
     (Err c.in-Err.fault)) c.self.view_is c.in-Err.ensures.performed
 
 pub returns-in-Ok-clause-finished : goal.returns-in-Ok-clause-finished
-returns-in-Ok-clause-finished g c honest whole rest empty = (performed-finished
+returns-in-Ok-clause-finished g c rest empty = (performed-finished
     (g.W.JobMaker.plan c.self.inside.work).jobs.count (snapshot_of
     (g.W.JobMaker.plan c.self.inside.work) c.self.inside.board 0
     (source_view g.S.Shelf c.args.shelf.now) (output_view g.B.Bench c.args.bench.now))
     (λ stale. snapshot_of (g.W.JobMaker.plan c.perform.new.maker) c.perform.new.board stale (source_view g.S.Shelf
     c.perform.new.shelf) (output_view g.B.Bench c.perform.new.bench)) (hands_in c.self.inside.hands)
-    (hands_in c.perform.new.hands) c.in-Ok.progress c.in-Ok.ensures.performed c.self.invariant.whole honest
-    whole (subst (λ (r : ExecutionView g.row.W.Denot). AtRest r.board) (sym c.self.view_is) rest)
+    (hands_in c.perform.new.hands) c.in-Ok.progress c.in-Ok.ensures.performed c.self.invariant.whole
+    (subst (λ (r : ExecutionView g.row.W.Denot). AtRest r.board) (sym c.self.view_is) rest)
     (subst (λ (r : ExecutionView g.row.W.Denot). r.first.hand ≡ Nothing) (sym c.self.view_is) empty)).1
