@@ -8,7 +8,7 @@ ghost use Rattle.execution.specs.Boards.{board_with, fresh_board};
 ghost use Rattle.execution.specs.Marking.{done_of};
 ghost use Rattle.execution.specs.View.{hands_at};
 ghost use Rattle.execution.specs.Outcome.{Executed, Resumed};
-ghost use Rattle.execution.specs.EventRun.{Performed, snapshot_of};
+ghost use Rattle.execution.specs.EventRun.{snapshot_of};
 ghost use Rattle.execution.specs.Desks.{HasRoom};
 ghost use Rattle.devices.specs.Views.{output_view, source_view};
 ghost use Rattle.execution.specs.declared.fault.ExecutionFault.TheVariants as execution_fault;
@@ -16,8 +16,8 @@ ghost use Rattle.workboard.specs.Indexed.{IsOrder};
 
 use crate::course::{execute, resume};
 use crate::hands::Hands;
-use crate::performance::perform;
 use crate::worker::Worker;
+use crate::workshop::Workshop;
 use crate::{ExecutionFault, JobMaker};
 use devices::{Bench, Shelf, Watch};
 use job_terms::{BoardEvent, Progress};
@@ -28,10 +28,7 @@ use workboard::Board;
 /// A work, its board, and what its workers hold.
 #[derive(Drop)]
 pub struct Execution<W: JobMaker> {
-    alloc: Global,
-    work: W,
-    board: Board,
-    hands: Hands,
+    shop: Workshop<W>,
 }
 
 impl<W: JobMaker> Model for Execution<W> {
@@ -40,9 +37,14 @@ impl<W: JobMaker> Model for Execution<W> {
 
     ghost Value = { ExecutionView W };
 
-    ghost view = { λ run. record { work = run.work; board = run.board; first = run.hands.first; others = run.hands.others.entries } };
+    ghost view = { λ run. record {
+      work = run.shop.work;
+      board = run.shop.board;
+      first = run.shop.hands.first;
+      others = run.shop.hands.others.entries;
+    } };
 
-    ghost invariant = { λ run. IsReady (W.plan run.work).jobs run.board run.hands };
+    ghost invariant = { λ run. IsReady (W.plan run.shop.work).jobs run.shop.board run.shop.hands };
 }
 
 /// The room that a worker needs for the bytes of any job.
@@ -86,10 +88,12 @@ impl<W: JobMaker + Drop> Execution<W> {
         let first = first_worker(alloc, &work)?;
         let hands = Hands::new(alloc, first);
         Ok(Execution {
-            alloc,
-            work,
-            board,
-            hands,
+            shop: Workshop {
+                alloc,
+                work,
+                board,
+                hands,
+            },
         })
     }
 
@@ -110,17 +114,19 @@ impl<W: JobMaker + Drop> Execution<W> {
         ensures rest { IfOk result (λ run. AtRest run.board) }
         ensures only_memory { IfErr result IsMemory }
     {
-        let resting = match Board::with_done(alloc, work.count(), order, done) {
+        let board = match Board::with_done(alloc, work.count(), order, done) {
             Ok(board) => board,
             Err(_) => return Err(ExecutionFault::Memory),
         };
         let first = first_worker(alloc, &work)?;
         let hands = Hands::new(alloc, first);
         Ok(Execution {
-            alloc,
-            work,
-            board: resting,
-            hands,
+            shop: Workshop {
+                alloc,
+                work,
+                board,
+                hands,
+            },
         })
     }
 }
@@ -130,7 +136,7 @@ impl<W: JobMaker> Execution<W> {
     pub fn work(&self) -> &W
         ensures { result.now ≡ self.now.work }
     {
-        &self.work
+        &self.shop.work
     }
 
     /// Lays out every output, does rounds of the worker 1 until all jobs are done, and then what comes last. It takes no
@@ -150,20 +156,7 @@ impl<W: JobMaker> Execution<W> {
         ensures memory { IsErrOf result execution_fault.Memory → ⊥ }
         ensures job_memory { IsErrOf result execution_fault.JobMemory → ⊥ }
     {
-        match execute(
-            self.alloc,
-            &mut self.work,
-            &mut self.board,
-            &mut self.hands,
-            true,
-            &[],
-            shelf,
-            bench,
-            watch,
-        ) {
-            Ok(progress) => return Ok(progress),
-            Err(fault) => return Err(fault),
-        }
+        execute(&mut self.shop, true, &[], shelf, bench, watch)
     }
 
     /// Lays out every output, does these events of any workers, one after the other, and what comes last where all jobs
@@ -180,20 +173,7 @@ impl<W: JobMaker> Execution<W> {
             (snapshot_of (W.plan self.new.work) self.new.board 0 (source_view S.Shelf shelf.new)
             (output_view B.Bench bench.new)) (shelf.new ≡ shelf.old) result }
     {
-        match execute(
-            self.alloc,
-            &mut self.work,
-            &mut self.board,
-            &mut self.hands,
-            false,
-            events,
-            shelf,
-            bench,
-            watch,
-        ) {
-            Ok(progress) => return Ok(progress),
-            Err(fault) => return Err(fault),
-        }
+        execute(&mut self.shop, false, events, shelf, bench, watch)
     }
 
     /// Does rounds of the worker 1 on outputs as they are, in which what is done already stands, and then what comes
@@ -213,20 +193,7 @@ impl<W: JobMaker> Execution<W> {
         ensures memory { IsErrOf result execution_fault.Memory → ⊥ }
         ensures job_memory { IsErrOf result execution_fault.JobMemory → ⊥ }
     {
-        match resume(
-            self.alloc,
-            &mut self.work,
-            &mut self.board,
-            &mut self.hands,
-            true,
-            &[],
-            shelf,
-            bench,
-            watch,
-        ) {
-            Ok(progress) => return Ok(progress),
-            Err(fault) => return Err(fault),
-        }
+        resume(&mut self.shop, true, &[], shelf, bench, watch)
     }
 
     /// Does these events of any workers on outputs as they are, and what comes last where all jobs are done.
@@ -242,80 +209,6 @@ impl<W: JobMaker> Execution<W> {
             (snapshot_of (W.plan self.new.work) self.new.board 0 (source_view S.Shelf shelf.new)
             (output_view B.Bench bench.new)) result }
     {
-        match resume(
-            self.alloc,
-            &mut self.work,
-            &mut self.board,
-            &mut self.hands,
-            false,
-            events,
-            shelf,
-            bench,
-            watch,
-        ) {
-            Ok(progress) => return Ok(progress),
-            Err(fault) => return Err(fault),
-        }
-    }
-
-    /// Does rounds of the worker 1 until all jobs are done, and nothing else. It takes no memory.
-    pub fn run_rounds<S: Shelf, B: Bench, T: Watch>(
-        &mut self,
-        shelf: &mut S,
-        bench: &mut B,
-        watch: &mut T,
-    ) -> Result<Progress, ExecutionFault>
-        ensures performed { Performed true (rounds (3 * (W.plan self.old.work).jobs.count)) (snapshot_of (W.plan self.old.work) self.old.board 0 (source_view S.Shelf shelf.old)
-            (output_view B.Bench bench.old)) (hands_at self.old)
-            (λ stale. snapshot_of (W.plan self.new.work) self.new.board stale (source_view S.Shelf shelf.new)
-            (output_view B.Bench bench.new)) (hands_at self.new) result }
-        ensures finished { AtRest self.old.board → hands_at self.old 1 ≡ Nothing
-            → OnOk result (is_finished self.new.board ≡ true) }
-        ensures memory { IsErrOf result execution_fault.Memory → ⊥ }
-        ensures job_memory { IsErrOf result execution_fault.JobMemory → ⊥ }
-    {
-        match perform(
-            self.alloc,
-            &mut self.work,
-            &mut self.board,
-            &mut self.hands,
-            true,
-            &[],
-            shelf,
-            bench,
-            watch,
-        ) {
-            Ok(progress) => return Ok(progress),
-            Err(fault) => return Err(fault),
-        }
-    }
-
-    /// Does these events of any workers, one after the other, and nothing else.
-    pub fn run_events<S: Shelf, B: Bench, T: Watch>(
-        &mut self,
-        events: &[BoardEvent],
-        shelf: &mut S,
-        bench: &mut B,
-        watch: &mut T,
-    ) -> Result<Progress, ExecutionFault>
-        ensures performed { Performed false events.now (snapshot_of (W.plan self.old.work) self.old.board 0 (source_view S.Shelf shelf.old)
-            (output_view B.Bench bench.old)) (hands_at self.old)
-            (λ stale. snapshot_of (W.plan self.new.work) self.new.board stale (source_view S.Shelf shelf.new)
-            (output_view B.Bench bench.new)) (hands_at self.new) result }
-    {
-        match perform(
-            self.alloc,
-            &mut self.work,
-            &mut self.board,
-            &mut self.hands,
-            false,
-            events,
-            shelf,
-            bench,
-            watch,
-        ) {
-            Ok(progress) => return Ok(progress),
-            Err(fault) => return Err(fault),
-        }
+        resume(&mut self.shop, false, events, shelf, bench, watch)
     }
 }

@@ -9,48 +9,41 @@ ghost use Rattle.execution.specs.Held.{IsReady, hands_in};
 ghost use Rattle.execution.specs.Outcome.{Executed, Resumed};
 ghost use Rattle.execution.specs.declared.fault.ExecutionFault.TheVariants as execution_fault;
 
-use crate::hands::Hands;
 use crate::performance::perform;
+use crate::workshop::Workshop;
 use crate::{ExecutionFault, JobMaker};
 use devices::{Bench, Shelf, Watch};
 use job_terms::{BoardEvent, Progress};
-use std::alloc::Global;
-use workboard::Board;
 
 /// Does these events on outputs as they are, and what comes last where all jobs are done.
 pub fn resume<W: JobMaker, S: Shelf, B: Bench, T: Watch>(
-    alloc: Global,
-    maker: &mut W,
-    board: &mut Board,
-    hands: &mut Hands,
+    shop: &mut Workshop<W>,
     in_rounds: bool,
     events: &[BoardEvent],
     shelf: &mut S,
     bench: &mut B,
     watch: &mut T,
 ) -> Result<Progress, ExecutionFault>
-    requires { IsReady (W.plan maker.old).jobs board.old hands.old }
-    ensures resumed { Resumed (listed in_rounds (W.plan maker.old).jobs.count events.now)
-        (snapshot_of (W.plan maker.old) board.old 0 (source_view S.Shelf shelf.old) (output_view B.Bench bench.old))
-        (hands_in hands.old)
-        (snapshot_of (W.plan maker.new) board.new 0 (source_view S.Shelf shelf.new) (output_view B.Bench bench.new))
+    requires { IsReady (W.plan shop.old.work).jobs shop.old.board shop.old.hands }
+    ensures resumed { Resumed (listed in_rounds (W.plan shop.old.work).jobs.count events.now)
+        (snapshot_of (W.plan shop.old.work) shop.old.board 0 (source_view S.Shelf shelf.old) (output_view B.Bench bench.old))
+        (hands_in shop.old.hands)
+        (snapshot_of (W.plan shop.new.work) shop.new.board 0 (source_view S.Shelf shelf.new) (output_view B.Bench bench.new))
         result }
-    ensures finished { in_rounds ≡ true → AtRest board.old → hands_in hands.old 1 ≡ Nothing
-        → OnOk result (is_finished board.new ≡ true) }
-    ensures ready { IsReady (W.plan maker.new).jobs board.new hands.new }
+    ensures finished { in_rounds ≡ true → AtRest shop.old.board → hands_in shop.old.hands 1 ≡ Nothing
+        → OnOk result (is_finished shop.new.board ≡ true) }
+    ensures ready { IsReady (W.plan shop.new.work).jobs shop.new.board shop.new.hands }
     ensures memory { IsErrOf result execution_fault.Memory → in_rounds ≡ false }
     ensures job_memory { IsErrOf result execution_fault.JobMemory → in_rounds ≡ false }
 {
-    let progress = match perform(
-        alloc, maker, board, hands, in_rounds, events, shelf, bench, watch,
-    ) {
+    let progress = match perform(shop, in_rounds, events, shelf, bench, watch) {
         Ok(progress) => progress,
         Err(fault) => return Err(fault),
     };
     if !progress.finished {
         return Ok(progress);
     }
-    match maker.finish(bench) {
+    match shop.work.finish(bench) {
         Ok(()) => return Ok(progress),
         Err(fault) => return Err(ExecutionFault::from(fault)),
     }
@@ -58,36 +51,28 @@ pub fn resume<W: JobMaker, S: Shelf, B: Bench, T: Watch>(
 
 /// Lays out every output, does these events, and what comes last where all jobs are done.
 pub fn execute<W: JobMaker, S: Shelf, B: Bench, T: Watch>(
-    alloc: Global,
-    maker: &mut W,
-    board: &mut Board,
-    hands: &mut Hands,
+    shop: &mut Workshop<W>,
     in_rounds: bool,
     events: &[BoardEvent],
     shelf: &mut S,
     bench: &mut B,
     watch: &mut T,
 ) -> Result<Progress, ExecutionFault>
-    requires { IsReady (W.plan maker.old).jobs board.old hands.old }
-    ensures executed { Executed (listed in_rounds (W.plan maker.old).jobs.count events.now)
-        (snapshot_of (W.plan maker.old) board.old 0 (source_view S.Shelf shelf.old) (output_view B.Bench bench.old))
-        (hands_in hands.old)
-        (snapshot_of (W.plan maker.new) board.new 0 (source_view S.Shelf shelf.new) (output_view B.Bench bench.new))
+    requires { IsReady (W.plan shop.old.work).jobs shop.old.board shop.old.hands }
+    ensures executed { Executed (listed in_rounds (W.plan shop.old.work).jobs.count events.now)
+        (snapshot_of (W.plan shop.old.work) shop.old.board 0 (source_view S.Shelf shelf.old) (output_view B.Bench bench.old))
+        (hands_in shop.old.hands)
+        (snapshot_of (W.plan shop.new.work) shop.new.board 0 (source_view S.Shelf shelf.new) (output_view B.Bench bench.new))
         (shelf.new ≡ shelf.old) result }
-    ensures finished { in_rounds ≡ true → AtRest board.old → hands_in hands.old 1 ≡ Nothing
-        → OnOk result (is_finished board.new ≡ true) }
-    ensures ready { IsReady (W.plan maker.new).jobs board.new hands.new }
+    ensures finished { in_rounds ≡ true → AtRest shop.old.board → hands_in shop.old.hands 1 ≡ Nothing
+        → OnOk result (is_finished shop.new.board ≡ true) }
+    ensures ready { IsReady (W.plan shop.new.work).jobs shop.new.board shop.new.hands }
     ensures memory { IsErrOf result execution_fault.Memory → in_rounds ≡ false }
     ensures job_memory { IsErrOf result execution_fault.JobMemory → in_rounds ≡ false }
 {
-    match maker.lay_out(bench) {
+    match shop.work.lay_out(bench) {
         Ok(()) => {}
         Err(fault) => return Err(ExecutionFault::from(fault)),
     }
-    match resume(
-        alloc, maker, board, hands, in_rounds, events, shelf, bench, watch,
-    ) {
-        Ok(progress) => return Ok(progress),
-        Err(fault) => return Err(fault),
-    }
+    resume(shop, in_rounds, events, shelf, bench, watch)
 }

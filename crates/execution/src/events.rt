@@ -12,13 +12,13 @@ ghost use Rattle.execution.specs.declared.fault.ExecutionFault.TheVariants as ex
 
 use crate::action::Action;
 use crate::fault::JobFault;
-use crate::hands::Hands;
 use crate::steps::{deliver, fail, hand_out, lose, make};
 use crate::worker::Worker;
+use crate::workshop::Workshop;
 use crate::{ExecutionFault, JobMaker};
 use devices::{Bench, Shelf};
 use job_terms::BoardEvent;
-use std::alloc::{AllocError, Global};
+use std::alloc::AllocError;
 use workboard::Board;
 
 /// One worker does this.
@@ -101,44 +101,41 @@ fn get_ready<W: JobMaker>(maker: &W, worker: &mut Worker, action: Action) -> Res
 /// The worker of this number does this. Only a place for a worker, and room for the bytes of a job, take memory; where
 /// there is none nothing happens.
 fn act<W: JobMaker, S: Shelf, B: Bench>(
-    alloc: Global,
-    maker: &mut W,
-    board: &mut Board,
+    shop: &mut Workshop<W>,
     stale: &mut u64,
-    hands: &mut Hands,
     number: u32,
     action: Action,
     shelf: &mut S,
     bench: &mut B,
 ) -> Result<(), ExecutionFault>
-    requires ready { IsReady (W.plan maker.old).jobs board.old hands.old }
+    requires ready { IsReady (W.plan shop.old.work).jobs shop.old.board shop.old.hands }
     requires few { stale.old + 1 < 2 ^ 64 }
     ensures ran { EventRun
-        (snapshot_of (W.plan maker.old) board.old stale.old (source_view S.Shelf shelf.old) (output_view B.Bench bench.old))
-        (hands_in hands.old) (events_of result (event_of action number))
-        (snapshot_of (W.plan maker.new) board.new stale.new (source_view S.Shelf shelf.new) (output_view B.Bench bench.new))
-        (hands_in hands.new) (end_of result) }
-    ensures ready { IsReady (W.plan maker.old).jobs board.new hands.new }
+        (snapshot_of (W.plan shop.old.work) shop.old.board stale.old (source_view S.Shelf shelf.old) (output_view B.Bench bench.old))
+        (hands_in shop.old.hands) (events_of result (event_of action number))
+        (snapshot_of (W.plan shop.new.work) shop.new.board stale.new (source_view S.Shelf shelf.new) (output_view B.Bench bench.new))
+        (hands_in shop.new.hands) (end_of result) }
+    ensures ready { IsReady (W.plan shop.old.work).jobs shop.new.board shop.new.hands }
     ensures counted { stale.new ≤ stale.old + 1 }
     ensures place { IsErrOf result execution_fault.Memory → number ≢ 1 }
     ensures room { IsErrOf result execution_fault.JobMemory → (action ≡ action_kind.Work) × (number ≢ 1) }
     ensures no_output { (file : ℕ) → IsErrOf result (execution_fault.Output file) → ⊥ }
 {
-    match hands.make_place(alloc, number) {
+    match shop.hands.make_place(shop.alloc, number) {
         Ok(()) => {}
         Err(_) => return Err(ExecutionFault::Memory),
     }
-    let mut worker = hands.take(alloc, number);
-    match get_ready(maker, &mut worker, action) {
+    let mut worker = shop.hands.take(shop.alloc, number);
+    match get_ready(&shop.work, &mut worker, action) {
         Ok(()) => {}
         Err(_) => {
-            hands.put(number, worker);
+            shop.hands.put(number, worker);
             return Err(ExecutionFault::JobMemory);
         }
     }
     let outcome = turn(
-        maker,
-        board,
+        &mut shop.work,
+        &mut shop.board,
         stale,
         &mut worker,
         number,
@@ -146,7 +143,7 @@ fn act<W: JobMaker, S: Shelf, B: Bench>(
         shelf,
         bench,
     );
-    hands.put(number, worker);
+    shop.hands.put(number, worker);
     match outcome {
         Ok(()) => return Ok(()),
         Err(fault) => return Err(ExecutionFault::from(fault)),
@@ -155,87 +152,34 @@ fn act<W: JobMaker, S: Shelf, B: Bench>(
 
 /// One event.
 pub fn step<W: JobMaker, S: Shelf, B: Bench>(
-    alloc: Global,
-    maker: &mut W,
-    board: &mut Board,
+    shop: &mut Workshop<W>,
     stale: &mut u64,
-    hands: &mut Hands,
     event: BoardEvent,
     shelf: &mut S,
     bench: &mut B,
 ) -> Result<(), ExecutionFault>
-    requires ready { IsReady (W.plan maker.old).jobs board.old hands.old }
+    requires ready { IsReady (W.plan shop.old.work).jobs shop.old.board shop.old.hands }
     requires few { stale.old + 1 < 2 ^ 64 }
     ensures ran { EventRun
-        (snapshot_of (W.plan maker.old) board.old stale.old (source_view S.Shelf shelf.old) (output_view B.Bench bench.old))
-        (hands_in hands.old) (events_of result event)
-        (snapshot_of (W.plan maker.new) board.new stale.new (source_view S.Shelf shelf.new) (output_view B.Bench bench.new))
-        (hands_in hands.new) (end_of result) }
-    ensures ready { IsReady (W.plan maker.old).jobs board.new hands.new }
+        (snapshot_of (W.plan shop.old.work) shop.old.board stale.old (source_view S.Shelf shelf.old) (output_view B.Bench bench.old))
+        (hands_in shop.old.hands) (events_of result event)
+        (snapshot_of (W.plan shop.new.work) shop.new.board stale.new (source_view S.Shelf shelf.new) (output_view B.Bench bench.new))
+        (hands_in shop.new.hands) (end_of result) }
+    ensures ready { IsReady (W.plan shop.old.work).jobs shop.new.board shop.new.hands }
     ensures counted { stale.new ≤ stale.old + 1 }
     ensures place { IsErrOf result execution_fault.Memory → NeedsPlace event }
     ensures room { IsErrOf result execution_fault.JobMemory → NeedsRoom event }
     ensures no_output { (file : ℕ) → IsErrOf result (execution_fault.Output file) → ⊥ }
 {
     match event {
-        BoardEvent::Give(number) => return act(
-            alloc,
-            maker,
-            board,
-            stale,
-            hands,
-            number,
-            Action::Give,
-            shelf,
-            bench,
-        ),
-        BoardEvent::Work(number) => return act(
-            alloc,
-            maker,
-            board,
-            stale,
-            hands,
-            number,
-            Action::Work,
-            shelf,
-            bench,
-        ),
-        BoardEvent::Deliver(number) => return act(
-            alloc,
-            maker,
-            board,
-            stale,
-            hands,
-            number,
-            Action::Deliver,
-            shelf,
-            bench,
-        ),
-        BoardEvent::Fault(number) => return act(
-            alloc,
-            maker,
-            board,
-            stale,
-            hands,
-            number,
-            Action::Fault,
-            shelf,
-            bench,
-        ),
-        BoardEvent::Lose(number) => return act(
-            alloc,
-            maker,
-            board,
-            stale,
-            hands,
-            number,
-            Action::Lose,
-            shelf,
-            bench,
-        ),
+        BoardEvent::Give(number) => { act(shop, stale, number, Action::Give, shelf, bench) }
+        BoardEvent::Work(number) => { act(shop, stale, number, Action::Work, shelf, bench) }
+        BoardEvent::Deliver(number) => { act(shop, stale, number, Action::Deliver, shelf, bench) }
+        BoardEvent::Fault(number) => { act(shop, stale, number, Action::Fault, shelf, bench) }
+        BoardEvent::Lose(number) => { act(shop, stale, number, Action::Lose, shelf, bench) }
         BoardEvent::Reclaim(job) => {
-            board.reclaim(job);
-            return Ok(());
+            shop.board.reclaim(job);
+            Ok(())
         }
     }
 }

@@ -19,6 +19,7 @@ mod performance;
 mod placement;
 mod steps;
 mod worker;
+mod workshop;
 
 pub use calls::Execution;
 pub use fault::{ExecutionFault, OutputFault, PlaceFault};

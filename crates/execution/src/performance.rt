@@ -11,10 +11,10 @@ ghost use Rattle.execution.specs.declared.fault.ExecutionFault.TheVariants as ex
 
 use crate::events::step;
 use crate::hands::Hands;
+use crate::workshop::Workshop;
 use crate::{ExecutionFault, JobMaker};
 use devices::{Bench, Shelf, Watch};
 use job_terms::{BoardEvent, Progress};
-use std::alloc::Global;
 use workboard::Board;
 
 /// How far the jobs of a board are, with so many deliveries under stale tickets.
@@ -126,41 +126,38 @@ fn tell<W: JobMaker, T: Watch>(
 
 /// Does these events one after the other, or rounds of the worker 1 until all jobs are done.
 pub fn perform<W: JobMaker, S: Shelf, B: Bench, T: Watch>(
-    alloc: Global,
-    maker: &mut W,
-    board: &mut Board,
-    hands: &mut Hands,
+    shop: &mut Workshop<W>,
     in_rounds: bool,
     events: &[BoardEvent],
     shelf: &mut S,
     bench: &mut B,
     watch: &mut T,
 ) -> Result<Progress, ExecutionFault>
-    requires { IsReady (W.plan maker.old).jobs board.old hands.old }
-    ensures performed { Performed in_rounds (listed in_rounds (W.plan maker.old).jobs.count events.now)
-        (snapshot_of (W.plan maker.old) board.old 0 (source_view S.Shelf shelf.old) (output_view B.Bench bench.old))
-        (hands_in hands.old)
-        (λ stale. snapshot_of (W.plan maker.new) board.new stale (source_view S.Shelf shelf.new) (output_view B.Bench bench.new))
-        (hands_in hands.new) result }
-    ensures ready { IsReady (W.plan maker.new).jobs board.new hands.new }
+    requires { IsReady (W.plan shop.old.work).jobs shop.old.board shop.old.hands }
+    ensures performed { Performed in_rounds (listed in_rounds (W.plan shop.old.work).jobs.count events.now)
+        (snapshot_of (W.plan shop.old.work) shop.old.board 0 (source_view S.Shelf shelf.old) (output_view B.Bench bench.old))
+        (hands_in shop.old.hands)
+        (λ stale. snapshot_of (W.plan shop.new.work) shop.new.board stale (source_view S.Shelf shelf.new) (output_view B.Bench bench.new))
+        (hands_in shop.new.hands) result }
+    ensures ready { IsReady (W.plan shop.new.work).jobs shop.new.board shop.new.hands }
     ensures memory { IsErrOf result execution_fault.Memory → in_rounds ≡ false }
     ensures job_memory { IsErrOf result execution_fault.JobMemory → in_rounds ≡ false }
     ensures no_output { (file : ℕ) → IsErrOf result (execution_fault.Output file) → ⊥ }
 {
-    let count = maker.count();
+    let count = shop.work.count();
     let whole = how_many(in_rounds, events, count);
-    let mut frames = frames_so_far(maker, board);
+    let mut frames = frames_so_far(&shop.work, &shop.board);
     let mut stale: u64 = 0;
     for i in 0..whole {
-        if in_rounds && board.finished() {
-            return Ok(progress_of(board, stale));
+        if in_rounds && shop.board.finished() {
+            return Ok(progress_of(&shop.board, stale));
         }
         let event = event_at(in_rounds, events, i, count);
-        let job = delivered(hands, event);
-        match step(alloc, maker, board, &mut stale, hands, event, shelf, bench) {
-            Ok(()) => tell(maker, board, job, &mut frames, watch),
+        let job = delivered(&shop.hands, event);
+        match step(shop, &mut stale, event, shelf, bench) {
+            Ok(()) => tell(&shop.work, &shop.board, job, &mut frames, watch),
             Err(fault) => return Err(fault),
         }
     }
-    Ok(progress_of(board, stale))
+    Ok(progress_of(&shop.board, stale))
 }

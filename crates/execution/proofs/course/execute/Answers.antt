@@ -19,8 +19,8 @@ returns-in-Err-clause-executed g c = not-laid _ _ _ _ _ _ _ _ _ c.in-Err.fault c
       };
     }) refl
 
-pub returns-in-Ok-resume-clause-executed : goal.returns-in-Ok-resume-clause-executed
-returns-in-Ok-resume-clause-executed g c = laid-then c.args.in_rounds c.args.events.now _ _ _ _ _ _ _ _ _ _ _ _ _
+pub returns-clause-executed : goal.returns-clause-executed
+returns-clause-executed g c = laid-then c.args.in_rounds c.args.events.now _ _ _ _ _ _ _ _ _ _ _ _ _
     c.in-Ok.ensures.same (record {
       laid = c.in-Ok.ensures.laid;
       marks = c.in-Ok.ensures.marks;
@@ -29,20 +29,4 @@ returns-in-Ok-resume-clause-executed g c = laid-then c.args.in_rounds c.args.eve
       output = writes_of g.B.Bench {old = c.args.bench.now} {new = c.lay_out.new.bench} c.in-Ok.ensures.only_writes;
       quiet = λ _. c.in-Ok.ensures.only_writes.cause.left tt;
       failed = tt;
-    }) c.requires.whole c.in-Ok-resume.ensures.resumed
-
-pub returns-in-Err-resume-clause-executed : goal.returns-in-Err-resume-clause-executed
-returns-in-Err-resume-clause-executed g c = laid-then c.args.in_rounds c.args.events.now _ _ _ _ _ _ _ _ _ _ _ _ _
-    c.in-Ok.ensures.same (record {
-      laid = c.in-Ok.ensures.laid;
-      marks = c.in-Ok.ensures.marks;
-      any_moment = c.in-Ok.ensures.any_moment;
-      left = c.in-Ok.ensures.left;
-      output = writes_of g.B.Bench {old = c.args.bench.now} {new = c.lay_out.new.bench} c.in-Ok.ensures.only_writes;
-      quiet = λ _. c.in-Ok.ensures.only_writes.cause.left tt;
-      failed = tt;
-    }) c.requires.whole c.in-Err-resume.ensures.resumed
-
-pub returns-in-Ok-resume-clause-finished : goal.returns-in-Ok-resume-clause-finished
-returns-in-Ok-resume-clause-finished g c in_turn rest empty = c.in-Ok-resume.ensures.finished
-    in_turn rest empty
+    }) c.requires.whole c.resume.ensures.resumed

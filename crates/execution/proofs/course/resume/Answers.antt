@@ -54,30 +54,30 @@ returns-in-Err-finish-clause-resumed g c = finish-failed _ _ _ _ _ _ _ _ _ _ _ _
 
 pub returns-then-not-progress-clause-finished : goal.returns-then-not-progress-clause-finished
 returns-then-not-progress-clause-finished g c in_turn rest empty =
-    (performed-finished (g.W.JobMaker.plan c.args.maker.now).jobs.count
-    (snapshot_of (g.W.JobMaker.plan c.args.maker.now) c.args.board.now 0 (source_view g.S.Shelf c.args.shelf.now)
+    (performed-finished (g.W.JobMaker.plan c.args.shop.now.work).jobs.count
+    (snapshot_of (g.W.JobMaker.plan c.args.shop.now.work) c.args.shop.now.board 0 (source_view g.S.Shelf c.args.shelf.now)
     (output_view g.B.Bench c.args.bench.now))
-    (λ stale. snapshot_of (g.W.JobMaker.plan c.perform.new.maker) c.perform.new.board stale
+    (λ stale. snapshot_of (g.W.JobMaker.plan c.perform.new.shop.work) c.perform.new.shop.board stale
     (source_view g.S.Shelf c.perform.new.shelf) (output_view g.B.Bench c.perform.new.bench))
-    (hands_in c.args.hands.now) (hands_in c.perform.new.hands) c.in-Ok.progress
-    (subst (λ (b : Bool). Performed b (listed b (g.W.JobMaker.plan c.args.maker.now).jobs.count c.args.events.now)
-    (snapshot_of (g.W.JobMaker.plan c.args.maker.now) c.args.board.now 0 (source_view g.S.Shelf c.args.shelf.now)
-    (output_view g.B.Bench c.args.bench.now)) (hands_in c.args.hands.now)
-    (λ stale. snapshot_of (g.W.JobMaker.plan c.perform.new.maker) c.perform.new.board stale
+    (hands_in c.args.shop.now.hands) (hands_in c.perform.new.shop.hands) c.in-Ok.progress
+    (subst (λ (b : Bool). Performed b (listed b (g.W.JobMaker.plan c.args.shop.now.work).jobs.count c.args.events.now)
+    (snapshot_of (g.W.JobMaker.plan c.args.shop.now.work) c.args.shop.now.board 0 (source_view g.S.Shelf c.args.shelf.now)
+    (output_view g.B.Bench c.args.bench.now)) (hands_in c.args.shop.now.hands)
+    (λ stale. snapshot_of (g.W.JobMaker.plan c.perform.new.shop.work) c.perform.new.shop.board stale
     (source_view g.S.Shelf c.perform.new.shelf) (output_view g.B.Bench c.perform.new.bench))
-    (hands_in c.perform.new.hands) (Ok c.in-Ok.progress)) in_turn c.in-Ok.ensures.performed) c.requires.whole rest empty).1
+    (hands_in c.perform.new.shop.hands) (Ok c.in-Ok.progress)) in_turn c.in-Ok.ensures.performed) c.requires.whole rest empty).1
 
 pub returns-in-Ok-finish-clause-finished : goal.returns-in-Ok-finish-clause-finished
 returns-in-Ok-finish-clause-finished g c in_turn rest empty =
-    (performed-finished (g.W.JobMaker.plan c.args.maker.now).jobs.count
-    (snapshot_of (g.W.JobMaker.plan c.args.maker.now) c.args.board.now 0 (source_view g.S.Shelf c.args.shelf.now)
+    (performed-finished (g.W.JobMaker.plan c.args.shop.now.work).jobs.count
+    (snapshot_of (g.W.JobMaker.plan c.args.shop.now.work) c.args.shop.now.board 0 (source_view g.S.Shelf c.args.shelf.now)
     (output_view g.B.Bench c.args.bench.now))
-    (λ stale. snapshot_of (g.W.JobMaker.plan c.perform.new.maker) c.perform.new.board stale
+    (λ stale. snapshot_of (g.W.JobMaker.plan c.perform.new.shop.work) c.perform.new.shop.board stale
     (source_view g.S.Shelf c.perform.new.shelf) (output_view g.B.Bench c.perform.new.bench))
-    (hands_in c.args.hands.now) (hands_in c.perform.new.hands) c.in-Ok.progress
-    (subst (λ (b : Bool). Performed b (listed b (g.W.JobMaker.plan c.args.maker.now).jobs.count c.args.events.now)
-    (snapshot_of (g.W.JobMaker.plan c.args.maker.now) c.args.board.now 0 (source_view g.S.Shelf c.args.shelf.now)
-    (output_view g.B.Bench c.args.bench.now)) (hands_in c.args.hands.now)
-    (λ stale. snapshot_of (g.W.JobMaker.plan c.perform.new.maker) c.perform.new.board stale
+    (hands_in c.args.shop.now.hands) (hands_in c.perform.new.shop.hands) c.in-Ok.progress
+    (subst (λ (b : Bool). Performed b (listed b (g.W.JobMaker.plan c.args.shop.now.work).jobs.count c.args.events.now)
+    (snapshot_of (g.W.JobMaker.plan c.args.shop.now.work) c.args.shop.now.board 0 (source_view g.S.Shelf c.args.shelf.now)
+    (output_view g.B.Bench c.args.bench.now)) (hands_in c.args.shop.now.hands)
+    (λ stale. snapshot_of (g.W.JobMaker.plan c.perform.new.shop.work) c.perform.new.shop.board stale
     (source_view g.S.Shelf c.perform.new.shelf) (output_view g.B.Bench c.perform.new.bench))
-    (hands_in c.perform.new.hands) (Ok c.in-Ok.progress)) in_turn c.in-Ok.ensures.performed) c.requires.whole rest empty).1
+    (hands_in c.perform.new.shop.hands) (Ok c.in-Ok.progress)) in_turn c.in-Ok.ensures.performed) c.requires.whole rest empty).1

@@ -9,16 +9,16 @@ use Rattle.execution.proofs.EventRuns.{run-none, run-outcome, run-step}
 use Rattle.execution.proofs.events.act.Goals as goal
 
 pub returns-in-Err-clause-ran : goal.returns-in-Err-clause-ran
-returns-in-Err-clause-ran g c = run-none (snapshot_of (g.W.JobMaker.plan c.args.maker.now) c.args.board.now
+returns-in-Err-clause-ran g c = run-none (snapshot_of (g.W.JobMaker.plan c.args.shop.now.work) c.args.shop.now.board
     c.args.stale.now (source_view g.S.Shelf c.args.shelf.now) (output_view g.B.Bench c.args.bench.now))
-    (hands_in c.args.hands.now) (hands_in c.make_place.new.self) (g.met.B.Bench.only_now c.args.bench.now)
+    (hands_in c.args.shop.now.hands) (hands_in c.make_place.new.self) (g.met.B.Bench.only_now c.args.bench.now)
     c.make_place.ensures.hands
 
 pub returns-in-Err-get_ready-clause-ran : goal.returns-in-Err-get_ready-clause-ran
 returns-in-Err-get_ready-clause-ran g c = run-none (snapshot_of
-    (g.W.JobMaker.plan c.args.maker.now) c.args.board.now c.args.stale.now (source_view g.S.Shelf c.args.shelf.now)
+    (g.W.JobMaker.plan c.args.shop.now.work) c.args.shop.now.board c.args.stale.now (source_view g.S.Shelf c.args.shelf.now)
     (output_view g.B.Bench c.args.bench.now))
-    (hands_in c.args.hands.now) (hands_in c.put.new.self) (g.met.B.Bench.only_now c.args.bench.now)
+    (hands_in c.args.shop.now.hands) (hands_in c.put.new.self) (g.met.B.Bench.only_now c.args.bench.now)
     (λ v. hand-back (hands_in c.make_place.new.self) (hands_in c.put.new.self) c.args.number c.get_ready.new.worker.hand
     (λ v. hand-after (hands_in c.make_place.new.self) (hands_in c.take-worker.new.self) (hands_in c.put.new.self)
     c.args.number c.get_ready.new.worker.hand c.take-worker.ensures.others c.put.ensures.hands v
@@ -26,11 +26,11 @@ returns-in-Err-get_ready-clause-ran g c = run-none (snapshot_of
     ∙ c.make_place.ensures.hands v)
 
 pub returns-in-Ok-outcome-clause-ran : goal.returns-in-Ok-outcome-clause-ran
-returns-in-Ok-outcome-clause-ran g c = run-step (snapshot_of (g.W.JobMaker.plan c.args.maker.now) c.args.board.now
+returns-in-Ok-outcome-clause-ran g c = run-step (snapshot_of (g.W.JobMaker.plan c.args.shop.now.work) c.args.shop.now.board
     c.args.stale.now (source_view g.S.Shelf c.args.shelf.now) (output_view g.B.Bench c.args.bench.now))
     (snapshot_of (g.W.JobMaker.plan c.turn-outcome.new.maker) c.turn-outcome.new.board c.turn-outcome.new.stale
     (source_view g.S.Shelf c.turn-outcome.new.shelf) (output_view g.B.Bench c.turn-outcome.new.bench))
-    c.args.action c.args.number (hands_in c.args.hands.now) (hands_in c.put-2.new.self) c.get_ready.new.worker.hand
+    c.args.action c.args.number (hands_in c.args.shop.now.hands) (hands_in c.put-2.new.self) c.get_ready.new.worker.hand
     c.turn-outcome.new.worker.hand None
     (c.get_ready.ensures.same ∙ c.take-worker.ensures.hand ∙ c.make_place.ensures.hands c.args.number)
     (λ v. hand-after (hands_in c.make_place.new.self) (hands_in c.take-worker.new.self) (hands_in c.put-2.new.self)
@@ -40,17 +40,17 @@ returns-in-Ok-outcome-clause-ran g c = run-step (snapshot_of (g.W.JobMaker.plan 
 
 pub returns-in-Err-outcome-clause-ran : goal.returns-in-Err-outcome-clause-ran
 returns-in-Err-outcome-clause-ran g c = run-outcome (snapshot_of
-    (g.W.JobMaker.plan c.args.maker.now) c.args.board.now c.args.stale.now (source_view g.S.Shelf c.args.shelf.now)
+    (g.W.JobMaker.plan c.args.shop.now.work) c.args.shop.now.board c.args.stale.now (source_view g.S.Shelf c.args.shelf.now)
     (output_view g.B.Bench c.args.bench.now))
     (snapshot_of (g.W.JobMaker.plan c.turn-outcome.new.maker) c.turn-outcome.new.board c.turn-outcome.new.stale
     (source_view g.S.Shelf c.turn-outcome.new.shelf) (output_view g.B.Bench c.turn-outcome.new.bench))
-    (hands_in c.args.hands.now) (hands_in c.put-2.new.self) (event_of c.args.action c.args.number)
+    (hands_in c.args.shop.now.hands) (hands_in c.put-2.new.self) (event_of c.args.action c.args.number)
     c.in-Err-outcome.fault c.from.result c.from.ensures
-    (run-step (snapshot_of (g.W.JobMaker.plan c.args.maker.now) c.args.board.now c.args.stale.now
+    (run-step (snapshot_of (g.W.JobMaker.plan c.args.shop.now.work) c.args.shop.now.board c.args.stale.now
     (source_view g.S.Shelf c.args.shelf.now) (output_view g.B.Bench c.args.bench.now))
     (snapshot_of (g.W.JobMaker.plan c.turn-outcome.new.maker) c.turn-outcome.new.board c.turn-outcome.new.stale
     (source_view g.S.Shelf c.turn-outcome.new.shelf) (output_view g.B.Bench c.turn-outcome.new.bench))
-    c.args.action c.args.number (hands_in c.args.hands.now) (hands_in c.put-2.new.self) c.get_ready.new.worker.hand
+    c.args.action c.args.number (hands_in c.args.shop.now.hands) (hands_in c.put-2.new.self) c.get_ready.new.worker.hand
     c.turn-outcome.new.worker.hand (ended_of {X = Unit {0}} (Err c.in-Err-outcome.fault))
     (c.get_ready.ensures.same ∙ c.take-worker.ensures.hand ∙ c.make_place.ensures.hands c.args.number)
     (λ v. hand-after (hands_in c.make_place.new.self) (hands_in c.take-worker.new.self) (hands_in c.put-2.new.self)

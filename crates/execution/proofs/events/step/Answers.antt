@@ -4,7 +4,7 @@ use Rattle.execution.proofs.EventRuns.{run-reclaim}
 use Rattle.execution.proofs.events.step.Goals as goal
 
 pub returns-in-Reclaim-clause-ran : goal.returns-in-Reclaim-clause-ran
-returns-in-Reclaim-clause-ran g c = run-reclaim (g.W.JobMaker.plan c.args.maker.now) c.args.board.now c.reclaim.new.self
+returns-in-Reclaim-clause-ran g c = run-reclaim (g.W.JobMaker.plan c.args.shop.now.work) c.args.shop.now.board c.reclaim.new.self
     c.args.stale.now (source_view g.S.Shelf c.args.shelf.now) (output_view g.B.Bench c.args.bench.now)
-    (hands_in c.args.hands.now) c.in-Reclaim.job c.args.event c.in-Reclaim.is
+    (hands_in c.args.shop.now.hands) c.in-Reclaim.job c.args.event c.in-Reclaim.is
     (g.met.B.Bench.only_now c.args.bench.now) c.reclaim.ensures.opened

@@ -12,28 +12,28 @@ pub loop-i-init : goal.loop-i-init
 loop-i-init g c = record {
   ready = c.requires;
   few = omega arith;
-  ran = run-none (snapshot_of (g.W.JobMaker.plan c.args.maker.now) c.args.board.now 0
+  ran = run-none (snapshot_of (g.W.JobMaker.plan c.args.shop.now.work) c.args.shop.now.board 0
       (source_view g.S.Shelf c.args.shelf.now)
-      (output_view g.B.Bench c.args.bench.now)) (hands_in c.args.hands.now) (hands_in c.args.hands.now)
+      (output_view g.B.Bench c.args.bench.now)) (hands_in c.args.shop.now.hands) (hands_in c.args.shop.now.hands)
       (g.met.B.Bench.only_now c.args.bench.now) (λ v. refl);
 }
 
 pub loop-i-preserved : goal.loop-i-preserved
 loop-i-preserved g c = record {
-  ready = subst (λ (p : JobPlan). IsReady p.jobs c.step.new.board c.step.new.hands) c.loop-i.invariant.ran.kept.plan
+  ready = subst (λ (p : JobPlan). IsReady p.jobs c.step.new.shop.board c.step.new.shop.hands) c.loop-i.invariant.ran.kept.plan
       c.in-Ok.ensures.ready;
   few = omega (arith, c.in-Ok.ensures.counted, c.loop-i.invariant.few);
-  ran = run-next (snapshot_of (g.W.JobMaker.plan c.args.maker.now) c.args.board.now 0
+  ran = run-next (snapshot_of (g.W.JobMaker.plan c.args.shop.now.work) c.args.shop.now.board 0
       (source_view g.S.Shelf c.args.shelf.now)
       (output_view g.B.Bench c.args.bench.now))
-      (snapshot_of (g.W.JobMaker.plan c.loop-i.maker) c.loop-i.board c.loop-i.stale
+      (snapshot_of (g.W.JobMaker.plan c.loop-i.shop.work) c.loop-i.shop.board c.loop-i.stale
       (source_view g.S.Shelf c.loop-i.shelf)
       (output_view g.B.Bench c.loop-i.bench))
-      (snapshot_of (g.W.JobMaker.plan c.step.new.maker) c.step.new.board c.step.new.stale
+      (snapshot_of (g.W.JobMaker.plan c.step.new.shop.work) c.step.new.shop.board c.step.new.stale
       (source_view g.S.Shelf c.step.new.shelf)
       (output_view g.B.Bench c.step.new.bench))
-      (hands_in c.args.hands.now) (hands_in c.loop-i.hands) (hands_in c.step.new.hands)
-      (listed c.args.in_rounds (g.W.JobMaker.plan c.args.maker.now).jobs.count c.args.events.now)
+      (hands_in c.args.shop.now.hands) (hands_in c.loop-i.shop.hands) (hands_in c.step.new.shop.hands)
+      (listed c.args.in_rounds (g.W.JobMaker.plan c.args.shop.now.work).jobs.count c.args.events.now)
       c.loop-i.i c.event_at-event.result (Lose 0)
       (subst (λ (n : ℕ). c.loop-i.i < n) (c.how_many-whole.ensures ∙ ap (λ (k : ℕ). length (listed c.args.in_rounds k
       c.args.events.now)) c.count-count.ensures) c.loop-i-test.true)
@@ -44,16 +44,16 @@ loop-i-preserved g c = record {
 
 pub returns-in-Err-clause-performed : goal.returns-in-Err-clause-performed
 returns-in-Err-clause-performed g c = performed-ended c.args.in_rounds (listed c.args.in_rounds
-    (g.W.JobMaker.plan c.args.maker.now).jobs.count c.args.events.now)
+    (g.W.JobMaker.plan c.args.shop.now.work).jobs.count c.args.events.now)
     c.loop-i.i c.step.new.stale c.event_at-event.result c.in-Err.fault
-    (snapshot_of (g.W.JobMaker.plan c.args.maker.now) c.args.board.now 0 (source_view g.S.Shelf c.args.shelf.now)
+    (snapshot_of (g.W.JobMaker.plan c.args.shop.now.work) c.args.shop.now.board 0 (source_view g.S.Shelf c.args.shelf.now)
     (output_view g.B.Bench c.args.bench.now))
-    (snapshot_of (g.W.JobMaker.plan c.loop-i.maker) c.loop-i.board c.loop-i.stale (source_view g.S.Shelf c.loop-i.shelf)
+    (snapshot_of (g.W.JobMaker.plan c.loop-i.shop.work) c.loop-i.shop.board c.loop-i.stale (source_view g.S.Shelf c.loop-i.shelf)
     (output_view g.B.Bench c.loop-i.bench))
-    (λ stale. snapshot_of (g.W.JobMaker.plan c.step.new.maker) c.step.new.board stale
+    (λ stale. snapshot_of (g.W.JobMaker.plan c.step.new.shop.work) c.step.new.shop.board stale
     (source_view g.S.Shelf c.step.new.shelf)
     (output_view g.B.Bench c.step.new.bench))
-    (hands_in c.args.hands.now) (hands_in c.loop-i.hands) (hands_in c.step.new.hands)
+    (hands_in c.args.shop.now.hands) (hands_in c.loop-i.shop.hands) (hands_in c.step.new.shop.hands)
     (subst (λ (n : ℕ). c.loop-i.i < n) (c.how_many-whole.ensures ∙ ap (λ (k : ℕ). length (listed c.args.in_rounds k
     c.args.events.now)) c.count-count.ensures) c.loop-i-test.true)
     (c.event_at-event.ensures.event ∙ ap {B = BoardEvent} (λ (k : ℕ). get_or (listed c.args.in_rounds k

@@ -6,12 +6,12 @@ use Rattle.execution.proofs.performance.perform.Given as goal
 
 abbrev pub invariant-loop-i : goal.invariant-loop-i
 invariant-loop-i g l = record {
-  ready : IsReady (g.W.JobMaker.plan l.fn.maker).jobs l.board l.hands;
+  ready : IsReady (g.W.JobMaker.plan l.fn.shop.work).jobs l.shop.board l.shop.hands;
   few : l.stale ≤ l.i;
-  ran : EventRun (snapshot_of (g.W.JobMaker.plan l.fn.maker) l.fn.board 0 (source_view g.S.Shelf l.fn.shelf)
-      (output_view g.B.Bench l.fn.bench)) (hands_in l.fn.hands)
-      (take l.i (listed l.fn.in_rounds (g.W.JobMaker.plan l.fn.maker).jobs.count l.fn.events))
-      (snapshot_of (g.W.JobMaker.plan l.maker) l.board l.stale (source_view g.S.Shelf l.shelf)
+  ran : EventRun (snapshot_of (g.W.JobMaker.plan l.fn.shop.work) l.fn.shop.board 0 (source_view g.S.Shelf l.fn.shelf)
+      (output_view g.B.Bench l.fn.bench)) (hands_in l.fn.shop.hands)
+      (take l.i (listed l.fn.in_rounds (g.W.JobMaker.plan l.fn.shop.work).jobs.count l.fn.events))
+      (snapshot_of (g.W.JobMaker.plan l.shop.work) l.shop.board l.stale (source_view g.S.Shelf l.shelf)
       (output_view g.B.Bench l.bench))
-      (hands_in l.hands) None;
+      (hands_in l.shop.hands) None;
 }
