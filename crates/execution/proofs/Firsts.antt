@@ -8,6 +8,7 @@ use Rattle.job_terms.specs.Workers.{Nothing, hand_of, End}
 use Rattle.job_terms.specs.Workers as words
 use Rattle.work_terms.specs.Disk.{HasCause, Rises}
 use Rattle.std.specs.Prelude.{IfErr, IsErrOf}
+use Rattle.execution.specs.Desks.{Desk}
 use Rattle.execution.specs.Ends.{ended_of}
 use Rattle.execution.specs.declared.fault.JobFault.{JobFault}
 use Rattle.execution.specs.declared.fault.JobFault.TheVariants as job_fault
@@ -52,6 +53,13 @@ pub hand-is : (ticket : Option Ticket) (t : Ticket) (made known : Bool) (bytes :
     known
     → hand_of ticket made bytes ≡ hand_of (Some t) known bytes
 hand-is ticket t made known bytes e f = ap (λ o. hand_of o made bytes) e ∙ ap (λ b. hand_of (Some t) b bytes) f
+
+-- what the worker holds, by the ticket in its hand and whether its bytes are made
+pub worker-hand : (desk : Desk) (ticket : Option Ticket) (t : Ticket) (made known : Bool) (bytes : List ℕ) (room : ℕ)
+    → ◌≡◌ {A = Desk} (record { hand = hand_of ticket made bytes; room = room }) desk → ticket ≡ Some t → made ≡ known
+    → desk.hand ≡ hand_of (Some t) known bytes
+worker-hand desk ticket t made known bytes room view e f =
+    ap {B = words.Hand} (λ (d : Desk). d.hand) (sym view) ∙ hand-is ticket t made known bytes e f
 
 pub take_front : (n : ℕ) (a b : List ℕ) → n ≡ length a → take n (a ++ b) ≡ a
 take_front n a b e = ap (λ k. take k (a ++ b)) e ∙ take-append_seam a b

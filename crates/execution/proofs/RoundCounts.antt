@@ -10,7 +10,7 @@ use Rattle.job_terms.specs.declared.Ticket.{Ticket}
 use Rattle.job_terms.specs.Board.{Board, can_give, given_out, is_current, is_done, is_finished, is_open, job_at, ticket_of}
 use Rattle.job_terms.specs.Workers.{Hand, Holds, Nothing, rounds}
 use Rattle.execution.specs.Alone.{AtRest, Turned, all_rounds_left, rounds_left}
-use Rattle.execution.specs.EventRun.{Performed, Snapshot}
+use Rattle.execution.specs.EventRun.{Performed, Snapshot, listed}
 use Rattle.execution.specs.Turns.{DeliverTurn, Fails, FindsNone, Gets, GiveTurn, Keeps, Makes, Takes, Turns, WorkTurn}
 use Rattle.execution.proofs.Firsts.{givable-there}
 use Rattle.execution.specs.BoardLaws.{finished_done}
@@ -128,7 +128,7 @@ rounds-finish (suc n) old new had has turns rest empty few =
     ]
 
 -- rounds that reported how far the jobs are have done all of them
-pub performed-finished : (count : ℕ) (a : Snapshot) (c : ℕ → Snapshot) (ha hc : ℕ → Hand) (progress : Progress)
+performed-finished : (count : ℕ) (a : Snapshot) (c : ℕ → Snapshot) (ha hc : ℕ → Hand) (progress : Progress)
     → Performed true (rounds (3 * count)) a ha c hc (Ok progress) → length a.board.jobs ≡ count → AtRest a.board
     → ha 1 ≡ Nothing → (s : ℕ) × (is_finished (c s).board ≡ true)
 performed-finished count a c ha hc progress p size rest empty = (
@@ -141,3 +141,11 @@ performed-finished count a c ha hc progress p size rest empty = (
         (inl (omega (arith, left-few a.board.jobs, size)))
   ],
 )
+
+pub in-rounds-finished : (in_rounds : Bool) (count : ℕ) (events : List BoardEvent) (a : Snapshot) (c : ℕ → Snapshot)
+    (ha hc : ℕ → Hand) (progress : Progress) → in_rounds ≡ true
+    → Performed in_rounds (listed in_rounds count events) a ha c hc (Ok progress) → length a.board.jobs ≡ count
+    → AtRest a.board → ha 1 ≡ Nothing → (s : ℕ) × (is_finished (c s).board ≡ true)
+in-rounds-finished true count events a c ha hc progress in_turn p size rest empty =
+    performed-finished count a c ha hc progress p size rest empty
+in-rounds-finished false count events a c ha hc progress in_turn p size rest empty = absurd (apart (sym in_turn))

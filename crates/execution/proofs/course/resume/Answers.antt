@@ -1,11 +1,7 @@
-use Rattle.std.proofs.Common.{Bool, Ok, subst}
-use Rattle.execution.specs.EventRun.{Performed, listed, snapshot_of}
-use Rattle.execution.specs.Held.{hands_in}
-use Rattle.devices.specs.Views.{output_view, source_view}
 use Rattle.devices.specs.ViewLaws.{writes_of}
 use Rattle.execution.proofs.Firsts.{raised}
 use Rattle.execution.proofs.Outcomes.{finish-failed, finished-all, not-false, not-true, stopped, stopped-early}
-use Rattle.execution.proofs.RoundCounts.{performed-finished}
+use Rattle.execution.proofs.RoundCounts.{in-rounds-finished}
 use Rattle.execution.proofs.course.resume.Goals as goal
 
 pub returns-in-Err-clause-resumed : goal.returns-in-Err-clause-resumed
@@ -53,31 +49,9 @@ returns-in-Err-finish-clause-resumed g c = finish-failed _ _ _ _ _ _ _ _ _ _ _ _
     })
 
 pub returns-then-not-progress-clause-finished : goal.returns-then-not-progress-clause-finished
-returns-then-not-progress-clause-finished g c in_turn rest empty =
-    (performed-finished (g.W.JobMaker.plan c.args.shop.now.work).jobs.count
-    (snapshot_of (g.W.JobMaker.plan c.args.shop.now.work) c.args.shop.now.board 0 (source_view g.S.Shelf c.args.shelf.now)
-    (output_view g.B.Bench c.args.bench.now))
-    (λ stale. snapshot_of (g.W.JobMaker.plan c.perform.new.shop.work) c.perform.new.shop.board stale
-    (source_view g.S.Shelf c.perform.new.shelf) (output_view g.B.Bench c.perform.new.bench))
-    (hands_in c.args.shop.now.hands) (hands_in c.perform.new.shop.hands) c.in-Ok.progress
-    (subst (λ (b : Bool). Performed b (listed b (g.W.JobMaker.plan c.args.shop.now.work).jobs.count c.args.events.now)
-    (snapshot_of (g.W.JobMaker.plan c.args.shop.now.work) c.args.shop.now.board 0 (source_view g.S.Shelf c.args.shelf.now)
-    (output_view g.B.Bench c.args.bench.now)) (hands_in c.args.shop.now.hands)
-    (λ stale. snapshot_of (g.W.JobMaker.plan c.perform.new.shop.work) c.perform.new.shop.board stale
-    (source_view g.S.Shelf c.perform.new.shelf) (output_view g.B.Bench c.perform.new.bench))
-    (hands_in c.perform.new.shop.hands) (Ok c.in-Ok.progress)) in_turn c.in-Ok.ensures.performed) c.requires.whole rest empty).1
+returns-then-not-progress-clause-finished g c in_turn rest empty = (in-rounds-finished c.args.in_rounds _ c.args.events.now _ _ _ _
+    c.in-Ok.progress in_turn c.in-Ok.ensures.performed c.requires.whole rest empty).1
 
 pub returns-in-Ok-finish-clause-finished : goal.returns-in-Ok-finish-clause-finished
-returns-in-Ok-finish-clause-finished g c in_turn rest empty =
-    (performed-finished (g.W.JobMaker.plan c.args.shop.now.work).jobs.count
-    (snapshot_of (g.W.JobMaker.plan c.args.shop.now.work) c.args.shop.now.board 0 (source_view g.S.Shelf c.args.shelf.now)
-    (output_view g.B.Bench c.args.bench.now))
-    (λ stale. snapshot_of (g.W.JobMaker.plan c.perform.new.shop.work) c.perform.new.shop.board stale
-    (source_view g.S.Shelf c.perform.new.shelf) (output_view g.B.Bench c.perform.new.bench))
-    (hands_in c.args.shop.now.hands) (hands_in c.perform.new.shop.hands) c.in-Ok.progress
-    (subst (λ (b : Bool). Performed b (listed b (g.W.JobMaker.plan c.args.shop.now.work).jobs.count c.args.events.now)
-    (snapshot_of (g.W.JobMaker.plan c.args.shop.now.work) c.args.shop.now.board 0 (source_view g.S.Shelf c.args.shelf.now)
-    (output_view g.B.Bench c.args.bench.now)) (hands_in c.args.shop.now.hands)
-    (λ stale. snapshot_of (g.W.JobMaker.plan c.perform.new.shop.work) c.perform.new.shop.board stale
-    (source_view g.S.Shelf c.perform.new.shelf) (output_view g.B.Bench c.perform.new.bench))
-    (hands_in c.perform.new.shop.hands) (Ok c.in-Ok.progress)) in_turn c.in-Ok.ensures.performed) c.requires.whole rest empty).1
+returns-in-Ok-finish-clause-finished g c in_turn rest empty = (in-rounds-finished c.args.in_rounds _ c.args.events.now _ _ _ _
+    c.in-Ok.progress in_turn c.in-Ok.ensures.performed c.requires.whole rest empty).1

@@ -2,58 +2,36 @@ use Rattle.std.proofs.Common.{◌∙◌, ◌==◌, cond, None, Err, ap}
 use Rattle.job_terms.specs.Workers.{Hand}
 use Rattle.execution.specs.Ends.{ended_of}
 use Rattle.execution.specs.Held.{hands_in}
-use Rattle.execution.specs.EventRun.{event_of, snapshot_of}
-use Rattle.devices.specs.Views.{output_view, source_view}
+use Rattle.execution.specs.EventRun.{event_of}
 use Rattle.execution.proofs.Runs.{hand-after, hand-back}
 use Rattle.execution.proofs.EventRuns.{run-none, run-outcome, run-step}
 use Rattle.execution.proofs.events.act.Goals as goal
 
 pub returns-in-Err-clause-ran : goal.returns-in-Err-clause-ran
-returns-in-Err-clause-ran g c = run-none (snapshot_of (g.W.JobMaker.plan c.args.shop.now.work) c.args.shop.now.board
-    c.args.stale.now (source_view g.S.Shelf c.args.shelf.now) (output_view g.B.Bench c.args.bench.now))
-    (hands_in c.args.shop.now.hands) (hands_in c.make_place.new.self) (g.met.B.Bench.only_now c.args.bench.now)
-    c.make_place.ensures.hands
+returns-in-Err-clause-ran g c = run-none _ _ _ (g.met.B.Bench.only_now c.args.bench.now) c.make_place.ensures.hands
 
 pub returns-in-Err-get_ready-clause-ran : goal.returns-in-Err-get_ready-clause-ran
-returns-in-Err-get_ready-clause-ran g c = run-none (snapshot_of
-    (g.W.JobMaker.plan c.args.shop.now.work) c.args.shop.now.board c.args.stale.now (source_view g.S.Shelf c.args.shelf.now)
-    (output_view g.B.Bench c.args.bench.now))
-    (hands_in c.args.shop.now.hands) (hands_in c.put.new.self) (g.met.B.Bench.only_now c.args.bench.now)
+returns-in-Err-get_ready-clause-ran g c = run-none _ _ _ (g.met.B.Bench.only_now c.args.bench.now)
     (λ v. hand-back (hands_in c.make_place.new.self) (hands_in c.put.new.self) c.args.number c.get_ready.new.worker.hand
-    (λ v. hand-after (hands_in c.make_place.new.self) (hands_in c.take-worker.new.self) (hands_in c.put.new.self)
-    c.args.number c.get_ready.new.worker.hand c.take-worker.ensures.others c.put.ensures.hands v
-    ) (c.get_ready.ensures.same ∙ c.take-worker.ensures.hand) v
-    ∙ c.make_place.ensures.hands v)
+    (hand-after _ _ _ c.args.number c.get_ready.new.worker.hand c.take-worker.ensures.others c.put.ensures.hands)
+    (c.get_ready.ensures.same ∙ c.take-worker.ensures.hand) v ∙ c.make_place.ensures.hands v)
 
 pub returns-in-Ok-outcome-clause-ran : goal.returns-in-Ok-outcome-clause-ran
-returns-in-Ok-outcome-clause-ran g c = run-step (snapshot_of (g.W.JobMaker.plan c.args.shop.now.work) c.args.shop.now.board
-    c.args.stale.now (source_view g.S.Shelf c.args.shelf.now) (output_view g.B.Bench c.args.bench.now))
-    (snapshot_of (g.W.JobMaker.plan c.turn-outcome.new.maker) c.turn-outcome.new.board c.turn-outcome.new.stale
-    (source_view g.S.Shelf c.turn-outcome.new.shelf) (output_view g.B.Bench c.turn-outcome.new.bench))
-    c.args.action c.args.number (hands_in c.args.shop.now.hands) (hands_in c.put-2.new.self) c.get_ready.new.worker.hand
+returns-in-Ok-outcome-clause-ran g c = run-step _ _ c.args.action c.args.number _ _ c.get_ready.new.worker.hand
     c.turn-outcome.new.worker.hand None
     (c.get_ready.ensures.same ∙ c.take-worker.ensures.hand ∙ c.make_place.ensures.hands c.args.number)
-    (λ v. hand-after (hands_in c.make_place.new.self) (hands_in c.take-worker.new.self) (hands_in c.put-2.new.self)
-    c.args.number c.turn-outcome.new.worker.hand c.take-worker.ensures.others c.put-2.ensures.hands v
+    (λ v. hand-after _ _ _ c.args.number c.turn-outcome.new.worker.hand c.take-worker.ensures.others
+    c.put-2.ensures.hands v
     ∙ ap (λ (h : Hand). cond (v == c.args.number) c.turn-outcome.new.worker.hand h) (c.make_place.ensures.hands v))
     c.in-Ok-outcome.ensures.went
 
 pub returns-in-Err-outcome-clause-ran : goal.returns-in-Err-outcome-clause-ran
-returns-in-Err-outcome-clause-ran g c = run-outcome (snapshot_of
-    (g.W.JobMaker.plan c.args.shop.now.work) c.args.shop.now.board c.args.stale.now (source_view g.S.Shelf c.args.shelf.now)
-    (output_view g.B.Bench c.args.bench.now))
-    (snapshot_of (g.W.JobMaker.plan c.turn-outcome.new.maker) c.turn-outcome.new.board c.turn-outcome.new.stale
-    (source_view g.S.Shelf c.turn-outcome.new.shelf) (output_view g.B.Bench c.turn-outcome.new.bench))
-    (hands_in c.args.shop.now.hands) (hands_in c.put-2.new.self) (event_of c.args.action c.args.number)
+returns-in-Err-outcome-clause-ran g c = run-outcome _ _ _ _ (event_of c.args.action c.args.number)
     c.in-Err-outcome.fault c.from.result c.from.ensures
-    (run-step (snapshot_of (g.W.JobMaker.plan c.args.shop.now.work) c.args.shop.now.board c.args.stale.now
-    (source_view g.S.Shelf c.args.shelf.now) (output_view g.B.Bench c.args.bench.now))
-    (snapshot_of (g.W.JobMaker.plan c.turn-outcome.new.maker) c.turn-outcome.new.board c.turn-outcome.new.stale
-    (source_view g.S.Shelf c.turn-outcome.new.shelf) (output_view g.B.Bench c.turn-outcome.new.bench))
-    c.args.action c.args.number (hands_in c.args.shop.now.hands) (hands_in c.put-2.new.self) c.get_ready.new.worker.hand
-    c.turn-outcome.new.worker.hand (ended_of {X = Unit {0}} (Err c.in-Err-outcome.fault))
+    (run-step _ _ c.args.action c.args.number _ _ c.get_ready.new.worker.hand c.turn-outcome.new.worker.hand
+    (ended_of {X = Unit {0}} (Err c.in-Err-outcome.fault))
     (c.get_ready.ensures.same ∙ c.take-worker.ensures.hand ∙ c.make_place.ensures.hands c.args.number)
-    (λ v. hand-after (hands_in c.make_place.new.self) (hands_in c.take-worker.new.self) (hands_in c.put-2.new.self)
-    c.args.number c.turn-outcome.new.worker.hand c.take-worker.ensures.others c.put-2.ensures.hands v
+    (λ v. hand-after _ _ _ c.args.number c.turn-outcome.new.worker.hand c.take-worker.ensures.others
+    c.put-2.ensures.hands v
     ∙ ap (λ (h : Hand). cond (v == c.args.number) c.turn-outcome.new.worker.hand h) (c.make_place.ensures.hands v))
     c.in-Err-outcome.ensures.went)

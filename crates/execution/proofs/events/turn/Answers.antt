@@ -3,7 +3,7 @@ use Rattle.job_terms.specs.Workers.{FaultStep, GiveStep, Hand, Nothing, State, W
 use Rattle.devices.specs.ViewLaws.{reads_none}
 use Rattle.execution.specs.declared.action.Action.TheVariants.{Deliver, Fault, Give, Lose, Work}
 use Rattle.execution.specs.Ends.{ended_of}
-use Rattle.devices.specs.Views.{output_view, source_view}
+use Rattle.devices.specs.Views.{source_view}
 use Rattle.execution.proofs.Firsts.{mark-is, mark-none}
 use Rattle.execution.proofs.Keeps.{fault-same, give-done, work-done}
 use Rattle.execution.proofs.EventRuns.{step-as, step-quiet}
@@ -13,18 +13,9 @@ use Rattle.execution.proofs.events.turn.Goals as goal
 
 pub returns-in-Give-clause-went : goal.returns-in-Give-clause-went
 returns-in-Give-clause-went g c = step-as c.args.action Give _ _ _ _ _ _ _ c.in-Give.is (
-    step-quiet GiveStep GiveTurn
-    (g.W.JobMaker.plan c.args.maker.now) (g.W.JobMaker.plan c.args.maker.now) c.args.board.now c.hand_out.new.board
-    c.args.stale.now c.args.stale.now
-    (source_view g.S.Shelf c.args.shelf.now) (source_view g.S.Shelf c.args.shelf.now)
-    (output_view g.B.Bench c.args.bench.now)
-    c.args.worker.now.hand c.hand_out.new.worker.hand None
-    refl c.hand_out.ensures.size (reads_none (source_view g.S.Shelf c.args.shelf.now))
-    (g.met.B.Bench.only_now c.args.bench.now) (λ e. cc)
-    (λ honest. c.hand_out.ensures.step (g.B.Bench.stored c.args.bench.now) c.args.stale.now
-    (g.S.Shelf.failures c.args.shelf.now) (g.B.Bench.failures c.args.bench.now))
-    (give-done _ _ _ _)
-    (λ none. given-turn _ _ _ _ (c.hand_out.ensures.step (λ _. None) 0 0 0)))
+    step-quiet GiveStep GiveTurn _ _ _ _ _ _ _ _ _ _ _ None refl c.hand_out.ensures.size (reads_none _)
+    (g.met.B.Bench.only_now c.args.bench.now) (λ e. cc) (λ honest. c.hand_out.ensures.step _ _ _ _)
+    (give-done _ _ _ _) (λ none. given-turn _ _ _ _ (c.hand_out.ensures.step (λ _. None) 0 0 0)))
 
 pub returns-in-Give-clause-fits : goal.returns-in-Give-clause-fits
 returns-in-Give-clause-fits g c = c.hand_out.ensures.fits (g.W.JobMaker.plan c.args.maker.now).jobs c.requires.whole
@@ -32,16 +23,10 @@ returns-in-Give-clause-fits g c = c.hand_out.ensures.fits (g.W.JobMaker.plan c.a
 
 pub returns-in-Work-clause-went : goal.returns-in-Work-clause-went
 returns-in-Work-clause-went g c = step-as c.args.action Work _ _ _ _ _ _ _ c.in-Work.is (
-    step-quiet (WorkStep (jobs_over (g.W.JobMaker.plan c.args.maker.now).jobs (g.S.Shelf.stored c.args.shelf.now))) WorkTurn
-    (g.W.JobMaker.plan c.args.maker.now) (g.W.JobMaker.plan c.make.new.maker) c.args.board.now c.make.new.board
-    c.args.stale.now c.args.stale.now
-    (source_view g.S.Shelf c.args.shelf.now) (source_view g.S.Shelf c.make.new.shelf)
-    (output_view g.B.Bench c.args.bench.now)
-    c.args.worker.now.hand c.make.new.worker.hand (ended_of c.make.result)
-    c.make.ensures.same c.make.ensures.size c.make.ensures.source (g.met.B.Bench.only_now c.args.bench.now)
-    (mark-none c.make.result c.make.ensures.no_mark)
-    (λ honest. c.make.ensures.step honest (g.B.Bench.stored c.args.bench.now) c.args.stale.now
-    (g.B.Bench.failures c.args.bench.now))
+    step-quiet (WorkStep (jobs_over (g.W.JobMaker.plan c.args.maker.now).jobs (g.S.Shelf.stored c.args.shelf.now)))
+    WorkTurn _ _ _ _ _ _ _ _ _ _ _ (ended_of c.make.result) c.make.ensures.same c.make.ensures.size
+    c.make.ensures.source (g.met.B.Bench.only_now c.args.bench.now) (mark-none c.make.result c.make.ensures.no_mark)
+    (λ honest. c.make.ensures.step honest _ _ _)
     (work-done (jobs_over (g.W.JobMaker.plan c.args.maker.now).jobs (g.S.Shelf.stored c.args.shelf.now)) _ _ _ _)
     c.make.ensures.turned)
 
@@ -63,28 +48,12 @@ returns-in-Deliver-clause-went g c = step-as c.args.action Deliver _ _ _ _ _ _ _
 
 pub returns-in-Fault-clause-went : goal.returns-in-Fault-clause-went
 returns-in-Fault-clause-went g c = step-as c.args.action Fault _ _ _ _ _ _ _ c.in-Fault.is (
-    step-quiet FaultStep (ActionTurn Fault)
-    (g.W.JobMaker.plan c.args.maker.now) (g.W.JobMaker.plan c.args.maker.now) c.args.board.now c.fail.new.board
-    c.args.stale.now c.args.stale.now
-    (source_view g.S.Shelf c.args.shelf.now) (source_view g.S.Shelf c.args.shelf.now)
-    (output_view g.B.Bench c.args.bench.now)
-    c.args.worker.now.hand c.fail.new.worker.hand (ended_of c.fail.result)
-    refl c.fail.ensures.size (reads_none (source_view g.S.Shelf c.args.shelf.now))
-    (g.met.B.Bench.only_now c.args.bench.now) (mark-none c.fail.result c.fail.ensures.no_mark)
-    (λ honest. c.fail.ensures.step (g.B.Bench.stored c.args.bench.now) c.args.stale.now
-    (g.S.Shelf.failures c.args.shelf.now) (g.B.Bench.failures c.args.bench.now))
-    (fault-same _ _ c.args.worker.now.hand _)
-    (λ none. tt))
+    step-quiet FaultStep (ActionTurn Fault) _ _ _ _ _ _ _ _ _ _ _ (ended_of c.fail.result) refl c.fail.ensures.size
+    (reads_none _) (g.met.B.Bench.only_now c.args.bench.now) (mark-none c.fail.result c.fail.ensures.no_mark)
+    (λ honest. c.fail.ensures.step _ _ _ _) (fault-same _ _ c.args.worker.now.hand _) (λ none. tt))
 
 pub returns-in-Lose-clause-went : goal.returns-in-Lose-clause-went
 returns-in-Lose-clause-went g c = step-as c.args.action Lose _ _ _ _ _ _ _ c.in-Lose.is (
     step-quiet (λ (old : State) (_ : Hand) (new : State) (now : Hand). (new ≡ old) × (now ≡ Nothing)) (ActionTurn Lose)
-    (g.W.JobMaker.plan c.args.maker.now) (g.W.JobMaker.plan c.args.maker.now) c.args.board.now c.args.board.now
-    c.args.stale.now c.args.stale.now
-    (source_view g.S.Shelf c.args.shelf.now) (source_view g.S.Shelf c.args.shelf.now)
-    (output_view g.B.Bench c.args.bench.now)
-    c.args.worker.now.hand c.lose.new.worker.hand None
-    refl refl (reads_none (source_view g.S.Shelf c.args.shelf.now)) (g.met.B.Bench.only_now c.args.bench.now) (λ e. cc)
-    (λ honest. (refl, c.lose.ensures.nothing))
-    (λ step k. refl)
-    (λ none. tt))
+    _ _ _ _ _ _ _ _ _ _ _ None refl refl (reads_none _) (g.met.B.Bench.only_now c.args.bench.now) (λ e. cc)
+    (λ honest. (refl, c.lose.ensures.nothing)) (λ step k. refl) (λ none. tt))

@@ -1,10 +1,9 @@
 use Rattle.std.proofs.Common.{◌∙◌, ◌<◌, ℕ, length, get_or, refl, ap, subst, arith}
 use Rattle.job_terms.specs.declared.BoardEvent.{BoardEvent}
 use Rattle.job_terms.specs.declared.BoardEvent.TheVariants.{Lose}
-use Rattle.execution.specs.Held.{IsReady, hands_in}
+use Rattle.execution.specs.Held.{IsReady}
 use Rattle.execution.specs.Plan.{JobPlan}
-use Rattle.execution.specs.EventRun.{listed, snapshot_of}
-use Rattle.devices.specs.Views.{output_view, source_view}
+use Rattle.execution.specs.EventRun.{listed}
 use Rattle.execution.proofs.EventRuns.{performed-ended, run-next, run-none}
 use Rattle.execution.proofs.performance.perform.Goals as goal
 
@@ -12,27 +11,15 @@ pub loop-i-init : goal.loop-i-init
 loop-i-init g c = record {
   ready = c.requires;
   few = omega arith;
-  ran = run-none (snapshot_of (g.W.JobMaker.plan c.args.shop.now.work) c.args.shop.now.board 0
-      (source_view g.S.Shelf c.args.shelf.now)
-      (output_view g.B.Bench c.args.bench.now)) (hands_in c.args.shop.now.hands) (hands_in c.args.shop.now.hands)
-      (g.met.B.Bench.only_now c.args.bench.now) (λ v. refl);
+  ran = run-none _ _ _ (g.met.B.Bench.only_now c.args.bench.now) (λ v. refl);
 }
 
 pub loop-i-preserved : goal.loop-i-preserved
 loop-i-preserved g c = record {
-  ready = subst (λ (p : JobPlan). IsReady p.jobs c.step.new.shop.board c.step.new.shop.hands) c.loop-i.invariant.ran.kept.plan
-      c.in-Ok.ensures.ready;
+  ready = subst (λ (p : JobPlan). IsReady p.jobs c.step.new.shop.board c.step.new.shop.hands)
+      c.loop-i.invariant.ran.kept.plan c.in-Ok.ensures.ready;
   few = omega (arith, c.in-Ok.ensures.counted, c.loop-i.invariant.few);
-  ran = run-next (snapshot_of (g.W.JobMaker.plan c.args.shop.now.work) c.args.shop.now.board 0
-      (source_view g.S.Shelf c.args.shelf.now)
-      (output_view g.B.Bench c.args.bench.now))
-      (snapshot_of (g.W.JobMaker.plan c.loop-i.shop.work) c.loop-i.shop.board c.loop-i.stale
-      (source_view g.S.Shelf c.loop-i.shelf)
-      (output_view g.B.Bench c.loop-i.bench))
-      (snapshot_of (g.W.JobMaker.plan c.step.new.shop.work) c.step.new.shop.board c.step.new.stale
-      (source_view g.S.Shelf c.step.new.shelf)
-      (output_view g.B.Bench c.step.new.bench))
-      (hands_in c.args.shop.now.hands) (hands_in c.loop-i.shop.hands) (hands_in c.step.new.shop.hands)
+  ran = run-next _ _ _ _ _ _
       (listed c.args.in_rounds (g.W.JobMaker.plan c.args.shop.now.work).jobs.count c.args.events.now)
       c.loop-i.i c.event_at-event.result (Lose 0)
       (subst (λ (n : ℕ). c.loop-i.i < n) (c.how_many-whole.ensures ∙ ap (λ (k : ℕ). length (listed c.args.in_rounds k
@@ -43,17 +30,9 @@ loop-i-preserved g c = record {
 }
 
 pub returns-in-Err-clause-performed : goal.returns-in-Err-clause-performed
-returns-in-Err-clause-performed g c = performed-ended c.args.in_rounds (listed c.args.in_rounds
-    (g.W.JobMaker.plan c.args.shop.now.work).jobs.count c.args.events.now)
-    c.loop-i.i c.step.new.stale c.event_at-event.result c.in-Err.fault
-    (snapshot_of (g.W.JobMaker.plan c.args.shop.now.work) c.args.shop.now.board 0 (source_view g.S.Shelf c.args.shelf.now)
-    (output_view g.B.Bench c.args.bench.now))
-    (snapshot_of (g.W.JobMaker.plan c.loop-i.shop.work) c.loop-i.shop.board c.loop-i.stale (source_view g.S.Shelf c.loop-i.shelf)
-    (output_view g.B.Bench c.loop-i.bench))
-    (λ stale. snapshot_of (g.W.JobMaker.plan c.step.new.shop.work) c.step.new.shop.board stale
-    (source_view g.S.Shelf c.step.new.shelf)
-    (output_view g.B.Bench c.step.new.bench))
-    (hands_in c.args.shop.now.hands) (hands_in c.loop-i.shop.hands) (hands_in c.step.new.shop.hands)
+returns-in-Err-clause-performed g c = performed-ended c.args.in_rounds
+    (listed c.args.in_rounds (g.W.JobMaker.plan c.args.shop.now.work).jobs.count c.args.events.now)
+    c.loop-i.i c.step.new.stale c.event_at-event.result c.in-Err.fault _ _ _ _ _ _
     (subst (λ (n : ℕ). c.loop-i.i < n) (c.how_many-whole.ensures ∙ ap (λ (k : ℕ). length (listed c.args.in_rounds k
     c.args.events.now)) c.count-count.ensures) c.loop-i-test.true)
     (c.event_at-event.ensures.event ∙ ap {B = BoardEvent} (λ (k : ℕ). get_or (listed c.args.in_rounds k

@@ -1,32 +1,24 @@
 use Rattle.std.proofs.Common.{◌∙◌, ℕ, List, take, refl, sym, ap, subst, Some, None, true}
 use Rattle.job_terms.specs.Board.{Board, accepted}
-use Rattle.job_terms.specs.Workers.{Hand, IsStale, Delivers, CantWrite, CantMark, State, MarkFailed, Puts, jobs_over}
+use Rattle.job_terms.specs.Workers.{IsStale, Delivers, CantWrite, CantMark, State, MarkFailed, Puts, jobs_over}
 use Rattle.work_terms.specs.Disk.{IsWritten}
 use Rattle.execution.specs.Ends.{ended_of}
-use Rattle.execution.specs.Desks.{Desk}
 use Rattle.execution.specs.Worlds.{state_of}
-use Rattle.execution.proofs.Firsts.{hand-is, placed-mark, placed-write, raised}
+use Rattle.execution.proofs.Firsts.{placed-mark, placed-write, raised, worker-hand}
 use Rattle.execution.specs.Marking.{done_of}
-use Rattle.devices.specs.Views.{output_view}
 use Rattle.execution.proofs.MarkSteps.{marks-broken, marks-placed, marks-quiet, marks-unwritten}
 use Rattle.execution.proofs.Marked.{current-open, current-there, done-accepted, fault-done, right-made}
 use Rattle.execution.proofs.Firsts.{no-mark}
 use Rattle.execution.proofs.steps.deliver.Goals as goal
 
 pub returns-then-not-is_current-clause-step : goal.returns-then-not-is_current-clause-step
-returns-then-not-is_current-clause-step g c honest sources shelf = IsStale c.in-Some.ticket (take c.worker.inside.size
-    c.worker.inside.bytes.items)
-    (ap {B = Hand} (λ (d : Desk). d.hand) (sym c.worker.view_is) ∙ hand-is c.worker.inside.ticket c.in-Some.ticket
-    c.worker.inside.made true (take c.worker.inside.size c.worker.inside.bytes.items) c.in-Some.is
-    c.if-not-worker.false)
+returns-then-not-is_current-clause-step g c honest sources shelf = IsStale c.in-Some.ticket _
+    (worker-hand _ _ c.in-Some.ticket _ true _ _ c.worker.view_is c.in-Some.is c.if-not-worker.false)
     (sym c.if-not-is_current.ensures) refl refl
 
 pub returns-in-Ok-clause-step : goal.returns-in-Ok-clause-step
-returns-in-Ok-clause-step g c honest sources shelf = Delivers c.in-Some.ticket (take c.worker.inside.size
-    c.worker.inside.bytes.items) (g.B.Bench.stored c.place.new.bench)
-    (ap {B = Hand} (λ (d : Desk). d.hand) (sym c.worker.view_is) ∙ hand-is c.worker.inside.ticket c.in-Some.ticket
-    c.worker.inside.made true (take c.worker.inside.size c.worker.inside.bytes.items) c.in-Some.is
-    c.if-not-worker.false)
+returns-in-Ok-clause-step g c honest sources shelf = Delivers c.in-Some.ticket _ (g.B.Bench.stored c.place.new.bench)
+    (worker-hand _ _ c.in-Some.ticket _ true _ _ c.worker.view_is c.in-Some.is c.if-not-worker.false)
     (sym c.is_current.ensures ∙ c.if-not-is_current.false)
     (subst (λ (b : List ℕ). Puts (IsWritten ((g.W.JobMaker.plan c.args.maker.now).jobs.at c.in-Some.ticket.job) b)
     (g.W.JobMaker.plan c.args.maker.now).jobs.name c.in-Some.ticket.job
@@ -39,108 +31,72 @@ returns-in-Ok-clause-step g c honest sources shelf = Delivers c.in-Some.ticket (
     refl
 
 pub returns-in-Err-Mark-clause-step : goal.returns-in-Err-Mark-clause-step
-returns-in-Err-Mark-clause-step g c honest sources shelf = CantMark c.in-Some.ticket (take c.worker.inside.size
-    c.worker.inside.bytes.items) (g.B.Bench.stored c.place.new.bench)
-    (g.B.Bench.failures c.place.new.bench) (placed-mark (Unit {0}) (g.W.JobMaker.plan c.args.maker.now).jobs
-    (g.W.JobMaker.plan c.args.maker.now).marks c.in-Some.ticket.job (take c.worker.inside.size c.deref.result.now)
-    (take c.worker.inside.size c.worker.inside.bytes.items) (g.B.Bench.stored c.args.bench.now)
-    (g.B.Bench.stored c.place.new.bench) c.in-Err-Mark.field-0 c.in-Err-Mark.field-0-is
-    (ap (λ (x : List ℕ). take c.worker.inside.size x) c.deref.ensures.value)
-    (c.in-Err-Mark.ensures.placed honest)).0
-    (ap {B = Hand} (λ (d : Desk). d.hand) (sym c.worker.view_is) ∙ hand-is c.worker.inside.ticket c.in-Some.ticket
-    c.worker.inside.made true (take c.worker.inside.size c.worker.inside.bytes.items) c.in-Some.is
-    c.if-not-worker.false)
-    (sym c.is_current.ensures ∙ c.if-not-is_current.false)
-    (placed-mark (Unit {0}) (g.W.JobMaker.plan c.args.maker.now).jobs (g.W.JobMaker.plan c.args.maker.now).marks
-    c.in-Some.ticket.job (take c.worker.inside.size c.deref.result.now) (take c.worker.inside.size
-    c.worker.inside.bytes.items) (g.B.Bench.stored c.args.bench.now) (g.B.Bench.stored c.place.new.bench)
+returns-in-Err-Mark-clause-step g c honest sources shelf =
+    let placed = placed-mark (Unit {0}) (g.W.JobMaker.plan c.args.maker.now).jobs
+    (g.W.JobMaker.plan c.args.maker.now).marks c.in-Some.ticket.job _ (take c.worker.inside.size c.worker.inside.bytes.items) _ _
     c.in-Err-Mark.field-0 c.in-Err-Mark.field-0-is (ap (λ (x : List ℕ). take c.worker.inside.size x)
-    c.deref.ensures.value) (c.in-Err-Mark.ensures.placed honest)).1
-    (raised _ _ _ _ c.in-Err-Mark.ensures.only_writes.cause tt)
+    c.deref.ensures.value) (c.in-Err-Mark.ensures.placed honest) in
+    CantMark c.in-Some.ticket _ (g.B.Bench.stored c.place.new.bench) (g.B.Bench.failures c.place.new.bench) placed.0
+    (worker-hand _ _ c.in-Some.ticket _ true _ _ c.worker.view_is c.in-Some.is c.if-not-worker.false)
+    (sym c.is_current.ensures ∙ c.if-not-is_current.false)
+    placed.1 (raised _ _ _ _ c.in-Err-Mark.ensures.only_writes.cause tt)
     (ap {B = State} (λ (b : Board). state_of b (g.B.Bench.stored c.place.new.bench) c.args.stale.now shelf
     (g.B.Bench.failures c.place.new.bench) (Some MarkFailed)) c.accept-in-Err-Mark.ensures.done)
     refl
 
 pub returns-in-Err-Write-clause-step : goal.returns-in-Err-Write-clause-step
-returns-in-Err-Write-clause-step g c honest sources shelf = CantWrite c.in-Some.ticket (take c.worker.inside.size
-    c.worker.inside.bytes.items) (g.B.Bench.stored c.place.new.bench) (g.B.Bench.failures c.place.new.bench)
-    (ap {B = Hand} (λ (d : Desk). d.hand) (sym c.worker.view_is) ∙ hand-is c.worker.inside.ticket c.in-Some.ticket
-    c.worker.inside.made true (take c.worker.inside.size c.worker.inside.bytes.items) c.in-Some.is
-    c.if-not-worker.false)
+returns-in-Err-Write-clause-step g c honest sources shelf = CantWrite c.in-Some.ticket _
+    (g.B.Bench.stored c.place.new.bench) (g.B.Bench.failures c.place.new.bench)
+    (worker-hand _ _ c.in-Some.ticket _ true _ _ c.worker.view_is c.in-Some.is c.if-not-worker.false)
     (sym c.is_current.ensures ∙ c.if-not-is_current.false)
     (placed-write (Unit {0}) (g.W.JobMaker.plan c.args.maker.now).jobs (g.W.JobMaker.plan c.args.maker.now).marks
-    c.in-Some.ticket.job (take c.worker.inside.size c.deref.result.now) (take c.worker.inside.size
-    c.worker.inside.bytes.items) (g.B.Bench.stored c.args.bench.now) (g.B.Bench.stored c.place.new.bench)
+    c.in-Some.ticket.job _ (take c.worker.inside.size c.worker.inside.bytes.items) _ _
     c.in-Err-Write.field-0 c.in-Err-Write.field-0-is (ap (λ (x : List ℕ). take c.worker.inside.size x)
     c.deref.ensures.value) (c.in-Err-Write.ensures.placed honest))
-    (raised _ _ _ _ c.in-Err-Write.ensures.only_writes.cause tt) (c.failed.ensures.step
-    (g.B.Bench.stored c.place.new.bench)
-    c.args.stale.now shelf (g.B.Bench.failures c.place.new.bench)) refl
+    (raised _ _ _ _ c.in-Err-Write.ensures.only_writes.cause tt) (c.failed.ensures.step _ _ _ _) refl
 
 pub returns-in_default-clause-marks : goal.returns-in_default-clause-marks
-returns-in_default-clause-marks g c honest sources right run = marks-quiet
-    ((g.W.JobMaker.plan c.args.maker.now).marking sources)
-    (done_of c.args.board.now) (done_of c.args.board.now) (output_view g.B.Bench c.args.bench.now) None
+returns-in_default-clause-marks g c honest sources right run = marks-quiet _ _ _ _ None
     (g.met.B.Bench.only_now c.args.bench.now) (λ e. cc) (λ k. refl) run
 
 pub returns-then-not-worker-clause-marks : goal.returns-then-not-worker-clause-marks
-returns-then-not-worker-clause-marks g c honest sources right run = marks-quiet
-    ((g.W.JobMaker.plan c.args.maker.now).marking sources)
-    (done_of c.args.board.now) (done_of c.args.board.now) (output_view g.B.Bench c.args.bench.now) None
+returns-then-not-worker-clause-marks g c honest sources right run = marks-quiet _ _ _ _ None
     (g.met.B.Bench.only_now c.args.bench.now) (λ e. cc) (λ k. refl) run
 
 pub returns-then-not-is_current-clause-marks : goal.returns-then-not-is_current-clause-marks
-returns-then-not-is_current-clause-marks g c honest sources right run = marks-quiet
-    ((g.W.JobMaker.plan c.args.maker.now).marking sources)
-    (done_of c.args.board.now) (done_of c.args.board.now) (output_view g.B.Bench c.args.bench.now) None
+returns-then-not-is_current-clause-marks g c honest sources right run = marks-quiet _ _ _ _ None
     (g.met.B.Bench.only_now c.args.bench.now) (λ e. cc) (λ k. refl) run
 
 pub returns-in-Ok-clause-marks : goal.returns-in-Ok-clause-marks
-returns-in-Ok-clause-marks g c honest sources right run = marks-placed
-    ((g.W.JobMaker.plan c.args.maker.now).marking sources) (done_of c.args.board.now) (done_of c.accept.new.board)
-    c.in-Some.ticket.job (output_view g.B.Bench c.args.bench.now) (output_view g.B.Bench c.place.new.bench)
+returns-in-Ok-clause-marks g c honest sources right run = marks-placed _ _ _ c.in-Some.ticket.job _ _
     (λ j. done-accepted c.args.board.now c.in-Some.ticket.job (current-there c.args.board.now c.in-Some.ticket
-    (sym c.is_current.ensures ∙ c.if-not-is_current.false)) j ∙ ap (λ (b : Board). done_of b j)
-    (sym c.accept.ensures.done))
-    (c.in-Ok.ensures.marks honest sources (done_of c.args.board.now) ((ap (λ
-    (x : List ℕ). take c.worker.inside.size x) c.deref.ensures.value) ∙ right-made
-    (jobs_over (g.W.JobMaker.plan c.args.maker.now).jobs sources) c.args.worker.now.hand c.in-Some.ticket
-    (take c.worker.inside.size c.worker.inside.bytes.items) (ap {B = Hand} (λ (d : Desk). d.hand)
-    (sym c.worker.view_is) ∙ hand-is c.worker.inside.ticket c.in-Some.ticket c.worker.inside.made true
-    (take c.worker.inside.size c.worker.inside.bytes.items) c.in-Some.is c.if-not-worker.false) right)
+    (sym c.is_current.ensures ∙ c.if-not-is_current.false)) j ∙ ap (λ (b : Board). done_of b j) (sym c.accept.ensures.done))
+    (c.in-Ok.ensures.marks honest sources _
+    ((ap (λ (x : List ℕ). take c.worker.inside.size x) c.deref.ensures.value) ∙ right-made
+    (jobs_over (g.W.JobMaker.plan c.args.maker.now).jobs sources) _ c.in-Some.ticket _
+    (worker-hand _ _ c.in-Some.ticket _ true _ _ c.worker.view_is c.in-Some.is c.if-not-worker.false) right)
     (current-open c.args.board.now c.in-Some.ticket (sym c.is_current.ensures ∙ c.if-not-is_current.false)) run)
 
 pub returns-in-Err-Write-clause-marks : goal.returns-in-Err-Write-clause-marks
-returns-in-Err-Write-clause-marks g c honest sources right run = marks-unwritten
-    ((g.W.JobMaker.plan c.args.maker.now).marking sources) (done_of c.args.board.now) (done_of c.failed.new.board)
-    c.in-Some.ticket.job (output_view g.B.Bench c.args.bench.now) (output_view g.B.Bench c.place.new.bench)
+returns-in-Err-Write-clause-marks g c honest sources right run = marks-unwritten _ _ _ c.in-Some.ticket.job _ _
     c.in-Err-Write.field-0 (ended_of c.failed.result) c.in-Err-Write.field-0-is
-    (λ j. sym (ap (λ (s : State). done_of s.board j) (c.failed.ensures.step (g.B.Bench.stored c.place.new.bench)
-    c.args.stale.now 0 (g.B.Bench.failures c.place.new.bench))
-    ∙ fault-done (state_of c.args.board.now (g.B.Bench.stored c.place.new.bench) c.args.stale.now 0
-    (g.B.Bench.failures c.place.new.bench) None) c.in-Some.ticket (sym c.is_current.ensures ∙
-    c.if-not-is_current.false) j))
+    (λ j. sym (ap (λ (s : State). done_of s.board j) (c.failed.ensures.step (λ _. None) 0 0 0)
+    ∙ fault-done (state_of c.args.board.now (λ _. None) 0 0 0 None) c.in-Some.ticket
+    (sym c.is_current.ensures ∙ c.if-not-is_current.false) j))
     (no-mark c.failed.result c.in-Some.ticket.job c.failed.ensures.only)
-    (c.in-Err-Write.ensures.marks honest sources (done_of c.args.board.now) ((ap (λ
-    (x : List ℕ). take c.worker.inside.size x) c.deref.ensures.value) ∙ right-made
-    (jobs_over (g.W.JobMaker.plan c.args.maker.now).jobs sources) c.args.worker.now.hand c.in-Some.ticket
-    (take c.worker.inside.size c.worker.inside.bytes.items) (ap {B = Hand} (λ (d : Desk). d.hand)
-    (sym c.worker.view_is) ∙ hand-is c.worker.inside.ticket c.in-Some.ticket c.worker.inside.made true
-    (take c.worker.inside.size c.worker.inside.bytes.items) c.in-Some.is c.if-not-worker.false) right)
+    (c.in-Err-Write.ensures.marks honest sources _
+    ((ap (λ (x : List ℕ). take c.worker.inside.size x) c.deref.ensures.value) ∙ right-made
+    (jobs_over (g.W.JobMaker.plan c.args.maker.now).jobs sources) _ c.in-Some.ticket _
+    (worker-hand _ _ c.in-Some.ticket _ true _ _ c.worker.view_is c.in-Some.is c.if-not-worker.false) right)
     (current-open c.args.board.now c.in-Some.ticket (sym c.is_current.ensures ∙ c.if-not-is_current.false)) run)
 
 pub returns-in-Err-Mark-clause-marks : goal.returns-in-Err-Mark-clause-marks
-returns-in-Err-Mark-clause-marks g c honest sources right run = marks-broken
-    ((g.W.JobMaker.plan c.args.maker.now).marking sources) (done_of c.args.board.now)
-    (done_of c.accept-in-Err-Mark.new.board) c.in-Some.ticket.job (output_view g.B.Bench c.args.bench.now)
-    (output_view g.B.Bench c.place.new.bench) c.in-Err-Mark.field-0 c.in-Err-Mark.field-0-is
+returns-in-Err-Mark-clause-marks g c honest sources right run = marks-broken _ _ _ c.in-Some.ticket.job _ _
+    c.in-Err-Mark.field-0 c.in-Err-Mark.field-0-is
     (λ j. done-accepted c.args.board.now c.in-Some.ticket.job (current-there c.args.board.now c.in-Some.ticket
-    (sym c.is_current.ensures ∙ c.if-not-is_current.false)) j ∙ ap (λ (b : Board). done_of b j)
-    (sym c.accept-in-Err-Mark.ensures.done))
-    (c.in-Err-Mark.ensures.marks honest sources (done_of c.args.board.now) ((ap (λ
-    (x : List ℕ). take c.worker.inside.size x) c.deref.ensures.value) ∙ right-made
-    (jobs_over (g.W.JobMaker.plan c.args.maker.now).jobs sources) c.args.worker.now.hand c.in-Some.ticket
-    (take c.worker.inside.size c.worker.inside.bytes.items) (ap {B = Hand} (λ (d : Desk). d.hand)
-    (sym c.worker.view_is) ∙ hand-is c.worker.inside.ticket c.in-Some.ticket c.worker.inside.made true
-    (take c.worker.inside.size c.worker.inside.bytes.items) c.in-Some.is c.if-not-worker.false) right)
+    (sym c.is_current.ensures ∙ c.if-not-is_current.false)) j ∙ ap (λ (b : Board). done_of b j) (sym c.accept-in-Err-Mark.ensures.done))
+    (c.in-Err-Mark.ensures.marks honest sources _
+    ((ap (λ (x : List ℕ). take c.worker.inside.size x) c.deref.ensures.value) ∙ right-made
+    (jobs_over (g.W.JobMaker.plan c.args.maker.now).jobs sources) _ c.in-Some.ticket _
+    (worker-hand _ _ c.in-Some.ticket _ true _ _ c.worker.view_is c.in-Some.is c.if-not-worker.false) right)
     (current-open c.args.board.now c.in-Some.ticket (sym c.is_current.ensures ∙ c.if-not-is_current.false)) run)

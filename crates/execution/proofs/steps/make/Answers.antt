@@ -1,8 +1,7 @@
-use Rattle.std.proofs.Common.{◌≡◌, ◌∙◌, ◌++◌, ℕ, List, take, drop, length, refl, sym, ap, arith, None, true, false}
+use Rattle.std.proofs.Common.{◌≡◌, ◌∙◌, ◌++◌, ℕ, List, take, drop, length, refl, ap, arith, None, true, false}
 use Rattle.job_terms.specs.Workers.{Makes, CantMake, Made, State, Hand}
-use Rattle.execution.specs.Desks.{Desk}
 use Rattle.execution.specs.Worlds.{state_of}
-use Rattle.execution.proofs.Firsts.{hand-is, raised, take_front}
+use Rattle.execution.proofs.Firsts.{hand-is, raised, take_front, worker-hand}
 use Rattle.execution.proofs.TurnLaws.{makes-work}
 use Rattle.execution.proofs.steps.make.Goals as goal
 
@@ -13,9 +12,7 @@ returns-in-Ok-clause-step g c honest files stale bench =
     take_front c.worker.inside.bytes.len c.make_in_front.new.bytes (drop (length c.make_in_front.new.bytes)
     c.worker.inside.bytes.items) (omega arith) in
     Makes c.in-Some.ticket
-    (ap {B = Hand} (λ (d : Desk). d.hand) (sym c.worker.view_is) ∙ hand-is c.worker.inside.ticket c.in-Some.ticket
-    c.worker.inside.made false (take c.worker.inside.size c.worker.inside.bytes.items) c.in-Some.is
-    c.if-worker.false)
+    (worker-hand _ _ c.in-Some.ticket _ false _ _ c.worker.view_is c.in-Some.is c.if-worker.false)
     (ap {B = State} (λ (n : ℕ). state_of c.args.board.now files stale n bench None)
     (c.in-Ok.ensures.only_reads.cause.left tt))
     (hand-is c.worker.inside.ticket c.in-Some.ticket true true _ c.in-Some.is refl
@@ -24,16 +21,12 @@ returns-in-Ok-clause-step g c honest files stale bench =
 
 pub returns-in-Ok-clause-turned : goal.returns-in-Ok-clause-turned
 returns-in-Ok-clause-turned g c none = makes-work c.args.board.now c.args.worker.now.hand _ c.in-Some.ticket _
-    (ap {B = Hand} (λ (d : Desk). d.hand) (sym c.worker.view_is) ∙ hand-is c.worker.inside.ticket c.in-Some.ticket
-    c.worker.inside.made false (take c.worker.inside.size c.worker.inside.bytes.items) c.in-Some.is
-    c.if-worker.false)
+    (worker-hand _ _ c.in-Some.ticket _ false _ _ c.worker.view_is c.in-Some.is c.if-worker.false)
     (hand-is c.worker.inside.ticket c.in-Some.ticket true true _ c.in-Some.is refl)
 
 pub returns-in-Err-clause-step : goal.returns-in-Err-clause-step
 returns-in-Err-clause-step g c honest files stale bench = CantMake c.in-Some.ticket (g.S.Shelf.failures
     c.make_in_front.new.shelf)
-    (ap {B = Hand} (λ (d : Desk). d.hand) (sym c.worker.view_is) ∙ hand-is c.worker.inside.ticket c.in-Some.ticket
-    c.worker.inside.made false (take c.worker.inside.size c.worker.inside.bytes.items) c.in-Some.is
-    c.if-worker.false)
+    (worker-hand _ _ c.in-Some.ticket _ false _ _ c.worker.view_is c.in-Some.is c.if-worker.false)
     (raised _ _ _ _ c.in-Err.ensures.only_reads.cause tt)
     (c.failed.ensures.step files stale (g.S.Shelf.failures c.make_in_front.new.shelf) bench) refl
