@@ -153,6 +153,7 @@ impl<W: JobMaker> Execution<W> {
             (output_view B.Bench bench.new)) (shelf.new ≡ shelf.old) result }
         ensures finished { AtRest self.old.board → hands_at self.old 1 ≡ Nothing
             → OnOk result (is_finished self.new.board ≡ true) }
+        ensures reported { IfOk result (λ progress. progress.finished ≡ is_finished self.new.board) }
         ensures memory { IsErrOf result execution_fault.Memory → ⊥ }
         ensures job_memory { IsErrOf result execution_fault.JobMemory → ⊥ }
     {
@@ -190,6 +191,7 @@ impl<W: JobMaker> Execution<W> {
             (output_view B.Bench bench.new)) result }
         ensures finished { AtRest self.old.board → hands_at self.old 1 ≡ Nothing
             → OnOk result (is_finished self.new.board ≡ true) }
+        ensures reported { IfOk result (λ progress. progress.finished ≡ is_finished self.new.board) }
         ensures memory { IsErrOf result execution_fault.Memory → ⊥ }
         ensures job_memory { IsErrOf result execution_fault.JobMemory → ⊥ }
     {

@@ -1,5 +1,5 @@
 // The course of a work: its outputs laid out, its jobs done, and what comes last.
-ghost use Rattle.std.specs.Prelude.{◌≡◌, IsErrOf, IsTrue, OnOk, false, true};
+ghost use Rattle.std.specs.Prelude.{◌≡◌, IfOk, IsErrOf, IsTrue, OnOk, false, true};
 ghost use Rattle.devices.specs.Views.{output_view, source_view};
 ghost use Rattle.job_terms.specs.Board.{is_finished};
 ghost use Rattle.job_terms.specs.Workers.{Nothing};
@@ -32,6 +32,7 @@ pub fn resume<W: JobMaker, S: Shelf, B: Bench, T: Watch>(
         result }
     ensures finished { in_rounds ≡ true → AtRest shop.old.board → hands_in shop.old.hands 1 ≡ Nothing
         → OnOk result (is_finished shop.new.board ≡ true) }
+    ensures reported { IfOk result (λ progress. progress.finished ≡ is_finished shop.new.board) }
     ensures ready { IsReady (W.plan shop.new.work).jobs shop.new.board shop.new.hands }
     ensures memory { IsErrOf result execution_fault.Memory → in_rounds ≡ false }
     ensures job_memory { IsErrOf result execution_fault.JobMemory → in_rounds ≡ false }
@@ -66,6 +67,7 @@ pub fn execute<W: JobMaker, S: Shelf, B: Bench, T: Watch>(
         (shelf.new ≡ shelf.old) result }
     ensures finished { in_rounds ≡ true → AtRest shop.old.board → hands_in shop.old.hands 1 ≡ Nothing
         → OnOk result (is_finished shop.new.board ≡ true) }
+    ensures reported { IfOk result (λ progress. progress.finished ≡ is_finished shop.new.board) }
     ensures ready { IsReady (W.plan shop.new.work).jobs shop.new.board shop.new.hands }
     ensures memory { IsErrOf result execution_fault.Memory → in_rounds ≡ false }
     ensures job_memory { IsErrOf result execution_fault.JobMemory → in_rounds ≡ false }

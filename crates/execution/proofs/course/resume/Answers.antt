@@ -1,3 +1,5 @@
+use Rattle.std.proofs.Common.{ap}
+use Rattle.job_terms.specs.declared.Progress.{Progress}
 use Rattle.devices.specs.ViewLaws.{writes_of}
 use Rattle.execution.proofs.Firsts.{raised}
 use Rattle.execution.proofs.Outcomes.{finish-failed, finished-all, not-false, not-true, stopped, stopped-early}
@@ -55,3 +57,9 @@ returns-then-not-progress-clause-finished g c in_turn rest empty = (in-rounds-fi
 pub returns-in-Ok-finish-clause-finished : goal.returns-in-Ok-finish-clause-finished
 returns-in-Ok-finish-clause-finished g c in_turn rest empty = (in-rounds-finished c.args.in_rounds _ c.args.events.now _ _ _ _
     c.in-Ok.progress in_turn c.in-Ok.ensures.performed c.requires.whole rest empty).1
+
+pub returns-then-not-progress-clause-reported : goal.returns-then-not-progress-clause-reported
+returns-then-not-progress-clause-reported g c = ap (λ (p : Progress). p.finished) c.in-Ok.ensures.performed.stops.0
+
+pub returns-in-Ok-finish-clause-reported : goal.returns-in-Ok-finish-clause-reported
+returns-in-Ok-finish-clause-reported g c = ap (λ (p : Progress). p.finished) c.in-Ok.ensures.performed.stops.0
