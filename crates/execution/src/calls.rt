@@ -114,7 +114,7 @@ impl<W: JobMaker + Drop> Execution<W> {
         ensures rest { IfOk result (λ run. AtRest run.board) }
         ensures only_memory { IfErr result IsMemory }
     {
-        let board = match Board::with_done(alloc, work.count(), order, done) {
+        let resting = match Board::with_done(alloc, work.count(), order, done) {
             Ok(board) => board,
             Err(_) => return Err(ExecutionFault::Memory),
         };
@@ -124,7 +124,7 @@ impl<W: JobMaker + Drop> Execution<W> {
             shop: Workshop {
                 alloc,
                 work,
-                board,
+                board: resting,
                 hands,
             },
         })
