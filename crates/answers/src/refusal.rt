@@ -147,6 +147,7 @@ pub fn put_fault<C: Console>(alloc: Global, fault: &Fault, console: &mut C) -> b
         | Fault::Runs(_)
         | Fault::Relink(_)
         | Fault::RenderMemory
+        | Fault::BlockMemory
         | Fault::EmptyRange
         | Fault::BoardMemory
         | Fault::WorkerMemory => {

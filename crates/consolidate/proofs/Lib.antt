@@ -1,12 +1,15 @@
 pub mod Crashes
 pub mod Due
-mod Events
 mod First
 pub mod Listed
-mod Media
+mod MediaCalls
+mod MediaFaults
+mod OfProject
 pub mod Planned
+mod RenderOutcomes
+mod RenderProjects
+mod RenderWorks
 pub mod Resumes
-pub mod Rounds
 pub mod Stores
 pub mod Reported
 mod Told

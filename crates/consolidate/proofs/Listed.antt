@@ -1,5 +1,5 @@
 -- The marks of a plan as those of the list that it was made of.
-use Rattle.std.proofs.Common.{◌≡◌, ◌∙◌, ℕ, Bool, true, false, Result, Ok, Option, Some, List, sym, ap, subst}
+use Rattle.std.proofs.Common.{◌≡◌, ◌∙◌, ℕ, ℤ, true, false, Result, Ok, Option, Some, List, refl, sym, ap, subst}
 use Rattle.sound_terms.specs.Render.{Range, ReadsBack, rendering_of}
 use Rattle.work_terms.specs.Disk.{Files, LeavesOnly}
 use Rattle.work_terms.specs.Refusals.{Refusal}
@@ -11,8 +11,9 @@ use Rattle.markfile.specs.Format.{marks_name}
 use Rattle.markfile.specs.Started.{NoneStarted, is_started}
 use Rattle.markfile.specs.declared.run.RunId.{RunId}
 use Rattle.rendering.specs.Marked as rendering
-use Rattle.rendering.specs.Marked.{IsLeftByRun, IsResumable, MarkedWork, full_marks, marking_of, run_of}
-use Rattle.schedule.specs.Marking.{AreTrueMarks, Leaves, Marking}
+use Rattle.rendering.specs.Maker.{marks_of}
+use Rattle.rendering.specs.Marked.{IsLeftByRun, IsResumable, MarkedWork, full_marks, run_of}
+use Rattle.execution.specs.Marking.{AreTrueMarks, Marking}
 use Rattle.rendering.specs.Planned.{IsRenderingOf}
 use Rattle.rendering.specs.Rendering as rendering_file
 use Rattle.rendering.specs.Work.{whole_of}
@@ -22,15 +23,6 @@ use Rattle.consolidate.proofs.Due.{one_accepted}
 
 apart : true ≡ false → ⊥
 apart h = cc
-
--- marks that are true of what stands
-pub leaves_true : (m : Marking) (done : ℕ → Bool) (c : Files) → Leaves m done c → IsResumable m c
-leaves_true m done c left started = record {
-  marks = left.marks;
-  there = left.there;
-  ours = left.ours;
-  sound = left.wave;
-}
 
 -- where no marks are started
 pub none_resumable : (m : Marking) (c : Files) → is_started (c m.marks) ≡ false → IsResumable m c
@@ -68,7 +60,7 @@ marked_for text project binding values marked of run = record {
 module _ (text : List ℕ) (project : ListProject) (binding : Binding) (values : OptionValues) (marked : MarkedWork)
     (of : IsMarkedFor text project binding values marked) (sources : Files) where
   -- marks that are true of the plan's file are true of the list's
-  as_list_true : (c d : Files) → AreTrueMarks (marking_of marked sources) c d
+  as_list_true : (c d : Files) → AreTrueMarks (marks_of marked sources) c d
       → AreTrueMarks (list_marking text values sources project binding) c d
   as_list_true c d t = subst (λ (r : RunId). AreTrueMarks (file_marking (range_of project values)
       (rendering_of (range_of project values) (project_mix sources project binding)) r) c d) of.run
@@ -90,29 +82,25 @@ module _ (text : List ℕ) (project : ListProject) (binding : Binding) (values :
       }
 
   -- a crash leaves of the plan's file what it leaves of the list's
-  pub as_list : (c : Files) → IsResumable (marking_of marked sources) c
+  pub as_list : (c : Files) → IsResumable (marks_of marked sources) c
       → IsResumable (list_marking text values sources project binding) c
   as_list c left started = as_list_true c c (left started)
 
-  pub left_as_list : (outcomes : Files → Type 0) → IsLeftByRun (marking_of marked sources) outcomes
+  pub left_as_list : (outcomes : Files → Type 0) → IsLeftByRun (marks_of marked sources) outcomes
       → IsLeftByRun (list_marking text values sources project binding) outcomes
   left_as_list outcomes left c d at other started = as_list_true c d (left c d at other started)
 
-  -- the file that its jobs made is the rendering
-  pub rendered_for : (file : Option (List ℕ)) → file ≡ Some (whole_of marked.work sources)
-      → rendering_file.IsRendered project binding values sources file
-  rendered_for file there = record {
-    bytes = whole_of marked.work sources;
-    there = there;
-    whole = of.whole sources;
-    reads_back = subst (ReadsBack (range_of project values) (project_mix sources project binding))
-        (sym (of.whole sources)) (of.reads_back (project_mix sources project binding));
-  }
-
-  -- of all marks that are set
-  pub all_of_list : (file : Option (List ℕ)) → file ≡ Some (full_marks marked.run)
-      → file ≡ Some (full_marks (run_of text (range_of project values)))
-  all_of_list file is = is ∙ ap (λ (r : RunId). Some (full_marks r)) of.run
+-- the file is the rendering
+pub rendered_file : (project : ListProject) (binding : Binding) (values : OptionValues) (sources : Files)
+    (file : Option (List ℕ)) → file ≡ Some (rendering_of (range_of project values) (project_mix sources project binding))
+    → ((mix : ℕ → ℕ → ℤ) → ReadsBack (range_of project values) mix (rendering_of (range_of project values) mix))
+    → rendering_file.IsRendered project binding values sources file
+rendered_file project binding values sources file there back = record {
+  bytes = rendering_of (range_of project values) (project_mix sources project binding);
+  there = there;
+  whole = refl;
+  reads_back = back (project_mix sources project binding);
+}
 
 -- of an accepted list, over the sources as they were
 module _ (text : List ℕ) (project : ListProject) (binding : Binding) (values : OptionValues) (sources opened : Files)

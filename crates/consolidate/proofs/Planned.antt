@@ -62,6 +62,7 @@ holds_of sounds file fault.PassMemory P names failed = absurd names
 holds_of sounds file (fault.Runs of) P names failed = absurd names
 holds_of sounds file (fault.Relink of) P names failed = absurd names
 holds_of sounds file fault.RenderMemory P names failed = absurd names
+holds_of sounds file fault.BlockMemory P names failed = absurd names
 holds_of sounds file fault.EmptyRange P names failed = absurd names
 holds_of sounds file fault.BoardMemory P names failed = absurd names
 holds_of sounds file fault.WorkerMemory P names failed = absurd names

@@ -17,13 +17,14 @@ use Rattle.markfile.specs.Started.{is_started}
 use Rattle.markfile.specs.declared.fault.MarksFault.{MarksFault}
 use Rattle.markfile.specs.declared.fault.MarksFault.TheVariants as marks
 use Rattle.markfile.specs.declared.run.RunId.{RunId}
-use Rattle.schedule.specs.Marking.{AreTrueMarks, HoldsIn, IsRunning, Marking, is_marked}
+use Rattle.execution.specs.Marking.{AreTrueMarks, HoldsIn, Marking, is_marked}
 use Rattle.rendering.specs.Fault as rendering
-use Rattle.rendering.specs.Marked.{HoldsMarked, IsFoundAs, IsLeftByRun, IsResumable, MarkedWork, marking_of, run_of}
+use Rattle.rendering.specs.Maker.{marks_of}
+use Rattle.rendering.specs.Marked.{HoldsMarked, IsFoundAs, IsLeftByRun, MarkedWork, run_of}
 use Rattle.rendering.specs.Rendering.{render_fault}
 use Rattle.rendering.specs.Work.{heard, whole_of}
 use Rattle.rendering.specs.declared.fault.RenderFault.{RenderFault}
-use Rattle.rendering.specs.declared.fault.RenderFault.TheVariants.{Intervals, EmptyRange, Memory}
+use Rattle.rendering.specs.declared.fault.RenderFault.TheVariants.{Intervals, EmptyRange, Memory, MarksMemory}
 use Rattle.consolidate.specs.Commands.{render_refusal}
 use Rattle.consolidate.specs.Fault.{refusal_of, refusal_of_marks}
 use Rattle.consolidate.specs.Marks.{IsMarkedFor, count_in, fault_in, file_marking, list_marking, marks_refusal}
@@ -52,7 +53,7 @@ module _ (text : List ℕ) (project : ListProject) (binding : Binding) (values :
     (of : IsMarkedFor text project binding values marked) (sources : Files) where
   -- marks that are true of the list's file are true of the plan's
   from_list_true : (c d : Files) → AreTrueMarks (list_marking text values sources project binding) c d
-      → AreTrueMarks (marking_of marked sources) c d
+      → AreTrueMarks (marks_of marked sources) c d
   from_list_true c d is = record {
     marks = as_file.marks;
     there = as_file.there;
@@ -76,11 +77,11 @@ module _ (text : List ℕ) (project : ListProject) (binding : Binding) (values :
   -- what is left of the list's file is left of the plan's
   pub from_list : (outcomes : Files → Type 0)
       → IsLeftByRun (list_marking text values sources project binding) outcomes
-      → IsLeftByRun (marking_of marked sources) outcomes
+      → IsLeftByRun (marks_of marked sources) outcomes
   from_list outcomes left c d at other started = from_list_true c d (left c d at other started)
 
   -- and so of the blocks that are marked
-  pub holds_list : (told : List ℕ) (c : Files) → HoldsMarked (marking_of marked sources) told c
+  pub holds_list : (told : List ℕ) (c : Files) → HoldsMarked (marks_of marked sources) told c
       → HoldsMarked (list_marking text values sources project binding) told c
   holds_list told c held = subst (λ (r : RunId). HoldsMarked (file_marking (range_of project values)
       (rendering_of (range_of project values) (project_mix sources project binding)) r) told c) of.run
@@ -98,33 +99,8 @@ module _ (text : List ℕ) (project : ListProject) (binding : Binding) (values :
 
 -- ---- before a job is done
 
-pub running_resumable : (m : Marking) (done : ℕ → Bool) (outcomes : Files → Type 0) (c : Files)
-    → IsRunning m done outcomes → outcomes c → IsResumable m c
-running_resumable m done outcomes c runs at started = record {
-  marks = runs.marks;
-  there = runs.kept c at;
-  ours = runs.ours;
-  sound = runs.wave c at;
-}
-
-pub running_left : (m : Marking) (done : ℕ → Bool) (outcomes : Files → Type 0) → IsRunning m done outcomes
-    → IsLeftByRun m outcomes
-running_left m done outcomes runs c d at other started = record {
-  marks = runs.marks;
-  there = runs.kept c at;
-  ours = runs.ours;
-  sound = runs.wave d other;
-}
-
 some_same : (a b : List ℕ) → Some a ≡ Some b → a ≡ b
 some_same a b e = cc
-
--- these are the marks that are read
-pub running_holds : (m : Marking) (done : ℕ → Bool) (outcomes : Files → Type 0) (files c : Files) (told : List ℕ)
-    → IsRunning m done outcomes → outcomes files → files m.marks ≡ Some told → outcomes c → HoldsMarked m told c
-running_holds m done outcomes files c told runs now there at =
-    subst (λ (x : List ℕ). HoldsIn m (is_marked x) (c m.name))
-    (some_same runs.marks told (sym (runs.kept files now) ∙ there)) (runs.wave c at)
 
 -- marks as they are read are true of whatever a crash leaves
 pub left_holds : (m : Marking) (outcomes : Files → Type 0) (files : Files) (told : List ℕ) → IsLeftByRun m outcomes
@@ -210,6 +186,7 @@ plan_turn : (of : RenderFault) → turn_of (rendering.refusal_of of) ≤ 10
 plan_turn Intervals = omega arith
 plan_turn EmptyRange = omega arith
 plan_turn Memory = omega arith
+plan_turn MarksMemory = omega arith
 
 -- a plan is refused before marks are opened
 pub plan_due : (of : RenderFault) (first : Option Refusal) (due : Result (Option (List Bool)) MarksFault)
@@ -247,6 +224,7 @@ of_resuming text (fault.Silence name) own = own
 of_resuming text (fault.Runs of) own = own
 of_resuming text (fault.Relink of) own = own
 of_resuming text fault.RenderMemory own = own
+of_resuming text fault.BlockMemory own = own
 of_resuming text fault.EmptyRange own = own
 of_resuming text fault.BoardMemory own = own
 of_resuming text (fault.Marks of) own = tt

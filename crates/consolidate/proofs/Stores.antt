@@ -1,9 +1,6 @@
 -- What a call leaves of its stores.
 use Rattle.std.proofs.Common.{◌≡◌, ◌≢◌, ◌∙◌, ◌≤◌, ◌+◌, ◌^◌, ℕ, List, true, false, inl, inr, arith, refl, subst, sym}
 use Rattle.std.proofs.lemmas.Bool.{cases_lt}
-use Rattle.consolidation.specs.Fault.{output_of}
-use Rattle.consolidation.specs.declared.fault.WriteFault.{WriteFault}
-use Rattle.consolidation.specs.declared.fault.WriteFault.TheVariants as writing
 use Rattle.std.specs.Prelude.{⊤, Result, Ok, Err, IfErr}
 use Rattle.devices.specs.declared.source.Shelf as source
 use Rattle.devices.specs.declared.bench.Bench as output
@@ -13,12 +10,12 @@ use Rattle.markfile.specs.declared.fault.MarksFault.{MarksFault}
 use Rattle.markfile.specs.declared.fault.MarksFault.TheVariants as marks
 use Rattle.consolidate.proofs.Crashes.{joined}
 use Rattle.consolidate.specs.Commands.{HoldsOfOutput, IsOutput, IsSource, KeepsStores, ReadsSources}
-use Rattle.consolidate.specs.Fault.{file_of, name_of_output, refusal_of}
+use Rattle.consolidate.specs.Fault.{name_of_output, refusal_of}
 use Rattle.consolidate.specs.declared.fault.OutputFile.{OutputFile}
 use Rattle.consolidate.specs.declared.fault.Fault.{Fault}
 use Rattle.consolidate.specs.declared.fault.Fault.TheVariants as fault
 
-late_not_early : true ≡ false → ⊥
+pub late_not_early : true ≡ false → ⊥
 late_not_early e = cc
 
 -- a failure behind calls that may have failed
@@ -30,13 +27,6 @@ raised_behind old mid new before r = record {
     | inr past ↦ omega (arith, past, room, r.later)
   ];
 }
-
--- the name of an output that can't be written
-pub same_output : (fault : WriteFault) → output_of fault ≡ name_of_output (file_of fault)
-same_output (writing.Medium number) = refl
-same_output writing.Sums = refl
-same_output writing.Report = refl
-same_output writing.List = refl
 
 -- no fault of marks tells of a source
 no_source : (of : MarksFault) → IsSource (fault.Marks of) → ⊥
@@ -64,6 +54,60 @@ untouched_twice stored may_leave moment left_since old mid new one other = recor
   crash = λ c left. one.crash c (other.crash c left);
   moments = joined moment left_since old mid new (may_leave old) (may_leave mid) one.crash one.moments other.moments;
 }
+
+-- no memory was left after the first write
+abbrev pub IsLateMemory : Fault → Type 0
+IsLateMemory fault.WorkerMemory = ⊤
+IsLateMemory fault.BlockMemory = ⊤
+IsLateMemory _ = ⊥
+
+memory_late : (cause : Fault) → IsLateMemory cause → (refusal_of cause).late ≡ true
+memory_late fault.WorkerMemory is = refl
+memory_late fault.BlockMemory is = refl
+memory_late (fault.Project of) is = absurd is
+memory_late fault.Intervals is = absurd is
+memory_late fault.PassMemory is = absurd is
+memory_late (fault.Silence name) is = absurd is
+memory_late (fault.Runs of) is = absurd is
+memory_late (fault.Relink of) is = absurd is
+memory_late fault.RenderMemory is = absurd is
+memory_late fault.EmptyRange is = absurd is
+memory_late fault.BoardMemory is = absurd is
+memory_late (fault.Marks of) is = absurd is
+memory_late (fault.GivenUp job) is = absurd is
+memory_late (fault.Output name) is = absurd is
+
+memory_no_source : (cause : Fault) → IsLateMemory cause → IsSource cause → ⊥
+memory_no_source fault.WorkerMemory is device = late_not_early (sym device)
+memory_no_source fault.BlockMemory is device = late_not_early (sym device)
+memory_no_source (fault.Project of) is device = absurd is
+memory_no_source fault.Intervals is device = absurd is
+memory_no_source fault.PassMemory is device = absurd is
+memory_no_source (fault.Silence name) is device = absurd is
+memory_no_source (fault.Runs of) is device = absurd is
+memory_no_source (fault.Relink of) is device = absurd is
+memory_no_source fault.RenderMemory is device = absurd is
+memory_no_source fault.EmptyRange is device = absurd is
+memory_no_source fault.BoardMemory is device = absurd is
+memory_no_source (fault.Marks of) is device = absurd is
+memory_no_source (fault.GivenUp job) is device = absurd is
+memory_no_source (fault.Output name) is device = absurd is
+
+memory_no_output : (cause : Fault) → IsLateMemory cause → IsOutput cause → ⊥
+memory_no_output fault.WorkerMemory is device = let e : 60 ≡ 62 = device in omega (arith, e)
+memory_no_output fault.BlockMemory is device = let e : 57 ≡ 62 = device in omega (arith, e)
+memory_no_output (fault.Project of) is device = absurd is
+memory_no_output fault.Intervals is device = absurd is
+memory_no_output fault.PassMemory is device = absurd is
+memory_no_output (fault.Silence name) is device = absurd is
+memory_no_output (fault.Runs of) is device = absurd is
+memory_no_output (fault.Relink of) is device = absurd is
+memory_no_output fault.RenderMemory is device = absurd is
+memory_no_output fault.EmptyRange is device = absurd is
+memory_no_output fault.BoardMemory is device = absurd is
+memory_no_output (fault.Marks of) is device = absurd is
+memory_no_output (fault.GivenUp job) is device = absurd is
+memory_no_output (fault.Output name) is device = absurd is
 
 module _ {S B : Type 0} (shelf : source.Ghosts S) (bench : output.Ghosts B) where
   -- a bench that no call has touched
@@ -177,24 +221,25 @@ module _ {S B : Type 0} (shelf : source.Ghosts S) (bench : output.Ghosts B) wher
     failed_output = λ device. absurd (let e : 66 ≡ 62 = device in omega (arith, e));
   }
 
-  -- a call that found no memory for a worker
-  pub no_room : {X : Type 0} (old new : S) (before after : B) → shelf.stored new ≡ shelf.stored old
+  -- a call that found no memory for a worker, or for the bytes of a job
+  pub no_room : {X : Type 0} (old new : S) (before after : B) (cause : Fault) → IsLateMemory cause
+      → shelf.stored new ≡ shelf.stored old
       → shelf.honest new ≡ shelf.honest old → bench.honest after ≡ bench.honest before
       → shelf.failures old ≤ shelf.failures new → bench.failures before ≤ bench.failures after
-      → KeepsStores shelf bench {X = X} old new before after (Err fault.WorkerMemory)
-  no_room old new before after same honest_shelf honest_bench later_shelf later_bench = record {
-    early = λ early. absurd (late_not_early early);
+      → KeepsStores shelf bench {X = X} old new before after (Err cause)
+  no_room old new before after cause is same honest_shelf honest_bench later_shelf later_bench = record {
+    early = λ early. absurd (late_not_early (sym (memory_late cause is) ∙ early));
     sources = same;
     honest_shelf = honest_shelf;
     honest_bench = honest_bench;
     later_at_source = later_shelf;
     later_at_output = later_bench;
-    cause_at_source = λ device. absurd (late_not_early (sym device));
-    cause_of_62 = λ device. absurd (let e : 60 ≡ 62 = device in omega (arith, e));
-    quiet_source = λ early. absurd (late_not_early early);
-    quiet_output = λ early. absurd (late_not_early early);
-    failed_source = λ device. absurd (late_not_early (sym device));
-    failed_output = λ device. absurd (let e : 60 ≡ 62 = device in omega (arith, e));
+    cause_at_source = λ device. absurd (memory_no_source cause is device);
+    cause_of_62 = λ device. absurd (memory_no_output cause is device);
+    quiet_source = λ early. absurd (late_not_early (sym (memory_late cause is) ∙ early));
+    quiet_output = λ early. absurd (late_not_early (sym (memory_late cause is) ∙ early));
+    failed_source = λ device. absurd (memory_no_source cause is device);
+    failed_output = λ device. absurd (memory_no_output cause is device);
   }
 
   -- a call that an output's device stopped

@@ -1,8 +1,12 @@
 -- What each call answers, and what it leaves of the sources and of the outputs.
-use Rattle.std.specs.Prelude.{◌≡◌, ◌≢◌, ◌≤◌, ◌==◌, ◌||◌, ℕ, false, IsTrue, Option, None, List, Result, Ok, Err, Some, IfOk, IfErr, IsOk, IsErrAnd, is_some, OnOk, ◌++◌, codes, string_bytes}
+use Rattle.std.specs.Prelude.{◌≡◌, ◌≢◌, ◌≤◌, ◌==◌, ◌||◌, ◌*◌, ℕ, false, true, IsTrue, Option, None, List, Result, Ok, Err, Some, IfOk, IfErr, IsOk, IsErrAnd, is_some, OnOk, ◌++◌, codes, string_bytes}
 use Rattle.devices.specs.declared.source.Shelf as source
 use Rattle.devices.specs.declared.bench.Bench as output
 use Rattle.devices.specs.Frame.{OnlyReads, OnlyWrites}
+use Rattle.devices.specs.Views.{output_view, source_view}
+use Rattle.job_terms.specs.Workers.{rounds}
+use Rattle.execution.specs.declared.fault.ExecutionFault.{ExecutionFault}
+use Rattle.job_terms.specs.declared.Progress.{Progress}
 use Rattle.work_terms.specs.Disk.{Files, HasCause, IsUntouched, LeavesOnly, Rises}
 use Rattle.work_terms.specs.Refusals.{Answers, IsDue, Refusal}
 use Rattle.list_terms.specs.declared.Notice.{Notice}
@@ -24,7 +28,9 @@ use Rattle.consolidation.specs.Consolidated as consolidation
 use Rattle.consolidation.specs.Consolidated.{AreDurable, IsElsewhere, IsWorkOf, Work, work_fault}
 use Rattle.consolidation.specs.Work.{SoundsTheSame}
 use Rattle.consolidate.specs.Fault.{refusal_of}
-use Rattle.consolidate.specs.Rounds.{ConsolidatesList, EndsOf, RendersList}
+use Rattle.consolidate.specs.MediaOutcome.{ConsolidatesList}
+use Rattle.consolidate.specs.Outcomes.{HasBegun, AnswersAs}
+use Rattle.consolidate.specs.RenderOutcome.{RendersList, in_rounds, rendering_fault}
 use Rattle.consolidate.specs.Own.{IsFirst, IsOfConsolidation, IsOfProject, IsOfRendering}
 use Rattle.consolidate.specs.Marks.{AreBothDurable, HasAllMarks, IsLeftByRendering, IsLeftOf}
 use Rattle.consolidate.specs.declared.fault.Fault.{Fault}
@@ -163,9 +169,11 @@ module _ {S B : Type 0} (shelf : source.Ghosts S) (bench : output.Ghosts B) wher
     pub in_turn : IsTrue (shelf.honest shelf_old) → IfErr result (IsFirst list (shelf.stored shelf_old))
     pub named : IsTrue (bench.honest bench_old) → (n : List ℕ) → IsOther n
         → bench.stored bench_new n ≡ bench.stored bench_old n
-    pub rounds : IsTrue (shelf.honest shelf_old) → IsTrue (bench.honest bench_old)
-        → EndsOf result (RendersList list values (shelf.stored shelf_old) (shelf.failures shelf_old)
-        (bench.failures bench_old) (shelf.failures shelf_new) (bench.failures bench_new) (bench.stored bench_new))
+    pub outcome : IsTrue (shelf.honest shelf_old) → IsTrue (bench.honest bench_old) → HasBegun result
+        → (ended : Result Progress ExecutionFault)
+        × AnswersAs rendering_fault (λ _ progress. progress.finished ≡ true) result ended
+        × RendersList in_rounds list values (source_view shelf shelf_old) (source_view shelf shelf_new)
+        (output_view bench bench_old) (output_view bench bench_new) ended
     pub stores : KeepsStores shelf_old shelf_new bench_old bench_new result
 
   -- the list was consolidated over these stores by what passes leave of it, with the report that a program of this
@@ -193,9 +201,10 @@ module _ {S B : Type 0} (shelf : source.Ghosts S) (bench : output.Ghosts B) wher
     pub report_last : IsTrue (bench.honest bench_old) → IfErr result (λ told. told ≢ fault.Output file.List
         → told ≢ fault.Output file.Report
         → bench.stored bench_new (codes "consolidated.json") ≡ bench.stored bench_old (codes "consolidated.json"))
-    pub rounds : IsTrue (shelf.honest shelf_old) → IsTrue (bench.honest bench_old)
-        → EndsOf result (ConsolidatesList leave list handle asked (shelf.stored shelf_old) (shelf.failures shelf_old)
-        (bench.failures bench_old) (shelf.failures shelf_new) (bench.failures bench_new) (bench.stored bench_new))
+    pub outcome : IsTrue (shelf.honest shelf_old) → IsTrue (bench.honest bench_old) → HasBegun result
+        → ConsolidatesList leave list handle asked (λ count. rounds (3 * count))
+        (λ _ progress. progress.finished ≡ true) (source_view shelf shelf_old) (source_view shelf shelf_new)
+        (output_view bench bench_old) (output_view bench bench_new) result
     pub stores : KeepsStores shelf_old shelf_new bench_old bench_new result
 
 -- the list was checked over these sources, with this outcome

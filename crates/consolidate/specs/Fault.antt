@@ -13,12 +13,10 @@ use Rattle.relink.specs.Fault as relink
 use Rattle.opening.specs.Faults as opening
 use Rattle.consolidation.specs.declared.fault.ConsolidationFault.{ConsolidationFault}
 use Rattle.consolidation.specs.declared.fault.ConsolidationFault.TheVariants as consolidation
-use Rattle.consolidation.specs.declared.fault.WriteFault.{WriteFault}
-use Rattle.consolidation.specs.declared.fault.WriteFault.TheVariants as writing
 use Rattle.consolidate.specs.declared.fault.OutputFile.{OutputFile}
 use Rattle.consolidate.specs.declared.fault.OutputFile.TheVariants as output
 use Rattle.consolidate.specs.declared.fault.Fault.{Fault}
-use Rattle.consolidate.specs.declared.fault.Fault.TheVariants.{Project, Intervals, PassMemory, Silence, Runs, Relink, RenderMemory, EmptyRange, BoardMemory, WorkerMemory, Marks, GivenUp, Output}
+use Rattle.consolidate.specs.declared.fault.Fault.TheVariants.{Project, Intervals, PassMemory, Silence, Runs, Relink, RenderMemory, BlockMemory, EmptyRange, BoardMemory, WorkerMemory, Marks, GivenUp, Output}
 
 -- before the first write
 abbrev early : ℕ → Refusal
@@ -56,6 +54,7 @@ refusal_of (Silence name) = early 52
 refusal_of (Runs fault) = early (mediaset.number_of fault)
 refusal_of (Relink fault) = early (relink.number_of fault)
 refusal_of RenderMemory = early 57
+refusal_of BlockMemory = late 57 Nowhere
 refusal_of EmptyRange = early 58
 refusal_of BoardMemory = early 60
 refusal_of (Marks fault) = refusal_of_marks fault
@@ -78,10 +77,3 @@ NamesFile sounds file _ = ⊥
 abbrev pub NamesOpened : bytes.List SoundFacts → ConsolidationFault → Fault → Type 0
 NamesOpened sounds (consolidation.Pass (pass.Device file)) told = NamesFile sounds file told
 NamesOpened sounds _ told = ⊤
-
--- the output that a fault of writing a consolidation tells
-abbrev pub file_of : WriteFault → OutputFile
-file_of (writing.Medium number) = output.Medium number
-file_of writing.Sums = output.Sums
-file_of writing.Report = output.Report
-file_of writing.List = output.List

@@ -3,7 +3,11 @@ pub mod CompareFault
 pub mod Comparing
 pub mod Fault
 pub mod Marks
+pub mod MediaOutcome
+pub mod Outcomes
+pub mod OfProject
 pub mod Own
+pub mod RenderOutcome
+pub mod RenderWorks
 pub mod Resuming
-pub mod Rounds
 pub mod Schedules

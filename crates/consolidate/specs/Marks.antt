@@ -16,7 +16,7 @@ use Rattle.markfile.specs.declared.run.RunId.{RunId}
 use Rattle.rendering.specs.Marked as rendering
 use Rattle.rendering.specs.Marked.{IsLeftByRun, IsResumable, MarkedWork, block_end, block_place, full_marks, run_of}
 use Rattle.rendering.specs.Work.{whole_of}
-use Rattle.schedule.specs.Marking.{Marking}
+use Rattle.execution.specs.Marking.{Marking}
 use Rattle.consolidate.specs.Fault.{refusal_of_marks}
 
 -- a rendered file, block by block, and its marks
@@ -29,7 +29,7 @@ file_marking range whole run = record {
   last = block_end range;
   jobs = 0;
   from = λ _. 0;
-  behind = λ _. 0;
+  end = λ _. 0;
   marks = marks_name;
   head = head_of run;
 }

@@ -51,6 +51,7 @@ IsOfResuming text of = IsOfRendering text of
 -- or one of the schedule of a rendering, whose workers take memory as they come
 abbrev pub IsOfRenderSchedule : bytes.List ℕ → Fault → Type 0
 IsOfRenderSchedule text fault.WorkerMemory = ⊤
+IsOfRenderSchedule text fault.BlockMemory = ⊤
 IsOfRenderSchedule text of = IsOfRendering text of
 
 abbrev pub IsConsolidatedFile : Bool → OutputFile → Type 0

@@ -2,6 +2,9 @@
 use Rattle.std.specs.Prelude.{◌≡◌, ◌-◌, ℕ, true, IsTrue, Option, Some, List, Result, Ok, IfErr, IfOk, OnOk, codes}
 use Rattle.devices.specs.declared.source.Shelf as source
 use Rattle.devices.specs.declared.bench.Bench as output
+use Rattle.devices.specs.Views.{output_view, source_view}
+use Rattle.execution.specs.declared.fault.ExecutionFault.{ExecutionFault}
+use Rattle.job_terms.specs.declared.Progress.{Progress}
 use Rattle.work_terms.specs.Disk.{Files, LeavesOnly}
 use Rattle.work_terms.specs.Refusals.{Answers, Refusal}
 use Rattle.list_terms.specs.Accepted.{OptionValues, first_fault, range_of}
@@ -19,7 +22,8 @@ use Rattle.consolidate.specs.Commands.{KeepsStores, RefusesBadText, all_notices,
 use Rattle.consolidate.specs.Fault.{refusal_of}
 use Rattle.consolidate.specs.Marks.{AreBothDurable, HasAllMarks, HoldsMarked, IsLeftByRendering, IsLeftOf, count_in, marks_refusal}
 use Rattle.consolidate.specs.Own.{IsFirst, IsOfResuming}
-use Rattle.consolidate.specs.Rounds.{EndsOf, ResumesList}
+use Rattle.consolidate.specs.Outcomes.{AnswersAs, HasBegun}
+use Rattle.consolidate.specs.RenderOutcome.{ResumesList, rendering_fault}
 use Rattle.consolidate.specs.declared.fault.Fault.{Fault}
 use Rattle.consolidate.specs.declared.resumed.Resumed.{Resumed}
 
@@ -66,11 +70,12 @@ module _ {S B : Type 0} (shelf : source.Ghosts S) (bench : output.Ghosts B) wher
         → (marks : List ℕ) → bench.stored bench_old marks_name ≡ Some marks → is_started (Some marks) ≡ true
         → LeavesOnly bench.moment bench.left_since bench_old bench_new
         (HoldsMarked list values (shelf.stored shelf_old) marks)
-    pub rounds : IsTrue (shelf.honest shelf_old) → IsTrue (bench.honest bench_old)
-        → IsLeft list values shelf_old bench_old
-        → EndsOf result (ResumesList list values (shelf.stored shelf_old) (bench.stored bench_old)
-        (shelf.failures shelf_old) (bench.failures bench_old) (shelf.failures shelf_new) (bench.failures bench_new)
-        (bench.stored bench_new))
+    pub outcome : IsTrue (shelf.honest shelf_old) → IsTrue (bench.honest bench_old)
+        → IsLeft list values shelf_old bench_old → HasBegun result
+        → (ended : Result Progress ExecutionFault)
+        × AnswersAs rendering_fault (λ _ progress. progress.finished ≡ true) result ended
+        × ResumesList list values (source_view shelf shelf_old) (source_view shelf shelf_new)
+        (output_view bench bench_old) (output_view bench bench_new) ended
     pub report : (project : ListProject) → text_value list ≡ Ok project
         → IfOk result (λ told. told.frames ≡ (range_of project values).to - (range_of project values).from)
     pub refusals : IsTrue (shelf.honest shelf_old) → IsTrue (bench.honest bench_old)

@@ -1,37 +1,24 @@
 // Consolidates a list.
-ghost use Rattle.std.specs.Prelude.{◌≡◌, ◌≢◌, ◌≤◌, IfErr, IfOk, IsTrue, List, None, OnOk, Option, codes, false, is_some, length, option_map, replicate, true, ℕ};
-ghost use Rattle.std.specs.List.{range_with_len};
-ghost use Rattle.work_terms.specs.Refusals.{Answers, IsDue};
-ghost use Rattle.job_terms.specs.Board.{fresh_job};
-ghost use Rattle.job_terms.specs.Workers.{Nothing};
-ghost use Rattle.list_terms.specs.Binding.{Binding};
-ghost use Rattle.list_terms.specs.Heard.{IsAccepted};
-ghost use Rattle.list_terms.specs.Project.{ListProject};
-ghost use Rattle.passes.specs.Left.{Leaving, left_by};
+ghost use Rattle.std.specs.Prelude.{◌≡◌, ◌*◌, option_map};
+ghost use Rattle.job_terms.specs.Workers.{rounds};
+ghost use Rattle.passes.specs.Left.{left_by};
 ghost use Rattle.passes.specs.Standard.{AreStandard};
 ghost use Rattle.sound_terms.specs.Passes.{standard_groups};
-ghost use Rattle.schedule.specs.Run.{HasRoom};
-ghost use Rattle.consolidation.specs.Consolidated as spec;
-ghost use Rattle.consolidation.specs.Consolidated.{AreDurable, IsElsewhere, IsWorkOf, Work, work_fault};
-ghost use Rattle.consolidation.specs.Jobs.{work_of};
-ghost use Rattle.consolidation.specs.Planned.{IsPlanOf};
-ghost use Rattle.consolidation.specs.There.{AreThere};
-ghost use Rattle.consolidation.specs.Work.{SoundsTheSame};
-ghost use Rattle.consolidate.specs.Commands.{IsConsolidation, KeepsStores};
-ghost use Rattle.consolidate.specs.Fault.{refusal_of};
-ghost use Rattle.consolidate.specs.Own.{IsOfConsolidation};
-ghost use Rattle.consolidate.specs.Rounds.{ConsolidatesInRounds, EndsOf};
-ghost use Rattle.consolidate.specs.declared.fault.Fault.TheVariants as fault;
-ghost use Rattle.consolidate.specs.declared.fault.OutputFile.TheVariants as file;
+ghost use Rattle.consolidate.specs.Commands.{IsConsolidation};
+ghost use Rattle.consolidate.specs.MediaOutcome.{consolidation_fault};
+ghost use Rattle.consolidate.specs.OfProject.{ConsolidatesProject};
+ghost use Rattle.consolidate.specs.Outcomes.{AnswersAs};
 
+use crate::Fault;
+use crate::media::execution_of;
 use crate::opened::{Opened, open};
-use crate::{Fault, OutputFile};
 use consolidation::{Consolidation, Sizes};
 use devices::{Bench, Shelf, Watch};
+use execution::ExecutionFault;
+use job_terms::Progress;
 use list_terms::Notice;
 use passes::Pass;
 use projectcheck::Checked;
-use schedule::{JobFault, JobMaker, Start, fresh_start, from_start, in_turn};
 use std::alloc::Global;
 
 /// What was written: so many media, and a list of so many entries; how many bytes that took; and what the given list's
@@ -44,67 +31,17 @@ pub struct Written {
     pub notices: Vec<Notice>,
 }
 
-/// Lays the media out, does all their jobs, and writes the list behind them.
-fn write_consolidation<S: Shelf, B: Bench, W: Watch>(
-    consolidation: &Consolidation,
-    start: &mut Start,
-    shelf: &mut S,
-    bench: &mut B,
-    watch: &mut W,
+/// What is reported of a consolidation whose execution ended so.
+fn answer_of(
+    written: consolidation::Written,
+    reported: bool,
+    ended: Result<Progress, ExecutionFault>,
 ) -> Result<consolidation::Written, Fault>
-    requires board { start.old.board.jobs ≡ replicate (work_of consolidation.now).count fresh_job }
-    requires order { start.old.board.order ≡ range_with_len 0 (work_of consolidation.now).count }
-    requires empty { start.old.worker.hand ≡ Nothing }
-    requires room { HasRoom (work_of consolidation.now) start.old.worker.room }
-    requires few { length consolidation.now.runs ≤ 32767 }
-    ensures same_sound { IsTrue (S.honest shelf.old) → IsTrue (B.honest bench.old) → (text : List ℕ)
-        → (leave : Leaving) (project : ListProject) (binding : Binding) (handle : ℕ) (asked : Option (List ℕ))
-        → IsAccepted text (S.stored shelf.old) project binding
-        → IsPlanOf leave project binding handle asked true (S.stored shelf.old) consolidation.now
-        → AreThere (S.stored shelf.old) consolidation.now.sounds
-        → OnOk result (SoundsTheSame text (S.stored shelf.old) (B.stored bench.new)) }
-    ensures written { IsTrue (S.honest shelf.old) → IsTrue (B.honest bench.old)
-        → (leave : Leaving) (project : ListProject) (binding : Binding) (handle : ℕ) (asked : Option (List ℕ))
-        → IsPlanOf leave project binding handle asked true (S.stored shelf.old) consolidation.now
-        → AreThere (S.stored shelf.old) consolidation.now.sounds
-        → IfOk result (λ written. spec.IsConsolidated leave project binding handle asked (S.stored shelf.old)
-        (B.stored bench.old) (B.stored bench.new) written) }
-    ensures rounds { IsTrue (S.honest shelf.old) → IsTrue (B.honest bench.old)
-        → (leave : Leaving) (project : ListProject) (binding : Binding) (handle : ℕ) (asked : Option (List ℕ))
-        → IsPlanOf leave project binding handle asked true (S.stored shelf.old) consolidation.now
-        → AreThere (S.stored shelf.old) consolidation.now.sounds
-        → EndsOf result (ConsolidatesInRounds leave project binding handle asked (S.stored shelf.old) (S.failures
-        shelf.old)
-        (B.failures bench.old) (S.failures shelf.new) (B.failures bench.new) (B.stored bench.new)) }
-    ensures durable { IsTrue (B.honest bench.old)
-        → IfOk result (λ written. AreDurable (is_some consolidation.now.report) written.media (B.stored bench.new)
-        (B.may_leave bench.new)) }
-    ensures own { (text : List ℕ) → IfErr result (IsOfConsolidation (is_some consolidation.now.report) text) }
-    ensures late { IfErr result (λ fault. (refusal_of fault).late ≡ true) }
-    ensures due { IfErr result (λ fault. IsDue (refusal_of fault) None) }
-    ensures list_last { IsTrue (B.honest bench.old) → IfErr result (λ told. told ≢ fault.Output file.List
-        → B.stored bench.new (codes "consolidated.adl") ≡ B.stored bench.old (codes "consolidated.adl")) }
-    ensures report_last { IsTrue (B.honest bench.old) → IfErr result (λ told. told ≢ fault.Output file.List
-        → told ≢ fault.Output file.Report
-        → B.stored bench.new (codes "consolidated.json") ≡ B.stored bench.old (codes "consolidated.json")) }
-    ensures named { IsTrue (B.honest bench.old) → (n : List ℕ)
-        → IsElsewhere (is_some consolidation.now.report) 32767 n
-        → B.stored bench.new n ≡ B.stored bench.old n }
-    ensures stores { KeepsStores S.Shelf B.Bench shelf.old shelf.new bench.old bench.new result }
+    ensures { AnswersAs (consolidation_fault written.media reported) (λ answer _. answer ≡ written) result ended }
 {
-    match consolidation.lay_out(bench) {
-        Ok(()) => {}
-        Err(fault) => return Err(Fault::of_writing(fault)),
-    }
-    let mut pieces = consolidation.pieces();
-    match from_start(&mut pieces, start, shelf, bench, watch) {
-        Ok(()) => {}
-        Err(JobFault::GivenUp { job }) => return Err(Fault::GivenUp { job }),
-        Err(JobFault::Mark) => return Err(Fault::Output(OutputFile::List)),
-    }
-    match consolidation.finish(bench) {
-        Ok(written) => return Ok(written),
-        Err(fault) => return Err(Fault::of_writing(fault)),
+    match ended {
+        Ok(_) => Ok(written),
+        Err(cause) => Err(Fault::of_media(written.media, reported, cause)),
     }
 }
 
@@ -119,39 +56,9 @@ fn consolidate_checked<S: Shelf, B: Bench, W: Watch>(
     bench: &mut B,
     watch: &mut W,
 ) -> Result<consolidation::Written, Fault>
-    ensures same_sound { IsTrue (S.honest shelf.old) → IsTrue (B.honest bench.old) → (text : List ℕ)
-        → IsAccepted text (S.stored shelf.old) checked.project checked.bound
-        → OnOk result (SoundsTheSame text (S.stored shelf.old) (B.stored bench.new)) }
-    ensures written { IsTrue (S.honest shelf.old) → IsTrue (B.honest bench.old) → (text : List ℕ)
-        → IsAccepted text (S.stored shelf.old) checked.project checked.bound → IfOk result (λ written.
-        spec.IsConsolidated (left_by (λ pass. looking pass) (λ pass. gives pass) passes.items)
-        checked.project checked.bound handle (option_map (λ version. version.now) report.entry) (S.stored shelf.old)
-        (B.stored bench.old) (B.stored bench.new) written) }
-    ensures rounds { IsTrue (S.honest shelf.old) → IsTrue (B.honest bench.old) → (text : List ℕ)
-        → IsAccepted text (S.stored shelf.old) checked.project checked.bound
-        → EndsOf result (ConsolidatesInRounds (left_by (λ pass. looking pass) (λ pass. gives pass) passes.items)
-        checked.project checked.bound handle (option_map (λ version. version.now) report.entry) (S.stored shelf.old)
-        (S.failures shelf.old) (B.failures bench.old)
-        (S.failures shelf.new) (B.failures bench.new)
-        (B.stored bench.new)) }
-    ensures durable { IsTrue (B.honest bench.old)
-        → IfOk result (λ written. AreDurable (is_some (option_map (λ version. version.now) report.entry))
-        written.media (B.stored bench.new) (B.may_leave bench.new)) }
-    ensures refusals { IsTrue (S.honest shelf.old) → (work : Work)
-        → IsWorkOf (left_by (λ pass. looking pass) (λ pass. gives pass) passes.items)
-        checked.project checked.bound handle (S.stored shelf.old) work
-        → Answers refusal_of result (work_fault work) }
-    ensures own { (text : List ℕ) → IfErr result
-        (IsOfConsolidation (is_some (option_map (λ version. version.now) report.entry)) text) }
-    ensures list_last { IsTrue (B.honest bench.old) → IfErr result (λ told. told ≢ fault.Output file.List
-        → B.stored bench.new (codes "consolidated.adl") ≡ B.stored bench.old (codes "consolidated.adl")) }
-    ensures report_last { IsTrue (B.honest bench.old) → IfErr result (λ told. told ≢ fault.Output file.List
-        → told ≢ fault.Output file.Report
-        → B.stored bench.new (codes "consolidated.json") ≡ B.stored bench.old (codes "consolidated.json")) }
-    ensures named { IsTrue (B.honest bench.old) → (n : List ℕ)
-        → IsElsewhere (is_some (option_map (λ version. version.now) report.entry)) 32767 n
-        → B.stored bench.new n ≡ B.stored bench.old n }
-    ensures stores { KeepsStores S.Shelf B.Bench shelf.old shelf.new bench.old bench.new result }
+    ensures { ConsolidatesProject S.Shelf B.Bench (left_by (λ pass. looking pass) (λ pass. gives pass) passes.items)
+        checked.project checked.bound handle (option_map (λ version. version.now) report.entry)
+        (λ count. rounds (3 * count)) shelf.old shelf.new bench.old bench.new result }
 {
     let consolidation = match Consolidation::plan(
         alloc, &checked, handle, passes, report, shelf, watch,
@@ -159,19 +66,13 @@ fn consolidate_checked<S: Shelf, B: Bench, W: Watch>(
         Ok(consolidation) => consolidation,
         Err(fault) => return Err(Fault::of_consolidation(checked, fault)),
     };
-    let pieces = consolidation.pieces();
-    let order = match in_turn(alloc, pieces.count()) {
-        Ok(order) => order,
-        Err(_) => return Err(Fault::BoardMemory),
-    };
-    let mut start = match fresh_start(alloc, &pieces, order) {
-        Ok(start) => start,
-        Err(_) => return Err(Fault::BoardMemory),
-    };
-    match write_consolidation(&consolidation, &mut start, shelf, bench, watch) {
-        Ok(written) => return Ok(written),
+    let written = consolidation.outcome();
+    let mut execution = match execution_of(alloc, consolidation) {
+        Ok(execution) => execution,
         Err(fault) => return Err(fault),
-    }
+    };
+    let ended = execution.execute(shelf, bench, watch);
+    answer_of(written, report.is_some(), ended)
 }
 
 /// Consolidates a list over the sources of a shelf. The passes go over the pieces of its entries, one after the other;

@@ -1,16 +1,19 @@
 // Why a call is refused.
-ghost use Rattle.std.specs.Prelude.{◌≡◌, Bool, List, None, Some, true, ℕ};
+ghost use Rattle.std.specs.Prelude.{◌≡◌, Bool, List, Some, ℕ, None, false, true};
 ghost use Rattle.work_terms.specs.Refusals.{IsDue};
 ghost use Rattle.consolidation.specs.Fault as consolidation;
-ghost use Rattle.consolidation.specs.Fault.{IsOfOutput};
 ghost use Rattle.list_terms.specs.Heard.{sounds_of};
 ghost use Rattle.rendering.specs.Fault as rendering;
 ghost use Rattle.consolidate.specs.Commands.{IsOutput, IsSource};
-ghost use Rattle.consolidate.specs.Own.{IsOfConsolidation, IsOfRendering};
+ghost use Rattle.consolidate.specs.Own.{IsOfConsolidation, IsOfRendering, IsOfRenderSchedule};
+ghost use Rattle.consolidate.specs.Fault.{IsOpenedIn, NamesOpened, name_of_output, refusal_of};
+ghost use Rattle.consolidate.specs.MediaOutcome.{consolidation_fault, output_file};
+ghost use Rattle.consolidate.specs.RenderOutcome.{rendering_fault};
+ghost use Rattle.execution.specs.declared.fault.ExecutionFault.TheVariants as execution;
 ghost use Rattle.consolidate.specs.declared.fault.Fault.TheVariants as told;
-ghost use Rattle.consolidate.specs.Fault.{IsOpenedIn, NamesOpened, file_of, name_of_output, refusal_of};
 
-use consolidation::{ConsolidationFault, LIST, REPORT, SUMS, WriteFault};
+use consolidation::{ConsolidationFault, LIST, REPORT, SUMS};
+use execution::ExecutionFault;
 use markfile::{MARKS, MarksFault, SOUND};
 use mediaset::RunFault;
 use passes::PassFault;
@@ -37,6 +40,25 @@ pub enum OutputFile {
     List,
 }
 
+impl OutputFile {
+    /// The output of this number, counted from 0, of a consolidation to so many media, with a report or without one.
+    fn of_consolidation(media: u32, reported: bool, number: u32) -> OutputFile
+        ensures { result ≡ output_file media reported number }
+    {
+        if number < media {
+            return OutputFile::Medium(number + 1);
+        }
+        if !reported {
+            return OutputFile::List;
+        }
+        match number - media {
+            0 => OutputFile::Sums,
+            1 => OutputFile::Report,
+            _ => OutputFile::List,
+        }
+    }
+}
+
 impl fmt::Display for OutputFile {
     ghost output = { λ file. Some (name_of_output file) };
 
@@ -52,8 +74,8 @@ impl fmt::Display for OutputFile {
     }
 }
 
-/// Why a call is refused, in the order in which its stages come. After `WorkerMemory`, `GivenUp` and `Output` what is
-/// written is unfinished; the others come before anything is written.
+/// Why a call is refused, in the order in which its stages come. After `BlockMemory`, `WorkerMemory`, `GivenUp` and
+/// `Output` what is written is unfinished; the others come before anything is written.
 #[derive(Debug, Drop, Error)]
 pub enum Fault {
     /// The list, a file that it names, or an entry: 1 to 18, 21 to 31, 41 to 46.
@@ -77,6 +99,9 @@ pub enum Fault {
     /// 57: no memory was left for a rendering.
     #[error("out of memory")]
     RenderMemory,
+    /// 57: no memory was left for the bytes of a block. What is written is unfinished.
+    #[error("out of memory")]
+    BlockMemory,
     /// 58: no sample lies in what is to be rendered.
     #[error("there is nothing to render")]
     EmptyRange,
@@ -88,7 +113,7 @@ pub enum Fault {
     /// was left for marks.
     #[error("{0}")]
     Marks(MarksFault),
-    /// 60: no memory was left for what a worker holds, or for the bytes of its job. What is written is unfinished.
+    /// 60: no memory was left for what a worker holds, or for the bytes of a medium. What is written is unfinished.
     #[error("out of memory")]
     WorkerMemory,
     /// 66: the device failed three times in this job.
@@ -111,7 +136,7 @@ impl Fault {
             Fault::Silence { .. } => 52,
             Fault::Runs(fault) => fault.number(),
             Fault::Relink(fault) => fault.number(),
-            Fault::RenderMemory => 57,
+            Fault::RenderMemory | Fault::BlockMemory => 57,
             Fault::EmptyRange => 58,
             Fault::BoardMemory | Fault::WorkerMemory => 60,
             Fault::Marks(fault) => fault.number(),
@@ -130,6 +155,31 @@ impl Fault {
             RenderFault::Intervals => Fault::Intervals,
             RenderFault::EmptyRange => Fault::EmptyRange,
             RenderFault::Memory => Fault::RenderMemory,
+            RenderFault::MarksMemory => Fault::Marks(MarksFault::Memory),
+        }
+    }
+
+    /// A fault of the execution of a rendering. It comes after the first write.
+    pub(crate) fn of_execution(cause: ExecutionFault) -> Fault
+        ensures told { result ≡ rendering_fault cause }
+        ensures late { (refusal_of result).late ≡ true }
+        ensures due { IsDue (refusal_of result) None }
+        ensures scheduled { (text : List ℕ) → IsOfRenderSchedule text result }
+        ensures own { (text : List ℕ) → (cause ≡ execution.Memory → ⊥) → (cause ≡ execution.JobMemory → ⊥)
+            → IsOfRendering text result }
+    {
+        match cause {
+            ExecutionFault::Memory => Fault::WorkerMemory,
+            ExecutionFault::JobMemory => Fault::BlockMemory,
+            ExecutionFault::GivenUp { job } => Fault::GivenUp { job },
+            ExecutionFault::Mark => Fault::Output(OutputFile::Marks),
+            ExecutionFault::Output { file } => {
+                if file == 0 {
+                    Fault::Output(OutputFile::Rendering)
+                } else {
+                    Fault::Output(OutputFile::Marks)
+                }
+            }
         }
     }
 
@@ -151,19 +201,19 @@ impl Fault {
         }
     }
 
-    /// A fault of writing a consolidation, but for its jobs.
-    pub(crate) fn of_writing(fault: WriteFault) -> Fault
-        ensures told { result ≡ told.Output (file_of fault) }
-        ensures own { (reported : Bool) (text : List ℕ) → IsOfOutput reported fault
-            → IsOfConsolidation reported text result }
-        ensures late { (refusal_of result).late ≡ true }
-        ensures due { IsDue (refusal_of result) None }
+    /// The fault of a consolidation to so many media, with a report or without one, that stands for one of its
+    /// execution.
+    pub(crate) fn of_media(media: u32, reported: bool, cause: ExecutionFault) -> Fault
+        ensures { result ≡ consolidation_fault media reported cause }
     {
-        match fault {
-            WriteFault::Medium { number } => Fault::Output(OutputFile::Medium(number)),
-            WriteFault::Sums => Fault::Output(OutputFile::Sums),
-            WriteFault::Report => Fault::Output(OutputFile::Report),
-            WriteFault::List => Fault::Output(OutputFile::List),
+        match cause {
+            ExecutionFault::Memory | ExecutionFault::JobMemory => Fault::WorkerMemory,
+            ExecutionFault::GivenUp { job } => Fault::GivenUp { job },
+            // No piece has a mark.
+            ExecutionFault::Mark => Fault::Output(OutputFile::List),
+            ExecutionFault::Output { file } => {
+                Fault::Output(OutputFile::of_consolidation(media, reported, file))
+            }
         }
     }
 }

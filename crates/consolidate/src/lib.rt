@@ -7,6 +7,7 @@ mod compared;
 mod consolidated;
 mod fault;
 mod marked;
+mod media;
 mod opened;
 mod remade;
 mod rendered;

@@ -1,189 +1,152 @@
 // The jobs of a rendering whose blocks are marked.
-ghost use Rattle.std.specs.Prelude.{◌≡◌, ◌<◌, IfErr, IsTrue, List, None, OnOk, Some, false, length, true, ℕ};
-ghost use Rattle.work_terms.specs.Disk.{Files, LeavesOnly};
+ghost use Rattle.std.specs.Prelude.{◌≡◌, IfErr, IfOk, IsTrue, List, None, OnOk, Some, true, ℕ};
+ghost use Rattle.work_terms.specs.Disk.{LeavesOnly};
 ghost use Rattle.work_terms.specs.Refusals.{IsDue};
-ghost use Rattle.job_terms.specs.Board.{fresh_job};
-ghost use Rattle.job_terms.specs.Workers.{Nothing, jobs_over};
-ghost use Rattle.markfile.specs.Format.{marks_name, sound_name};
-ghost use Rattle.markfile.specs.Started.{NoneStarted};
-ghost use Rattle.schedule.specs.Alone.{AtRest};
-ghost use Rattle.schedule.specs.Marking.{IsRunning, done_of};
-ghost use Rattle.schedule.specs.Rounds.{RoundsFrom, RunsInRounds};
-ghost use Rattle.schedule.specs.Run.{HasRoom};
-ghost use Rattle.workboard.specs.Indexed.{IsOrder};
-ghost use Rattle.rendering.specs.Marked.{HoldsMarked, IsLeftByRun, IsOther, IsResumable, full_marks, marking_of};
-ghost use Rattle.rendering.specs.Work.{done_before, whole_of, work_of};
-ghost use Rattle.consolidate.specs.Commands.{KeepsStores};
+ghost use Rattle.markfile.specs.Format.{marks_name};
+ghost use Rattle.rendering.specs.Maker.{HasSoundJobs, IsMarkedWork, marks_of};
+ghost use Rattle.rendering.specs.Marked.{HoldsMarked};
 ghost use Rattle.consolidate.specs.Fault.{refusal_of};
-ghost use Rattle.consolidate.specs.Marks.{AreBothDurable};
-ghost use Rattle.consolidate.specs.Own.{IsOfRendering};
-ghost use Rattle.consolidate.specs.Rounds.{EndsOf};
+ghost use Rattle.consolidate.specs.Own.{IsOfRenderSchedule, IsOfRendering};
+ghost use Rattle.consolidate.specs.RenderOutcome.{in_rounds};
+ghost use Rattle.consolidate.specs.RenderWorks.{BeginsWork, GoesOnWithWork, IsAllDone, IsPrepared, IsTakenUp, IsUnbegun, StandsAsMarked};
 
-use crate::{Fault, OutputFile};
-use devices::{Bench, Shelf, Watch};
-use markfile::{FreshMarks, MarksFault};
+use crate::Fault;
+use devices::{Bench, Shelf, Unwatched, Watch};
+use execution::{Execution, ExecutionFault};
+use job_terms::{BoardEvent, Progress};
 use projectcheck::Checked;
-use rendering::{LayFault, MarkedRendering, Order};
-use schedule::{JobFault, Start};
+use rendering::{Order, RenderingWork};
 use std::alloc::Global;
 
-/// Does the jobs that are left of a rendering whose marks are there, and makes both files durable.
-pub(crate) fn go_on<S: Shelf, B: Bench, W: Watch>(
-    rendering: &mut MarkedRendering,
-    start: &mut Start,
-    shelf: &mut S,
-    bench: &mut B,
-    watch: &mut W,
-) -> Result<(), Fault>
-    requires jobs { length start.old.board.jobs ≡ (work_of rendering.old.work).count }
-    requires rest { AtRest start.old.board }
-    requires done { (k : ℕ) → k < (work_of rendering.old.work).count
-        → done_of start.old.board k ≡ done_before rendering.old.work k }
-    requires empty { start.old.worker.hand ≡ Nothing }
-    requires room { HasRoom (work_of rendering.old.work) start.old.worker.room }
-    ensures rounds { IsTrue (S.honest shelf.old) → IsTrue (B.honest bench.old)
-        → IsRunning (marking_of rendering.old (S.stored shelf.old)) (done_before rendering.old.work)
-        (B.may_leave bench.old)
-        → EndsOf result (RoundsFrom true (jobs_over (work_of rendering.old.work) (S.stored shelf.old))
-        (λ _. whole_of rendering.old.work (S.stored shelf.old)) start.old.board (S.failures shelf.old)
-        (B.failures bench.old) (S.failures shelf.new) (B.failures bench.new) (B.stored bench.new)) }
-    ensures finished { IsTrue (S.honest shelf.old) → IsTrue (B.honest bench.old)
-        → IsRunning (marking_of rendering.old (S.stored shelf.old)) (done_before rendering.old.work)
-        (B.may_leave bench.old)
-        → OnOk result (B.stored bench.new sound_name ≡ Some (whole_of rendering.old.work (S.stored shelf.old))) }
-    ensures marked { IsTrue (S.honest shelf.old) → IsTrue (B.honest bench.old)
-        → IsRunning (marking_of rendering.old (S.stored shelf.old)) (done_before rendering.old.work)
-        (B.may_leave bench.old)
-        → OnOk result (B.stored bench.new marks_name ≡ Some (full_marks rendering.old.run)) }
-    ensures durable { IsTrue (B.honest bench.old)
-        → OnOk result (AreBothDurable (B.stored bench.new) (B.may_leave bench.new)) }
-    ensures left { IsTrue (S.honest shelf.old) → IsTrue (B.honest bench.old)
-        → IsRunning (marking_of rendering.old (S.stored shelf.old)) (done_before rendering.old.work)
-        (B.may_leave bench.old)
-        → IsLeftByRun (marking_of rendering.old (S.stored shelf.old)) (B.may_leave bench.new) }
-    ensures any_moment { IsTrue (S.honest shelf.old) → IsTrue (B.honest bench.old)
-        → IsRunning (marking_of rendering.old (S.stored shelf.old)) (done_before rendering.old.work)
-        (B.may_leave bench.old)
-        → LeavesOnly B.moment B.left_since bench.old bench.new
-        (IsResumable (marking_of rendering.old (S.stored shelf.old))) }
-    ensures keeps { IsTrue (S.honest shelf.old) → IsTrue (B.honest bench.old)
-        → IsRunning (marking_of rendering.old (S.stored shelf.old)) (done_before rendering.old.work)
-        (B.may_leave bench.old)
-        → (marks : List ℕ) → B.stored bench.old marks_name ≡ Some marks
-        → LeavesOnly B.moment B.left_since bench.old bench.new
-        (HoldsMarked (marking_of rendering.old (S.stored shelf.old)) marks) }
-    ensures own { (text : List ℕ) → IfErr result (IsOfRendering text) }
-    ensures late { IfErr result (λ fault. (refusal_of fault).late ≡ true) }
-    ensures due { IfErr result (λ fault. IsDue (refusal_of fault) None) }
-    ensures named { IsTrue (B.honest bench.old) → (n : List ℕ) → IsOther n
-        → B.stored bench.new n ≡ B.stored bench.old n }
-    ensures stores { KeepsStores S.Shelf B.Bench shelf.old shelf.new bench.old bench.new result }
+/// An execution of this work, of which nothing is begun. Want of memory is the only error.
+fn prepared<'a>(
+    alloc: Global,
+    work: RenderingWork<'a>,
+    checked: &Checked,
+    order: Order,
+) -> Result<Execution<RenderingWork<'a>>, Fault>
+    ensures prepared { IfOk result (λ run. IsPrepared work.entry run) }
+    ensures only_memory { IfErr result IsUnbegun }
 {
-    match rendering.go_on(start, shelf, bench, watch) {
-        Ok(()) => {}
-        Err(JobFault::GivenUp { job }) => return Err(Fault::GivenUp { job }),
-        Err(JobFault::Mark) => return Err(Fault::Output(OutputFile::Marks)),
-    }
-    match rendering.finish(bench) {
-        Ok(()) => return Ok(()),
-        Err(LayFault::Sound) => return Err(Fault::Output(OutputFile::Rendering)),
-        Err(LayFault::Marks) => return Err(Fault::Output(OutputFile::Marks)),
+    let jobs = match work.order(alloc, checked, order) {
+        Ok(jobs) => jobs,
+        Err(_) => return Err(Fault::BoardMemory),
+    };
+    match Execution::new(alloc, work, jobs) {
+        Ok(execution) => Ok(execution),
+        Err(ExecutionFault::JobMemory) => Err(Fault::RenderMemory),
+        Err(_) => Err(Fault::BoardMemory),
     }
 }
 
-/// Makes the rendered file and its marks, does all jobs, and makes both files durable.
-fn begin<S: Shelf, B: Bench, W: Watch>(
-    rendering: &mut MarkedRendering,
-    fresh: &FreshMarks,
-    start: &mut Start,
-    shelf: &mut S,
-    bench: &mut B,
-    watch: &mut W,
-) -> Result<(), Fault>
-    requires run { fresh.now ≡ rendering.old.run }
-    requires jobs { length start.old.board.jobs ≡ (work_of rendering.old.work).count }
-    requires rest { AtRest start.old.board }
-    requires done { (k : ℕ) → k < (work_of rendering.old.work).count
-        → done_of start.old.board k ≡ done_before rendering.old.work k }
-    requires none { (k : ℕ) → done_before rendering.old.work k ≡ false }
-    requires empty { start.old.worker.hand ≡ Nothing }
-    requires room { HasRoom (work_of rendering.old.work) start.old.worker.room }
-    ensures rounds { IsTrue (S.honest shelf.old) → IsTrue (B.honest bench.old)
-        → EndsOf result (RoundsFrom true (jobs_over (work_of rendering.old.work) (S.stored shelf.old))
-        (λ _. whole_of rendering.old.work (S.stored shelf.old)) start.old.board (S.failures shelf.old)
-        (B.failures bench.old) (S.failures shelf.new) (B.failures bench.new) (B.stored bench.new)) }
-    ensures finished { IsTrue (S.honest shelf.old) → IsTrue (B.honest bench.old)
-        → OnOk result (B.stored bench.new sound_name ≡ Some (whole_of rendering.old.work (S.stored shelf.old))) }
-    ensures marked { IsTrue (S.honest shelf.old) → IsTrue (B.honest bench.old)
-        → OnOk result (B.stored bench.new marks_name ≡ Some (full_marks rendering.old.run)) }
-    ensures durable { IsTrue (B.honest bench.old)
-        → OnOk result (AreBothDurable (B.stored bench.new) (B.may_leave bench.new)) }
-    ensures left { IsTrue (S.honest shelf.old) → IsTrue (B.honest bench.old) → NoneStarted (B.may_leave bench.old)
-        → IsLeftByRun (marking_of rendering.old (S.stored shelf.old)) (B.may_leave bench.new) }
-    ensures any_moment { IsTrue (S.honest shelf.old) → IsTrue (B.honest bench.old)
-        → NoneStarted (B.may_leave bench.old) → LeavesOnly B.moment B.left_since bench.old bench.new
-        (IsResumable (marking_of rendering.old (S.stored shelf.old))) }
-    ensures own { (text : List ℕ) → IfErr result (IsOfRendering text) }
-    ensures late { IfErr result (λ fault. (refusal_of fault).late ≡ true) }
-    ensures due { IfErr result (λ fault. IsDue (refusal_of fault) None) }
-    ensures named { IsTrue (B.honest bench.old) → (n : List ℕ) → IsOther n
-        → B.stored bench.new n ≡ B.stored bench.old n }
-    ensures stores { KeepsStores S.Shelf B.Bench shelf.old shelf.new bench.old bench.new result }
+/// An execution of this work, whose marked blocks are done. Want of memory is the only error.
+fn taken_up<'a>(
+    alloc: Global,
+    work: RenderingWork<'a>,
+    checked: &Checked,
+    order: Order,
+) -> Result<Execution<RenderingWork<'a>>, Fault>
+    ensures taken_up { IfOk result (λ run. IsTakenUp work.entry run) }
+    ensures only_memory { IfErr result IsUnbegun }
 {
-    match rendering.start(fresh, bench) {
-        Ok(()) => {}
-        Err(LayFault::Sound) => return Err(Fault::Output(OutputFile::Rendering)),
-        Err(LayFault::Marks) => return Err(Fault::Output(OutputFile::Marks)),
-    }
-    match go_on(rendering, start, shelf, bench, watch) {
-        Ok(()) => return Ok(()),
-        Err(fault) => return Err(fault),
+    let jobs = match work.order(alloc, checked, order) {
+        Ok(jobs) => jobs,
+        Err(_) => return Err(Fault::BoardMemory),
+    };
+    let done = match work.done(alloc) {
+        Ok(done) => done,
+        Err(_) => return Err(Fault::BoardMemory),
+    };
+    match Execution::with_done(alloc, work, jobs, done.as_slice()) {
+        Ok(execution) => Ok(execution),
+        Err(ExecutionFault::JobMemory) => Err(Fault::RenderMemory),
+        Err(_) => Err(Fault::BoardMemory),
     }
 }
 
-/// Renders a plan of which no block is marked from its beginning. Want of memory comes before the first write.
+/// Renders a planned work from its beginning, by rounds of one worker. Want of memory comes before the first write.
 pub(crate) fn render_anew<S: Shelf, B: Bench, W: Watch>(
     alloc: Global,
-    rendering: &mut MarkedRendering,
+    work: RenderingWork,
     checked: &Checked,
     order: Order,
     shelf: &mut S,
     bench: &mut B,
     watch: &mut W,
-) -> Result<(), Fault>
-    requires none { (k : ℕ) → done_before rendering.old.work k ≡ false }
-    ensures rounds { IsTrue (S.honest shelf.old) → IsTrue (B.honest bench.old)
-        → EndsOf result (λ ended. (order : List ℕ) × IsOrder (work_of rendering.old.work).count order
-        × RunsInRounds true (jobs_over (work_of rendering.old.work) (S.stored shelf.old))
-        (λ _. whole_of rendering.old.work (S.stored shelf.old)) order (S.failures shelf.old) (B.failures bench.old)
-        (S.failures shelf.new) (B.failures bench.new) (B.stored bench.new) ended) }
-    ensures finished { IsTrue (S.honest shelf.old) → IsTrue (B.honest bench.old)
-        → OnOk result (B.stored bench.new sound_name ≡ Some (whole_of rendering.old.work (S.stored shelf.old))) }
-    ensures marked { IsTrue (S.honest shelf.old) → IsTrue (B.honest bench.old)
-        → OnOk result (B.stored bench.new marks_name ≡ Some (full_marks rendering.old.run)) }
-    ensures durable { IsTrue (B.honest bench.old)
-        → OnOk result (AreBothDurable (B.stored bench.new) (B.may_leave bench.new)) }
-    ensures left { IsTrue (S.honest shelf.old) → IsTrue (B.honest bench.old) → NoneStarted (B.may_leave bench.old)
-        → IsLeftByRun (marking_of rendering.old (S.stored shelf.old)) (B.may_leave bench.new) }
-    ensures any_moment { IsTrue (S.honest shelf.old) → IsTrue (B.honest bench.old)
-        → NoneStarted (B.may_leave bench.old) → LeavesOnly B.moment B.left_since bench.old bench.new
-        (IsResumable (marking_of rendering.old (S.stored shelf.old))) }
+) -> Result<Progress, Fault>
+    requires whole { IsMarkedWork work }
+    requires jobs { HasSoundJobs work }
+    ensures does { BeginsWork S.Shelf B.Bench in_rounds work.entry shelf.old shelf.new bench.old bench.new result }
+    ensures finished { IfOk result IsAllDone }
     ensures own { (text : List ℕ) → IfErr result (IsOfRendering text) }
     ensures due { IfErr result (λ fault. IsDue (refusal_of fault) None) }
-    ensures named { IsTrue (B.honest bench.old) → (n : List ℕ) → IsOther n
-        → B.stored bench.new n ≡ B.stored bench.old n }
-    ensures stores { KeepsStores S.Shelf B.Bench shelf.old shelf.new bench.old bench.new result }
 {
-    let mut start = match rendering.jobs(alloc, checked, order) {
-        Ok(start) => start,
-        Err(_) => return Err(Fault::BoardMemory),
-    };
-    let fresh = match rendering.fresh_marks(alloc) {
-        Ok(fresh) => fresh,
-        Err(_) => return Err(Fault::Marks(MarksFault::Memory)),
-    };
-    match begin(rendering, &fresh, &mut start, shelf, bench, watch) {
-        Ok(()) => return Ok(()),
+    let mut execution = match prepared(alloc, work, checked, order) {
+        Ok(execution) => execution,
         Err(fault) => return Err(fault),
+    };
+    match execution.execute(shelf, bench, watch) {
+        Ok(progress) => return Ok(progress),
+        Err(fault) => return Err(Fault::of_execution(fault)),
+    }
+}
+
+/// Renders a planned work by these events. A worker takes memory as it comes.
+pub(crate) fn render_by_events<S: Shelf, B: Bench>(
+    alloc: Global,
+    work: RenderingWork,
+    checked: &Checked,
+    order: Order,
+    events: &[BoardEvent],
+    shelf: &mut S,
+    bench: &mut B,
+) -> Result<Progress, Fault>
+    requires whole { IsMarkedWork work }
+    requires jobs { HasSoundJobs work }
+    ensures does { BeginsWork S.Shelf B.Bench (λ _. events.now) work.entry shelf.old shelf.new bench.old bench.new
+        result }
+    ensures own { (text : List ℕ) → IfErr result (IsOfRenderSchedule text) }
+    ensures due { IfErr result (λ fault. IsDue (refusal_of fault) None) }
+{
+    let mut execution = match prepared(alloc, work, checked, order) {
+        Ok(execution) => execution,
+        Err(fault) => return Err(fault),
+    };
+    match execution.execute_events(events, shelf, bench, &mut Unwatched) {
+        Ok(progress) => return Ok(progress),
+        Err(fault) => return Err(Fault::of_execution(fault)),
+    }
+}
+
+/// Goes on with a work some of whose blocks are marked, by rounds of one worker. Want of memory comes before the first
+/// write.
+pub(crate) fn go_on_marked<S: Shelf, B: Bench, W: Watch>(
+    alloc: Global,
+    work: RenderingWork,
+    checked: &Checked,
+    order: Order,
+    shelf: &mut S,
+    bench: &mut B,
+    watch: &mut W,
+) -> Result<Progress, Fault>
+    requires whole { IsMarkedWork work }
+    requires jobs { HasSoundJobs work }
+    ensures does { GoesOnWithWork S.Shelf B.Bench work.entry shelf.old shelf.new bench.old bench.new result }
+    ensures keeps { IsTrue (S.honest shelf.old) → IsTrue (B.honest bench.old)
+        → StandsAsMarked work.entry (S.stored shelf.old) (B.stored bench.old) (B.may_leave bench.old)
+        → (marks : List ℕ) → B.stored bench.old marks_name ≡ Some marks
+        → LeavesOnly B.moment B.left_since bench.old bench.new
+        (HoldsMarked (marks_of work.entry (S.stored shelf.old)) marks) }
+    ensures finished { IfOk result IsAllDone }
+    ensures own { (text : List ℕ) → IfErr result (IsOfRendering text) }
+    ensures due { IfErr result (λ fault. IsDue (refusal_of fault) None) }
+{
+    let mut execution = match taken_up(alloc, work, checked, order) {
+        Ok(execution) => execution,
+        Err(fault) => return Err(fault),
+    };
+    match execution.resume(shelf, bench, watch) {
+        Ok(progress) => return Ok(progress),
+        Err(fault) => return Err(Fault::of_execution(fault)),
     }
 }

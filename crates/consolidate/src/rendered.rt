@@ -1,18 +1,18 @@
 // Renders a list to one sound file.
-ghost use Rattle.std.specs.Prelude.{◌≡◌, IfErr, IfOk, IsTrue, List, OnOk, Some, codes, ℕ};
-ghost use Rattle.work_terms.specs.Disk.{LeavesOnly};
+ghost use Rattle.std.specs.Prelude.{◌≡◌, IfErr, IfOk, List, true, ℕ, ℤ, ⊤};
+ghost use Rattle.devices.specs.Views.{output_view, source_view};
 ghost use Rattle.work_terms.specs.Refusals.{Answers};
+ghost use Rattle.sound_terms.specs.Render.{ReadsBack, rendering_of};
 ghost use Rattle.list_terms.specs.Accepted.{range_of};
-ghost use Rattle.markfile.specs.Format.{marks_name};
 ghost use Rattle.markfile.specs.Started.{NoneStarted};
-ghost use Rattle.rendering.specs.Marked.{IsLeftByRun, IsOther, IsResumable, full_marks, run_of};
-ghost use Rattle.rendering.specs.Rendering as spec;
+ghost use Rattle.rendering.specs.Marked.{run_of};
 ghost use Rattle.rendering.specs.Rendering.{HasRange, HaveChannels, render_fault, values_of};
-ghost use Rattle.consolidate.specs.Commands.{IsRendering, KeepsStores};
+ghost use Rattle.consolidate.specs.Commands.{IsRendering};
 ghost use Rattle.consolidate.specs.Fault.{refusal_of};
-ghost use Rattle.consolidate.specs.Marks.{AreBothDurable, list_marking};
+ghost use Rattle.consolidate.specs.Marks.{list_marking};
 ghost use Rattle.consolidate.specs.Own.{IsOfRendering};
-ghost use Rattle.consolidate.specs.Rounds.{EndsOf, RendersInRounds};
+ghost use Rattle.consolidate.specs.RenderOutcome.{RendersBound, in_rounds};
+ghost use Rattle.consolidate.specs.RenderWorks.{DoesWork};
 
 use crate::Fault;
 use crate::marked::render_anew;
@@ -20,7 +20,7 @@ use crate::opened::{Opened, open};
 use devices::{Bench, Shelf, Watch};
 use list_terms::Notice;
 use projectcheck::Checked;
-use rendering::{MarkedRendering, Options};
+use rendering::{Options, RenderingWork};
 use std::alloc::Global;
 
 /// What was rendered: so many frames of so many channels, and what the list's user should know of.
@@ -42,48 +42,27 @@ fn render_checked<S: Shelf, B: Bench, W: Watch>(
     watch: &mut W,
 ) -> Result<rendering::Rendered, Fault>
     requires { HaveChannels options.now }
-    ensures rounds { IsTrue (S.honest shelf.old) → IsTrue (B.honest bench.old)
-        → EndsOf result (RendersInRounds checked.now.project checked.now.bound (values_of options.now)
-        (S.stored shelf.old) (S.failures shelf.old) (B.failures bench.old) (S.failures shelf.new)
-        (B.failures bench.new) (B.stored bench.new)) }
-    ensures rendered { IsTrue (S.honest shelf.old) → IsTrue (B.honest bench.old)
-        → OnOk result (spec.IsRendered checked.now.project checked.now.bound
-        (values_of options.now) (S.stored shelf.old) (B.stored bench.new (codes "render.wav"))) }
-    ensures marked { IsTrue (S.honest shelf.old) → IsTrue (B.honest bench.old)
-        → OnOk result (B.stored bench.new marks_name ≡ Some (full_marks (run_of list.now
-        (range_of checked.now.project (values_of options.now))))) }
-    ensures durable { IsTrue (B.honest bench.old)
-        → OnOk result (AreBothDurable (B.stored bench.new) (B.may_leave bench.new)) }
-    ensures left { IsTrue (S.honest shelf.old) → IsTrue (B.honest bench.old) → NoneStarted (B.may_leave bench.old)
-        → IsLeftByRun (list_marking list.now (values_of options.now) (S.stored shelf.old) checked.now.project
-        checked.now.bound) (B.may_leave bench.new) }
-    ensures any_moment { IsTrue (S.honest shelf.old) → IsTrue (B.honest bench.old)
-        → NoneStarted (B.may_leave bench.old) → LeavesOnly B.moment B.left_since bench.old bench.new
-        (IsResumable (list_marking list.now (values_of options.now) (S.stored shelf.old) checked.now.project
-        checked.now.bound)) }
+    ensures does { DoesWork S.Shelf B.Bench (λ _. ⊤) (λ _ progress. progress.finished ≡ true)
+        (list_marking list.now (values_of options.now) (S.stored shelf.old) checked.now.project checked.now.bound)
+        (run_of list.now (range_of checked.now.project (values_of options.now))) ⊤ (NoneStarted (B.may_leave bench.old))
+        (RendersBound in_rounds list.now (values_of options.now) checked.now.project checked.now.bound
+        (source_view S.Shelf shelf.old) (source_view S.Shelf shelf.new) (output_view B.Bench bench.old)
+        (output_view B.Bench bench.new)) shelf.old shelf.new bench.old bench.new result }
+    ensures reads_back { IfOk result (λ _. (mix : ℕ → ℕ → ℤ)
+        → ReadsBack (range_of checked.now.project (values_of options.now)) mix
+        (rendering_of (range_of checked.now.project (values_of options.now)) mix)) }
     ensures report { IfOk result
         (λ rendered. HasRange rendered (range_of checked.now.project (values_of options.now))) }
     ensures refusals { Answers refusal_of result (render_fault checked.now.project (values_of options.now)) }
     ensures own { (text : List ℕ) → IfErr result (IsOfRendering text) }
-    ensures named { IsTrue (B.honest bench.old) → (n : List ℕ) → IsOther n
-        → B.stored bench.new n ≡ B.stored bench.old n }
-    ensures stores { KeepsStores S.Shelf B.Bench shelf.old shelf.new bench.old bench.new result }
 {
-    let mut rendering = match MarkedRendering::plan(alloc, checked, options, list) {
-        Ok(rendering) => rendering,
+    let work = match RenderingWork::plan(alloc, checked, options, list) {
+        Ok(work) => work,
         Err(fault) => return Err(Fault::of_rendering(fault)),
     };
-    let rendered = rendering.rendered();
-    match render_anew(
-        alloc,
-        &mut rendering,
-        checked,
-        options.order,
-        shelf,
-        bench,
-        watch,
-    ) {
-        Ok(()) => return Ok(rendered),
+    let rendered = work.rendered();
+    match render_anew(alloc, work, checked, options.order, shelf, bench, watch) {
+        Ok(_) => return Ok(rendered),
         Err(fault) => return Err(fault),
     }
 }

@@ -9,22 +9,21 @@ use Rattle.passes.specs.Left.{Leaving}
 use Rattle.list_terms.specs.Binding.{Binding}
 use Rattle.list_terms.specs.BoundHomes.{homes_of}
 use Rattle.list_terms.specs.Heard.{IsAccepted, sounds_of}
-use Rattle.list_terms.specs.MediaNames.{media_name-injective, media_name-no_list}
+use Rattle.list_terms.specs.MediaNames.{media_name-injective}
 use Rattle.list_terms.specs.Project.{ListProject}
 use Rattle.list_terms.specs.Renewed.{media_name}
 use Rattle.consolidation.specs.Consolidated.{IsConsolidated, IsElsewhere}
-use Rattle.consolidation.specs.Jobs.{HoldsMedia, work_of}
+use Rattle.consolidation.specs.Jobs.{HoldsMedia}
 use Rattle.consolidation.specs.Media.{IsLaidOut}
 use Rattle.consolidation.specs.Planned.{IsMediaPlan, IsPlanOf, MediaPlan}
 use Rattle.consolidation.specs.Sizes.{sizes_of, written_of}
-use Rattle.consolidation.specs.Reported.{IsNoReport, IsReportThere, told_of}
+use Rattle.consolidation.specs.Reported.{IsReportThere, told_of}
 use Rattle.consolidation.specs.There.{AreThere}
 use Rattle.consolidation.specs.Work.{SoundsTheSame}
 use Rattle.consolidation.proofs.Checks.{checks_files}
 use Rattle.consolidation.proofs.MediaThere.{has_media, hold_media}
-use Rattle.consolidation.proofs.Reported.{media_no_report, report_holds}
+use Rattle.consolidation.proofs.Reported.{report_holds}
 use Rattle.consolidation.proofs.SameSound.{sounds_the_same}
-use Rattle.consolidation.proofs.Wholes.{job_named}
 
 -- one medium more is durable
 pub one_more_durable : (i : ℕ) (old new : Files) (could may : Files → Type 0) → new ≡ old
@@ -52,22 +51,6 @@ module _ (plan : MediaPlan) (is : IsMediaPlan plan) where
         (omega (arith, few, inside)) same in
         omega (arith, one, front)) ∙ before k front run there
     by_place (inr last) = let same : i ≡ k = omega (arith, last, below) in subst (IsLaidOut plan new) same now
-
-  -- the list is none of its media
-  pub holds_kept : (sources old new : Files) → ((n : List ℕ) → n ≢ codes "consolidated.adl" → new n ≡ old n)
-      → HoldsMedia plan sources old → HoldsMedia plan sources new
-  holds_kept sources old new others holds = λ k below.
-      let few = is.few in
-      let named = job_named plan is k below in
-      others ((work_of plan).name k) (media_name-no_list _ (omega (arith, few, named))) ∙ holds k below
-
-  -- nor is a file of a report
-  pub holds_beside : (sources old new : Files) (reported : Bool)
-      → ((n : List ℕ) → IsNoReport reported n → new n ≡ old n)
-      → HoldsMedia plan sources old → HoldsMedia plan sources new
-  holds_beside sources old new reported others holds = λ k below.
-      let named = job_named plan is k below in
-      others ((work_of plan).name k) (media_no_report _ reported) ∙ holds k below
 
   module _ (leave : Leaving) (project : ListProject) (binding : Binding) (handle : ℕ) (asked : Option (List ℕ))
       (sources written : Files) (of : IsPlanOf leave project binding handle asked true sources plan) (there : AreThere

@@ -1,6 +1,6 @@
 -- The files of a report beside the media and the list, and what they hold.
 use Rattle.std.proofs.Common.{◌≡◌, ◌≢◌, ◌∙◌, ℕ, zero, suc, Bool, List, [], ◌∷◌, Option, None, Some, ap, arith, codes, subst}
-use Rattle.work_terms.specs.Disk.{Files, IsDurable}
+use Rattle.work_terms.specs.Disk.{Files}
 use Rattle.sound_terms.specs.declared.piece.Home.{Home}
 use Rattle.sound_terms.specs.declared.piece.Piece.{Piece}
 use Rattle.list_terms.specs.Binding.{Binding}
@@ -11,7 +11,7 @@ use Rattle.list_terms.specs.WrittenText.{text_of_project}
 use Rattle.mediaset.specs.Runs.{HomedRuns}
 use Rattle.provenance.specs.Report.{IsReportOf, Told}
 use Rattle.provenance.specs.declared.report.Report.{Report}
-use Rattle.consolidation.specs.Reported.{HasReport, HoldsReport, IsNoReport, IsReportDurable, IsReportThere, told_of}
+use Rattle.consolidation.specs.Reported.{HasReport, HoldsReport, IsNoReport, IsReportThere, told_of}
 
 -- the byte at a place of a name
 abbrev nth : ℕ → List ℕ → ℕ
@@ -31,23 +31,6 @@ medium_no_json number same = let e : 77 ≡ 99 = ap (nth 0) same in omega (arith
 pub media_no_report : (number : ℕ) (reported : Bool) → IsNoReport reported (media_name number)
 media_no_report number reported told = (medium_no_sums number, medium_no_json number)
 
--- nor has the list
-sums_no_list : codes "SHA256SUMS" ≢ codes "consolidated.adl"
-sums_no_list same = let e : 83 ≡ 99 = ap (nth 0) same in omega (arith, e)
-
-json_no_list : codes "consolidated.json" ≢ codes "consolidated.adl"
-json_no_list same = let e : 106 ≡ 97 = ap (nth 13) same in omega (arith, e)
-
--- the list that is written behind a report leaves it
-pub report_kept : (report : Option Report) (old new : Files)
-    → ((n : List ℕ) → n ≢ codes "consolidated.adl" → new n ≡ old n) → IsReportThere report old → IsReportThere report
-    new
-report_kept None old new others there = tt
-report_kept (Some report) old new others there = (
-  others (codes "SHA256SUMS") sums_no_list ∙ there.0,
-  others (codes "consolidated.json") json_no_list ∙ there.1,
-)
-
 -- what stands in its files is what it was made of
 pub report_holds : (asked : Option (List ℕ)) (sources : Files) (told : List ℕ → Told) (report : Option Report)
     (written : Files) → HasReport asked sources told report → IsReportThere report written
@@ -56,14 +39,6 @@ report_holds None sources told report written is there = tt
 report_holds (Some version) sources told None written is there = absurd is
 report_holds (Some version) sources told (Some report) written is there =
     (there.0 ∙ ap Some is.sums, there.1 ∙ ap Some is.json)
-
-pub report_durable : (reported : Bool) (old new : Files) (could may : Files → Type 0)
-    → ((n : List ℕ) → n ≢ codes "consolidated.adl" → IsDurable n old could → IsDurable n new may)
-    → IsReportDurable reported old could → IsReportDurable reported new may
-report_durable reported old new could may keeps durable told = (
-  keeps (codes "SHA256SUMS") sums_no_list (durable told).0,
-  keeps (codes "consolidated.json") json_no_list (durable told).1,
-)
 
 -- what a report is made of, as a plan has it
 pub told_by_plan : (asked : Option (List ℕ)) (sources : Files) (project : ListProject) (binding : Binding) (handle : ℕ)

@@ -18,7 +18,7 @@ use Rattle.work_terms.specs.Disk.{Files}
 use Rattle.list_terms.specs.MediaNames.{media_name-injective, other_media_name}
 use Rattle.list_terms.specs.Renewed.{media_name}
 use Rattle.job_terms.specs.Workers.{jobs_over}
-use Rattle.schedule.specs.Filled.{AreApart, AreFilled, AreParts, IsFilled}
+use Rattle.execution.specs.Filled.{AreApart}
 use Rattle.mediacopy.specs.declared.piece.CopyJob.{CopyJob}
 use Rattle.mediacopy.specs.Copied.{HasFrames, laid_out}
 use Rattle.mediacopy.specs.Pieces.{IsPieceOf, content, no_run, piece_bytes, piece_length, piece_place, run_at}
@@ -393,9 +393,6 @@ module _ (plan : MediaPlan) (is : IsMediaPlan plan) where
           (rw (whole_there sources job.place job.run job.there)
           (piece_stands job.place job.run job.number job.there job.below))
 
-      pub are_parts : AreParts (jobs_over (work_of plan) sources) (whole_of plan sources)
-      are_parts k below = let part = part_at k below in record { inside = part.inside; part = part.same }
-
       abbrev IsFullPiece : CopyJob → Type 0
       IsFullPiece piece = length (piece_bytes sources plan.sounds plan.runs piece)
           ≡ piece_length plan.sounds plan.runs piece
@@ -418,32 +415,3 @@ module _ (plan : MediaPlan) (is : IsMediaPlan plan) where
       are_pieces_full k below =
           let job = found plan.runs k below in
           subst IsFullPiece (sym (job_is plan.runs k job)) (piece_full job.place job.run job.number job.there job.below)
-
-      -- a laid out medium is filled as far as no job is done
-      pub blank : (written : Files) (i : ℕ) (run : Run) → slice_get plan.runs i ≡ Some run
-          → written (media_name (suc i)) ≡ Some (laid_out (run_info plan.sounds plan.homes run))
-          → IsFilled (jobs_over (work_of plan) sources) (media_name (suc i)) (whole_of plan sources (media_name (suc i)))
-          (λ _. false) (written (media_name (suc i)))
-      blank written i run there laid =
-          let is_laid = laid_as_whole full_there i run there in
-          record {
-            bytes = laid_out (run_info plan.sounds plan.homes run);
-            there = laid;
-            size = is_laid.size;
-            same = λ q fixed. is_laid.same q (λ byte.
-                let none = fixed byte.job byte.there (ap (λ (n : ℕ). media_name (suc n)) byte.medium) byte.from byte.to in
-                cc);
-          }
-
-      pub are_blank : (written : Files)
-          → ((i : ℕ) (run : Run) → slice_get plan.runs i ≡ Some run
-          → written (media_name (suc i)) ≡ Some (laid_out (run_info plan.sounds plan.homes run)))
-          → AreFilled (jobs_over (work_of plan) sources) (whole_of plan sources) (λ _. false) written
-      are_blank written laid = record {
-        each = λ k below.
-            let job = found plan.runs k below in
-            subst (λ (piece : CopyJob). IsFilled (jobs_over (work_of plan) sources) (media_name (suc piece.run))
-            (whole_of plan sources (media_name (suc piece.run))) (λ _. false) (written (media_name (suc piece.run))))
-            (sym (job_is plan.runs k job))
-            (blank written job.place job.run job.there (laid job.place job.run job.there));
-      }

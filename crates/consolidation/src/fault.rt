@@ -25,23 +25,6 @@ pub enum ConsolidationFault {
     Relink(RelinkFault),
 }
 
-/// 62: what can't be written of a consolidation. What is written of it is unfinished.
-#[derive(Clone, Copy, Debug, PartialEq, Eq, Error)]
-pub enum WriteFault {
-    /// The medium of this number.
-    #[error("medium {number} can't be written")]
-    Medium { number: u32 },
-    /// The checksums.
-    #[error("the checksums can't be written")]
-    Sums,
-    /// The report.
-    #[error("the report can't be written")]
-    Report,
-    /// The list.
-    #[error("the list can't be written")]
-    List,
-}
-
 impl ConsolidationFault {
     /// The number of the refusal.
     pub fn number(&self) -> u8

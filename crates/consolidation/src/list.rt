@@ -1,14 +1,9 @@
-// Writes the list over the media, and the report.
-ghost use Rattle.std.specs.Prelude.{◌≡◌, ◌≢◌, ◌≤◌, IfErr, IsTrue, OnOk, Some, codes, true, ⊤};
+// The files that come last, and how each is written.
+ghost use Rattle.std.specs.Prelude.{◌≡◌, ◌≢◌, ◌≤◌, IsTrue, OnOk, Some, ⊤};
 ghost use Rattle.work_terms.specs.Disk.{IsDurable};
 ghost use Rattle.devices.specs.Frame.{OnlyWrites};
-ghost use Rattle.consolidation.specs.Fault.{FailsIn};
-ghost use Rattle.consolidation.specs.Reported.{IsNoReport, IsReportDurable, IsReportThere};
-ghost use Rattle.consolidation.specs.declared.fault.WriteFault.TheVariants as fault;
 
-use crate::WriteFault;
 use devices::{Bench, DeviceFault};
-use provenance::Report;
 
 /// The name of the list that is written.
 pub const LIST: &str = "consolidated.adl";
@@ -36,35 +31,4 @@ pub(crate) fn write_file<B: Bench>(
     bench.create(name)?;
     bench.append(name, bytes)?;
     bench.sync(name)
-}
-
-/// Writes the list of this text, and syncs it.
-pub fn write_list<B: Bench>(bench: &mut B, text: &[u8]) -> Result<(), DeviceFault>
-    ensures written { IsTrue (B.honest bench.old)
-        → OnOk result (B.stored bench.new (codes "consolidated.adl") ≡ Some text.now) }
-    ensures durable { IsTrue (B.honest bench.old)
-        → OnOk result (IsDurable (codes "consolidated.adl") (B.stored bench.new) (B.may_leave bench.new)) }
-    ensures only_writes { OnlyWrites B.Bench (λ n. n ≢ codes "consolidated.adl") bench.old bench.new result (λ _. ⊤)
-        (λ _ failed. failed (codes "consolidated.adl")) }
-{
-    write_file(bench, LIST, text)
-}
-
-/// Writes a report: its checksums first, and then its text; both are synced.
-pub fn write_report<B: Bench>(bench: &mut B, report: &Report) -> Result<(), WriteFault>
-    ensures there { IsTrue (B.honest bench.old) → OnOk result (IsReportThere (Some report.now) (B.stored bench.new)) }
-    ensures durable { IsTrue (B.honest bench.old)
-        → OnOk result (IsReportDurable true (B.stored bench.new) (B.may_leave bench.new)) }
-    ensures own { IfErr result (λ told. told ≢ fault.List) }
-    ensures report_last { IsTrue (B.honest bench.old) → IfErr result (λ told. told ≢ fault.Report
-        → B.stored bench.new (codes "consolidated.json") ≡ B.stored bench.old (codes "consolidated.json")) }
-    ensures only_writes { OnlyWrites B.Bench (IsNoReport true) bench.old bench.new result (λ _. ⊤) FailsIn }
-{
-    if write_file(bench, SUMS, &report.sums).is_err() {
-        return Err(WriteFault::Sums);
-    }
-    match write_file(bench, REPORT, &report.json) {
-        Ok(()) => Ok(()),
-        Err(_) => Err(WriteFault::Report),
-    }
 }

@@ -1,5 +1,5 @@
-// What a consolidation is once its outputs are whole, and which output couldn't be written.
-ghost use Rattle.std.specs.Prelude.{◌≡◌, ◌≢◌, ◌<◌, ◌≤◌, ◌+◌, ◌^◌, ℕ, Bool, List, Option, IsTrue, codes, is_some, length, true};
+// What a consolidation is once its outputs are whole.
+ghost use Rattle.std.specs.Prelude.{◌≡◌, ◌≤◌, ℕ, List, Option, true};
 ghost use Rattle.work_terms.specs.Disk.{Files};
 ghost use Rattle.passes.specs.Left.{Leaving};
 ghost use Rattle.list_terms.specs.Binding.{Binding};
@@ -7,15 +7,14 @@ ghost use Rattle.list_terms.specs.Heard.{IsAccepted};
 ghost use Rattle.list_terms.specs.Project.{ListProject};
 ghost use Rattle.execution.specs.Plan.{HoldJobs, HoldLast, IsForeign};
 ghost use Rattle.consolidation.specs.Consolidated.{IsConsolidated};
-ghost use Rattle.consolidation.specs.Fault.{IsOfOutput, output_of};
-ghost use Rattle.consolidation.specs.Outputs.{AreNamedOutputs, job_plan, output_count, output_name};
+ghost use Rattle.consolidation.specs.Outputs.{AreNamedOutputs, job_plan};
 ghost use Rattle.consolidation.specs.Planned.{IsPlanOf};
 ghost use Rattle.consolidation.specs.Sizes.{written_of};
 ghost use Rattle.consolidation.specs.There.{AreThere};
 ghost use Rattle.consolidation.specs.Work.{SoundsTheSame};
-ghost use Rattle.consolidation.specs.declared.fault.WriteFault.TheVariants as fault;
 
-use crate::{Consolidation, WriteFault, Written};
+use crate::sizes::sizes_of;
+use crate::{Consolidation, Written};
 
 impl<'a> Consolidation<'a> {
     /// What is reported of it once each of its outputs is whole: those of its jobs, and those that come last. It may be
@@ -40,27 +39,14 @@ impl<'a> Consolidation<'a> {
         let _ = self.count();
         self.written()
     }
-}
 
-impl WriteFault {
-    /// The output of this number, counted from 0, of a consolidation to so many media, with a report or without one.
-    pub fn of_output(media: u32, reported: bool, file: u32) -> WriteFault
-        requires { file < output_count media reported }
-        ensures named { output_of result ≡ output_name media reported file }
-        ensures reported { IsOfOutput reported result }
-        ensures before_list { result ≢ fault.List → file + 1 < output_count media reported }
-        ensures before_report { result ≢ fault.List → result ≢ fault.Report → file < media + 1 }
+    fn written(&self) -> Written
+        ensures { result ≡ written_of self.now }
     {
-        if file < media {
-            return WriteFault::Medium { number: file + 1 };
-        }
-        if !reported {
-            return WriteFault::List;
-        }
-        match file - media {
-            0 => WriteFault::Sums,
-            1 => WriteFault::Report,
-            _ => WriteFault::List,
+        Written {
+            media: self.runs.len() as u32,
+            entries: self.entries,
+            sizes: sizes_of(self.sounds, self.runs.as_slice(), self.text.len()),
         }
     }
 }

@@ -305,6 +305,7 @@ fn line_at_fault<'a>(fault: &Fault, list: &'a [u8]) -> Option<LineAtFault<'a>> {
 fn unfinished_after(fault: &Fault, output: Option<Reason>) -> Option<Unfinished> {
     match fault {
         Fault::GivenUp { .. }
+        | Fault::BlockMemory
         | Fault::WorkerMemory
         | Fault::Marks(MarksFault::Sound | MarksFault::Marks) => Some(Unfinished::Whole),
         Fault::Output(file) => unfinished_at(*file, output),

@@ -12,9 +12,9 @@ use Rattle.list_terms.specs.Accepted.{OptionValues, range_of}
 use Rattle.list_terms.specs.Binding.{Binding}
 use Rattle.list_terms.specs.Heard.{project_mix, reading_of}
 use Rattle.list_terms.specs.Project.{ListProject}
-use Rattle.blockcut.specs.declared.stretch.Stretch.{Stretch}
-use Rattle.blockcut.specs.Cut.{AreEven}
-use Rattle.blockcut.specs.Laws.{cut-covers}
+use Rattle.rendering.specs.declared.stretch.Stretch.{Stretch}
+use Rattle.rendering.specs.Cut.{AreEven}
+use Rattle.rendering.specs.CutLaws.{cut-covers}
 use Rattle.renderplan.specs.Planned.{Planned}
 use Rattle.rendering.specs.Planned.{IsPlanFor, IsRenderingBy, IsRenderingOf}
 use Rattle.rendering.specs.Work.{IsRenderWork, RenderWork, at_once, heard, no_stretch, stretch_at, whole_of}

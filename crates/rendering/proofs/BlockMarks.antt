@@ -9,11 +9,12 @@ use Rattle.sound_terms.specs.Blocks.{block_count, block_start}
 use Rattle.sound_terms.specs.Render.{Range, render_info}
 use Rattle.sound_terms.specs.Waves.{header_of}
 use Rattle.work_terms.specs.Disk.{Files}
-use Rattle.blockcut.specs.declared.stretch.Stretch.{Stretch}
-use Rattle.blockcut.specs.Laws.{cut-apart}
+use Rattle.rendering.specs.declared.stretch.Stretch.{Stretch}
+use Rattle.rendering.specs.CutLaws.{cut-apart}
 use Rattle.markfile.specs.Format.{marks_name, sound_name}
-use Rattle.schedule.specs.Placed.{IsStretchOf}
-use Rattle.rendering.specs.Marked.{IsRunOf, MarkedWork, block_end, block_place, marking_of}
+use Rattle.execution.specs.Placed.{IsStretchOf}
+use Rattle.rendering.specs.Maker.{marks_of}
+use Rattle.rendering.specs.Marked.{IsRunOf, MarkedWork, block_end, block_place}
 use Rattle.rendering.specs.Work.{IsRenderWork, bytes_for, heard, no_stretch, place_of, stretch_at, work_of}
 use Rattle.rendering.specs.Written.{frames_before}
 use Rattle.rendering.proofs.Frames.{length-frames_of}
@@ -172,7 +173,7 @@ module _ (marked : MarkedWork) (sources : Files) (is : IsRenderWork marked.work)
     -- its bytes and its marks
     pub job_marks : (k : ℕ) (bytes ones : List ℕ) → k < length marked.work.stretches → bytes ≡ bytes_at k
         → ones ≡ replicate ((at k).behind - (at k).first) 1
-        → IsStretchOf (marking_of marked sources) k sound_name (place_of range (at k)) bytes marks_name
+        → IsStretchOf (marks_of marked sources) k sound_name (place_of range (at k)) bytes marks_name
         (44 + (at k).first) ones
     job_marks k bytes ones below right set =
         let inside = stretch_inside marked.work k is below in
@@ -204,14 +205,14 @@ pub placed_stretch : (was now : MarkedWork) (k : ℕ) (s : Stretch) (at : ℕ) (
     → was ≡ now → IsRenderWork was.work × IsRunOf was.work was.run → s ≡ stretch_at was.work.stretches k
     → s.behind ≤ s.first + 1024 → at ≡ place_of was.work.planned.range s → k < length now.work.stretches
     → bytes ≡ (work_of now.work).bytes sources k
-    → IsStretchOf (marking_of now sources) k sound_name at bytes marks_name (44 + s.first)
+    → IsStretchOf (marks_of now sources) k sound_name at bytes marks_name (44 + s.first)
     (take (s.behind - s.first) (replicate 1024 1))
 placed_stretch was now k s at bytes sources e is same few place = subst (λ (x : MarkedWork). k < length x.work.stretches
-    → bytes ≡ (work_of x.work).bytes sources k → IsStretchOf (marking_of x sources) k sound_name at bytes marks_name
+    → bytes ≡ (work_of x.work).bytes sources k → IsStretchOf (marks_of x sources) k sound_name at bytes marks_name
     (44 + s.first) (take (s.behind - s.first) (replicate 1024 1))) e (λ below right. made below right)
   where
     made : k < length was.work.stretches → bytes ≡ (work_of was.work).bytes sources k
-        → IsStretchOf (marking_of was sources) k sound_name at bytes marks_name (44 + s.first)
+        → IsStretchOf (marks_of was sources) k sound_name at bytes marks_name (44 + s.first)
         (take (s.behind - s.first) (replicate 1024 1))
     made below right =
         let t = stretch_at was.work.stretches k in
@@ -219,8 +220,8 @@ placed_stretch was now k s at bytes sources e is same few place = subst (λ (x :
         let set : ones ≡ replicate (t.behind - t.first) 1 =
         take-replicate (s.behind - s.first) 1024 1 (omega (arith, few))
         ∙ ap (λ (x : Stretch). replicate (x.behind - x.first) 1) same in
-        subst (λ (x : Stretch). IsStretchOf (marking_of was sources) k sound_name at bytes marks_name (44 + x.first)
+        subst (λ (x : Stretch). IsStretchOf (marks_of was sources) k sound_name at bytes marks_name (44 + x.first)
         ones) (sym same)
-        (subst (λ (n : ℕ). IsStretchOf (marking_of was sources) k sound_name n bytes marks_name (44 + t.first) ones)
+        (subst (λ (n : ℕ). IsStretchOf (marks_of was sources) k sound_name n bytes marks_name (44 + t.first) ones)
         (sym (place ∙ ap (place_of was.work.planned.range) same))
         (job_marks was sources is.0 is.1 k bytes ones below right set))

@@ -4,9 +4,9 @@ mod Calls
 mod BlockMarks
 mod Resuming
 mod Chosen
+mod Cuts
 mod Frames
 mod Parts
 mod Ranges
 mod Steps
-mod Forms
 mod Works

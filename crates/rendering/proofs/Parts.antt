@@ -11,9 +11,9 @@ use Rattle.sound_terms.specs.Render.{Range, frames_of, render_info, rendering_of
 use Rattle.sound_terms.specs.Waves.{file_of, header_of, zeros}
 use Rattle.work_terms.specs.Disk.{Files}
 use Rattle.job_terms.specs.Workers.{jobs_over}
-use Rattle.schedule.specs.Filled.{AreApart, AreFilled, AreParts, IsFixedIn}
-use Rattle.blockcut.specs.declared.stretch.Stretch.{Stretch}
-use Rattle.blockcut.specs.Laws.{cut-apart, cut-covers, cut-few, cut-inside}
+use Rattle.execution.specs.Filled.{AreApart, AreFilled, AreParts, IsFixedIn}
+use Rattle.rendering.specs.declared.stretch.Stretch.{Stretch}
+use Rattle.rendering.specs.CutLaws.{cut-apart, cut-covers, cut-few, cut-inside}
 use Rattle.rendering.specs.Work.{IsRenderWork, RenderWork, bytes_for, heard, no_stretch, place_of, stretch_at, whole_of, work_of}
 use Rattle.rendering.specs.Written.{bytes_of_blocks, frames_before}
 use Rattle.rendering.proofs.Frames.{frames_behind, length-frames_of}

@@ -2,21 +2,19 @@
 use Rattle.std.proofs.Common.{◌≡◌, ◌≢◌, ◌∙◌, ℕ, ◌-◌, ◌/◌, ◌<◌, ◌≤◌, Bool, true, false, Option, Some, List, length, get_or, refl, sym, ap, subst, inl, inr, arith}
 use Rattle.std.specs.Prelude.{⊤, Result, Ok, Err, map}
 use Rattle.std.proofs.lemmas.List.{get_or-append_right, get_or-map, length-map}
-use Rattle.sound_terms.specs.Blocks.{block_count, block_start}
+use Rattle.sound_terms.specs.Blocks.{block_start}
 use Rattle.sound_terms.specs.Depth.{bits_of}
 use Rattle.sound_terms.specs.Render.{render_info}
 use Rattle.sound_terms.specs.Waves.{header_of, zeros}
 use Rattle.work_terms.specs.Disk.{Elapses, Files, HasRead, HasWritten, IsBeside, IsDurable}
 use Rattle.job_terms.specs.Workers.{jobs_over}
-use Rattle.blockcut.specs.Laws.{cut-covers}
-use Rattle.blockcut.specs.declared.stretch.Stretch.{Stretch}
+use Rattle.rendering.specs.declared.stretch.Stretch.{Stretch}
 use Rattle.devices.specs.Frame.{OnlyWrites}
 use Rattle.devices.specs.Views.{CrashesLeave, output_view}
 use Rattle.devices.specs.declared.bench.Bench as bench
 use Rattle.markfile.specs.Format.{AreFresh, fresh_marks, marks_name, sound_name}
 use Rattle.markfile.specs.Started.{LeavesStart}
 use Rattle.markfile.specs.Started as mark_file
-use Rattle.execution.specs.Filled.{AreFilled}
 use Rattle.execution.specs.Marking.{AreLeftBy, HoldsIn, IsRunning, LaysBy, Marking, NoneStartedBy, is_marked, is_started}
 use Rattle.execution.specs.Placed.{HasPlaced}
 use Rattle.execution.specs.Plan.{AreBlank, IsLast, Stays}
@@ -24,14 +22,14 @@ use Rattle.execution.specs.Worlds.{IsPlaced}
 use Rattle.execution.specs.declared.fault.PlaceFault.{PlaceFault}
 use Rattle.execution.specs.declared.fault.PlaceFault.TheVariants.{Mark, Write}
 use Rattle.rendering.specs.Maker.{HasSoundJobs, marks_of, plan_of}
+use Rattle.rendering.specs.MakerLaws.{some_job, started_as}
 use Rattle.rendering.specs.Marked.{IsRunOf, MarkedWork, laid_file, padded}
 use Rattle.rendering.specs.Work.{IsRenderWork, RenderWork, bytes_for, heard, no_stretch, stretch_at, work_of}
 use Rattle.rendering.specs.Written.{frames_before}
 use Rattle.rendering.proofs.BlockMarks.{names_apart}
-use Rattle.rendering.proofs.Forms.{filled_as, holds_as, runs_before, started_as}
 use Rattle.rendering.proofs.Frames.{length-frames_of}
 use Rattle.rendering.proofs.Parts.{are_apart, are_parts, bytes_product, laid_filled, zero_at}
-use Rattle.rendering.proofs.Resuming.{apart, filled_running, laid_holds, stays_beside}
+use Rattle.rendering.proofs.Resuming.{apart, laid_holds, stays_beside}
 
 -- ---- its jobs
 
@@ -53,13 +51,6 @@ sound_jobs marked is = record {
   };
   apart = λ sources. are_apart marked.work sources is;
 }
-
-some_job : (work : RenderWork) → IsRenderWork work → 0 < length work.stretches
-some_job work is =
-    let some = is.planned.some in
-    let first = cut-covers work.stretches 0 (block_count work.planned.range) 0 no_stretch is.cut (omega arith)
-    (omega (arith, some)) in
-    omega (arith, first.there)
 
 -- ---- its files
 
@@ -160,8 +151,7 @@ module _ (marked : MarkedWork) (sources : Files) (is : IsRenderWork marked.work)
       let range = marked.work.planned.range in
       let filled = laid_filled marked.work sources files (bytes_for range (range.to - range.from)) is refl there in
       subst (HoldsIn m (is_marked (fresh_marks marked.run))) (sym same)
-      (holds_as marked sources (is_marked (fresh_marks marked.run)) (files sound_name)
-      (laid_holds marked sources is run files (is_marked (fresh_marks marked.run)) fresh.unmarked filled))
+      (laid_holds marked sources is run files (is_marked (fresh_marks marked.run)) fresh.unmarked filled)
 
   pub begins_running : (done : ℕ → Bool) (o : Files → Type 0) → IsDurable sound_name files o
       → ((c : Files) → o c → c marks_name ≡ Some (fresh_marks marked.run))
@@ -232,16 +222,8 @@ pub none_begun : (marked : MarkedWork) (sources : Files) (old : Files → Type 0
 none_begun marked sources old none now each c at =
     sym (started_as (c marks_name)) ∙ beside_lays marked sources old c none (each c at)
 
--- ---- marks are found
+-- ---- which jobs are done
 
-pub filled_by : (marked : MarkedWork) (sources : Files) → IsRenderWork marked.work → IsRunOf marked.work marked.run
-    → (done : ℕ → Bool) (o : Files → Type 0) (files : Files) → IsRunning (marks_of marked sources) done o → o files
-    → AreFilled (jobs_over (plan_of marked).jobs sources) ((plan_of marked).whole sources) done files
-filled_by marked sources is run done o files runs now =
-    filled_as (jobs_over (plan_of marked).jobs sources) ((plan_of marked).whole sources) done files
-    (filled_running marked sources is run done o files (runs_before marked sources done o runs) now)
-
--- which jobs are done
 pub done_at : (stretches : List Stretch) (k : ℕ) → k < length (map (λ (s : Stretch). s.done) stretches)
     → get_or (map (λ (s : Stretch). s.done) stretches) k false ≡ (stretch_at stretches k).done
 done_at stretches k below = get_or-map (λ (s : Stretch). s.done) stretches k no_stretch false

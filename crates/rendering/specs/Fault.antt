@@ -5,12 +5,13 @@ use Rattle.work_terms.specs.Refusals.{Refusal, Nowhere}
 use Rattle.renderplan.specs.declared.fault.PlanFault as plan
 use Rattle.renderplan.specs.declared.fault.PlanFault.TheVariants as of_plan
 use Rattle.rendering.specs.declared.fault.RenderFault.{RenderFault}
-use Rattle.rendering.specs.declared.fault.RenderFault.TheVariants.{Intervals, EmptyRange, Memory}
+use Rattle.rendering.specs.declared.fault.RenderFault.TheVariants.{Intervals, EmptyRange, Memory, MarksMemory}
 
 abbrev pub number_of : RenderFault → ℕ
 number_of Intervals = 47
 number_of EmptyRange = 58
 number_of Memory = 57
+number_of MarksMemory = 69
 
 abbrev pub refusal_of : RenderFault → Refusal
 refusal_of fault = record { number = number_of fault; place = Nowhere; late = false }
@@ -20,6 +21,7 @@ abbrev pub ComesFirst : Range → RenderFault → Type 0
 ComesFirst range Intervals = ⊤
 ComesFirst range EmptyRange = range.to ≤ range.from
 ComesFirst range Memory = range.from < range.to
+ComesFirst range MarksMemory = range.from < range.to
 
 -- why a rendering isn't planned
 abbrev pub fault_of_plan : plan.PlanFault → RenderFault

@@ -1,3 +1,5 @@
+pub mod Cut
+pub mod CutLaws
 pub mod Fault
 pub mod Maker
 pub mod MakerLaws

@@ -1,16 +1,36 @@
 -- What the marks of a rendering say, in each outcome of a crash.
-use Rattle.std.proofs.Common.{◌≡◌, ◌∙◌, ℕ, ◌+◌, ◌<◌, Bool, true, Option, Some, List, ◌∷◌, ◌++◌, ◌==◌, length, length-drop, take, drop, replicate, get_or, sym, ap, arith}
+use Rattle.std.proofs.Common.{◌≡◌, ◌∙◌, ℕ, ◌+◌, ◌<◌, Bool, true, Option, None, Some, List, refl, ◌∷◌, ◌++◌, ◌==◌, length, length-drop, take, drop, replicate, get_or, sym, ap, arith}
 use Rattle.std.proofs.lemmas.Bool.Decides.{nat_tests}
 use Rattle.std.proofs.lemmas.List.{ext_get_or, get_or-drop, get_or-replicate, length-replicate, take-append-drop}
 use Rattle.sound_terms.specs.Blocks.{block_count}
 use Rattle.work_terms.specs.Disk.{Files}
-use Rattle.blockcut.specs.Laws.{IsInside, cut-covers}
+use Rattle.rendering.specs.CutLaws.{IsInside, cut-covers}
 use Rattle.markfile.specs.declared.run.RunId.{RunId}
 use Rattle.markfile.specs.Format.{head_of, marks_name, sound_name}
-use Rattle.execution.specs.Marking.{HoldsIn, IsRunning, Leaves, Marking, is_marked}
+use Rattle.markfile.specs.Started as mark_file
+use Rattle.execution.specs.Marking.{AreLeftBy, HoldsIn, IsRunning, Leaves, Marking, is_marked, is_started}
 use Rattle.rendering.specs.Maker.{IsMarkedWork, marks_of}
-use Rattle.rendering.specs.Marked.{IsAllMarked, MarkedWork, full_marks}
-use Rattle.rendering.specs.Work.{no_stretch, whole_of}
+use Rattle.rendering.specs.Marked.{IsAllMarked, IsLeftByRun, MarkedWork, full_marks}
+use Rattle.rendering.specs.Work.{IsRenderWork, RenderWork, no_stretch, whole_of}
+
+-- whether marks are started, by the words of either crate
+pub started_as : (file : Option (List ℕ)) → is_started file ≡ mark_file.is_started file
+started_as None = refl
+started_as (Some marks) = refl
+
+pub left_by_run : (m : Marking) (outcomes : Files → Type 0) → AreLeftBy (Some m) outcomes → IsLeftByRun m outcomes
+left_by_run m outcomes left c d at other started = left c d at other (started_as (c m.marks) ∙ started)
+
+pub run_leaves : (m : Marking) (outcomes : Files → Type 0) → IsLeftByRun m outcomes → AreLeftBy (Some m) outcomes
+run_leaves m outcomes left c d at other started = left c d at other (sym (started_as (c m.marks)) ∙ started)
+
+-- it has a job
+pub some_job : (work : RenderWork) → IsRenderWork work → 0 < length work.stretches
+some_job work is =
+    let some = is.planned.some in
+    let first = cut-covers work.stretches 0 (block_count work.planned.range) 0 no_stretch is.cut (omega arith)
+    (omega (arith, some)) in
+    omega (arith, first.there)
 
 -- each block is one of a job's
 block_job : (marked : MarkedWork) → IsMarkedWork marked → (b : ℕ) → b < marked.run.blocks

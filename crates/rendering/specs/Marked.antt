@@ -11,10 +11,8 @@ use Rattle.markfile.specs.Started.{is_started}
 use Rattle.markfile.specs.declared.fault.MarksFault.{MarksFault}
 use Rattle.markfile.specs.declared.fault.MarksFault.TheVariants as fault
 use Rattle.markfile.specs.declared.run.RunId.{RunId}
-use Rattle.schedule.specs.Marking.{AreTrueMarks, HoldsIn, Marking, is_marked}
-use Rattle.rendering.specs.declared.fault.LayFault.{LayFault}
-use Rattle.rendering.specs.declared.fault.LayFault.TheVariants.{Sound, Marks}
-use Rattle.rendering.specs.Work.{RenderWork, bytes_for, stretch_at, whole_of}
+use Rattle.execution.specs.Marking.{AreTrueMarks, HoldsIn, Marking, is_marked}
+use Rattle.rendering.specs.Work.{RenderWork, bytes_for}
 use Rattle.rendering.specs.Written.{frames_before}
 
 -- its jobs, and the run that its marks belong to
@@ -51,21 +49,6 @@ run_of list range = record {
   digest = sha256 (run_bytes range list);
   blocks = block_count range;
   length = file_length range;
-}
-
--- the rendered file, block by block, and its marks
-abbrev pub marking_of : MarkedWork → Files → Marking
-marking_of marked sources = record {
-  name = sound_name;
-  whole = whole_of marked.work sources;
-  count = marked.run.blocks;
-  first = block_place marked.work.planned.range;
-  last = block_end marked.work.planned.range;
-  jobs = length marked.work.stretches;
-  from = λ k. (stretch_at marked.work.stretches k).first;
-  behind = λ k. (stretch_at marked.work.stretches k).behind;
-  marks = marks_name;
-  head = head_of marked.run;
 }
 
 -- the marks of a run that is done
@@ -105,8 +88,3 @@ full_marks run = 1 ∷ (head_of run ++ replicate run.blocks 1)
 -- a file of this name is neither the rendered one nor its marks
 abbrev pub IsOther : List ℕ → Type 0
 IsOther n = (n ≢ sound_name) × (n ≢ marks_name)
-
--- the file at which the device failed
-abbrev pub lay_name : LayFault → List ℕ
-lay_name Sound = sound_name
-lay_name Marks = marks_name

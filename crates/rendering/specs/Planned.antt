@@ -9,8 +9,8 @@ use Rattle.list_terms.specs.Binding.{Binding}
 use Rattle.list_terms.specs.Heard.{project_mix, reading_of, sounds_of}
 use Rattle.list_terms.specs.Project.{ListProject}
 use Rattle.job_terms.specs.Workers.{jobs_over}
-use Rattle.schedule.specs.Filled.{AreApart, AreParts}
-use Rattle.blockcut.specs.Cut.{AreEven, IsCut}
+use Rattle.execution.specs.Filled.{AreApart, AreParts}
+use Rattle.rendering.specs.Cut.{AreEven, IsCut}
 use Rattle.sound_terms.specs.Blocks.{block_count}
 use Rattle.rendering.specs.Work.{AreAtOnce, RenderWork, done_before, whole_of, work_of}
 

@@ -12,8 +12,8 @@ use Rattle.work_terms.specs.Disk.{Files}
 use Rattle.renderplan.specs.Planned.{IsPlan, Planned}
 use Rattle.wavwrite.specs.Info.{Fits}
 use Rattle.job_terms.specs.Workers.{JobsBy}
-use Rattle.blockcut.specs.declared.stretch.Stretch.{Stretch}
-use Rattle.blockcut.specs.Cut.{AreEven, AreLongest, IsCut, IsShort, IsUniform, blocks_at_once}
+use Rattle.rendering.specs.declared.stretch.Stretch.{Stretch}
+use Rattle.rendering.specs.Cut.{AreEven, AreLongest, IsCut, IsShort, IsUniform, blocks_at_once}
 use Rattle.rendering.specs.Written.{bytes_of_blocks, frames_before}
 
 -- a plan over opened files

@@ -10,7 +10,7 @@ ghost use Rattle.rendering.specs.Written.{block_bytes, bytes_of_blocks};
 ghost use Rattle.rendering.specs.declared.fault.RenderFault.TheVariants.{Memory};
 
 use crate::RenderFault;
-use blockcut::Stretch;
+use crate::stretch::Stretch;
 use blockmachine::Machine;
 use devices::{DeviceFault, Shelf};
 use renderplan::{Plan, Program};

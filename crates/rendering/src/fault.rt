@@ -17,20 +17,12 @@ pub enum RenderFault {
     /// 58: the range ends where it begins, or before.
     #[error("the range is empty")]
     EmptyRange,
-    /// 57: no memory was left for the plan, its blocks, the header, or marks that are made with the plan.
+    /// 57: no memory was left for the plan, its blocks, or the header.
     #[error("out of memory")]
     Memory,
-}
-
-/// Why the two files of a marked rendering aren't begun or finished: the device failed at one of them.
-#[derive(Clone, Copy, Debug, PartialEq, Eq, Error)]
-pub enum LayFault {
-    /// At the rendered file.
-    #[error("the rendered file can't be written")]
-    Sound,
-    /// At its marks.
-    #[error("the marks can't be written")]
-    Marks,
+    /// 69: no memory was left for the marks that are made with the plan.
+    #[error("out of memory")]
+    MarksMemory,
 }
 
 impl RenderFault {
@@ -42,6 +34,7 @@ impl RenderFault {
             RenderFault::Intervals => 47,
             RenderFault::EmptyRange => 58,
             RenderFault::Memory => 57,
+            RenderFault::MarksMemory => 69,
         }
     }
 }

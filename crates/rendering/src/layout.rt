@@ -1,12 +1,9 @@
 // The rendered file at its full length, before its samples stand in it.
-ghost use Rattle.std.specs.Prelude.{◌≡◌, ◌≢◌, ◌++◌, ⊤, codes, false, IsTrue, List, OnOk, Some, ℕ};
+ghost use Rattle.std.specs.Prelude.{◌≡◌, ◌≢◌, ◌++◌, ⊤, codes, IsTrue, OnOk, Some};
 ghost use Rattle.sound_terms.specs.Waves.{zeros};
-ghost use Rattle.work_terms.specs.Disk.{Files, IsDurable, LeavesOthers};
+ghost use Rattle.work_terms.specs.Disk.{IsDurable, LeavesOthers};
 ghost use Rattle.devices.specs.Frame.{OnlyWrites};
-ghost use Rattle.job_terms.specs.Workers.{jobs_over};
-ghost use Rattle.schedule.specs.Filled.{AreFilled};
 ghost use Rattle.rendering.specs.Marked.{laid_file};
-ghost use Rattle.rendering.specs.Work.{whole_of, work_of};
 ghost use Rattle.rendering.specs.Written.{WritesRendering};
 
 use crate::Rendering;
@@ -37,10 +34,7 @@ fn begin<B: Bench>(bench: &mut B, head: &[u8], count: u64) -> Result<(), DeviceF
 impl<'a> Rendering<'a> {
     /// Makes the rendered file at its full length, with every sample zero. `DeviceFault` where that fails: its content
     /// is then unspecified.
-    pub fn lay_out<B: Bench>(&self, bench: &mut B) -> Result<(), DeviceFault>
-        ensures filled { IsTrue (B.honest bench.old) → (sources : Files) → OnOk result (AreFilled
-            (jobs_over (work_of self.now) sources) (λ _. whole_of self.now sources) (λ _. false)
-            (B.stored bench.new)) }
+    pub(crate) fn lay_out<B: Bench>(&self, bench: &mut B) -> Result<(), DeviceFault>
         ensures laid { IsTrue (B.honest bench.old)
             → OnOk result (B.stored bench.new (codes "render.wav") ≡ Some (laid_file self.now.planned.range)) }
         ensures beside { LeavesOthers B.may_leave B.moment B.left_since (codes "render.wav") bench.old bench.new }
@@ -51,7 +45,7 @@ impl<'a> Rendering<'a> {
     }
 
     /// Syncs the rendered file.
-    pub fn finish<B: Bench>(&self, bench: &mut B) -> Result<(), DeviceFault>
+    pub(crate) fn finish<B: Bench>(&self, bench: &mut B) -> Result<(), DeviceFault>
         ensures durable { IsTrue (B.honest bench.old)
             → OnOk result (IsDurable (codes "render.wav") (B.stored bench.new) (B.may_leave bench.new)) }
         ensures same { B.stored bench.new ≡ B.stored bench.old }

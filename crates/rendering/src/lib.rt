@@ -2,20 +2,20 @@
 #![tactic(auto)]
 
 mod blocks;
+mod cutting;
 mod fault;
-mod jobs;
 mod layout;
 mod maker;
 mod marked;
 mod options;
 mod order;
 mod span;
+mod stretch;
 mod work;
 
-pub use fault::{LayFault, RenderFault};
+pub use fault::RenderFault;
 pub use job_terms::Order;
 pub use maker::RenderingWork;
-pub use marked::MarkedRendering;
 pub use options::Options;
 pub use sound_terms::Depth;
 pub use work::{Rendered, Rendering};

@@ -11,7 +11,7 @@ ghost use Rattle.workboard.specs.Indexed.{IsOrder};
 ghost use Rattle.markfile.specs.Fault.{ReadsMarks};
 ghost use Rattle.markfile.specs.Opened.{opened_of};
 ghost use Rattle.sound_terms.specs.Blocks.{block_count};
-ghost use Rattle.blockcut.specs.Cut.{AreEven};
+ghost use Rattle.rendering.specs.Cut.{AreEven};
 ghost use Rattle.execution.specs.Filled.{AreFilled};
 ghost use Rattle.execution.specs.Marking.{AreLeftBy, IsRunningBy, LaysBy, NoneStartedBy};
 ghost use Rattle.execution.specs.Plan.{AreBlank, IsAt, Stays};
@@ -22,9 +22,9 @@ ghost use Rattle.rendering.specs.Planned.{IsRenderingBy, IsRenderingOf};
 ghost use Rattle.rendering.specs.Rendering.{HasRange, HaveChannels, render_fault, values_of};
 ghost use Rattle.rendering.specs.Work.{AreCutBy, IsRenderWork, done_before, work_of};
 
+use crate::cutting::fresh_stretches;
 use crate::marked::{FRONT, MOST_BLOCKS, count_of};
 use crate::{Options, Order, RenderFault, Rendered, Rendering};
-use blockcut::fresh_stretches;
 use devices::{Bench, DeviceFault, Shelf};
 use execution::{JobMaker, OutputFault, PlaceFault, place_marked};
 use markfile::{FreshMarks, MARKS, MarksFault, RunId, SOUND, open_marks, start};
@@ -80,7 +80,7 @@ impl<'a> Rendering<'a> {
     }
 
     /// How many jobs it has.
-    fn job_count(&self) -> u32
+    pub(crate) fn job_count(&self) -> u32
         ensures { result ≡ (work_of self.now).count }
     {
         self.stretches.len() as u32
@@ -220,7 +220,7 @@ impl<'a> RenderingWork<'a> {
                 run,
                 fresh,
             }),
-            Err(_) => Err(RenderFault::Memory),
+            Err(_) => Err(RenderFault::MarksMemory),
         }
     }
 
@@ -256,7 +256,7 @@ impl<'a> RenderingWork<'a> {
                 run,
                 fresh,
             }),
-            Err(_) => Err(RenderFault::Memory),
+            Err(_) => Err(RenderFault::MarksMemory),
         }
     }
 

@@ -5,15 +5,15 @@ ghost use Rattle.sampletime.specs.TimeCode.{day};
 ghost use Rattle.job_terms.specs.declared.Order.TheVariants.{ByTime};
 ghost use Rattle.workboard.specs.Indexed.{IsOrder};
 ghost use Rattle.sound_terms.specs.Blocks.{block_count};
-ghost use Rattle.blockcut.specs.Cut.{IsCut};
+ghost use Rattle.rendering.specs.Cut.{IsCut};
 ghost use Rattle.rendering.specs.Work.{work_of};
 
 use crate::Rendering;
 use crate::blocks::Blocks;
-use blockcut::Stretch;
+use crate::stretch::Stretch;
+use execution::{in_order_of, in_turn};
 use job_terms::Order;
 use projectcheck::Checked;
-use schedule::{JobMaker, in_order_of, in_turn};
 use sound_terms::Home;
 use std::alloc::{AllocError, Global};
 
@@ -69,7 +69,7 @@ impl<'a> Rendering<'a> {
         ensures order { IfOk result (λ jobs. IsOrder (work_of self.now).count jobs.items) }
         ensures by_time { IfOk result (λ jobs. jobs.items ≡ range_with_len 0 (work_of self.now).count) }
     {
-        in_turn(alloc, self.count()).map_err(|_| AllocError)
+        in_turn(alloc, self.job_count()).map_err(|_| AllocError)
     }
 
     fn by_source(&self, alloc: Global, checked: &Checked) -> Result<Vec<u32>, AllocError>

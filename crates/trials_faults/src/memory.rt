@@ -17,7 +17,10 @@ fn refusal(job: &Job) -> Result<Option<u8>, Fail> {
     };
     let number = fault.number();
     // a worker's memory is taken as it comes, and the bench takes memory for what it is given
-    let is_late = matches!(fault, Fault::WorkerMemory | Fault::Output(_));
+    let is_late = matches!(
+        fault,
+        Fault::WorkerMemory | Fault::BlockMemory | Fault::Output(_)
+    );
     if is_late || job.is_unchanged(bench)? {
         Ok(Some(number))
     } else {

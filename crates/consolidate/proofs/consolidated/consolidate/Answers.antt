@@ -1,6 +1,10 @@
-use Rattle.std.proofs.Common.{◌∙◌, IsTrue, None, Ok, Err, rules, subst, sym}
+use Rattle.std.proofs.Common.{◌≡◌, ◌*◌, ◌∙◌, ℕ, IsTrue, List, Ok, Option, Err, rules, subst, sym, true}
 use Rattle.std.specs.Prelude.{option_map}
 use Rattle.std.proofs.lemmas.Result.{err_from_is_err_and}
+use Rattle.devices.specs.Views.{output_view, source_view}
+use Rattle.job_terms.specs.Workers.{rounds}
+use Rattle.job_terms.specs.declared.BoardEvent.{BoardEvent}
+use Rattle.job_terms.specs.declared.Progress.{Progress}
 use Rattle.list_terms.specs.Binding.{Binding}
 use Rattle.list_terms.specs.Project.{ListProject}
 use Rattle.consolidation.specs.Consolidated.{IsWorkOf}
@@ -9,10 +13,9 @@ use Rattle.consolidate.specs.Commands.{IsConsolidation}
 use Rattle.consolidate.specs.Fault.{refusal_of}
 use Rattle.consolidate.proofs.Due.{none_due, one_accepted, one_work, opening_due_of_work}
 use Rattle.consolidation.specs.declared.written.Written as consolidation
-use Rattle.consolidate.specs.Rounds.{ConsolidatesInRounds, ConsolidatesList}
 use Rattle.consolidate.specs.declared.consolidated.Written.{Written}
 use Rattle.consolidate.proofs.First.{consolidated_first}
-use Rattle.consolidate.proofs.Rounds.{consolidates_list, ends_map, none_ended}
+use Rattle.consolidate.proofs.MediaCalls.{answers_err, answers_ok, listed_media, turned_early}
 use Rattle.consolidate.proofs.Stores.{answered_as, opened_before, refused_as, stopped_early}
 use Rattle.consolidate.proofs.consolidated.consolidate.Goals as goal
 
@@ -36,11 +39,7 @@ returns-in_err-checked-clause-consolidated g c =
       named = search rules;
       list_last = search rules;
       report_last = search rules;
-      rounds = λ honest right. none_ended Written c.args.list.now fault
-          (ConsolidatesList _ c.args.list.now c.args.handle
-          (option_map (λ (v : _). v.now) c.args.report) sources (g.S.Shelf.failures c.args.shelf.now)
-          (g.B.Bench.failures c.args.bench.now) (g.S.Shelf.failures c.open.new.shelf)
-          (g.B.Bench.failures c.args.bench.now) (g.B.Bench.stored c.args.bench.now)) told.own;
+      outcome = λ honest right late. absurd (turned_early (refusal_of fault) told.turn late);
       stores = stopped_early g.S.Shelf g.B.Bench c.args.shelf.now c.open.new.shelf c.args.bench.now fault
           (g.met.B.Bench.only_now c.args.bench.now) told.only_reads (search rules);
     })
@@ -51,15 +50,19 @@ returns-in_err-written-clause-consolidated g c =
     let fault = c.in_err-written.field-0.0 in
     let opened = c.in_ok-checked.ensures in
     let told = c.in_err-written.ensures in
+    let asked : Option (List ℕ) = option_map (λ (v : _). v.now) c.args.report in
+    let events : ℕ → List BoardEvent = λ n. rounds (3 * n) in
+    let finished : consolidation.Written → Progress → Type 0 = λ _ progress. progress.finished ≡ true in
+    let finished_too : Written → Progress → Type 0 = λ _ progress. progress.finished ≡ true in
     let list = c.args.list.now in
     let leave : Leaving = left_by (λ pass. (goal.Pass-dyn g (pass.vtable, pass.value)).looking pass.value)
     (λ pass. (goal.Pass-dyn g (pass.vtable, pass.value)).gives pass.value) c.args.passes.items in
     let sources = g.S.Shelf.stored c.args.shelf.now in
     let checked = c.in_ok-checked.field-0.checked in
     rw (p.1, p.2) (record {
-      same_sound = search rules;
-      written = search rules;
-      durable = search rules;
+      same_sound = λ honest right. tt;
+      written = λ honest right. tt;
+      durable = λ right. tt;
       refusals = λ honest project binding work accepted is_work.
           let honest_now : IsTrue (g.S.Shelf.honest c.open.new.shelf) =
           rw c.open.ensures.only_reads.honest_same honest in
@@ -73,28 +76,17 @@ returns-in_err-written-clause-consolidated g c =
       bad_text = λ refusal bad. let same = sym opened.spelt ∙ bad in absurd (cc);
       own = told.own list;
       in_turn = λ honest. consolidated_first _ list sources fault told.own;
-      named = search rules;
-      list_last = search rules;
-      report_last = search rules;
-      rounds = λ honest right. ends_map consolidation.Written Written fault
-          (ConsolidatesInRounds leave checked.project checked.bound c.args.handle
-          (option_map (λ (v : _). v.now) c.args.report) (g.S.Shelf.stored c.open.new.shelf)
-          (g.S.Shelf.failures c.open.new.shelf) (g.B.Bench.failures c.args.bench.now)
-          (g.S.Shelf.failures c.consolidate_checked.new.shelf) (g.B.Bench.failures c.consolidate_checked.new.bench)
-          (g.B.Bench.stored c.consolidate_checked.new.bench))
-          (ConsolidatesList leave list c.args.handle (option_map (λ (v : _). v.now) c.args.report) sources
-          (g.S.Shelf.failures c.args.shelf.now) (g.B.Bench.failures c.args.bench.now)
-          (g.S.Shelf.failures c.consolidate_checked.new.shelf) (g.B.Bench.failures c.consolidate_checked.new.bench)
-          (g.B.Bench.stored c.consolidate_checked.new.bench))
-          (λ ended run. consolidates_list leave list c.args.handle
-          (option_map (λ (v : _). v.now) c.args.report) checked.project checked.bound sources
-          (g.S.Shelf.stored c.open.new.shelf) (g.S.Shelf.failures c.args.shelf.now)
-          (g.S.Shelf.failures c.open.new.shelf) (g.B.Bench.failures c.args.bench.now)
-          (g.S.Shelf.failures c.consolidate_checked.new.shelf) (g.B.Bench.failures c.consolidate_checked.new.bench)
-          (g.B.Bench.stored c.consolidate_checked.new.bench) ended
-          opened.only_reads.same (opened.only_reads.cause.left tt) (opened.accepted honest) run)
-          (told.rounds (rw c.open.ensures.only_reads.honest_same honest) right list
-          (rw c.open.ensures.only_reads.same (opened.accepted honest)));
+      named = told.named;
+      list_last = told.list_last;
+      report_last = told.report_last;
+      outcome = λ honest right late. listed_media g.S.Shelf c.args.shelf.now c.open.new.shelf opened.only_reads.same
+          (opened.only_reads.cause.left tt) consolidation.Written Written leave list checked.project checked.bound
+          c.args.handle asked events finished finished_too (source_view g.S.Shelf c.consolidate_checked.new.shelf)
+          (output_view g.B.Bench c.args.bench.now) (output_view g.B.Bench c.consolidate_checked.new.bench) (Err fault)
+          (Err fault) (opened.accepted honest)
+          (λ fault_for ended. answers_err consolidation.Written Written fault_for finished finished_too fault ended)
+          (told.outcome (rw c.open.ensures.only_reads.honest_same honest) right list
+          (rw c.open.ensures.only_reads.same (opened.accepted honest)) late);
       stores = opened_before g.S.Shelf g.B.Bench c.args.shelf.now c.open.new.shelf c.consolidate_checked.new.shelf
           c.args.bench.now c.consolidate_checked.new.bench (Err fault) opened.only_reads
           (refused_as g.S.Shelf g.B.Bench consolidation.Written Written c.open.new.shelf
@@ -105,6 +97,16 @@ pub returns-clause-consolidated : goal.returns-clause-consolidated
 returns-clause-consolidated g c =
     let opened = c.in_ok-checked.ensures in
     let told = c.in_ok-written.ensures in
+    let answer : Written = record {
+      media = c.in_ok-written.written.media;
+      entries = c.in_ok-written.written.entries;
+      sizes = c.in_ok-written.written.sizes;
+      notices = c.in_ok-checked.field-0.notices;
+    } in
+    let asked : Option (List ℕ) = option_map (λ (v : _). v.now) c.args.report in
+    let events : ℕ → List BoardEvent = λ n. rounds (3 * n) in
+    let finished : consolidation.Written → Progress → Type 0 = λ _ progress. progress.finished ≡ true in
+    let finished_too : Written → Progress → Type 0 = λ _ progress. progress.finished ≡ true in
     let list = c.args.list.now in
     let handle = c.args.handle in
     let leave : Leaving = left_by (λ pass. (goal.Pass-dyn g (pass.vtable, pass.value)).looking pass.value)
@@ -115,7 +117,8 @@ returns-clause-consolidated g c =
     let honest_now : IsTrue (g.S.Shelf.honest c.args.shelf.now) → IsTrue (g.S.Shelf.honest c.open.new.shelf) =
     λ honest. rw c.open.ensures.only_reads.honest_same honest in
     record {
-      same_sound = search rules;
+      same_sound = λ honest right. rw c.open.ensures.only_reads.same at (told.same_sound (honest_now honest) right list
+          (rw c.open.ensures.only_reads.same (opened.accepted honest)));
       written = λ honest_shelf honest_bench. record {
         project = project;
         binding = binding;
@@ -125,7 +128,7 @@ returns-clause-consolidated g c =
             (rw c.open.ensures.only_reads.same (opened.accepted honest_shelf)));
         notices = opened.notices;
       };
-      durable = search rules;
+      durable = told.durable;
       refusals = λ honest other bound work accepted is_work.
           let same = one_accepted list sources project other binding bound (opened.accepted honest) accepted in
           let now : IsWorkOf leave project binding handle (g.S.Shelf.stored c.open.new.shelf) work =
@@ -138,17 +141,17 @@ returns-clause-consolidated g c =
       bad_text = λ refusal bad. (tt, λ _. let same = sym opened.spelt ∙ bad in cc);
       own = tt;
       in_turn = λ honest. tt;
-      named = search rules;
-      list_last = search rules;
-      report_last = search rules;
-      rounds = λ honest right. consolidates_list leave list handle
-          (option_map (λ (v : _). v.now) c.args.report) project binding sources
-          (g.S.Shelf.stored c.open.new.shelf) (g.S.Shelf.failures c.args.shelf.now)
-          (g.S.Shelf.failures c.open.new.shelf) (g.B.Bench.failures c.args.bench.now)
-          (g.S.Shelf.failures c.consolidate_checked.new.shelf) (g.B.Bench.failures c.consolidate_checked.new.bench)
-          (g.B.Bench.stored c.consolidate_checked.new.bench) None
-          opened.only_reads.same (opened.only_reads.cause.left tt) (opened.accepted honest)
-          (told.rounds (honest_now honest) right list (rw c.open.ensures.only_reads.same (opened.accepted honest)));
+      named = told.named;
+      list_last = λ right. tt;
+      report_last = λ right. tt;
+      outcome = λ honest right begun. listed_media g.S.Shelf c.args.shelf.now c.open.new.shelf opened.only_reads.same
+          (opened.only_reads.cause.left tt) consolidation.Written Written leave list project binding handle asked events
+          finished finished_too (source_view g.S.Shelf c.consolidate_checked.new.shelf)
+          (output_view g.B.Bench c.args.bench.now) (output_view g.B.Bench c.consolidate_checked.new.bench)
+          (Ok c.in_ok-written.written) (Ok answer) (opened.accepted honest)
+          (λ fault_for ended. answers_ok consolidation.Written Written fault_for finished finished_too
+          c.in_ok-written.written answer ended (λ progress is. is))
+          (told.outcome (honest_now honest) right list (rw c.open.ensures.only_reads.same (opened.accepted honest)) tt);
       stores = opened_before g.S.Shelf g.B.Bench c.args.shelf.now c.open.new.shelf c.consolidate_checked.new.shelf
           c.args.bench.now c.consolidate_checked.new.bench (Ok _) opened.only_reads
           (answered_as g.S.Shelf g.B.Bench consolidation.Written Written c.open.new.shelf

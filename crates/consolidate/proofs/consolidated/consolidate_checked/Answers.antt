@@ -1,143 +1,68 @@
-use Rattle.std.proofs.Common.{Bool, IsTrue, None, subst, sym}
-use Rattle.std.specs.Prelude.{option_map}
-use Rattle.work_terms.specs.Disk.{Files}
-use Rattle.schedule.specs.Run.{HasRoom}
-use Rattle.consolidation.specs.Consolidated as spec
-use Rattle.consolidation.specs.Consolidated.{AreDurable, IsElsewhere}
-use Rattle.consolidation.specs.Jobs.{work_of}
-use Rattle.consolidation.specs.Work.{SoundsTheSame}
-use Rattle.consolidation.specs.declared.written.Written as consolidation
-use Rattle.consolidate.specs.Own.{IsOfConsolidation}
-use Rattle.consolidate.specs.Rounds.{ConsolidatesInRounds}
+use Rattle.std.proofs.Common.{◌*◌, ◌∙◌, ℕ, List, Option, ap, length, refl, subst, sym}
+use Rattle.std.specs.Prelude.{is_some, option_map}
+use Rattle.work_terms.specs.Refusals.{IsDue, Refusal}
+use Rattle.devices.specs.Views.{output_view, source_view}
+use Rattle.job_terms.specs.Workers.{rounds}
 use Rattle.list_terms.specs.Heard.{sounds_of}
 use Rattle.passes.specs.Left.{Leaving, left_by}
+use Rattle.execution.specs.View.{hands_at}
+use Rattle.consolidation.specs.Consolidated.{work_fault}
 use Rattle.consolidation.specs.Planned.{MediaPlan}
+use Rattle.consolidation.specs.declared.written.Written.{Written}
+use Rattle.consolidate.specs.Fault.{refusal_of}
+use Rattle.consolidate.specs.declared.fault.Fault.TheVariants as fault
+use Rattle.consolidate.proofs.MediaCalls.{answers_for, called, fresh, reports_all}
+use Rattle.consolidate.proofs.OfProject.{asked_some, consolidates, refused}
 use Rattle.consolidate.proofs.Planned.{no_board, not_planned}
-use Rattle.consolidate.proofs.Rounds.{consolidates_from, ends_map, ready}
 use Rattle.consolidate.proofs.consolidated.consolidate_checked.Goals as goal
 
-pub write_consolidation-requires-clause-room : goal.write_consolidation-requires-clause-room
-write_consolidation-requires-clause-room g c =
-    subst (λ (plan : MediaPlan). HasRoom (work_of plan) c.in-Ok-fresh_start.start.worker.room) c.pieces-pieces.ensures.lent
-    c.in-Ok-fresh_start.ensures.room
+pub returns-in-Err : goal.returns-in-Err
+returns-in-Err g c =
+    let is = c.of_consolidation.ensures.refusal in
+    refused g.S.Shelf g.B.Bench _ _ _ _ c.args.shelf.now c.plan.new.shelf c.args.bench.now c.of_consolidation.result
+    (ap (λ (r : Refusal). r.late) is)
+    (λ honest work is_work. subst (λ (r : Refusal). IsDue r (work_fault work)) (sym is)
+    (c.in-Err.ensures.refusals honest work is_work)) _ (λ (n : ℕ). rounds (3 * n))
+    (λ text. c.of_consolidation.ensures.own _ text)
+    (not_planned g.S.Shelf g.B.Bench MediaPlan Written (sounds_of c.args.checked.bound) c.args.shelf.now
+    c.plan.new.shelf c.args.bench.now c.in-Err.fault c.of_consolidation.result
+    (g.met.B.Bench.only_now c.args.bench.now) is c.of_consolidation.ensures.names c.in-Err.ensures.only_reads)
 
-pub returns-in-Ok-write_consolidation-clause-same_sound : goal.returns-in-Ok-write_consolidation-clause-same_sound
-returns-in-Ok-write_consolidation-clause-same_sound g c honest right text accepted =
+pub returns-in-Err-execution_of : goal.returns-in-Err-execution_of
+returns-in-Err-execution_of g c = rw c.in-Err-execution_of.ensures.memory
+    (refused g.S.Shelf g.B.Bench _ _ _ _ c.args.shelf.now c.plan.new.shelf c.args.bench.now fault.BoardMemory refl
+    (λ honest work is_work. subst (λ (due : Option Refusal). IsDue (refusal_of fault.BoardMemory) due)
+    (sym (c.in-Ok.ensures.refusals honest work is_work)) tt) _ (λ (n : ℕ). rounds (3 * n)) (λ text. tt)
+    (no_board g.S.Shelf g.B.Bench Written c.args.shelf.now c.plan.new.shelf c.args.bench.now
+    (g.met.B.Bench.only_now c.args.bench.now) c.in-Ok.ensures.only_reads))
+
+pub returns : goal.returns
+returns g c =
     let leave : Leaving = left_by (λ pass. (goal.Pass-dyn g (pass.vtable, pass.value)).looking pass.value)
     (λ pass. (goal.Pass-dyn g (pass.vtable, pass.value)).gives pass.value) c.args.passes.items in
-    let now = ready leave text c.args.checked.project c.args.checked.bound c.args.handle
-    (option_map (λ (v : _). v.now) c.args.report) (g.S.Shelf.honest
-    c.args.shelf.now) (g.S.Shelf.stored c.args.shelf.now) (g.S.Shelf.stored c.plan.new.shelf)
-    c.in-Ok.consolidation c.in-Ok.ensures.only_reads.same honest accepted c.in-Ok.ensures.planned
-    (c.in-Ok.ensures.there (g.S.Shelf.stored c.args.shelf.now) accepted.bound) in
-    subst (λ (f : Files). SoundsTheSame text f (g.B.Bench.stored c.write_consolidation.new.bench))
-    c.in-Ok.ensures.only_reads.same
-    (c.in-Ok-write_consolidation.ensures.same_sound (subst IsTrue (sym c.in-Ok.ensures.only_reads.honest_same) honest)
-    right text leave c.args.checked.project c.args.checked.bound c.args.handle
-    (option_map (λ (v : _). v.now) c.args.report) now.0 now.1 now.2)
-
-pub returns-in-Ok-write_consolidation-clause-written : goal.returns-in-Ok-write_consolidation-clause-written
-returns-in-Ok-write_consolidation-clause-written g c honest right text accepted =
-    let leave : Leaving = left_by (λ pass. (goal.Pass-dyn g (pass.vtable, pass.value)).looking pass.value)
-    (λ pass. (goal.Pass-dyn g (pass.vtable, pass.value)).gives pass.value) c.args.passes.items in
-    let now = ready leave text c.args.checked.project c.args.checked.bound c.args.handle
-    (option_map (λ (v : _). v.now) c.args.report) (g.S.Shelf.honest
-    c.args.shelf.now) (g.S.Shelf.stored c.args.shelf.now) (g.S.Shelf.stored c.plan.new.shelf)
-    c.in-Ok.consolidation c.in-Ok.ensures.only_reads.same honest accepted c.in-Ok.ensures.planned
-    (c.in-Ok.ensures.there (g.S.Shelf.stored c.args.shelf.now) accepted.bound) in
-    subst (λ (f : Files). spec.IsConsolidated leave c.args.checked.project c.args.checked.bound c.args.handle
-    (option_map (λ (v : _). v.now) c.args.report) f
-    (g.B.Bench.stored c.args.bench.now) (g.B.Bench.stored c.write_consolidation.new.bench)
-    c.in-Ok-write_consolidation.written) c.in-Ok.ensures.only_reads.same
-    (c.in-Ok-write_consolidation.ensures.written (subst IsTrue (sym c.in-Ok.ensures.only_reads.honest_same) honest)
-    right leave c.args.checked.project c.args.checked.bound c.args.handle
-    (option_map (λ (v : _). v.now) c.args.report) now.1 now.2)
-
-pub returns-in-Ok-write_consolidation-clause-rounds : goal.returns-in-Ok-write_consolidation-clause-rounds
-returns-in-Ok-write_consolidation-clause-rounds g c honest right text accepted =
-    let leave : Leaving = left_by (λ pass. (goal.Pass-dyn g (pass.vtable, pass.value)).looking pass.value)
-    (λ pass. (goal.Pass-dyn g (pass.vtable, pass.value)).gives pass.value) c.args.passes.items in
-    let now = ready leave text c.args.checked.project c.args.checked.bound c.args.handle
-    (option_map (λ (v : _). v.now) c.args.report) (g.S.Shelf.honest
-    c.args.shelf.now) (g.S.Shelf.stored c.args.shelf.now) (g.S.Shelf.stored c.plan.new.shelf)
-    c.in-Ok.consolidation c.in-Ok.ensures.only_reads.same honest accepted c.in-Ok.ensures.planned
-    (c.in-Ok.ensures.there (g.S.Shelf.stored c.args.shelf.now) accepted.bound) in
-    consolidates_from leave c.args.checked.project c.args.checked.bound c.args.handle
-    (option_map (λ (v : _). v.now) c.args.report) (g.S.Shelf.stored
-    c.args.shelf.now) (g.S.Shelf.stored c.plan.new.shelf) (g.S.Shelf.failures c.args.shelf.now)
-    (g.S.Shelf.failures c.plan.new.shelf) (g.B.Bench.failures c.args.bench.now) (g.S.Shelf.failures
-    c.write_consolidation.new.shelf) (g.B.Bench.failures c.write_consolidation.new.bench)
-    (g.B.Bench.stored c.write_consolidation.new.bench) None c.in-Ok.ensures.only_reads.same
-    (c.in-Ok.ensures.only_reads.cause.left tt)
-    (c.in-Ok-write_consolidation.ensures.rounds (subst IsTrue (sym c.in-Ok.ensures.only_reads.honest_same) honest)
-    right leave c.args.checked.project c.args.checked.bound c.args.handle
-    (option_map (λ (v : _). v.now) c.args.report) now.1 now.2)
-
-pub returns-in-Err-write_consolidation-clause-rounds : goal.returns-in-Err-write_consolidation-clause-rounds
-returns-in-Err-write_consolidation-clause-rounds g c honest right text accepted =
-    let leave : Leaving = left_by (λ pass. (goal.Pass-dyn g (pass.vtable, pass.value)).looking pass.value)
-    (λ pass. (goal.Pass-dyn g (pass.vtable, pass.value)).gives pass.value) c.args.passes.items in
-    let now = ready leave text c.args.checked.project c.args.checked.bound c.args.handle
-    (option_map (λ (v : _). v.now) c.args.report) (g.S.Shelf.honest
-    c.args.shelf.now) (g.S.Shelf.stored c.args.shelf.now) (g.S.Shelf.stored c.plan.new.shelf)
-    c.in-Ok.consolidation c.in-Ok.ensures.only_reads.same honest accepted c.in-Ok.ensures.planned
-    (c.in-Ok.ensures.there (g.S.Shelf.stored c.args.shelf.now) accepted.bound) in
-    ends_map consolidation.Written consolidation.Written c.in-Err-write_consolidation.fault
-    (ConsolidatesInRounds leave c.args.checked.project c.args.checked.bound c.args.handle
-    (option_map (λ (v : _). v.now) c.args.report) (g.S.Shelf.stored
-    c.plan.new.shelf) (g.S.Shelf.failures c.plan.new.shelf) (g.B.Bench.failures c.args.bench.now)
-    (g.S.Shelf.failures c.write_consolidation.new.shelf) (g.B.Bench.failures c.write_consolidation.new.bench)
-    (g.B.Bench.stored c.write_consolidation.new.bench))
-    (ConsolidatesInRounds leave c.args.checked.project c.args.checked.bound c.args.handle
-    (option_map (λ (v : _). v.now) c.args.report) (g.S.Shelf.stored
-    c.args.shelf.now) (g.S.Shelf.failures c.args.shelf.now) (g.B.Bench.failures c.args.bench.now)
-    (g.S.Shelf.failures c.write_consolidation.new.shelf) (g.B.Bench.failures c.write_consolidation.new.bench)
-    (g.B.Bench.stored c.write_consolidation.new.bench))
-    (λ ended run. consolidates_from leave c.args.checked.project c.args.checked.bound c.args.handle
-    (option_map (λ (v : _). v.now) c.args.report) (g.S.Shelf.stored
-    c.args.shelf.now) (g.S.Shelf.stored c.plan.new.shelf) (g.S.Shelf.failures c.args.shelf.now)
-    (g.S.Shelf.failures c.plan.new.shelf) (g.B.Bench.failures c.args.bench.now) (g.S.Shelf.failures
-    c.write_consolidation.new.shelf) (g.B.Bench.failures c.write_consolidation.new.bench)
-    (g.B.Bench.stored c.write_consolidation.new.bench) ended c.in-Ok.ensures.only_reads.same
-    (c.in-Ok.ensures.only_reads.cause.left tt) run)
-    (c.in-Err-write_consolidation.ensures.rounds (subst IsTrue (sym c.in-Ok.ensures.only_reads.honest_same) honest)
-    right leave c.args.checked.project c.args.checked.bound c.args.handle
-    (option_map (λ (v : _). v.now) c.args.report) now.1 now.2)
-
-pub returns-in-Err-clause-stores : goal.returns-in-Err-clause-stores
-returns-in-Err-clause-stores g c = not_planned g.S.Shelf g.B.Bench MediaPlan consolidation.Written
-    (sounds_of c.args.checked.bound) c.args.shelf.now c.plan.new.shelf c.args.bench.now c.in-Err.fault
-    c.of_consolidation.result (g.met.B.Bench.only_now c.args.bench.now) c.of_consolidation.ensures.refusal
-    c.of_consolidation.ensures.names c.in-Err.ensures.only_reads
-
-pub returns-in-Err-fresh_start-clause-stores : goal.returns-in-Err-fresh_start-clause-stores
-returns-in-Err-fresh_start-clause-stores g c = no_board g.S.Shelf g.B.Bench consolidation.Written c.args.shelf.now
-    c.plan.new.shelf c.args.bench.now (g.met.B.Bench.only_now c.args.bench.now) c.in-Ok.ensures.only_reads
-
-pub returns-in-Err-in_turn-clause-stores : goal.returns-in-Err-in_turn-clause-stores
-returns-in-Err-in_turn-clause-stores g c = no_board g.S.Shelf g.B.Bench consolidation.Written c.args.shelf.now
-    c.plan.new.shelf c.args.bench.now (g.met.B.Bench.only_now c.args.bench.now) c.in-Ok.ensures.only_reads
-
-pub returns-in-Err-write_consolidation-clause-own : goal.returns-in-Err-write_consolidation-clause-own
-returns-in-Err-write_consolidation-clause-own g c text =
-    subst (λ (b : Bool). IsOfConsolidation b text c.in-Err-write_consolidation.fault)
-    c.in-Ok.ensures.planned.is_asked (c.in-Err-write_consolidation.ensures.own text)
-
-pub returns-in-Err-write_consolidation-clause-named : goal.returns-in-Err-write_consolidation-clause-named
-returns-in-Err-write_consolidation-clause-named g c right n away =
-    c.in-Err-write_consolidation.ensures.named right n
-    (subst (λ (b : Bool). IsElsewhere b 32767 n) (sym c.in-Ok.ensures.planned.is_asked) away)
-
-pub returns-in-Ok-write_consolidation-clause-named : goal.returns-in-Ok-write_consolidation-clause-named
-returns-in-Ok-write_consolidation-clause-named g c right n away =
-    c.in-Ok-write_consolidation.ensures.named right n
-    (subst (λ (b : Bool). IsElsewhere b 32767 n) (sym c.in-Ok.ensures.planned.is_asked) away)
-
-pub returns-in-Ok-write_consolidation-clause-durable : goal.returns-in-Ok-write_consolidation-clause-durable
-returns-in-Ok-write_consolidation-clause-durable g c right =
-    subst (λ (b : Bool). AreDurable b c.in-Ok-write_consolidation.written.media
-    (g.B.Bench.stored c.write_consolidation.new.bench) (g.B.Bench.may_leave c.write_consolidation.new.bench))
-    c.in-Ok.ensures.planned.is_asked (c.in-Ok-write_consolidation.ensures.durable right)
-
-pub returns-in-Err-clause-own : goal.returns-in-Err-clause-own
-returns-in-Err-clause-own g c text = c.of_consolidation.ensures.own _ text
+    let asked : Option (List ℕ) = option_map (λ (v : _). v.now) c.args.report in
+    let mid = c.plan.new.shelf in
+    let new = c.execute-ended.new.shelf in
+    let before = c.args.bench.now in
+    let after = c.execute-ended.new.bench in
+    let plan : MediaPlan = c.in-Ok.consolidation in
+    let planned = c.in-Ok.ensures in
+    let whole = c.outcome-written.ensures in
+    let run = c.in-Ok-execution_of.ensures in
+    let started = c.in-Ok-execution_of.execution in
+    let ended = c.execute-ended.result in
+    let executed = c.execute-ended.ensures in
+    let board = c.execute-ended.new.self.board in
+    let events : ℕ → List _ = λ n. rounds (3 * n) in
+    consolidates g.S.Shelf g.B.Bench leave c.args.checked.project c.args.checked.bound c.args.handle asked plan
+    c.outcome-written.result c.args.shelf.now mid new before after board events _ ended planned.planned planned.there
+    planned.fits planned.refusals planned.only_reads whole.value whole.names whole.same_sound whole.consolidated
+    (called events plan started.work _ started.board board (hands_at started) (source_view g.S.Shelf mid)
+    (source_view g.S.Shelf new) (output_view g.B.Bench before) (output_view g.B.Bench after) _ ended run.work run.board
+    run.idle executed.executed)
+    (fresh plan started.board (source_view g.S.Shelf mid) (output_view g.B.Bench before) run.board run.undone)
+    c.answer_of.result (reports_all board ended executed.reported (executed.finished run.rest (run.idle 1))) (λ is. executed.memory is)
+    (λ is. executed.job_memory is)
+    (answers_for Written _ c.answer_of.result ended c.outcome-written.result.media (length plan.runs) c.is_some.result
+    (is_some asked) (ap (λ (w : Written). w.media) whole.value)
+    (c.is_some.ensures ∙ sym (asked_some (λ (v : _). v.now) c.args.report)) c.answer_of.ensures)

@@ -1,15 +1,16 @@
-use Rattle.std.proofs.Common.{◌∙◌, IsTrue, None, Some, Ok, Err, rules, subst, sym}
+use Rattle.std.proofs.Common.{◌≡◌, ◌∙◌, IsTrue, None, Ok, Err, rules, subst, sym}
 use Rattle.std.proofs.lemmas.Result.{err_from_is_err_and}
+use Rattle.devices.specs.Views.{output_view, source_view}
+use Rattle.job_terms.specs.declared.Progress.{Progress}
 use Rattle.list_terms.specs.Binding.{Binding}
 use Rattle.list_terms.specs.Project.{ListProject}
 use Rattle.consolidation.specs.Consolidated.{IsWorkOf}
 use Rattle.passes.specs.Left.{Leaving, left_by, standard_left}
 use Rattle.consolidate.specs.Fault.{refusal_of}
-use Rattle.consolidate.specs.Schedules.{IsConsolidationSchedule, SchedulesMedia, SchedulesMediaOf}
+use Rattle.consolidate.specs.Schedules.{IsConsolidationSchedule}
 use Rattle.consolidate.proofs.Due.{none_due, one_accepted, one_work, opening_due_of_work}
-use Rattle.consolidate.proofs.Events.{events_map, none_done}
 use Rattle.consolidate.proofs.First.{remade_first}
-use Rattle.consolidate.proofs.Media.{schedules_media_of}
+use Rattle.consolidate.proofs.MediaCalls.{listed_media, turned_early}
 use Rattle.consolidate.proofs.Stores.{opened_before, stopped_early}
 use Rattle.consolidate.proofs.remade.schedule_media.Goals as goal
 
@@ -21,10 +22,7 @@ returns-in_err-checked-clause-scheduled g c =
     let list = c.args.list.now in
     let sources = g.S.Shelf.stored c.args.shelf.now in
     rw (p.1, p.2) (record {
-      ran = λ honest right. none_done list fault
-          (SchedulesMediaOf _ list c.args.handle c.args.events.now sources (g.S.Shelf.failures c.args.shelf.now)
-          (g.B.Bench.failures c.args.bench.now) (g.S.Shelf.failures c.open.new.shelf) (g.B.Bench.failures c.args.bench.now)
-          (g.B.Bench.stored c.args.bench.now)) told.own;
+      outcome = λ honest right late. absurd (turned_early (refusal_of fault) told.turn late);
       finished = search rules;
       durable = search rules;
       refusals = λ honest project binding work accepted is_work.
@@ -45,27 +43,20 @@ returns-in-Err-clause-scheduled g c =
     let fault = c.in-Err.fault in
     let opened = c.in_ok-checked.ensures in
     let told = c.in-Err.ensures in
+    let reports : Progress → Progress → Type 0 = λ answer progress. answer ≡ progress in
     let list = c.args.list.now in
     let checked = c.in_ok-checked.field-0.checked in
     let leave : Leaving = left_by (λ pass. (goal.Pass-dyn g (pass.vtable, pass.value)).looking pass.value)
     (λ pass. (goal.Pass-dyn g (pass.vtable, pass.value)).gives pass.value) c.args.passes.items in
     let sources = g.S.Shelf.stored c.args.shelf.now in
     record {
-      ran = λ honest right. events_map fault
-          (SchedulesMedia leave checked.project checked.bound c.args.handle c.args.events.now
-          (g.S.Shelf.stored c.open.new.shelf) (g.S.Shelf.failures c.open.new.shelf)
-          (g.B.Bench.failures c.args.bench.now) (g.S.Shelf.failures c.schedule_consolidation.new.shelf) (g.B.Bench.failures c.schedule_consolidation.new.bench)
-          (g.B.Bench.stored c.schedule_consolidation.new.bench))
-          (SchedulesMediaOf leave list c.args.handle c.args.events.now sources (g.S.Shelf.failures c.args.shelf.now)
-          (g.B.Bench.failures c.args.bench.now) (g.S.Shelf.failures c.schedule_consolidation.new.shelf) (g.B.Bench.failures c.schedule_consolidation.new.bench)
-          (g.B.Bench.stored c.schedule_consolidation.new.bench))
-          (λ progress ended run. schedules_media_of leave list c.args.handle checked.project checked.bound
-          c.args.events.now sources (g.S.Shelf.stored c.open.new.shelf) (g.S.Shelf.failures c.args.shelf.now)
-          (g.S.Shelf.failures c.open.new.shelf) (g.B.Bench.failures c.args.bench.now)
-          (g.S.Shelf.failures c.schedule_consolidation.new.shelf) (g.B.Bench.failures c.schedule_consolidation.new.bench) (g.B.Bench.stored c.schedule_consolidation.new.bench) progress ended
-          opened.only_reads.same (opened.only_reads.cause.left tt) (opened.accepted honest) run)
-          (told.ran (rw c.open.ensures.only_reads.honest_same honest) right list
-          (rw c.open.ensures.only_reads.same (opened.accepted honest)));
+      outcome = λ honest right begun. listed_media g.S.Shelf c.args.shelf.now c.open.new.shelf opened.only_reads.same
+          (opened.only_reads.cause.left tt) Progress Progress leave list checked.project checked.bound c.args.handle None
+          (λ _. c.args.events.now) reports reports (source_view g.S.Shelf c.schedule_consolidation.new.shelf)
+          (output_view g.B.Bench c.args.bench.now) (output_view g.B.Bench c.schedule_consolidation.new.bench) (Err fault) (Err fault)
+          (opened.accepted honest) (λ fault_for ended answers. answers)
+          (told.outcome (rw c.open.ensures.only_reads.honest_same honest) right list
+          (rw c.open.ensures.only_reads.same (opened.accepted honest)) begun);
       finished = λ honest right. tt;
       durable = λ right. tt;
       refusals = λ honest project binding work accepted is_work.
@@ -91,6 +82,7 @@ pub returns-in-Ok-clause-scheduled : goal.returns-in-Ok-clause-scheduled
 returns-in-Ok-clause-scheduled g c =
     let opened = c.in_ok-checked.ensures in
     let told = c.in-Ok.ensures in
+    let reports : Progress → Progress → Type 0 = λ answer progress. answer ≡ progress in
     let list = c.args.list.now in
     let handle = c.args.handle in
     let checked = c.in_ok-checked.field-0.checked in
@@ -102,12 +94,13 @@ returns-in-Ok-clause-scheduled g c =
     let honest_now : IsTrue (g.S.Shelf.honest c.args.shelf.now) → IsTrue (g.S.Shelf.honest c.open.new.shelf) =
     λ honest. rw c.open.ensures.only_reads.honest_same honest in
     record {
-      ran = λ honest right. schedules_media_of leave list c.args.handle checked.project checked.bound
-          c.args.events.now sources (g.S.Shelf.stored c.open.new.shelf) (g.S.Shelf.failures c.args.shelf.now)
-          (g.S.Shelf.failures c.open.new.shelf) (g.B.Bench.failures c.args.bench.now)
-          (g.S.Shelf.failures c.schedule_consolidation.new.shelf) (g.B.Bench.failures c.schedule_consolidation.new.bench) (g.B.Bench.stored c.schedule_consolidation.new.bench) (Some c.in-Ok.progress) None
-          opened.only_reads.same (opened.only_reads.cause.left tt) (opened.accepted honest)
-          (told.ran (honest_now honest) right list (rw c.open.ensures.only_reads.same (opened.accepted honest)));
+      outcome = λ honest right begun. listed_media g.S.Shelf c.args.shelf.now c.open.new.shelf opened.only_reads.same
+          (opened.only_reads.cause.left tt) Progress Progress leave list checked.project checked.bound c.args.handle None
+          (λ _. c.args.events.now) reports reports (source_view g.S.Shelf c.schedule_consolidation.new.shelf)
+          (output_view g.B.Bench c.args.bench.now) (output_view g.B.Bench c.schedule_consolidation.new.bench) (Ok c.in-Ok.progress) (Ok c.in-Ok.progress)
+          (opened.accepted honest) (λ fault_for ended answers. answers)
+          (told.outcome (honest_now honest) right list
+          (rw c.open.ensures.only_reads.same (opened.accepted honest)) begun);
       finished = λ honest right finished. record {
         project = project;
         binding = binding;

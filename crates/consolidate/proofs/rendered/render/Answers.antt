@@ -3,18 +3,18 @@ use Rattle.std.proofs.lemmas.Result.{err_from_is_err_and}
 use Rattle.rendering.specs.Rendering.{values_of}
 use Rattle.rendering.specs.declared.work.Rendered as rendering
 use Rattle.consolidate.specs.Fault.{refusal_of}
-use Rattle.consolidate.specs.Rounds.{RendersInRounds, RendersList}
+use Rattle.consolidate.specs.RenderOutcome.{in_rounds}
 use Rattle.consolidate.specs.declared.rendered.Rendered.{Rendered}
 use Rattle.consolidate.proofs.Due.{opening_due, range_due}
 use Rattle.consolidate.proofs.First.{rendered_first}
-use Rattle.consolidate.proofs.Rounds.{ends_map, none_ended, renders_list}
-use Rattle.consolidate.proofs.Stores.{answered_as, opened_before, refused_as, stopped_early}
+use Rattle.consolidate.proofs.RenderProjects.{renders_opened}
+use Rattle.consolidate.proofs.Stores.{answered_as, late_not_early, opened_before, refused_as, stopped_early}
 use Rattle.list_terms.specs.Accepted.{range_of}
 use Rattle.list_terms.specs.Project.{ListProject}
 use Rattle.rendering.specs.Marked.{full_marks, run_of}
 use Rattle.consolidate.specs.Marks.{IsLeftOf}
 use Rattle.consolidate.proofs.Crashes.{idle}
-use Rattle.consolidate.proofs.Listed.{left_list, moments_list, same_spelt, unstarted_left, unstarted_outcomes}
+use Rattle.consolidate.proofs.Listed.{left_list, moments_list, rendered_file, same_spelt, unstarted_left, unstarted_outcomes}
 use Rattle.consolidate.proofs.rendered.render.Goals as goal
 
 pub returns-in_err-checked : goal.returns-in_err-checked
@@ -40,11 +40,7 @@ returns-in_err-checked g c =
       own = search rules;
       in_turn = told.in_turn;
       named = search rules;
-      rounds = λ honest right. none_ended Rendered c.args.list.now fault
-          (RendersList c.args.list.now (values_of c.args.options.now) (g.S.Shelf.stored c.args.shelf.now)
-          (g.S.Shelf.failures c.args.shelf.now) (g.B.Bench.failures c.args.bench.now)
-          (g.S.Shelf.failures c.open.new.shelf) (g.B.Bench.failures c.args.bench.now)
-          (g.B.Bench.stored c.args.bench.now)) told.own;
+      outcome = λ honest right begun. absurd (late_not_early (sym begun ∙ told.early));
       stores = stopped_early g.S.Shelf g.B.Bench c.args.shelf.now c.open.new.shelf c.args.bench.now fault
           (g.met.B.Bench.only_now c.args.bench.now) told.only_reads (search rules);
     })
@@ -64,11 +60,11 @@ returns-in_err-rendered g c =
       any_moment = λ honest right none. moments_list c.args.list.now checked.project checked.bound values
           (g.S.Shelf.stored c.args.shelf.now) (g.S.Shelf.stored c.open.new.shelf) opened.only_reads.same
           (opened.accepted honest) g.B.Bench.moment g.B.Bench.left_since c.args.bench.now c.render_checked.new.bench
-          (told.any_moment (subst IsTrue (sym opened.only_reads.honest_same) honest) right none);
+          (told.does.any_moment (subst IsTrue (sym opened.only_reads.honest_same) honest) right none);
       left = λ honest right none. left_list c.args.list.now checked.project checked.bound values
           (g.S.Shelf.stored c.args.shelf.now) (g.S.Shelf.stored c.open.new.shelf) opened.only_reads.same
           (opened.accepted honest) (g.B.Bench.may_leave c.render_checked.new.bench)
-          (told.left (subst IsTrue (sym opened.only_reads.honest_same) honest) right none);
+          (told.does.left (subst IsTrue (sym opened.only_reads.honest_same) honest) right none);
       report = tt;
       refusals = λ honest.
           rw (range_due c.args.list.now values (g.S.Shelf.stored c.args.shelf.now) _ _ (opened.accepted honest))
@@ -76,27 +72,25 @@ returns-in_err-rendered g c =
       bad_text = λ refusal bad. let same = sym opened.spelt ∙ bad in absurd (cc);
       own = told.own c.args.list.now;
       in_turn = λ honest. rendered_first c.args.list.now (g.S.Shelf.stored c.args.shelf.now) fault told.own;
-      named = search rules;
-      rounds = λ honest right. ends_map rendering.Rendered Rendered fault
-          (RendersInRounds checked.project checked.bound values (g.S.Shelf.stored c.open.new.shelf)
-          (g.S.Shelf.failures c.open.new.shelf) (g.B.Bench.failures c.args.bench.now)
-          (g.S.Shelf.failures c.render_checked.new.shelf) (g.B.Bench.failures c.render_checked.new.bench)
-          (g.B.Bench.stored c.render_checked.new.bench))
-          (RendersList c.args.list.now values (g.S.Shelf.stored c.args.shelf.now)
-          (g.S.Shelf.failures c.args.shelf.now) (g.B.Bench.failures c.args.bench.now)
-          (g.S.Shelf.failures c.render_checked.new.shelf) (g.B.Bench.failures c.render_checked.new.bench)
-          (g.B.Bench.stored c.render_checked.new.bench))
-          (λ ended run. renders_list c.args.list.now values checked.project checked.bound
-          (g.S.Shelf.stored c.args.shelf.now) (g.S.Shelf.stored c.open.new.shelf)
-          (g.S.Shelf.failures c.args.shelf.now) (g.S.Shelf.failures c.open.new.shelf)
-          (g.B.Bench.failures c.args.bench.now) (g.S.Shelf.failures c.render_checked.new.shelf)
-          (g.B.Bench.failures c.render_checked.new.bench) (g.B.Bench.stored c.render_checked.new.bench) ended
-          opened.only_reads.same (opened.only_reads.cause.left tt) (opened.accepted honest) run)
-          (told.rounds (subst IsTrue (sym opened.only_reads.honest_same) honest) right);
+      named = told.does.named;
+      outcome = λ honest right begun.
+          let out = told.does.outcome (subst IsTrue (sym opened.only_reads.honest_same) honest) right tt begun in (
+            out.0,
+            out.1,
+            record {
+              project = checked.project;
+              binding = checked.bound;
+              accepted = opened.accepted honest;
+              came = renders_opened c.args.list.now values checked.project checked.bound g.S.Shelf g.B.Bench
+                  c.args.shelf.now c.open.new.shelf c.render_checked.new.shelf c.args.bench.now
+                  c.render_checked.new.bench opened.only_reads.same (opened.only_reads.cause.left tt) out.0 in_rounds
+                  out.2;
+            },
+          );
       stores = opened_before g.S.Shelf g.B.Bench c.args.shelf.now c.open.new.shelf c.render_checked.new.shelf
           c.args.bench.now c.render_checked.new.bench (Err fault) opened.only_reads
           (refused_as g.S.Shelf g.B.Bench rendering.Rendered Rendered c.open.new.shelf c.render_checked.new.shelf
-          c.args.bench.now c.render_checked.new.bench fault told.stores);
+          c.args.bench.now c.render_checked.new.bench fault told.does.stores);
     })
 
 pub returns : goal.returns
@@ -112,36 +106,44 @@ returns g c =
         spelled = opened.spelled;
         accepted = opened.accepted honest;
         file = rw (← opened.only_reads.same)
-            (told.rendered (subst IsTrue (sym opened.only_reads.honest_same) honest) right);
+            (rendered_file checked.project checked.bound values (g.S.Shelf.stored c.open.new.shelf) _
+            (told.does.finished (subst IsTrue (sym opened.only_reads.honest_same) honest) right tt tt) told.reads_back);
         notices = opened.notices;
       };
-      durable = told.durable;
-      marked = λ honest right p is. told.marked (subst IsTrue (sym opened.only_reads.honest_same) honest) right
+      durable = λ right. told.does.durable right tt;
+      marked = λ honest right p is. told.does.marked (subst IsTrue (sym opened.only_reads.honest_same) honest) right tt tt
           ∙ ap (λ (q : ListProject). Some (full_marks (run_of c.args.list.now (range_of q values))))
           (same_spelt checked.project p _ opened.spelt is);
       any_moment = λ honest right none. moments_list c.args.list.now checked.project checked.bound values
           (g.S.Shelf.stored c.args.shelf.now) (g.S.Shelf.stored c.open.new.shelf) opened.only_reads.same
           (opened.accepted honest) g.B.Bench.moment g.B.Bench.left_since c.args.bench.now c.render_checked.new.bench
-          (told.any_moment (subst IsTrue (sym opened.only_reads.honest_same) honest) right none);
+          (told.does.any_moment (subst IsTrue (sym opened.only_reads.honest_same) honest) right none);
       left = λ honest right none. left_list c.args.list.now checked.project checked.bound values
           (g.S.Shelf.stored c.args.shelf.now) (g.S.Shelf.stored c.open.new.shelf) opened.only_reads.same
           (opened.accepted honest) (g.B.Bench.may_leave c.render_checked.new.bench)
-          (told.left (subst IsTrue (sym opened.only_reads.honest_same) honest) right none);
+          (told.does.left (subst IsTrue (sym opened.only_reads.honest_same) honest) right none);
       report = search rules;
       refusals = search rules;
       bad_text = search rules;
       own = tt;
       in_turn = λ honest. tt;
-      named = search rules;
-      rounds = λ honest right. renders_list c.args.list.now values checked.project checked.bound
-          (g.S.Shelf.stored c.args.shelf.now) (g.S.Shelf.stored c.open.new.shelf)
-          (g.S.Shelf.failures c.args.shelf.now) (g.S.Shelf.failures c.open.new.shelf)
-          (g.B.Bench.failures c.args.bench.now) (g.S.Shelf.failures c.render_checked.new.shelf)
-          (g.B.Bench.failures c.render_checked.new.bench) (g.B.Bench.stored c.render_checked.new.bench) None
-          opened.only_reads.same (opened.only_reads.cause.left tt) (opened.accepted honest)
-          (told.rounds (subst IsTrue (sym opened.only_reads.honest_same) honest) right);
+      named = told.does.named;
+      outcome = λ honest right begun.
+          let out = told.does.outcome (subst IsTrue (sym opened.only_reads.honest_same) honest) right tt tt in (
+            out.0,
+            out.1,
+            record {
+              project = checked.project;
+              binding = checked.bound;
+              accepted = opened.accepted honest;
+              came = renders_opened c.args.list.now values checked.project checked.bound g.S.Shelf g.B.Bench
+                  c.args.shelf.now c.open.new.shelf c.render_checked.new.shelf c.args.bench.now
+                  c.render_checked.new.bench opened.only_reads.same (opened.only_reads.cause.left tt) out.0 in_rounds
+                  out.2;
+            },
+          );
       stores = opened_before g.S.Shelf g.B.Bench c.args.shelf.now c.open.new.shelf c.render_checked.new.shelf
           c.args.bench.now c.render_checked.new.bench (Ok _) opened.only_reads
           (answered_as g.S.Shelf g.B.Bench rendering.Rendered Rendered c.open.new.shelf c.render_checked.new.shelf
-          c.args.bench.now c.render_checked.new.bench _ _ told.stores);
+          c.args.bench.now c.render_checked.new.bench _ _ told.does.stores);
     }

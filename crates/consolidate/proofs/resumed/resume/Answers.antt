@@ -11,11 +11,10 @@ use Rattle.consolidate.specs.declared.resumed.Found.{Found}
 use Rattle.consolidate.specs.declared.resumed.Resumed.{Resumed}
 use Rattle.consolidate.proofs.Crashes.{idle}
 use Rattle.consolidate.proofs.First.{resumed_first}
-use Rattle.consolidate.proofs.Listed.{held_list, left_list, left_opened, moments_list, now_left, same_spelt}
-use Rattle.consolidate.specs.Rounds.{ResumesInRounds, ResumesList}
-use Rattle.consolidate.proofs.Rounds.{ends_map, none_ended, resumes_list}
+use Rattle.consolidate.proofs.Listed.{held_list, left_list, left_opened, moments_list, now_left, rendered_file, same_spelt}
+use Rattle.consolidate.proofs.RenderProjects.{resumes_opened}
 use Rattle.consolidate.proofs.Resumes.{left_holds, opening_due_of_resuming, resuming_due}
-use Rattle.consolidate.proofs.Stores.{answered_as, opened_before, refused_as, stopped_early}
+use Rattle.consolidate.proofs.Stores.{answered_as, late_not_early, opened_before, refused_as, stopped_early}
 use Rattle.consolidate.proofs.resumed.resume.Goals as goal
 
 pub returns-in_err-checked : goal.returns-in_err-checked
@@ -41,11 +40,7 @@ returns-in_err-checked g c =
           (g.B.Bench.stored c.args.bench.now) marks (left p b accepted)
           (g.met.B.Bench.reads_now c.args.bench.now right) there started x
           (g.met.B.Bench.only_now c.args.bench.now x at));
-      rounds = λ honest right left. none_ended Resumed c.args.list.now fault
-          (ResumesList c.args.list.now (values_of c.args.options.now) (g.S.Shelf.stored c.args.shelf.now)
-          (g.B.Bench.stored c.args.bench.now) (g.S.Shelf.failures c.args.shelf.now)
-          (g.B.Bench.failures c.args.bench.now) (g.S.Shelf.failures c.open.new.shelf)
-          (g.B.Bench.failures c.args.bench.now) (g.B.Bench.stored c.args.bench.now)) told.own;
+      outcome = λ honest right left begun. absurd (late_not_early (sym begun ∙ told.early));
       report = λ project is. tt;
       refusals = λ honest right. opening_due_of_resuming (refusal_of fault) c.args.list.now
           (values_of c.args.options.now) (g.S.Shelf.stored c.args.shelf.now) (g.B.Bench.stored c.args.bench.now)
@@ -74,14 +69,14 @@ returns-in_err-found g c =
       any_moment = λ honest right left. moments_list c.args.list.now checked.project checked.bound values
           (g.S.Shelf.stored c.args.shelf.now) (g.S.Shelf.stored c.open.new.shelf) opened.only_reads.same
           (opened.accepted honest) g.B.Bench.moment g.B.Bench.left_since c.args.bench.now c.resume_checked.new.bench
-          (told.any_moment (subst IsTrue (sym opened.only_reads.honest_same) honest) right
+          (told.does.any_moment (subst IsTrue (sym opened.only_reads.honest_same) honest) right
           (left_opened c.args.list.now checked.project checked.bound values
           (g.S.Shelf.stored c.args.shelf.now) (g.S.Shelf.stored c.open.new.shelf) opened.only_reads.same
           (opened.accepted honest) (g.B.Bench.may_leave c.args.bench.now) left));
       left = λ honest right left. left_list c.args.list.now checked.project checked.bound values
           (g.S.Shelf.stored c.args.shelf.now) (g.S.Shelf.stored c.open.new.shelf) opened.only_reads.same
           (opened.accepted honest) (g.B.Bench.may_leave c.resume_checked.new.bench)
-          (told.left (subst IsTrue (sym opened.only_reads.honest_same) honest) right
+          (told.does.left (subst IsTrue (sym opened.only_reads.honest_same) honest) right
           (left_opened c.args.list.now checked.project checked.bound values
           (g.S.Shelf.stored c.args.shelf.now) (g.S.Shelf.stored c.open.new.shelf) opened.only_reads.same
           (opened.accepted honest) (g.B.Bench.may_leave c.args.bench.now) left));
@@ -95,27 +90,24 @@ returns-in_err-found g c =
           (g.S.Shelf.stored c.args.shelf.now) (g.S.Shelf.stored c.open.new.shelf) opened.only_reads.same
           (opened.accepted honest) (g.B.Bench.may_leave c.args.bench.now) left)
           marks there started);
-      rounds = λ honest right left. ends_map Found Resumed fault
-          (ResumesInRounds checked.project checked.bound values
-          (opened_of (run_of c.args.list.now (range_of checked.project values)) (g.B.Bench.stored c.args.bench.now))
-          (g.S.Shelf.stored c.open.new.shelf) (g.S.Shelf.failures c.open.new.shelf)
-          (g.B.Bench.failures c.args.bench.now) (g.S.Shelf.failures c.resume_checked.new.shelf)
-          (g.B.Bench.failures c.resume_checked.new.bench) (g.B.Bench.stored c.resume_checked.new.bench))
-          (ResumesList c.args.list.now values (g.S.Shelf.stored c.args.shelf.now)
-          (g.B.Bench.stored c.args.bench.now) (g.S.Shelf.failures c.args.shelf.now)
-          (g.B.Bench.failures c.args.bench.now) (g.S.Shelf.failures c.resume_checked.new.shelf)
-          (g.B.Bench.failures c.resume_checked.new.bench) (g.B.Bench.stored c.resume_checked.new.bench))
-          (λ ended run. resumes_list c.args.list.now values checked.project checked.bound
-          (g.S.Shelf.stored c.args.shelf.now) (g.S.Shelf.stored c.open.new.shelf)
-          (g.B.Bench.stored c.args.bench.now) (g.S.Shelf.failures c.args.shelf.now)
-          (g.S.Shelf.failures c.open.new.shelf) (g.B.Bench.failures c.args.bench.now)
-          (g.S.Shelf.failures c.resume_checked.new.shelf) (g.B.Bench.failures c.resume_checked.new.bench)
-          (g.B.Bench.stored c.resume_checked.new.bench) ended
-          opened.only_reads.same (opened.only_reads.cause.left tt) (opened.accepted honest) run)
-          (told.rounds (subst IsTrue (sym opened.only_reads.honest_same) honest) right
+      outcome = λ honest right left begun.
+          let out = told.does.outcome (subst IsTrue (sym opened.only_reads.honest_same) honest) right
           (left_opened c.args.list.now checked.project checked.bound values
           (g.S.Shelf.stored c.args.shelf.now) (g.S.Shelf.stored c.open.new.shelf) opened.only_reads.same
-          (opened.accepted honest) (g.B.Bench.may_leave c.args.bench.now) left));
+          (opened.accepted honest) (g.B.Bench.may_leave c.args.bench.now) left) begun in (
+            out.0,
+            out.1,
+            record {
+              project = checked.project;
+              binding = checked.bound;
+              accepted = opened.accepted honest;
+              came = resumes_opened c.args.list.now values checked.project checked.bound g.S.Shelf g.B.Bench
+                  c.args.shelf.now c.open.new.shelf c.resume_checked.new.shelf c.args.bench.now
+                  c.resume_checked.new.bench opened.only_reads.same (opened.only_reads.cause.left tt) out.0
+                  (opened_of (run_of c.args.list.now (range_of checked.project values))
+                  (g.B.Bench.stored c.args.bench.now)) out.2;
+            },
+          );
       report = λ project is. tt;
       refusals = λ honest right. rw (resuming_due c.args.list.now values (g.S.Shelf.stored c.args.shelf.now)
           (g.B.Bench.stored c.args.bench.now)
@@ -123,11 +115,11 @@ returns-in_err-found g c =
       bad_text = λ refusal bad. let same = sym opened.spelt ∙ bad in absurd (cc);
       own = told.own c.args.list.now;
       in_turn = λ honest. resumed_first c.args.list.now (g.S.Shelf.stored c.args.shelf.now) fault told.own;
-      named = told.named;
+      named = told.does.named;
       stores = opened_before g.S.Shelf g.B.Bench c.args.shelf.now c.open.new.shelf c.resume_checked.new.shelf
           c.args.bench.now c.resume_checked.new.bench (Err fault) opened.only_reads
           (refused_as g.S.Shelf g.B.Bench Found Resumed c.open.new.shelf c.resume_checked.new.shelf
-          c.args.bench.now c.resume_checked.new.bench fault told.stores);
+          c.args.bench.now c.resume_checked.new.bench fault told.does.stores);
     })
 
 pub returns : goal.returns
@@ -142,35 +134,36 @@ returns g c =
         binding = checked.bound;
         spelled = opened.spelled;
         accepted = opened.accepted honest;
-        file = rw (← opened.only_reads.same) (told.rendered (subst IsTrue (sym opened.only_reads.honest_same) honest)
-            right
+        file = rw (← opened.only_reads.same)
+            (rendered_file checked.project checked.bound values (g.S.Shelf.stored c.open.new.shelf) _
+            (told.does.finished (subst IsTrue (sym opened.only_reads.honest_same) honest) right
             (left_opened c.args.list.now checked.project checked.bound values
             (g.S.Shelf.stored c.args.shelf.now) (g.S.Shelf.stored c.open.new.shelf) opened.only_reads.same
-            (opened.accepted honest) (g.B.Bench.may_leave c.args.bench.now) left));
+            (opened.accepted honest) (g.B.Bench.may_leave c.args.bench.now) left) tt) told.reads_back);
         notices = opened.notices;
       };
-      durable = told.durable;
+      durable = λ right. told.does.durable right tt;
       marked = λ right p is. told.marked right
           ∙ ap (λ (q : ListProject). count_in (opened_of (run_of c.args.list.now (range_of q values))
           (g.B.Bench.stored c.args.bench.now))) (same_spelt checked.project p _ opened.spelt is);
-      all_marked = λ honest right left p is. told.all_marked (subst IsTrue (sym opened.only_reads.honest_same)
+      all_marked = λ honest right left p is. told.does.marked (subst IsTrue (sym opened.only_reads.honest_same)
           honest) right
           (left_opened c.args.list.now checked.project checked.bound values
           (g.S.Shelf.stored c.args.shelf.now) (g.S.Shelf.stored c.open.new.shelf) opened.only_reads.same
-          (opened.accepted honest) (g.B.Bench.may_leave c.args.bench.now) left)
+          (opened.accepted honest) (g.B.Bench.may_leave c.args.bench.now) left) tt
           ∙ ap (λ (q : ListProject). Some (full_marks (run_of c.args.list.now (range_of q values))))
           (same_spelt checked.project p _ opened.spelt is);
       any_moment = λ honest right left. moments_list c.args.list.now checked.project checked.bound values
           (g.S.Shelf.stored c.args.shelf.now) (g.S.Shelf.stored c.open.new.shelf) opened.only_reads.same
           (opened.accepted honest) g.B.Bench.moment g.B.Bench.left_since c.args.bench.now c.resume_checked.new.bench
-          (told.any_moment (subst IsTrue (sym opened.only_reads.honest_same) honest) right
+          (told.does.any_moment (subst IsTrue (sym opened.only_reads.honest_same) honest) right
           (left_opened c.args.list.now checked.project checked.bound values
           (g.S.Shelf.stored c.args.shelf.now) (g.S.Shelf.stored c.open.new.shelf) opened.only_reads.same
           (opened.accepted honest) (g.B.Bench.may_leave c.args.bench.now) left));
       left = λ honest right left. left_list c.args.list.now checked.project checked.bound values
           (g.S.Shelf.stored c.args.shelf.now) (g.S.Shelf.stored c.open.new.shelf) opened.only_reads.same
           (opened.accepted honest) (g.B.Bench.may_leave c.resume_checked.new.bench)
-          (told.left (subst IsTrue (sym opened.only_reads.honest_same) honest) right
+          (told.does.left (subst IsTrue (sym opened.only_reads.honest_same) honest) right
           (left_opened c.args.list.now checked.project checked.bound values
           (g.S.Shelf.stored c.args.shelf.now) (g.S.Shelf.stored c.open.new.shelf) opened.only_reads.same
           (opened.accepted honest) (g.B.Bench.may_leave c.args.bench.now) left));
@@ -184,17 +177,24 @@ returns g c =
           (g.S.Shelf.stored c.args.shelf.now) (g.S.Shelf.stored c.open.new.shelf) opened.only_reads.same
           (opened.accepted honest) (g.B.Bench.may_leave c.args.bench.now) left)
           marks there started);
-      rounds = λ honest right left. resumes_list c.args.list.now values checked.project checked.bound
-          (g.S.Shelf.stored c.args.shelf.now) (g.S.Shelf.stored c.open.new.shelf)
-          (g.B.Bench.stored c.args.bench.now) (g.S.Shelf.failures c.args.shelf.now)
-          (g.S.Shelf.failures c.open.new.shelf) (g.B.Bench.failures c.args.bench.now)
-          (g.S.Shelf.failures c.resume_checked.new.shelf) (g.B.Bench.failures c.resume_checked.new.bench)
-          (g.B.Bench.stored c.resume_checked.new.bench) None
-          opened.only_reads.same (opened.only_reads.cause.left tt) (opened.accepted honest)
-          (told.rounds (subst IsTrue (sym opened.only_reads.honest_same) honest) right
+      outcome = λ honest right left begun.
+          let out = told.does.outcome (subst IsTrue (sym opened.only_reads.honest_same) honest) right
           (left_opened c.args.list.now checked.project checked.bound values
           (g.S.Shelf.stored c.args.shelf.now) (g.S.Shelf.stored c.open.new.shelf) opened.only_reads.same
-          (opened.accepted honest) (g.B.Bench.may_leave c.args.bench.now) left));
+          (opened.accepted honest) (g.B.Bench.may_leave c.args.bench.now) left) tt in (
+            out.0,
+            out.1,
+            record {
+              project = checked.project;
+              binding = checked.bound;
+              accepted = opened.accepted honest;
+              came = resumes_opened c.args.list.now values checked.project checked.bound g.S.Shelf g.B.Bench
+                  c.args.shelf.now c.open.new.shelf c.resume_checked.new.shelf c.args.bench.now
+                  c.resume_checked.new.bench opened.only_reads.same (opened.only_reads.cause.left tt) out.0
+                  (opened_of (run_of c.args.list.now (range_of checked.project values))
+                  (g.B.Bench.stored c.args.bench.now)) out.2;
+            },
+          );
       report = λ p is. told.report
           ∙ ap (λ (q : ListProject). (range_of q values).to - (range_of q values).from)
           (same_spelt checked.project p _ opened.spelt is);
@@ -204,9 +204,9 @@ returns g c =
       bad_text = λ refusal bad. let same = sym opened.spelt ∙ bad in absurd (cc);
       own = tt;
       in_turn = λ honest. tt;
-      named = told.named;
+      named = told.does.named;
       stores = opened_before g.S.Shelf g.B.Bench c.args.shelf.now c.open.new.shelf c.resume_checked.new.shelf
           c.args.bench.now c.resume_checked.new.bench (Ok _) opened.only_reads
           (answered_as g.S.Shelf g.B.Bench Found Resumed c.open.new.shelf c.resume_checked.new.shelf
-          c.args.bench.now c.resume_checked.new.bench _ _ told.stores);
+          c.args.bench.now c.resume_checked.new.bench _ _ told.does.stores);
     }

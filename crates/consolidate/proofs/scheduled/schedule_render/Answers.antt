@@ -2,17 +2,16 @@ use Rattle.std.proofs.Common.{◌∙◌, IsTrue, None, Some, Ok, Err, ap, rules,
 use Rattle.std.proofs.lemmas.Result.{err_from_is_err_and}
 use Rattle.rendering.specs.Rendering.{values_of}
 use Rattle.consolidate.specs.Fault.{refusal_of}
-use Rattle.consolidate.specs.Schedules.{SchedulesList, SchedulesProject}
 use Rattle.consolidate.proofs.Due.{opening_due, range_due}
-use Rattle.consolidate.proofs.Events.{events_map, none_done, schedules_list}
 use Rattle.consolidate.proofs.First.{scheduled_first}
-use Rattle.consolidate.proofs.Stores.{opened_before, stopped_early}
+use Rattle.consolidate.proofs.RenderProjects.{renders_opened}
+use Rattle.consolidate.proofs.Stores.{late_not_early, opened_before, stopped_early}
 use Rattle.list_terms.specs.Accepted.{range_of}
 use Rattle.list_terms.specs.Project.{ListProject}
 use Rattle.rendering.specs.Marked.{full_marks, run_of}
 use Rattle.consolidate.specs.Marks.{IsLeftOf}
 use Rattle.consolidate.proofs.Crashes.{idle}
-use Rattle.consolidate.proofs.Listed.{left_list, moments_list, same_spelt, unstarted_left, unstarted_outcomes}
+use Rattle.consolidate.proofs.Listed.{left_list, moments_list, rendered_file, same_spelt, unstarted_left, unstarted_outcomes}
 use Rattle.consolidate.proofs.scheduled.schedule_render.Goals as goal
 
 pub returns-in_err-checked : goal.returns-in_err-checked
@@ -21,11 +20,7 @@ returns-in_err-checked g c =
     let fault = c.in_err-checked.field-0.0 in
     let told = c.in_err-checked.ensures in
     rw (p.1, p.2) (record {
-      ran = λ honest right. none_done c.args.list.now fault
-          (SchedulesList c.args.list.now (values_of c.args.options.now) c.args.events.now
-          (g.S.Shelf.stored c.args.shelf.now) (g.S.Shelf.failures c.args.shelf.now)
-          (g.B.Bench.failures c.args.bench.now) (g.S.Shelf.failures c.open.new.shelf)
-          (g.B.Bench.failures c.args.bench.now) (g.B.Bench.stored c.args.bench.now)) told.own;
+      outcome = λ honest right begun. absurd (late_not_early (sym begun ∙ told.early));
       finished = search rules;
       durable = search rules;
       marked = search rules;
@@ -54,42 +49,40 @@ returns-in-Err g c =
     let checked = c.in_ok-checked.field-0.checked in
     let values = values_of c.args.options.now in
     record {
-      ran = λ honest right. events_map fault
-          (SchedulesProject checked.project checked.bound values c.args.events.now (g.S.Shelf.stored c.open.new.shelf)
-          (g.S.Shelf.failures c.open.new.shelf) (g.B.Bench.failures c.args.bench.now)
-          (g.S.Shelf.failures c.schedule_checked.new.shelf) (g.B.Bench.failures c.schedule_checked.new.bench)
-          (g.B.Bench.stored c.schedule_checked.new.bench))
-          (SchedulesList c.args.list.now values c.args.events.now (g.S.Shelf.stored c.args.shelf.now)
-          (g.S.Shelf.failures c.args.shelf.now) (g.B.Bench.failures c.args.bench.now)
-          (g.S.Shelf.failures c.schedule_checked.new.shelf) (g.B.Bench.failures c.schedule_checked.new.bench)
-          (g.B.Bench.stored c.schedule_checked.new.bench))
-          (λ progress ended run. schedules_list c.args.list.now values checked.project checked.bound c.args.events.now
-          (g.S.Shelf.stored c.args.shelf.now) (g.S.Shelf.stored c.open.new.shelf)
-          (g.S.Shelf.failures c.args.shelf.now) (g.S.Shelf.failures c.open.new.shelf)
-          (g.B.Bench.failures c.args.bench.now) (g.S.Shelf.failures c.schedule_checked.new.shelf)
-          (g.B.Bench.failures c.schedule_checked.new.bench) (g.B.Bench.stored c.schedule_checked.new.bench) progress
-          ended opened.only_reads.same (opened.only_reads.cause.left tt) (opened.accepted honest) run)
-          (told.ran (subst IsTrue (sym opened.only_reads.honest_same) honest) right);
+      outcome = λ honest right begun.
+          let out = told.does.outcome (subst IsTrue (sym opened.only_reads.honest_same) honest) right tt begun in (
+            out.0,
+            out.1,
+            record {
+              project = checked.project;
+              binding = checked.bound;
+              accepted = opened.accepted honest;
+              came = renders_opened c.args.list.now values checked.project checked.bound g.S.Shelf g.B.Bench
+                  c.args.shelf.now c.open.new.shelf c.schedule_checked.new.shelf c.args.bench.now
+                  c.schedule_checked.new.bench opened.only_reads.same (opened.only_reads.cause.left tt) out.0
+                  (λ _. c.args.events.now) out.2;
+            },
+          );
       finished = λ honest right. tt;
       durable = λ right. tt;
       marked = λ honest right. tt;
       any_moment = λ honest right none. moments_list c.args.list.now checked.project checked.bound values
           (g.S.Shelf.stored c.args.shelf.now) (g.S.Shelf.stored c.open.new.shelf) opened.only_reads.same
           (opened.accepted honest) g.B.Bench.moment g.B.Bench.left_since c.args.bench.now c.schedule_checked.new.bench
-          (told.any_moment (subst IsTrue (sym opened.only_reads.honest_same) honest) right none);
+          (told.does.any_moment (subst IsTrue (sym opened.only_reads.honest_same) honest) right none);
       left = λ honest right none. left_list c.args.list.now checked.project checked.bound values
           (g.S.Shelf.stored c.args.shelf.now) (g.S.Shelf.stored c.open.new.shelf) opened.only_reads.same
           (opened.accepted honest) (g.B.Bench.may_leave c.schedule_checked.new.bench)
-          (told.left (subst IsTrue (sym opened.only_reads.honest_same) honest) right none);
+          (told.does.left (subst IsTrue (sym opened.only_reads.honest_same) honest) right none);
       refusals = λ honest.
           rw (range_due c.args.list.now values (g.S.Shelf.stored c.args.shelf.now) _ _ (opened.accepted honest))
           told.refusals;
       bad_text = λ refusal bad. let same = sym opened.spelt ∙ bad in absurd (cc);
       own = told.own c.args.list.now;
       in_turn = λ honest. scheduled_first c.args.list.now (g.S.Shelf.stored c.args.shelf.now) fault told.own;
-      named = search rules;
+      named = told.does.named;
       stores = opened_before g.S.Shelf g.B.Bench c.args.shelf.now c.open.new.shelf c.schedule_checked.new.shelf
-          c.args.bench.now c.schedule_checked.new.bench (Err fault) opened.only_reads told.stores;
+          c.args.bench.now c.schedule_checked.new.bench (Err fault) opened.only_reads told.does.stores;
     }
 
 pub returns-in-Ok : goal.returns-in-Ok
@@ -99,38 +92,46 @@ returns-in-Ok g c =
     let checked = c.in_ok-checked.field-0.checked in
     let values = values_of c.args.options.now in
     record {
-      ran = λ honest right. schedules_list c.args.list.now values checked.project checked.bound c.args.events.now
-          (g.S.Shelf.stored c.args.shelf.now) (g.S.Shelf.stored c.open.new.shelf)
-          (g.S.Shelf.failures c.args.shelf.now) (g.S.Shelf.failures c.open.new.shelf)
-          (g.B.Bench.failures c.args.bench.now) (g.S.Shelf.failures c.schedule_checked.new.shelf)
-          (g.B.Bench.failures c.schedule_checked.new.bench) (g.B.Bench.stored c.schedule_checked.new.bench)
-          (Some c.in-Ok.progress) None opened.only_reads.same (opened.only_reads.cause.left tt)
-          (opened.accepted honest) (told.ran (subst IsTrue (sym opened.only_reads.honest_same) honest) right);
+      outcome = λ honest right begun.
+          let out = told.does.outcome (subst IsTrue (sym opened.only_reads.honest_same) honest) right tt tt in (
+            out.0,
+            out.1,
+            record {
+              project = checked.project;
+              binding = checked.bound;
+              accepted = opened.accepted honest;
+              came = renders_opened c.args.list.now values checked.project checked.bound g.S.Shelf g.B.Bench
+                  c.args.shelf.now c.open.new.shelf c.schedule_checked.new.shelf c.args.bench.now
+                  c.schedule_checked.new.bench opened.only_reads.same (opened.only_reads.cause.left tt) out.0
+                  (λ _. c.args.events.now) out.2;
+            },
+          );
       finished = λ honest right finished. record {
         project = checked.project;
         binding = checked.bound;
         accepted = opened.accepted honest;
-        file = rw (← opened.only_reads.same) (told.finished (subst IsTrue (sym opened.only_reads.honest_same) honest)
-            right finished);
+        file = rw (← opened.only_reads.same)
+            (rendered_file checked.project checked.bound values (g.S.Shelf.stored c.open.new.shelf) _
+            (told.does.finished (subst IsTrue (sym opened.only_reads.honest_same) honest) right tt finished) told.reads_back);
       };
-      durable = told.durable;
+      durable = told.does.durable;
       marked = λ honest right finished p is.
-          told.marked (subst IsTrue (sym opened.only_reads.honest_same) honest) right finished
+          told.does.marked (subst IsTrue (sym opened.only_reads.honest_same) honest) right tt finished
           ∙ ap (λ (q : ListProject). Some (full_marks (run_of c.args.list.now (range_of q values))))
           (same_spelt checked.project p _ opened.spelt is);
       any_moment = λ honest right none. moments_list c.args.list.now checked.project checked.bound values
           (g.S.Shelf.stored c.args.shelf.now) (g.S.Shelf.stored c.open.new.shelf) opened.only_reads.same
           (opened.accepted honest) g.B.Bench.moment g.B.Bench.left_since c.args.bench.now c.schedule_checked.new.bench
-          (told.any_moment (subst IsTrue (sym opened.only_reads.honest_same) honest) right none);
+          (told.does.any_moment (subst IsTrue (sym opened.only_reads.honest_same) honest) right none);
       left = λ honest right none. left_list c.args.list.now checked.project checked.bound values
           (g.S.Shelf.stored c.args.shelf.now) (g.S.Shelf.stored c.open.new.shelf) opened.only_reads.same
           (opened.accepted honest) (g.B.Bench.may_leave c.schedule_checked.new.bench)
-          (told.left (subst IsTrue (sym opened.only_reads.honest_same) honest) right none);
+          (told.does.left (subst IsTrue (sym opened.only_reads.honest_same) honest) right none);
       refusals = search rules;
       bad_text = search rules;
       own = tt;
       in_turn = λ honest. tt;
-      named = search rules;
+      named = told.does.named;
       stores = opened_before g.S.Shelf g.B.Bench c.args.shelf.now c.open.new.shelf c.schedule_checked.new.shelf
-          c.args.bench.now c.schedule_checked.new.bench (Ok c.in-Ok.progress) opened.only_reads told.stores;
+          c.args.bench.now c.schedule_checked.new.bench (Ok c.in-Ok.progress) opened.only_reads told.does.stores;
     }

@@ -1,5 +1,5 @@
 use Rattle.sound_terms.specs.Blocks.{block_count}
-use Rattle.blockcut.specs.Laws.{cut-inside}
+use Rattle.rendering.specs.CutLaws.{cut-inside}
 use Rattle.rendering.proofs.order.keys_of.Goals as goal
 
 pub source_of-requires : goal.source_of-requires

@@ -1,17 +1,17 @@
 use Rattle.std.proofs.Common.{◌≡◌, ◌∙◌, Bool, IsTrue, List, Option, Ok, Some, ap, refl, sym, subst}
 use Rattle.std.specs.Prelude.{IfSome, IsOk}
 use Rattle.std.specs.List.{All, count_by}
-use Rattle.blockcut.specs.Cut.{IsUniform}
+use Rattle.rendering.specs.Cut.{IsUniform}
 use Rattle.markfile.specs.declared.opening.Marks.{Marks}
 use Rattle.work_terms.specs.Disk.{Files}
 use Rattle.markfile.specs.Opened.{Answers, AreFound, AreSettled, opened_of}
 use Rattle.execution.specs.Marking.{AreLeftBy}
-use Rattle.rendering.specs.Maker.{HasSoundJobs, IsMarkedWork, plan_of}
-use Rattle.rendering.specs.Marked.{IsFoundAs, MarkedWork, marking_of}
+use Rattle.rendering.specs.Maker.{HasSoundJobs, IsMarkedWork, marks_of, plan_of}
+use Rattle.rendering.specs.Marked.{IsFoundAs, MarkedWork}
 use Rattle.rendering.specs.Work.{AreCutBy, done_before}
-use Rattle.rendering.proofs.Forms.{left_as, runs_as}
-use Rattle.rendering.proofs.Resuming.{goes_on_running, running_as, same_run}
-use Rattle.rendering.proofs.Works.{filled_by, sound_jobs}
+use Rattle.rendering.specs.MakerLaws.{left_by_run}
+use Rattle.rendering.proofs.Resuming.{filled_running, goes_on_running, running_as, same_run}
+use Rattle.rendering.proofs.Works.{sound_jobs}
 use Rattle.rendering.proofs.maker.RenderingWork.open.Goals as goal
 
 pub invariant_of-self : goal.invariant_of-self
@@ -46,19 +46,18 @@ returns-in-Ok-cut_by-clause-running g c honest sources left done agrees =
     cut.cut.uniform in
     let settled = subst (λ (f : Files). (x : Files) → g.B.Bench.may_leave c.open_marks.new.bench x → AreSettled f x)
     c.in-Ok.ensures.only_reads.same (c.in-Ok.ensures.settled honest) in
-    runs_as now sources done (g.B.Bench.may_leave c.open_marks.new.bench)
-    (running_as (marking_of now sources) (done_before now.work) done (g.B.Bench.may_leave c.open_marks.new.bench) agrees
+    running_as (marks_of now sources) (done_before now.work) done (g.B.Bench.may_leave c.open_marks.new.bench) agrees
     (goes_on_running c.self.inside.rendering c.cut_by.new.self c.self.inside.run sources cut.whole
     (same_run c.self.inside.rendering c.cut_by.new.self c.self.inside.run cut.planned c.self.invariant.1) cut.planned
     cut.sounds (g.B.Bench.may_leave c.args.bench.now) (g.B.Bench.may_leave c.open_marks.new.bench) files marked found
-    (left_as was sources (g.B.Bench.may_leave c.args.bench.now) was_left) c.in-Ok.ensures.untouched.crash settled
-    uniform))
+    (left_by_run (marks_of was sources) (g.B.Bench.may_leave c.args.bench.now) was_left) c.in-Ok.ensures.untouched.crash settled
+    uniform)
 
 pub returns-in-Ok-cut_by-clause-filled : goal.returns-in-Ok-cut_by-clause-filled
 returns-in-Ok-cut_by-clause-filled g c honest sources left done agrees =
     let cut = c.in-Ok-cut_by.ensures in
     let now : MarkedWork = record { work = c.cut_by.new.self; run = c.self.inside.run } in
-    filled_by now sources cut.whole
+    filled_running now sources cut.whole
     (same_run c.self.inside.rendering c.cut_by.new.self c.self.inside.run cut.planned c.self.invariant.1)
     done (g.B.Bench.may_leave c.open_marks.new.bench) (g.B.Bench.stored c.open_marks.new.bench)
     (returns-in-Ok-cut_by-clause-running g c honest sources left done agrees)

@@ -9,17 +9,15 @@ use Rattle.rendering.specs.Maker.{marks_of, plan_of}
 use Rattle.rendering.specs.Marked.{MarkedWork}
 use Rattle.rendering.specs.Work.{place_of, stretch_at}
 use Rattle.rendering.proofs.BlockMarks.{names_apart, placed_stretch}
-use Rattle.rendering.proofs.Forms.{stretch_as}
 use Rattle.rendering.proofs.Works.{placed_as, places_as}
 use Rattle.rendering.proofs.maker.RenderingWorkJobMaker.place.Goals as goal
 
 pub returns-clause-marks : goal.returns-clause-marks
 returns-clause-marks g c honest sources done right off run =
     c.place_marked.ensures.marks honest (marks_of c.args.self.now sources) done c.args.job
-    (stretch_as c.args.self.now sources c.args.job _ _ _ _ _ _
     (placed_stretch _ _ c.args.job c.stretch-stretch.result c.place_at-at.result c.args.bytes.now sources c.self.view_is
     (c.self.invariant.0, c.self.invariant.1) c.stretch-stretch.ensures.stretch c.stretch-stretch.ensures.few
-    c.place_at-at.ensures c.requires.there right)) off run
+    c.place_at-at.ensures c.requires.there right) off run
 
 pub returns-clause-placed : goal.returns-clause-placed
 returns-clause-placed g c honest =

@@ -1,0 +1,19 @@
+-- How the jobs of a command came out: all of it, at every end.
+use Rattle.std.specs.Prelude.{◌≡◌, ⊤, IsTrue, Result, Ok, Err}
+use Rattle.job_terms.specs.declared.Progress.{Progress}
+use Rattle.execution.specs.declared.fault.ExecutionFault.{ExecutionFault}
+use Rattle.consolidate.specs.Fault.{refusal_of}
+use Rattle.consolidate.specs.declared.fault.Fault.{Fault}
+
+-- the first write was reached: nothing was refused before it
+abbrev pub HasBegun : {X : Type 0} → Result X Fault → Type 0
+HasBegun (Ok answer) = ⊤
+HasBegun (Err fault) = IsTrue (refusal_of fault).late
+
+-- what a call answers, by how its execution ended: the fault that stands for its fault, or what is reported of it
+abbrev pub AnswersAs : {X : Type 0} → (ExecutionFault → Fault) → (X → Progress → Type 0) → Result X Fault
+    → Result Progress ExecutionFault → Type 0
+AnswersAs fault_for Reports (Ok answer) (Ok progress) = Reports answer progress
+AnswersAs fault_for Reports (Ok answer) (Err cause) = ⊥
+AnswersAs fault_for Reports (Err fault) (Ok progress) = ⊥
+AnswersAs fault_for Reports (Err fault) (Err cause) = fault ≡ fault_for cause

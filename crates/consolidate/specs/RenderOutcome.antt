@@ -1,0 +1,116 @@
+-- How the jobs of a rendering came out.
+use Rattle.std.specs.Prelude.{◌≡◌, ◌<◌, ◌*◌, ◌==◌, ℕ, ⊤, Bool, false, cond, Option, None, Some, List, Result, Ok, Err, length, slice_index_or}
+use Rattle.devices.specs.Views.{OutputView, SourceView}
+use Rattle.execution.specs.Boards.{board_with, fresh_board}
+use Rattle.execution.specs.EventRun.{snapshot_of}
+use Rattle.execution.specs.Outcome.{Outcome}
+use Rattle.execution.specs.Plan.{AreBlank}
+use Rattle.execution.specs.declared.fault.ExecutionFault.{ExecutionFault}
+use Rattle.execution.specs.declared.fault.ExecutionFault.TheVariants as execution
+use Rattle.job_terms.specs.Board.{Board}
+use Rattle.job_terms.specs.Workers.{Nothing, jobs_over, rounds}
+use Rattle.job_terms.specs.declared.BoardEvent.{BoardEvent}
+use Rattle.job_terms.specs.declared.Progress.{Progress}
+use Rattle.list_terms.specs.Accepted.{OptionValues, range_of}
+use Rattle.list_terms.specs.Binding.{Binding}
+use Rattle.list_terms.specs.Heard.{IsAccepted}
+use Rattle.list_terms.specs.Project.{ListProject}
+use Rattle.markfile.specs.Opened.{opened_of}
+use Rattle.markfile.specs.declared.fault.MarksFault.{MarksFault}
+use Rattle.rendering.specs.Maker.{plan_of}
+use Rattle.rendering.specs.Marked.{MarkedWork, run_of}
+use Rattle.rendering.specs.Planned.{IsRenderingOf}
+use Rattle.rendering.specs.Work.{AreCutBy, done_before, work_of}
+use Rattle.workboard.specs.Indexed.{IsOrder}
+use Rattle.work_terms.specs.Disk.{Files}
+use Rattle.consolidate.specs.Marks.{IsMarkedFor}
+use Rattle.consolidate.specs.declared.fault.Fault.{Fault}
+use Rattle.consolidate.specs.declared.fault.Fault.TheVariants as fault
+use Rattle.consolidate.specs.declared.fault.OutputFile.TheVariants as output
+
+-- what is answered for each fault of the execution: 57 for the bytes of a block, 60 for a worker's position
+abbrev pub rendering_fault : ExecutionFault → Fault
+rendering_fault execution.Memory = fault.WorkerMemory
+rendering_fault execution.JobMemory = fault.BlockMemory
+rendering_fault (execution.GivenUp job) = fault.GivenUp job
+rendering_fault execution.Mark = fault.Output output.Marks
+rendering_fault (execution.Output file) = fault.Output (cond (file == 0) output.Rendering output.Marks)
+
+-- as many rounds of one worker as so many jobs can take
+abbrev pub in_rounds : ℕ → List BoardEvent
+in_rounds count = rounds (3 * count)
+
+-- these events led a work on from this board, where no worker held anything, and from files that may begin so
+pub record IsWorkedOff (Begins : Files → Type 0) (untouched : Type 0) (marked : MarkedWork) (first : Board)
+    (events : List BoardEvent) (source_old source_new : SourceView) (output_old output_new : OutputView)
+    (ended : Result Progress ExecutionFault) : Type 0 where
+  pub board : Board
+  pub came : Outcome Begins events (snapshot_of (plan_of marked) first 0 source_old output_old) (λ _. Nothing)
+      (snapshot_of (plan_of marked) board 0 source_new output_new) untouched ended
+
+-- the files were laid out, and all jobs were open, in an order of them all
+pub record IsRenderedWork (events : ℕ → List BoardEvent) (marked : MarkedWork)
+    (source_old source_new : SourceView) (output_old output_new : OutputView) (ended : Result Progress ExecutionFault)
+    : Type 0 where
+  pub order : List ℕ
+  pub is_order : IsOrder (work_of marked.work).count order
+  pub came : IsWorkedOff (AreBlank (jobs_over (plan_of marked).jobs source_old.files) ((plan_of marked).whole source_old.files)) ⊤ marked (fresh_board (work_of marked.work).count order)
+      (events (work_of marked.work).count) source_old source_new output_old output_new ended
+
+-- the files were as they stood, the jobs done whose blocks were marked, and the others open, in an order of them all
+pub record IsResumedWork (marked : MarkedWork) (source_old source_new : SourceView) (output_old output_new : OutputView)
+    (ended : Result Progress ExecutionFault) : Type 0 where
+  pub order : List ℕ
+  pub is_order : IsOrder (work_of marked.work).count order
+  pub done : List Bool
+  pub count : length done ≡ (work_of marked.work).count
+  pub each : (k : ℕ) → k < length done → slice_index_or done k false ≡ done_before marked.work k
+  pub came : IsWorkedOff (λ laid. laid ≡ output_old.files) ⊥ marked (board_with done order)
+      (in_rounds (work_of marked.work).count) source_old source_new output_old output_new ended
+
+-- the jobs are the blocks of a bound project, so many at once, and make its rendering and the marks of a list of this
+-- text
+pub record RendersBound (events : ℕ → List BoardEvent) (text : List ℕ) (values : OptionValues) (project : ListProject)
+    (binding : Binding) (source_old source_new : SourceView) (output_old output_new : OutputView)
+    (ended : Result Progress ExecutionFault) : Type 0 where
+  pub work : MarkedWork
+  pub renders : IsRenderingOf project binding values work.work
+  pub run : work.run ≡ run_of text (range_of project values)
+  pub came : IsRenderedWork events work source_old source_new output_old output_new ended
+
+-- the jobs that are left are the blocks of a bound project that aren't among these marks, and make its rendering
+pub record GoesOnBound (text : List ℕ) (values : OptionValues) (project : ListProject) (binding : Binding)
+    (marked : List Bool) (source_old source_new : SourceView) (output_old output_new : OutputView)
+    (ended : Result Progress ExecutionFault) : Type 0 where
+  pub work : MarkedWork
+  pub is_for : IsMarkedFor text project binding values work
+  pub cut : AreCutBy marked work.work
+  pub came : IsResumedWork work source_old source_new output_old output_new ended
+
+-- the same by what the marks are read as: all blocks are jobs where none are started
+abbrev pub ResumesBound : List ℕ → OptionValues → ListProject → Binding → Result (Option (List Bool)) MarksFault
+    → SourceView → SourceView → OutputView → OutputView → Result Progress ExecutionFault → Type 0
+ResumesBound text values project binding (Ok None) source_old source_new output_old output_new ended =
+    RendersBound in_rounds text values project binding source_old source_new output_old output_new ended
+ResumesBound text values project binding (Ok (Some marked)) source_old source_new output_old output_new ended =
+    GoesOnBound text values project binding marked source_old source_new output_old output_new ended
+ResumesBound text values project binding (Err fault) source_old source_new output_old output_new ended = ⊥
+
+-- of the project of an accepted list
+pub record RendersList (events : ℕ → List BoardEvent) (text : List ℕ) (values : OptionValues)
+    (source_old source_new : SourceView) (output_old output_new : OutputView) (ended : Result Progress ExecutionFault)
+    : Type 0 where
+  pub project : ListProject
+  pub binding : Binding
+  pub accepted : IsAccepted text source_old.files project binding
+  pub came : RendersBound events text values project binding source_old source_new output_old output_new ended
+
+-- of the project of an accepted list, by the marks among the outputs
+pub record ResumesList (text : List ℕ) (values : OptionValues) (source_old source_new : SourceView)
+    (output_old output_new : OutputView) (ended : Result Progress ExecutionFault) : Type 0 where
+  pub project : ListProject
+  pub binding : Binding
+  pub accepted : IsAccepted text source_old.files project binding
+  pub came : ResumesBound text values project binding
+      (opened_of (run_of text (range_of project values)) output_old.files) source_old source_new output_old output_new
+      ended

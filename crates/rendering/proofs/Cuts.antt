@@ -1,0 +1,85 @@
+-- Stretches, one more behind the others.
+use Rattle.std.proofs.Common.{◌≡◌, ◌+◌, ◌-◌, ◌*◌, ◌<◌, ◌++◌, ℕ, Bool, false, List, [], ◌∷◌, inl, inr, length, get_or, refl, sym, ap, subst, ◌∙◌, arith, length-append}
+use Rattle.std.specs.List.{All}
+use Rattle.std.specs.Prelude.{min}
+use Rattle.std.proofs.Math.Seq.{get_or-append_seam}
+use Rattle.std.proofs.lemmas.Bool.{cases_lt}
+use Rattle.std.proofs.lemmas.List.{get_or_append_left}
+use Rattle.rendering.specs.declared.stretch.Stretch.{Stretch}
+use Rattle.rendering.specs.Cut.{AreEven, AreLongest, IsCut, even_stretch}
+
+pub cut-push : (stretches : List Stretch) (from mid : ℕ) (s : Stretch) → IsCut from stretches mid → s.first ≡ mid
+    → s.first < s.behind → IsCut from (stretches ++ s ∷ []) s.behind
+cut-push [] from mid s cut at some = (at ∙ sym cut, some, refl)
+cut-push (t ∷ stretches) from mid s cut at some =
+    (cut.0, cut.1, cut-push stretches t.behind mid s cut.2 at some)
+
+-- what holds of each, and of one more
+pub all-push : (P : Stretch → Type 0) (stretches : List Stretch) (s : Stretch) → All P stretches → P s
+    → All P (stretches ++ s ∷ [])
+all-push P stretches s all here k d below = elim (cases_lt k (length stretches)) [
+  | inl before ↦ subst P (sym (get_or_append_left stretches (s ∷ []) d k before)) (all k d before)
+  | inr past ↦ let at : k ≡ length stretches = omega (arith, below, past, length-append stretches (s ∷ [])) in
+      subst P (sym (ap (λ (i : ℕ). get_or (stretches ++ s ∷ []) i d) at ∙ get_or-append_seam stretches s [] d)) here
+]
+
+-- the last of them, if there is one, could not go on with blocks that are marked so
+abbrev pub CannotGoOn : ℕ → List Stretch → Bool → Type 0
+CannotGoOn most stretches mark = (k : ℕ) (d : Stretch) → k + 1 ≡ length stretches → (get_or stretches k d).done ≡ mark
+    → (get_or stretches k d).behind - (get_or stretches k d).first ≡ most
+
+pub longest-push : (most : ℕ) (stretches : List Stretch) (s : Stretch) → AreLongest most stretches
+    → CannotGoOn most stretches s.done → AreLongest most (stretches ++ s ∷ [])
+longest-push most stretches s longest ends k d below alike =
+    let count = length-append stretches (s ∷ []) in
+    let within : k < length stretches = omega (arith, below, count) in
+    let left = get_or_append_left stretches (s ∷ []) d k within in
+    let is_last : Stretch → Type 0 = λ t. t.behind - t.first ≡ most in
+    subst is_last (sym left) (elim (cases_lt (k + 1) (length stretches)) [
+      | inl before ↦ longest k d before (ap (λ (t : Stretch). t.done) (sym left) ∙ alike
+          ∙ ap (λ (t : Stretch). t.done) (get_or_append_left stretches (s ∷ []) d (k + 1) before))
+      | inr past ↦ let at : k + 1 ≡ length stretches = omega (arith, within, past) in
+          ends k d at (ap (λ (t : Stretch). t.done) (sym left) ∙ alike
+          ∙ ap (λ (i : ℕ). (get_or (stretches ++ s ∷ []) i d).done) at
+          ∙ ap (λ (t : Stretch). t.done) (get_or-append_seam stretches s [] d))
+    ])
+
+pub ends-push : (most : ℕ) (stretches : List Stretch) (s : Stretch) (mark : Bool)
+    → (s.done ≡ mark → s.behind - s.first ≡ most) → CannotGoOn most (stretches ++ s ∷ []) mark
+ends-push most stretches s mark full k d last alike =
+    let at : k ≡ length stretches = omega (arith, last, length-append stretches (s ∷ [])) in
+    let here = ap (λ (i : ℕ). get_or (stretches ++ s ∷ []) i d) at ∙ get_or-append_seam stretches s [] d in
+    subst (λ (t : Stretch). t.behind - t.first ≡ most) (sym here)
+    (full (ap (λ (t : Stretch). t.done) (sym here) ∙ alike))
+
+-- stretches of as many blocks each, and the next of them
+pub even-push : (most to : ℕ) (stretches : List Stretch) (s : Stretch) → AreEven most to stretches
+    → s ≡ even_stretch most to (length stretches) → AreEven most to (stretches ++ s ∷ [])
+even-push most to stretches s even here k d below = elim (cases_lt k (length stretches)) [
+  | inl before ↦ get_or_append_left stretches (s ∷ []) d k before ∙ even k d before
+  | inr past ↦ let at : k ≡ length stretches = omega (arith, below, past, length-append stretches (s ∷ [])) in
+      ap (λ (i : ℕ). get_or (stretches ++ s ∷ []) i d) at ∙ get_or-append_seam stretches s [] d
+      ∙ here ∙ ap (even_stretch most to) (sym at)
+]
+
+abbrev fresh_from : ℕ → ℕ → Stretch
+fresh_from first behind = record { first = first; behind = behind; done = false }
+
+pub even-next : (most to n first behind : ℕ) → first ≡ min (n * most) to → first < to → behind ≡ min (first + most) to
+    → record { first = first; behind = behind; done = false } ≡ even_stretch most to n
+even-next most to n first behind place some ends =
+    let begins : first ≡ n * most = omega (arith, place, some) in
+    ap (λ (x : ℕ). fresh_from x behind) begins
+    ∙ ap (λ (x : ℕ). fresh_from (n * most) x) (ends ∙ ap (λ (x : ℕ). min (x + most) to) begins)
+
+-- where the next one begins
+pub place-push : (most to : ℕ) (stretches : List Stretch) (s : Stretch) (first behind : ℕ)
+    → first ≡ min (length stretches * most) to → first < to → behind ≡ min (first + most) to
+    → behind ≡ min (length (stretches ++ s ∷ []) * most) to
+place-push most to stretches s first behind place some ends =
+    let n = length stretches in
+    let begins : first ≡ n * most = omega (arith, place, some) in
+    let longer : length (stretches ++ s ∷ []) ≡ n + 1 = length-append stretches (s ∷ []) in
+    let more : length (stretches ++ s ∷ []) * most ≡ n * most + most =
+    ap (λ (x : ℕ). x * most) longer ∙ omega arith in
+    ends ∙ ap (λ (x : ℕ). min (x + most) to) begins ∙ ap (λ (x : ℕ). min x to) (sym more)

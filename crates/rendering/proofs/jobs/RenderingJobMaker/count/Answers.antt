@@ -1,6 +1,0 @@
-use Rattle.std.proofs.Common.{arith}
-use Rattle.rendering.proofs.Parts.{few_stretches}
-use Rattle.rendering.proofs.jobs.RenderingJobMaker.count.Goals as goal
-
-pub overflow_cast-result : goal.overflow_cast-result
-overflow_cast-result c = omega (arith, few_stretches _ c.self.invariant.0, c.len.ensures)

@@ -1,0 +1,100 @@
+// Cuts blocks into stretches.
+ghost use Rattle.std.specs.Prelude.{◌≡◌, ◌≤◌, ◌<◌, ◌-◌, ◌/◌, ◌^◌, true, false, length, max, cond, nat_le, IfOk};
+ghost use Rattle.std.specs.List.{All};
+ghost use Rattle.rendering.specs.Cut.{AreEven, AreLongest, IsCut, IsFresh, IsShort, IsUniform, blocks_at_once};
+
+use crate::stretch::Stretch;
+use std::alloc::{AllocError, Global};
+
+/// The most blocks that are each done alone where there are no more.
+const FEW: u32 = 64;
+
+/// The bytes that are done at once where there are more blocks.
+const AT_ONCE: u32 = 4_194_304;
+
+/// How many blocks of so many bytes are done at once.
+pub fn blocks_at_once(blocks: u32, block_size: u32) -> u32
+    requires { 0 < block_size }
+    ensures value { result ≡ blocks_at_once blocks block_size }
+    ensures some { 1 ≤ result }
+    ensures few { 4096 ≤ block_size → result ≤ 1024 }
+{
+    if blocks <= FEW {
+        return 1;
+    }
+    (AT_ONCE / block_size).max(1)
+}
+
+/// All blocks, none of which is done, so many in each stretch but the last.
+pub fn fresh_stretches(alloc: Global, blocks: u32, most: u32) -> Result<Vec<Stretch>, AllocError>
+    requires { 1 ≤ most }
+    ensures cut { IfOk result (λ stretches. IsCut 0 stretches.items blocks) }
+    ensures even { IfOk result (λ stretches. AreEven most blocks stretches.items) }
+    ensures fresh { IfOk result (λ stretches. All IsFresh stretches.items) }
+    ensures short { IfOk result (λ stretches. All (IsShort most) stretches.items) }
+{
+    let mut stretches = Vec::new(alloc);
+    let mut first = 0;
+    while first < blocks {
+        let behind = blocks.min(first.saturating_add(most));
+        stretches.push(Stretch {
+            first,
+            behind,
+            done: false,
+        })?;
+        first = behind;
+    }
+    Ok(stretches)
+}
+
+/// Whether a stretch that began at `first` ends before the block `here`, which is marked so.
+fn ends_here(first: u32, here: u32, done: bool, mark: bool, most: u32) -> bool
+    ensures some { result ≡ true → first < here }
+    ensures full { result ≡ true → mark ≡ done → most ≤ here - first }
+    ensures goes_on { result ≡ false → first < here → (mark ≡ done) × (here - first < most) }
+{
+    if first >= here {
+        return false;
+    }
+    if mark != done {
+        return true;
+    }
+    here - first >= most
+}
+
+/// The blocks by their marks: stretches of marked ones, which are done, and of unmarked ones, each as long as can be,
+/// but of at most so many blocks.
+pub fn stretches_of(alloc: Global, marked: &[bool], most: u32) -> Result<Vec<Stretch>, AllocError>
+    requires some { 1 ≤ most }
+    requires few { length marked.now < 2 ^ 32 }
+    ensures cut { IfOk result (λ stretches. IsCut 0 stretches.items (length marked.now)) }
+    ensures uniform { IfOk result (λ stretches. All (IsUniform marked.now) stretches.items) }
+    ensures short { IfOk result (λ stretches. All (IsShort most) stretches.items) }
+    ensures longest { IfOk result (λ stretches. AreLongest most stretches.items) }
+{
+    let mut stretches = Vec::new(alloc);
+    let mut first = 0;
+    let mut done = false;
+    for (i, mark) in marked.iter().enumerate() {
+        let here = i as u32;
+        if ends_here(first, here, done, *mark, most) {
+            stretches.push(Stretch {
+                first,
+                behind: here,
+                done,
+            })?;
+            first = here;
+        }
+        done = *mark;
+    }
+    let behind = marked.len() as u32;
+    if first >= behind {
+        return Ok(stretches);
+    }
+    stretches.push(Stretch {
+        first,
+        behind,
+        done,
+    })?;
+    Ok(stretches)
+}
