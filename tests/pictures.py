@@ -11,7 +11,7 @@ from typing import NamedTuple
 
 import model
 from examples import made_media, text_of
-from harness import LIST, MEDIA, Mismatch, Scene, Skipped, Suite, same, same_bytes, same_files, same_outcome
+from harness import LIST, MEDIA, Mismatch, Scene, Skipped, Suite, same, same_bytes, same_files
 from model.groups import from_checked, runs_of
 from tables import wave
 
@@ -186,10 +186,69 @@ def named(scene: Scene) -> None:
     same("the name in a title", "a<b>&\"'\ufffd.wav" in titles[1], True)
 
 
-def refused(scene: Scene) -> None:
-    """A list that isn't accepted is refused as a check refuses it."""
+def refused_picture(scene: Scene, line: str) -> ElementTree.Element:
+    """The picture of a list that is refused by this line, which stands on standard error alone."""
+    got = scene.run("show", LIST, MEDIA)
+    same("the status", got.status, 1)
+    same("the refusal on standard error", got.error.decode().splitlines()[0], line)
+    return ElementTree.fromstring(got.output)
+
+
+def faults_in(root: ElementTree.Element) -> list:
+    """The titles of the entries with a broken line round them."""
+    groups = [each for each in root.iter(f"{SVG}g") if each.get("stroke-dasharray")]
+    return [each.find(f"{SVG}title").text.split(":")[0] for each in groups]
+
+
+def hatched_in(root: ElementTree.Element) -> list:
+    """Where what is missing is hatched: its left edge, its width and how far down, in pixels."""
+    boxes = [each for each in root.iter(f"{SVG}rect") if each.get("fill") == "url(#missing)"]
+    return [(float(each.get("x")), float(each.get("width")), int(each.get("y"))) for each in boxes[:-1]]
+
+
+def refused_text(scene: Scene) -> None:
+    """Nothing is drawn of a list whose text is at fault."""
     scene.put(b"no list", {})
-    same_outcome(scene.run("show", LIST, MEDIA), 1, "refused 03 at line 1")
+    got = scene.run("show", LIST, MEDIA)
+    same("status and standard output", (got.status, got.output), (1, b""))
+    same("the refusal", got.error.decode().splitlines()[0], "refused 03 at line 1")
+
+
+def refused_entries(scene: Scene) -> None:
+    """Entries that play what their file doesn't have are marked, and what is missing is hatched: before the file begins
+    and after it ends. One on a channel that its file doesn't have is marked, with nothing missing."""
+    def entry(number: int, first: int, begin: int, end: int, source: bytes = b"1") -> bytes:
+        return model.entry_line(number, 1, *(model.time_text(each) for each in (first, begin, end)), source=source)
+
+    source = model.source_line(1, "a.wav", model.time_text(100))
+    lines = [entry(1, 100, 0, 8), entry(2, 104, 10, 20), entry(3, 97, 20, 28), entry(4, 100, 30, 34, b"2")]
+    scene.put(model.list_text([source], lines), {"a.wav": wave(range(8))})
+    root = refused_picture(scene, "refused 46 at entry 2")
+    same("the entries at fault", faults_in(root), ["entry 2, refused 46", "entry 3, refused 46", "entry 4, refused 44"])
+    times, top = Times(0, 34), min(down for _, _, down in hatched_in(root))
+    hatched = [(begin, begin + width) for begin, width, _ in hatched_in(root)]
+    for got, wanted in zip(hatched, [(14, 20), (20, 23)], strict=True):
+        for edge, time in zip(got, wanted):
+            same(f"an edge at {time}", abs(edge - times.place(time)) < 0.2, True)
+    same("one lane", {down for _, _, down in hatched_in(root)}, {top})
+    words = next(each.text for each in root if each.get("id") == "words")
+    same("what the description says", words.endswith("; 3 entries are at fault, or their files."), True)
+
+
+def refused_files(scene: Scene) -> None:
+    """Entries of files that are missing or broken are marked and hatched whole, also by another index of the file."""
+    def entry(number: int, index: int, begin: int) -> bytes:
+        return model.entry_line(number, index, *(model.time_text(each) for each in (0, begin, begin + 4)))
+
+    names = ["a.wav", "gone.wav", "gone.wav", "b.wav"]
+    sources = [model.source_line(number, name, b"_") for number, name in enumerate(names, 1)]
+    lines = [entry(number, number, 10 * number) for number in range(1, 5)]
+    scene.put(model.list_text(sources, lines), {"a.wav": wave(range(8)), "b.wav": b"no sound"})
+    root = refused_picture(scene, "refused 21 at index 2 file gone.wav")
+    same("the entries at fault", faults_in(root), ["entry 2, refused 21", "entry 3, refused 21", "entry 4, refused 23"])
+    times = Times(10, 44)
+    for (begin, width, _), time in zip(hatched_in(root), (20, 30, 40), strict=True):
+        same(f"the edges from {time} on", abs(begin - times.place(time)) + abs(width - 4 * WIDTH / 34) < 0.3, True)
 
 
 def kept_picture(all_media: dict):
@@ -214,5 +273,7 @@ def run(suite: Suite) -> None:
         suite.case(f"the entries in the picture of {example}", entries_drawn(text, media))
         suite.case(f"the files in the picture of {example}", files_drawn(text, media, 4800))
     suite.case("a name in a picture", named)
-    suite.case("a list that is refused has no picture", refused)
+    suite.case("a list whose text is refused has no picture", refused_text)
+    suite.case("the picture of entries at fault", refused_entries)
+    suite.case("the picture of files at fault", refused_files)
     suite.case("README's picture", kept_picture(all_media))

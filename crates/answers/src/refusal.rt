@@ -39,6 +39,19 @@ pub fn refuse<O: Console, E: Console, A: Asides>(
     is_named
 }
 
+/// Prints both on `err`.
+pub fn refuse_on<E: Console, A: Asides>(
+    alloc: Global,
+    list: &[u8],
+    fault: &Fault,
+    explanation: Explanation<'_>,
+    asides: &A,
+    err: &mut E,
+) {
+    let _ = put_line(alloc, fault, err);
+    tell_explanation(alloc, list, fault, explanation, asides, err);
+}
+
 /// Prints the line of a refusal.
 fn put_line<O: Console>(alloc: Global, fault: &Fault, out: &mut O) -> bool
     ensures { Prints O.contents O.failures out.old out.new (refusal_line result (refusal_of fault.now)) }

@@ -2,9 +2,11 @@
 #![tactic(auto)]
 
 mod escaped;
+mod hatching;
 mod picture;
 mod ruler;
 mod scale;
+mod shown;
 mod sources;
 mod timeline;
 

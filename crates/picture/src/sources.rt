@@ -81,7 +81,11 @@ impl SourceBars<'_> {
             f,
             "<text x='360' y='{text}'>kept by a handle of {handle} frames</text>"
         )?;
-        writeln!(f, "<text x='690' y='{text}'>dropped</text>")
+        writeln!(f, "<text x='690' y='{text}'>dropped</text>")?;
+        writeln!(
+            f,
+            "<text x='820' y='{text}'>each bar is a whole file</text>"
+        )
     }
 
     /// Writes the words and the bar of a file.
@@ -97,8 +101,9 @@ impl SourceBars<'_> {
         let played = frames_in(self.played, file);
         let kept = frames_in(self.kept, file);
         let all = seconds(frames);
-        let dropped = seconds(frames.saturating_sub(kept));
         let (played, kept) = (seconds(played), seconds(kept));
+        // As much as the two numbers beside it leave.
+        let dropped = Tenths(all.0.saturating_sub(kept.0));
         let text = top.saturating_add(12);
         let bar = top.saturating_add(17);
         write!(

@@ -1,8 +1,9 @@
 // The entries over time, in a lane for each channel.
 use crate::escaped::Escaped;
+use crate::hatching::put_missing;
 use crate::ruler::{TimeCode, put_ruler};
 use crate::scale::{DRAWN, LEFT, Scale, Tenths};
-use projectcheck::Checked;
+use crate::shown::Shown;
 use sound_terms::Event;
 use std::fmt;
 
@@ -32,17 +33,17 @@ const BEFORE: usize = 8;
 /// that an entry names.
 #[derive(Clone, Copy)]
 pub struct Timeline<'a> {
-    checked: &'a Checked,
+    shown: Shown<'a>,
     pub span: (u64, u64),
     pub channels: (u8, u8),
 }
 
 impl<'a> Timeline<'a> {
     /// The timeline of a project.
-    pub fn of(checked: &'a Checked) -> Timeline<'a> {
+    pub fn of(shown: Shown<'a>) -> Timeline<'a> {
         let mut span = (u64::MAX, 0);
         let mut channels = (u8::MAX, 0);
-        for event in checked.project().events() {
+        for event in shown.project.events() {
             span.0 = span.0.min(event.dest_in.get());
             span.1 = span.1.max(event.dest_out.get());
             channels.0 = channels.0.min(event.dest.first);
@@ -55,7 +56,7 @@ impl<'a> Timeline<'a> {
             channels = (1, 1);
         }
         Timeline {
-            checked,
+            shown,
             span,
             channels,
         }
@@ -73,13 +74,14 @@ impl<'a> Timeline<'a> {
 
     /// Writes the time code, the lanes and the entries.
     pub fn put<W: fmt::Write>(self, f: &mut fmt::Formatter<W>) -> fmt::Result {
-        put_ruler(f, self.checked.project(), self.span, self.bottom())?;
+        put_ruler(f, self.shown.project, self.span, self.bottom())?;
         self.put_lanes(f)?;
         writeln!(f, "<g fill-opacity='.15' stroke='#000'>")?;
-        for event in self.checked.project().events() {
+        for event in self.shown.project.events() {
             self.put_entry(f, event)?;
         }
         writeln!(f, "</g>")?;
+        self.put_all_missing(f)?;
         self.put_names(f)
     }
 
@@ -102,7 +104,7 @@ impl<'a> Timeline<'a> {
 
     /// Writes an entry: in each lane a shape that rises and falls as its fades do. Its title tells what plays.
     fn put_entry<W: fmt::Write>(self, f: &mut fmt::Formatter<W>, event: &Event) -> fmt::Result {
-        let project = self.checked.project();
+        let project = self.shown.project;
         let from = TimeCode {
             project,
             samples: event.dest_in.get(),
@@ -113,14 +115,30 @@ impl<'a> Timeline<'a> {
         };
         let name = Escaped(self.name_of(event));
         let (number, index) = (event.number, event.index);
-        writeln!(
-            f,
-            "<g><title>entry {number}: index {index}, {name}, {from} to {to}</title>"
-        )?;
+        match self.shown.refusal_of(event) {
+            Some(refusal) => write!(
+                f,
+                "<g stroke-width='2.5' stroke-dasharray='6 3'><title>entry {number}, refused {refusal}"
+            )?,
+            None => write!(f, "<g><title>entry {number}")?,
+        }
+        writeln!(f, ": index {index}, {name}, {from} to {to}</title>")?;
         for channel in event.dest.first..=event.dest.last {
             self.put_shape(f, event, self.lane(channel))?;
         }
         writeln!(f, "</g>")
+    }
+
+    /// Hatches in each lane what the entries play that their files don't have.
+    fn put_all_missing<W: fmt::Write>(self, f: &mut fmt::Formatter<W>) -> fmt::Result {
+        let scale = Scale::new(self.span.0, self.span.1);
+        for event in self.shown.project.events() {
+            let missing = self.shown.missing(event);
+            for channel in event.dest.first..=event.dest.last {
+                put_missing(f, scale, event, missing, self.lane(channel), HIGH)?;
+            }
+        }
+        Ok(())
     }
 
     /// Writes the shape of an entry in the lane that begins here.
@@ -147,9 +165,9 @@ impl<'a> Timeline<'a> {
     fn put_names<W: fmt::Write>(self, f: &mut fmt::Formatter<W>) -> fmt::Result {
         writeln!(
             f,
-            "<g text-anchor='middle' stroke='#fff' stroke-width='3' paint-order='stroke'>"
+            "<g text-anchor='middle' stroke='#fff' stroke-width='3' stroke-linejoin='round' paint-order='stroke'>"
         )?;
-        let events = self.checked.project().events();
+        let events = self.shown.project.events();
         for (place, event) in events.iter().enumerate() {
             let before = events
                 .get(place.saturating_sub(BEFORE)..place)
@@ -182,7 +200,7 @@ impl<'a> Timeline<'a> {
         write!(f, "<text x='{at}' y='{line}'>{number}")?;
         let name = self.name_of(event);
         let letters = (name.len() as u64).saturating_mul(LETTER);
-        if letters.saturating_add(NUMBERED) <= width {
+        if letters.saturating_add(2 * NUMBERED) <= width {
             let name = Escaped(name);
             write!(f, " {name}")?;
         }
@@ -191,7 +209,9 @@ impl<'a> Timeline<'a> {
 
     /// The name of the file that an entry plays.
     fn name_of(self, event: &Event) -> &'a str {
-        let bound = self.checked.bound();
+        let Some(bound) = self.shown.bound else {
+            return "";
+        };
         let Some(index) = bound.index(event.index) else {
             return "";
         };

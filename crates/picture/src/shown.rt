@@ -1,0 +1,89 @@
+// The entries that are drawn, and what is at fault with them.
+use adlmodel::Project;
+use projectcheck::fault_of;
+use sound_terms::{BoundIndex, Event};
+use sourceindex::Bound;
+use std::collections::BTreeMap;
+
+/// A project, what it is bound to where all its files are sound, and for each index whose file isn't, the number of the
+/// refusal.
+#[derive(Clone, Copy)]
+pub struct Shown<'a> {
+    pub project: &'a Project,
+    pub bound: Option<&'a Bound>,
+    pub bad_files: Option<&'a BTreeMap<u32, u8>>,
+}
+
+/// So many samples that an entry plays before its file begins, and after it ends.
+#[derive(Clone, Copy)]
+pub struct Missing {
+    pub before: u64,
+    pub after: u64,
+}
+
+impl Missing {
+    /// Whether anything is.
+    pub fn is_some(self) -> bool {
+        self.before > 0 || self.after > 0
+    }
+}
+
+impl<'a> Shown<'a> {
+    /// The number of the refusal of an entry, or of its file; `None` where neither is at fault.
+    pub fn refusal_of(self, event: &Event) -> Option<u8> {
+        let of_file = self
+            .bad_files
+            .and_then(|files| files.get(&event.index).copied());
+        if of_file.is_some() {
+            return of_file;
+        }
+        match fault_of(self.bound?, event) {
+            Some(fault) => Some(fault.number()),
+            None => None,
+        }
+    }
+
+    /// Which samples of an entry its file doesn't have: all of them where that is at fault.
+    pub fn missing(self, event: &Event) -> Missing {
+        let length = event.dest_out.get().saturating_sub(event.dest_in.get());
+        let is_bad = match self.bad_files {
+            Some(files) => files.contains_key(&event.index),
+            None => false,
+        };
+        if is_bad {
+            return Missing {
+                before: length,
+                after: 0,
+            };
+        }
+        match self.bound.and_then(|bound| bound.index(event.index)) {
+            Some(index) => missing_in(index, event.source_in.get(), length),
+            None => Missing {
+                before: 0,
+                after: 0,
+            },
+        }
+    }
+
+    /// How many entries are at fault, or their files.
+    pub fn refused(self) -> u64 {
+        let mut count: u64 = 0;
+        for event in self.project.events() {
+            if self.refusal_of(event).is_some() {
+                count = count.saturating_add(1);
+            }
+        }
+        count
+    }
+}
+
+/// Of so many frames from a time of an index on, those before its first frame and after its last.
+fn missing_in(index: BoundIndex, from: u64, length: u64) -> Missing {
+    let before = index.base.saturating_sub(from).min(length);
+    let first = from.saturating_sub(index.base);
+    let end = first.saturating_add(length.saturating_sub(before));
+    let after = end
+        .saturating_sub(index.addressable)
+        .min(length.saturating_sub(before));
+    Missing { before, after }
+}
