@@ -5,3 +5,4 @@ pub mod Reading
 pub mod Refused
 pub mod Table
 pub mod Walking
+pub mod ZeroHeads

@@ -79,7 +79,7 @@ one_more end chunks found chunk next known fine format bext sound others = recor
 abbrev pub IsCounted : List ℕ → Type 0
 IsCounted id = list_any (bytes_eq id) counted_ids ≡ true
 
-never : (b : Bool) → if◌then◌else◌ {A = Option SoundFault} (b && false) (Some Truncated) None ≡ None
+pub never : (b : Bool) → if◌then◌else◌ {A = Option SoundFault} (b && false) (Some Truncated) None ≡ None
 never true = refl
 never false = refl
 
@@ -131,7 +131,7 @@ others_counted chunks id contents counted no_junk =
       last true = refl
       last false = refl
 
-none-or : (slot : Option Span) → slot ≡ option_or slot None
+pub none-or : (slot : Option Span) → slot ≡ option_or slot None
 none-or None = refl
 none-or (Some span) = refl
 

@@ -23,7 +23,7 @@ ranged stored file at bytes range there =
     }
 
 -- some of the bytes that were read
-ahead_at : (file : List ℕ) (at offset : ℕ) (bytes : List ℕ) → IsAhead file at bytes → offset ≤ length bytes
+pub ahead_at : (file : List ℕ) (at offset : ℕ) (bytes : List ℕ) → IsAhead file at bytes → offset ≤ length bytes
     → drop offset bytes ≡ take (length bytes - offset) (drop (at + offset) file)
 ahead_at file at offset bytes ahead within =
     let split : length bytes ≡ offset + (length bytes - offset) = omega arith in

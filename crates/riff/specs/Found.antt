@@ -1,5 +1,5 @@
 -- What a walk over the chunks of a file has found so far.
-use Rattle.std.specs.Prelude.{◌≡◌, ℕ, ◌+◌, ◌-◌, ◌≤◌, ◌*◌, List, [], ◌++◌, codes, take, drop, length, Option, None, Some, IfSome, Result, Ok, Err, option_map}
+use Rattle.std.specs.Prelude.{◌≡◌, ℕ, ◌+◌, ◌-◌, ◌≤◌, ◌*◌, List, [], ◌++◌, codes, take, drop, length, replicate, Option, None, Some, IfSome, Result, Ok, Err, option_map}
 use Rattle.sound_terms.specs.declared.Ds64.{Ds64}
 use Rattle.sound_terms.specs.declared.Span.{Span}
 use Rattle.sound_terms.specs.declared.Chunks.{Chunks}
@@ -14,6 +14,11 @@ pub record HasHead (file : List ℕ) (at : ℕ) (head : Head) : Type 0 where
   pub inside : at + 8 ≤ length file
   pub id : head.id ≡ take 4 (drop at file)
   pub size : head.size ≡ number_at 4 (at + 4) file
+
+-- so many heads of id 0 and size 0 stand in the file from `at` on, one right after the other
+pub record HasZeroHeads (file : List ℕ) (at count : ℕ) : Type 0 where
+  pub inside : at + 8 * count ≤ length file
+  pub zeros : take (8 * count) (drop at file) ≡ replicate (8 * count) 0
 
 -- these bytes stand in the file from `at` on
 pub record IsAhead (file : List ℕ) (at : ℕ) (bytes : List ℕ) : Type 0 where

@@ -4,7 +4,7 @@ ghost use Rattle.std.specs.Option.{option_or};
 ghost use Rattle.sound_terms.specs.Chunks.{Chunk};
 ghost use Rattle.sound_terms.specs.Walks.{first_chunk_fault, found_in};
 ghost use Rattle.sound_terms.specs.declared.Ds64.{Ds64};
-ghost use Rattle.riff.specs.Found.{IsFoundIn, IsWalked, WalksOn, HasHead, IsInside, EndsInside, EndInside, chunk_at, layout_by};
+ghost use Rattle.riff.specs.Found.{IsFoundIn, IsWalked, WalksOn, HasHead, HasZeroHeads, IsInside, EndsInside, EndInside, chunk_at, layout_by};
 
 use crate::head::{HEAD_LENGTH, Head};
 use sound_terms::{Chunks, SoundFault, Span};
@@ -85,6 +85,22 @@ impl Found {
         self.add(head.id, contents, behind)?;
         self.seen += 1;
         Ok(behind.saturating_sub(size).saturating_sub(size % 2))
+    }
+
+    /// Takes in so many chunks of id 0 and size 0, one right after the other, whose heads begin the last `left` bytes of
+    /// the file, and answers how many bytes remain after them.
+    pub fn take_in_zeros(&mut self, count: u64, end: u64, left: u64) -> u64
+        requires some { 0 < count }
+        requires room { 8 * count ≤ left }
+        requires inside { IsInside end left self.old }
+        ensures walked { (file : List ℕ) (sizes : Option Ds64) → IsWalked file sizes end left self.old
+            → HasZeroHeads file (end - left) count → IsWalked file sizes end result self.new }
+        ensures inside { IsInside end result self.new }
+        ensures less { result < left }
+    {
+        self.others = true;
+        self.seen += count;
+        left - HEAD_LENGTH * count
     }
 
     /// The chunks that count, where `fmt ` and `data` were seen.

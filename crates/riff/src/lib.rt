@@ -11,6 +11,7 @@ mod index;
 mod pcm_format;
 mod sizes;
 mod wave;
+mod zeros;
 
 pub use fault::MediaFault;
 pub use pcm_format::read_fmt;

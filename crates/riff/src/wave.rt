@@ -15,12 +15,16 @@ use crate::found::Found;
 use crate::head::{HEAD_LENGTH, Head};
 use crate::index::{Index, index_of};
 use crate::sizes::{Size, size_of, told_size};
+use crate::zeros::zero_heads;
 use devices::Shelf;
 use sound_terms::{Ds64, SoundFault, Span};
 use std::alloc::Global;
 
 /// How many bytes are read at once.
 const AHEAD: usize = 4096;
+
+/// How many, after chunks that lay closer together than what was read.
+const FAR_AHEAD: usize = 16_384;
 
 /// Where the chunks that count stand in a sound file (EBU Tech 3285 and 3306), without their heads, in bytes.
 #[derive(Clone, Copy, Debug, PartialEq, Eq)]
@@ -38,7 +42,8 @@ pub struct Chunks {
 }
 
 /// Takes in the chunks whose heads stand in these bytes, with which the last `first` bytes of the file begin, up to
-/// one whose size stands in the table of `ds64`. Answers how many bytes are left behind them.
+/// one whose size stands in the table of `ds64`; heads that are all zeros many at a time. Answers how many bytes are left
+/// behind them.
 fn walk_ahead(
     found: &mut Found,
     sizes: &Option<Ds64>,
@@ -59,7 +64,13 @@ fn walk_ahead(
     let last = bytes.len() as u64 - HEAD_LENGTH;
     let mut left = first;
     while first - left <= last {
-        let head = Head::of(&bytes[(first - left) as usize..]);
+        let ahead = &bytes[(first - left) as usize..];
+        let zeros = zero_heads(ahead);
+        if zeros > 0 {
+            left = found.take_in_zeros(zeros, end, left);
+            continue;
+        }
+        let head = Head::of(ahead);
         let Size::Told(size) = size_of(sizes, index, &head) else {
             break;
         };
@@ -112,9 +123,7 @@ fn walk_form<S: Shelf>(
     form: &Form,
     index: &Option<Index>,
     end: u64,
-    ahead: &mut [u8],
 ) -> Result<Chunks, MediaFault>
-    requires room { 8 ≤ length ahead.old }
     requires few { 8 * heads_of form.now.sizes + form.now.left + 12 ≤ end }
     ensures exact { IsTrue (S.honest shelf.old) → (file : List ℕ) → S.stored shelf.old name.now ≡ Some file
         → length file ≡ end → IsLaid file end form.now.sizes form.now.left → IsIndexOf file form.now.sizes index.now
@@ -128,10 +137,12 @@ fn walk_form<S: Shelf>(
     ensures only_reads { OnlyReads S.Shelf shelf.old shelf.new result (λ fault. fault ≡ MediaFault.Device)
         (λ _ failed. failed name.now) }
 {
+    let mut ahead = [0u8; FAR_AHEAD];
+    let mut count = AHEAD;
     let mut found = Found::nothing(form.heads());
     let mut left = form.left;
     while left >= HEAD_LENGTH {
-        left = walk_on(
+        let rest = walk_on(
             shelf,
             name,
             &mut found,
@@ -139,8 +150,14 @@ fn walk_form<S: Shelf>(
             index,
             end,
             left,
-            ahead,
+            &mut ahead[..count],
         )?;
+        count = if left - rest <= count as u64 {
+            FAR_AHEAD
+        } else {
+            AHEAD
+        };
+        left = rest;
     }
     let chunks = found.chunks()?;
     Ok(Chunks {
@@ -153,8 +170,9 @@ fn walk_form<S: Shelf>(
 }
 
 /// Finds the chunks that count in a file of RIFF WAVE or RF64 (EBU Tech 3285, 3306): the first `fmt `, `bext` and
-/// `data`. It reads the heads of chunks, up to 4096 bytes at a time, and no sample that isn't near one. A chunk of
-/// another kind that passes the end of the file ends the walk, as fewer than 8 bytes do.
+/// `data`. It reads the heads of chunks, up to 4096 bytes at a time, 16,384 where chunks lie close together, and no
+/// sample that isn't near one. A chunk of another kind that passes the end of the file ends the walk, as fewer than 8
+/// bytes do.
 ///
 /// In turn: `NotFound` where no file has the name, `NotWave` for a file that is neither; `BadDs64` where RF64 has no
 /// whole `ds64` at byte 12; for the chunks from the left `Truncated` where one that counts passes the end, `BadDs64`
@@ -175,8 +193,7 @@ pub fn walk<S: Shelf>(shelf: &mut S, name: &str) -> Result<Chunks, MediaFault>
 {
     let end = shelf.length(name)?;
     let form = read_form(shelf, name, end)?;
-    let mut ahead = [0u8; AHEAD];
-    walk_form(shelf, name, &form, &None, end, &mut ahead)
+    walk_form(shelf, name, &form, &None, end)
 }
 
 /// Finds the chunks that count, as [`walk`] does, over an index of the table of `ds64`: each entry is read once, however
@@ -201,6 +218,5 @@ pub fn walk_indexed<S: Shelf>(
     let end = shelf.length(name)?;
     let form = read_form(shelf, name, end)?;
     let index = Some(index_of(alloc, shelf, name, &form.sizes)?);
-    let mut ahead = [0u8; AHEAD];
-    walk_form(shelf, name, &form, &index, end, &mut ahead)
+    walk_form(shelf, name, &form, &index, end)
 }

@@ -12,6 +12,7 @@ loop-left-init g c =
     let seen : c.nothing-found.result.seen ≡ heads_of form.sizes = c.nothing-found.ensures.seen ∙ c.heads.ensures in
     record {
       sources = search rules;
+      count = (omega arith, omega arith);
       inside = record { ends = c.nothing-found.ensures.ends c.args.end; few = omega (arith, seen) };
       walked = λ honest file there whole laid indexed. walked_start file form.sizes c.args.end form.left _ whole laid
           (omega (arith, c.requires.few)) (c.nothing-found.ensures.found c.args.end) seen;
