@@ -1,7 +1,7 @@
 //! The chunk `ds64` of RF64 (EBU Tech 3306), which tells the sizes that 32 bits can't.
 #![tactic(auto)]
 
-ghost use Rattle.std.specs.Prelude.{◌≡◌, ◌+◌, ◌≤◌, ◌++◌, length, take, drop, Some};
+ghost use Rattle.std.specs.Prelude.{◌≡◌, ◌+◌, ◌≤◌, length, Some};
 ghost use Rattle.sound_terms.specs.Chunks.{number_at};
 ghost use Rattle.sound_terms.specs.Ds64.{ds64_of, ds64_bytes};
 
@@ -57,16 +57,8 @@ pub fn ds64_bytes(riff_size: u64, data_size: u64, samples: u64) -> [u8; 28]
     }) }
 {
     let mut bytes = [0; 28];
-    put(&mut bytes, 0, &riff_size.to_le_bytes());
-    put(&mut bytes, 8, &data_size.to_le_bytes());
-    put(&mut bytes, 16, &samples.to_le_bytes());
+    LittleEndian::write_u64(&mut bytes, riff_size);
+    LittleEndian::write_u64(&mut bytes[8..], data_size);
+    LittleEndian::write_u64(&mut bytes[16..], samples);
     bytes
-}
-
-/// Puts `word` over the bytes from `at` on.
-fn put(bytes: &mut [u8], at: usize, word: &[u8])
-    requires { at + length word.now ≤ length bytes.old }
-    ensures { bytes.new ≡ take at bytes.old ++ (word.now ++ drop (at + length word.now) bytes.old) }
-{
-    bytes[at..at + word.len()].copy_from_slice(word);
 }
