@@ -2,6 +2,8 @@
 ghost use Rattle.std.specs.Prelude.{◌≡◌, ◌≤◌, ◌+◌, ◌++◌, length, take};
 ghost use Rattle.sound_terms.specs.Waves.{u16_bytes, u32_bytes, chunk_head};
 
+use byteorder::{ByteOrder, LittleEndian};
+
 /// Puts a word behind the first `at` bytes, and answers where it ends.
 pub fn put(out: &mut [u8], at: usize, word: &[u8]) -> usize
     requires { at + length word.now ≤ length out.old }
@@ -20,7 +22,8 @@ pub fn put_u16(out: &mut [u8], at: usize, number: u16) -> usize
     ensures put { take result out.new ≡ take at out.old ++ u16_bytes number }
     ensures end { result ≡ at + 2 }
 {
-    put(out, at, &number.to_le_bytes())
+    LittleEndian::write_u16(&mut out[at..], number);
+    at + 2
 }
 
 /// Puts a number of 32 bits, little endian.
@@ -30,7 +33,8 @@ pub fn put_u32(out: &mut [u8], at: usize, number: u32) -> usize
     ensures put { take result out.new ≡ take at out.old ++ u32_bytes number }
     ensures end { result ≡ at + 4 }
 {
-    put(out, at, &number.to_le_bytes())
+    LittleEndian::write_u32(&mut out[at..], number);
+    at + 4
 }
 
 /// Puts the head of a chunk: its id, and the size of its contents.
