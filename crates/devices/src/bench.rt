@@ -55,15 +55,15 @@ pub trait Bench {
 
     /// Adds so many zeros at the end of the file, which has to be there. By itself it appends them piece by piece.
     fn append_zeros(&mut self, name: &str, count: u64) -> Result<(), DeviceFault>
-        ensures { HasAppended stored honest failures failed_at may_leave moment left_since name.now
+        ensures appends { HasAppended stored honest failures failed_at may_leave moment left_since name.now
             (replicate count 0) self.old self.new result }
+        ensures there { IsTrue (honest self.old) → OnOk result (IsSome (stored self.old name.now)) }
     {
         let zeros = [0; 4096];
-        let mut left = count;
-        while left > 0 {
-            let more = left.min(4096);
-            self.append(name, &zeros[..more as usize])?;
-            left -= more;
+        let part = count % 4096;
+        self.append(name, &zeros[..part as usize])?;
+        for _piece in 0..count / 4096 {
+            self.append(name, &zeros)?;
         }
         Ok(())
     }

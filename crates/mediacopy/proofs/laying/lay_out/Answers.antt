@@ -17,4 +17,4 @@ returns-clause-laid g c = λ honest.
     subst (λ (bytes : List ℕ). OnOk c.append_zeros.result
     (g.B.Bench.stored c.append_zeros.new.self c.args.name.now ≡ Some bytes))
     (ap (λ (n : ℕ). head ++ replicate (n + n % 2) 0) c.data_length-size.ensures.value ∙ laid c.args.info.now head refl)
-    (added_to c.append_zeros.result _ _ head _ headed (c.append_zeros.ensures.appended headed_honest))
+    (added_to c.append_zeros.result _ _ head _ headed (c.append_zeros.ensures.appends.appended headed_honest))

@@ -38,7 +38,7 @@ returns-in-Ok-append_zeros-clause-beside g c =
     c.create.new.self (g.met.B.Bench.only_now c.args.bench.now) c.in-Ok.ensures.time c.in-Ok.ensures.crash)
     (one_call g.B.Bench.may_leave g.B.Bench.moment g.B.Bench.left_since (codes "render.wav") _ c.create.new.self
     c.append.new.self (g.met.B.Bench.only_now c.create.new.self) c.in-Ok-append.ensures.time
-    c.in-Ok-append.ensures.crash)) (leaves_others g.B.Bench (codes "render.wav") _ c.append.new.self c.append_zeros.new.self _ c.in-Ok-append_zeros.ensures)
+    c.in-Ok-append.ensures.crash)) (leaves_others g.B.Bench (codes "render.wav") _ c.append.new.self c.append_zeros.new.self _ c.in-Ok-append_zeros.ensures.appends)
 
 pub returns-in-Err-append_zeros-clause-beside : goal.returns-in-Err-append_zeros-clause-beside
 returns-in-Err-append_zeros-clause-beside g c =
@@ -50,7 +50,7 @@ returns-in-Err-append_zeros-clause-beside g c =
     c.create.new.self (g.met.B.Bench.only_now c.args.bench.now) c.in-Ok.ensures.time c.in-Ok.ensures.crash)
     (one_call g.B.Bench.may_leave g.B.Bench.moment g.B.Bench.left_since (codes "render.wav") _ c.create.new.self
     c.append.new.self (g.met.B.Bench.only_now c.create.new.self) c.in-Ok-append.ensures.time
-    c.in-Ok-append.ensures.crash)) (leaves_others g.B.Bench (codes "render.wav") _ c.append.new.self c.append_zeros.new.self _ c.in-Err-append_zeros.ensures)
+    c.in-Ok-append.ensures.crash)) (leaves_others g.B.Bench (codes "render.wav") _ c.append.new.self c.append_zeros.new.self _ c.in-Err-append_zeros.ensures.appends)
 
 pub returns-in-Ok-append_zeros-clause-begun : goal.returns-in-Ok-append_zeros-clause-begun
 unfolding zeros
@@ -61,4 +61,4 @@ returns-in-Ok-append_zeros-clause-begun g c = λ honest.
     rw c.append.ensures.only_writes.honest_same created_honest in
     let created = (c.in-Ok.ensures.created honest).here in
     let there = headed _ _ c.args.head.now (c.in-Ok-append.ensures.appended created_honest).here created in
-    added_to {X = ⊤} {E = DeviceFault} (Ok tt) _ _ c.args.head.now _ there (c.in-Ok-append_zeros.ensures.appended headed_honest)
+    added_to {X = ⊤} {E = DeviceFault} (Ok tt) _ _ c.args.head.now _ there (c.in-Ok-append_zeros.ensures.appends.appended headed_honest)

@@ -1,11 +1,10 @@
-use Rattle.std.proofs.Common.{◌≤◌, ◌-◌, replicate, Ok}
+use Rattle.std.proofs.Common.{◌+◌, ◌*◌, ◌%◌, replicate, IsSome, IsTrue, Ok}
 use Rattle.devices.specs.Frame.{Appends}
 use Rattle.devices.proofs.bench.Bench.append_zeros.Given as goal
 
--- the zeros that aren't left were added
-abbrev pub invariant-loop-left : goal.invariant-loop-left
-invariant-loop-left g l =
-    (l.left ≤ l.count) × Appends g.Self.Bench l.name (replicate (l.count - l.left) 0) l.initial.self l.self (Ok tt)
-
-abbrev pub decreases-loop-left : goal.decreases-loop-left
-decreases-loop-left g l = l.left
+-- the zeros so far were added to a file that was there
+abbrev pub invariant-loop-piece : goal.invariant-loop-piece
+invariant-loop-piece g l = record {
+  added : Appends g.Self.Bench l.name (replicate (l.count % 4096 + 4096 * l._piece) 0) l.fn.self l.self (Ok tt);
+  there : IsTrue (g.Self.Bench.honest l.fn.self) → IsSome (g.Self.Bench.stored l.fn.self l.name);
+}

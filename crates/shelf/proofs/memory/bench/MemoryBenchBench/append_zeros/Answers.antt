@@ -55,20 +55,20 @@ module _ (name text : List ℕ) (old new : MemoryBench) where
         failed_there = λ device. tt;
       })
 
-pub returns-in_default : goal.returns-in_default
-returns-in_default c = untouched c.args.name.now (replicate c.args.count 0) c.args.self.now c.refused.new.self c.refused.result
+pub returns-in_default-clause-appends : goal.returns-in_default-clause-appends
+returns-in_default-clause-appends c = untouched c.args.name.now (replicate c.args.count 0) c.args.self.now c.refused.new.self c.refused.result
     c.refused.ensures.history c.refused.ensures.fails c.refused.ensures.cause
 
-pub returns-in-Ok-append : goal.returns-in-Ok-append
-returns-in-Ok-append c =
+pub returns-in-Ok-append-clause-appends : goal.returns-in-Ok-append-clause-appends
+returns-in-Ok-append-clause-appends c =
     let sent = c.in-Ok-append.ensures in
     said memory c.args.name.now (c.deref.ensures.value ∙ c.in-Ok.ensures)
     (at_once memory c.args.name.now _ c.args.self.now c.append.new.self _
     (only_now (bench_history c.args.self.now).start (bench_history c.args.self.now).notes)
     sent.appended sent.grown sent.crash sent.time sent.only_writes)
 
-pub returns-in-Err : goal.returns-in-Err
-returns-in-Err c =
+pub returns-in-Err-clause-appends : goal.returns-in-Err-clause-appends
+returns-in-Err-clause-appends c =
     let sent = c.in-Err.ensures in
     said memory c.args.name.now (c.deref.ensures.value ∙ c.in-Ok.ensures)
     (at_once memory c.args.name.now _ c.args.self.now c.append.new.self _
