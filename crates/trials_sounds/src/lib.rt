@@ -18,3 +18,5 @@ mod pass_lists;
 mod programs;
 #[cfg(test)]
 mod silences;
+#[cfg(test)]
+mod table;

@@ -1,40 +1,18 @@
 // Lists of passes over an entry with a silent middle.
-ghost use Rattle.std.specs.Prelude.{false, pos, ⊤};
-
 use crate::intervals::{entry, intervals};
+use crate::table::Table;
 use groups::{Group, Intervals};
-use passes::{DropSilent, JoinCuts, Pass, Regroup, Samples, SplitFades, run, silent_of};
-use shelf::ShelfFault;
+use passes::{DropSilent, JoinCuts, Pass, Regroup, SplitFades, run, silent_of};
 use std::alloc::{AllocError, Global};
 use std::test::Fail;
 
 /// A stereo file of 12 frames: the left is silent, the right sounds in the first four and the last four.
-#[derive(Drop)]
-struct OneSide {
-    asked: u64,
-}
-
-impl Samples for OneSide {
-    ghost reading = { λ _ _ _ _. pos 0 };
-
-    ghost honest = { λ _. false };
-
-    ghost failures = { λ _. 0 };
-
-    ghost failed_at = { λ _ _. ⊤ };
-
-    fn all_zero(
-        &mut self,
-        _file: u32,
-        first: u8,
-        width: u8,
-        from: u64,
-        length: u64,
-    ) -> Result<bool, ShelfFault> {
-        self.asked = self.asked.saturating_add(1);
-        let has_right = first == 2 || width == 2;
-        let sounds = length > 0 && (from < 4 || from.saturating_add(length) > 8);
-        Ok(!(has_right && sounds))
+fn one_side() -> Table {
+    Table {
+        left: [0; 12],
+        right: [1, 1, 1, 1, 0, 0, 0, 0, 1, 1, 1, 1],
+        asked: 0,
+        failures: 0,
     }
 }
 
@@ -80,7 +58,7 @@ fn spans_of(alloc: Global, intervals: &Intervals) -> Result<Vec<(u64, u64)>, All
 fn left_of_entry(
     rt: &HostRuntime,
     letters: &[u8],
-    samples: &mut OneSide,
+    samples: &mut Table,
 ) -> Result<Vec<(u64, u64)>, Fail> {
     let passes = passes_of(rt.alloc(), letters)?;
     let left = run(rt.alloc(), passes, intervals(rt, &entry()?)?, samples)?;
@@ -102,7 +80,7 @@ const CASES: [Case; 5] = [
 #[test]
 fn an_entry_with_a_silent_middle_goes_by_any_passes(rt: HostRuntime) -> Result<(), Fail> {
     for (letters, spans, asked) in CASES {
-        let mut samples = OneSide { asked: 0 };
+        let mut samples = one_side();
         let left = left_of_entry(&rt, letters, &mut samples)?;
         assert_eq!(rt; left.as_slice(), spans);
         assert_eq!(rt; samples.asked, asked);
@@ -112,7 +90,7 @@ fn an_entry_with_a_silent_middle_goes_by_any_passes(rt: HostRuntime) -> Result<(
 
 #[test]
 fn what_is_silent_of_an_entry_is_told_piece_by_piece(rt: HostRuntime) -> Result<(), Fail> {
-    let mut samples = OneSide { asked: 0 };
+    let mut samples = one_side();
     let silent = silent_of(rt.alloc(), &intervals(&rt, &entry()?)?, &mut samples)?;
     assert_eq!(rt; silent.as_slice(), [false, true, false].as_slice());
     Ok(())
