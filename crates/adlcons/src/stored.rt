@@ -2,7 +2,7 @@
 use crate::example;
 use anyhow::{Context, Result};
 use consolidate::{Depth, Options, Order, SOUND, render};
-use shelf::{MemoryBench, MemoryShelf, Unwatched};
+use shelf::{MemoryBench, MemoryShelf};
 
 /// Renders the stored example, and prints the length of the file and the samples in it.
 pub fn run_stored(rt: &(impl AllocGlobal + Print)) -> Result<()> {
@@ -16,14 +16,7 @@ pub fn run_stored(rt: &(impl AllocGlobal + Print)) -> Result<()> {
         depth: Depth::Sixteen,
         order: Order::ByTime,
     };
-    render(
-        alloc,
-        example::LIST,
-        &options,
-        &mut shelf,
-        &mut bench,
-        &mut Unwatched,
-    )?;
+    render(alloc, example::LIST, &options, &mut shelf, &mut bench)?;
     let file = bench.bytes(SOUND).context("there is no file")?;
     print!(rt; "{} bytes:", file.len())?;
     let samples = file.get(example::SAMPLES_AT..).unwrap_or(&[]);

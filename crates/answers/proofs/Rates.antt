@@ -4,6 +4,7 @@ use Rattle.devices.specs.declared.source.Shelf as source
 use Rattle.devices.specs.declared.bench.Bench as output
 use Rattle.list_terms.specs.Accepted.{OptionValues}
 use Rattle.list_terms.specs.Text.{rate_of}
+use Rattle.rendering.specs.declared.cutting.JobLength.TheVariants.{Longer}
 use Rattle.consolidate.specs.Commands.{IsRendering}
 use Rattle.consolidate.specs.Resuming.{IsResuming}
 use Rattle.commandline.specs.CommandLine.{Chosen}
@@ -14,7 +15,7 @@ use Rattle.answers.specs.Times.{values_of}
 pub answered_by : {S B O : Type 0} (shelf : source.Ghosts S) (bench : output.Ghosts B) (out : console.Ghosts O)
     (chosen : Chosen) (values : OptionValues) (list : List ℕ) (shelf_old shelf_new : S) (bench_old bench_new : B)
     (old new : O) (status : ℕ) → values_of (rate_of list) chosen ≡ Ok values
-    → IsAnswered (IsRendering shelf bench list values shelf_old shelf_new bench_old bench_new) rendered_lines out old new
+    → IsAnswered (IsRendering shelf bench Longer list values shelf_old shelf_new bench_old bench_new) rendered_lines out old new
     status
     → IsAnswered (RendersBy shelf bench chosen list shelf_old shelf_new bench_old bench_new) rendered_lines out old new
     status
@@ -29,7 +30,7 @@ answered_by shelf bench out chosen values list shelf_old shelf_new bench_old ben
 pub resumed_by : {S B O : Type 0} (shelf : source.Ghosts S) (bench : output.Ghosts B) (out : console.Ghosts O)
     (chosen : Chosen) (values : OptionValues) (list : List ℕ) (shelf_old shelf_new : S) (bench_old bench_new : B)
     (old new : O) (status : ℕ) → values_of (rate_of list) chosen ≡ Ok values
-    → IsAnswered (IsResuming shelf bench list values shelf_old shelf_new bench_old bench_new) resumed_lines out old new
+    → IsAnswered (IsResuming shelf bench Longer list values shelf_old shelf_new bench_old bench_new) resumed_lines out old new
     status
     → IsAnswered (ResumesBy shelf bench chosen list shelf_old shelf_new bench_old bench_new) resumed_lines out old new
     status

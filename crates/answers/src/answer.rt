@@ -2,6 +2,7 @@
 ghost use Rattle.std.specs.Prelude.{◌≡◌, ◌≢◌, ◌≤◌, ℕ, Bool, Err, IsTrue, Ok, Option, false, option_map};
 ghost use Rattle.clap.specs.Walk.{Text};
 ghost use Rattle.clap.specs.Words.{kind_of};
+ghost use Rattle.rendering.specs.declared.cutting.JobLength.TheVariants.{Longer};
 ghost use Rattle.consolidate.specs.Commands.{IsConsolidation, IsRendering};
 ghost use Rattle.consolidate.specs.Resuming.{IsResuming};
 ghost use Rattle.consolidate.specs.Fault.{refusal_of};
@@ -32,7 +33,10 @@ use adlread::rate_of;
 use clap::Error;
 use commandline::{Request, VERSION};
 use console::{Console, Counts};
-use consolidate::{Fault, Options, check_project, consolidate, render, resume};
+use consolidate::{
+    Fault, JobLength, Options, RenderChoice, check_project, consolidate_watched, render_watched,
+    resume_watched,
+};
 use explanations::{Explanation, PrintedLines, Saved, meanings_of, notice_meanings_of};
 use passes::Pass;
 use shelf::{Bench, Reasons, Shelf};
@@ -193,6 +197,16 @@ fn answer_check<S: Shelf + Reasons, O: Console, E: Console, A: Asides>(
     }
 }
 
+/// What is rendered, in longer jobs: the program renders for speed.
+fn quickly(options: &Options) -> RenderChoice
+    ensures { result ≡ record { options = options.now; jobs = Longer } }
+{
+    RenderChoice {
+        options: *options,
+        jobs: JobLength::Longer,
+    }
+}
+
 /// Renders the list, and prints what came of it.
 fn answer_render<
     S: Shelf + Reasons,
@@ -214,11 +228,11 @@ fn answer_render<
 ) -> u8
     requires { HaveChannels options.now }
     ensures answered { IsAnswered
-        (IsRendering S.Shelf B.Bench list.now (rendering.values_of options.now) shelf.old shelf.new bench.old bench.new)
+        (IsRendering S.Shelf B.Bench Longer list.now (rendering.values_of options.now) shelf.old shelf.new bench.old bench.new)
         rendered_lines O.Console out.old out.new result }
     ensures statuses { result ≤ 1 }
 {
-    let outcome = render(alloc, list, options, shelf, bench, meter);
+    let outcome = render_watched(alloc, list, &quickly(options), shelf, bench, meter);
     meter.clear();
     tell_changed(alloc, shelf, err);
     match outcome {
@@ -264,11 +278,11 @@ fn answer_resume<
 ) -> u8
     requires { HaveChannels options.now }
     ensures answered { IsAnswered
-        (IsResuming S.Shelf B.Bench list.now (rendering.values_of options.now) shelf.old shelf.new bench.old bench.new)
+        (IsResuming S.Shelf B.Bench Longer list.now (rendering.values_of options.now) shelf.old shelf.new bench.old bench.new)
         resumed_lines O.Console out.old out.new result }
     ensures statuses { result ≤ 1 }
 {
-    let outcome = resume(alloc, list, options, shelf, bench, meter);
+    let outcome = resume_watched(alloc, list, &quickly(options), shelf, bench, meter);
     meter.clear();
     tell_changed(alloc, shelf, err);
     match outcome {
@@ -328,7 +342,7 @@ fn answer_consolidate<
         written_lines O.Console out.old out.new result }
     ensures statuses { result ≤ 1 }
 {
-    let outcome = consolidate(alloc, list, handle, passes, asked, shelf, bench, meter);
+    let outcome = consolidate_watched(alloc, list, handle, passes, asked, shelf, bench, meter);
     meter.clear();
     tell_changed(alloc, shelf, err);
     match outcome {

@@ -15,6 +15,7 @@ use Rattle.rendering.specs.Maker.{marks_of}
 use Rattle.rendering.specs.Marked.{IsLeftByRun, IsResumable, MarkedWork, full_marks, run_of}
 use Rattle.execution.specs.Marking.{AreTrueMarks, Marking}
 use Rattle.rendering.specs.Planned.{IsRenderingOf}
+use Rattle.rendering.specs.declared.cutting.JobLength.{JobLength}
 use Rattle.rendering.specs.Rendering as rendering_file
 use Rattle.rendering.specs.Work.{whole_of}
 use Rattle.consolidate.specs.Marks.{HoldsMarked, IsLeftByRendering, IsLeftOf, IsMarkedFor, file_marking, list_marking}
@@ -47,10 +48,10 @@ pub same_spelt : (p q : ListProject) (read : Result ListProject Refusal) → rea
 same_spelt p q read one other = let both = sym one ∙ other in cc
 
 -- a plan of what was chosen of a project
-pub marked_for : (text : List ℕ) (project : ListProject) (binding : Binding) (values : OptionValues)
-    (marked : MarkedWork) → IsRenderingOf project binding values marked.work
+pub marked_for : (jobs : JobLength) (text : List ℕ) (project : ListProject) (binding : Binding) (values : OptionValues)
+    (marked : MarkedWork) → IsRenderingOf jobs project binding values marked.work
     → marked.run ≡ run_of text marked.work.planned.range → IsMarkedFor text project binding values marked
-marked_for text project binding values marked of run = record {
+marked_for jobs text project binding values marked of run = record {
   range = of.range;
   whole = of.whole;
   reads_back = of.reads_back;

@@ -23,10 +23,11 @@ use Rattle.passes.specs.Left.{Leaving}
 use Rattle.execution.specs.Boards.{fresh_board}
 use Rattle.execution.specs.Ends.{end_of}
 use Rattle.execution.specs.EventRun.{Snapshot, snapshot_of}
+use Rattle.execution.specs.Filled.{AreApart}
 use Rattle.execution.specs.Marking.{done_of}
 use Rattle.execution.specs.Outcome.{EventsDone, Executed, Finished, IsBefore, IsBounded, IsFresh, NotFinished, NotLaidOut, Outcome, Stopped}
 use Rattle.execution.specs.Plan as execution
-use Rattle.execution.specs.Plan.{AreBlank, HoldJobs, HoldLast, IsLast, JobPlan, OfJob}
+use Rattle.execution.specs.Plan.{AreBlank, HoldJobs, HoldLast, IsLast, JobPlan, OfJob, SourcesFit}
 use Rattle.execution.specs.declared.fault.ExecutionFault.{ExecutionFault}
 use Rattle.execution.specs.declared.fault.ExecutionFault.TheVariants as cause
 use Rattle.consolidation.specs.Consolidated.{AreDurable, IsElsewhere}
@@ -484,6 +485,8 @@ module _ {S : Type 0} (shelf : source.Ghosts S) (old mid : S) (same : shelf.stor
         run = record {
           plan = run.plan;
           planned = subst (λ (f : Files). IsPlanOf leave project binding handle asked true f run.plan) same run.planned;
+          fits = subst (λ (f : Files). SourcesFit (job_plan run.plan) f) same run.fits;
+          apart = subst (λ (f : Files). AreApart (jobs_over (work_of run.plan) f)) same run.apart;
           ended = run.ended;
           answers = so (consolidation_fault (length run.plan.runs) (is_some asked)) run.ended run.answers;
           board = run.board;

@@ -16,6 +16,7 @@ use Rattle.list_terms.specs.Binding.{Binding}
 use Rattle.list_terms.specs.Bound.{binding_of}
 use Rattle.list_terms.specs.Heard.{IsAccepted, sounds_of}
 use Rattle.list_terms.specs.Project.{ListProject}
+use Rattle.sound_terms.specs.Sounds.{SoundFacts}
 use Rattle.passes.specs.Left.{Leaving}
 use Rattle.execution.specs.Boards.{fresh_board}
 use Rattle.execution.specs.EventRun.{snapshot_of}
@@ -189,17 +190,23 @@ module _ {S B : Type 0} (shelf : source.Ghosts S) (bench : output.Ghosts B) (lea
       → IsAccepted text (shelf.stored old) project binding
       → ConsolidatesMedia leave project binding handle asked events Reports (source_view shelf old)
       (source_view shelf new) (output_view bench before) (output_view bench after) result
-  outcome_now X Reports result answers honest right text accepted = record {
-    plan = plan;
-    planned = subst (λ (h : Bool). IsPlanOf leave project binding handle asked h (shelf.stored old) plan) honest planned;
-    ended = ended;
-    answers = answers;
-    board = board;
-    came = outcome_before shelf old mid reads.same (reads.cause.left tt) plan (events (work_of plan).count)
-        (fresh_board (work_of plan).count (range_with_len 0 (work_of plan).count)) (output_view bench before)
-        (λ _. Nothing) (snapshot_of (job_plan plan) board 0 (source_view shelf new) (output_view bench after)) untouched
-        ended (out_now honest right text accepted);
-  }
+  outcome_now X Reports result answers honest right text accepted =
+      let planned_now = subst (λ (h : Bool). IsPlanOf leave project binding handle asked h (shelf.stored old) plan) honest
+      planned in
+      let fit = fits (shelf.stored old) (subst (λ (sounds : List SoundFacts). AreThere (shelf.stored old) sounds)
+      (sym planned_now.planned.sounds) (there (shelf.stored old) accepted.bound)) in record {
+        plan = plan;
+        planned = planned_now;
+        fits = fit.0;
+        apart = fit.1;
+        ended = ended;
+        answers = answers;
+        board = board;
+        came = outcome_before shelf old mid reads.same (reads.cause.left tt) plan (events (work_of plan).count)
+            (fresh_board (work_of plan).count (range_with_len 0 (work_of plan).count)) (output_view bench before)
+            (λ _. Nothing) (snapshot_of (job_plan plan) board 0 (source_view shelf new) (output_view bench after)) untouched
+            ended (out_now honest right text accepted);
+      }
 
   stores_now : (X : Type 0) (Reports : X → Progress → Type 0) (result : Result X Fault)
       → AnswersAs (consolidation_fault (length plan.runs) (is_some asked)) Reports result ended

@@ -25,11 +25,12 @@ use Rattle.execution.specs.Plan.{AreBlank}
 use Rattle.execution.specs.declared.fault.ExecutionFault.{ExecutionFault}
 use Rattle.rendering.specs.Fault as rendering
 use Rattle.rendering.specs.declared.fault.RenderFault.{RenderFault}
-use Rattle.rendering.specs.Maker.{marks_of, plan_of}
+use Rattle.rendering.specs.Maker.{HasSoundJobs, marks_of, plan_of}
 use Rattle.rendering.specs.MakerLaws.{run_leaves, started_as}
 use Rattle.rendering.specs.Marked.{IsLeftByRun, IsResumable, MarkedWork, full_marks, run_of}
 use Rattle.rendering.specs.Planned.{IsRenderingOf}
 use Rattle.rendering.specs.Work.{AreCutBy, work_of}
+use Rattle.rendering.specs.declared.cutting.JobLength.{JobLength}
 use Rattle.consolidate.specs.Commands.{IsOutput, IsSource}
 use Rattle.consolidate.specs.Fault.{refusal_of}
 use Rattle.consolidate.specs.Marks.{IsMarkedFor, list_marking}
@@ -198,53 +199,54 @@ module _ {S B X Y : Type 0} (shelf : source.Ghosts S) (bench : output.Ghosts B) 
 
 -- ---- which work it was
 
-pub renders_bound : (events : ℕ → List BoardEvent) (text : List ℕ) (values : OptionValues) (project : ListProject)
+pub renders_bound : (jobs : JobLength) (events : ℕ → List BoardEvent) (text : List ℕ) (values : OptionValues) (project : ListProject)
     (binding : Binding) (x : MarkedWork) {S B : Type 0} (shelf : source.Ghosts S) (bench : output.Ghosts B) (s0 s1 : S)
-    (b0 b1 : B) → IsRenderingOf project binding values x.work → IsMarkedFor text project binding values x
+    (b0 b1 : B) → IsRenderingOf jobs project binding values x.work → HasSoundJobs x → IsMarkedFor text project binding values x
     → (ended : Result Progress ExecutionFault)
     → IsRenderedWork events x (source_view shelf s0) (source_view shelf s1) (output_view bench b0)
     (output_view bench b1) ended
-    → RendersBound events text values project binding (source_view shelf s0) (source_view shelf s1)
+    → RendersBound jobs events text values project binding (source_view shelf s0) (source_view shelf s1)
     (output_view bench b0) (output_view bench b1) ended
-renders_bound events text values project binding x shelf bench s0 s1 b0 b1 renders of ended came =
-    record { work = x; renders = renders; run = of.run; came = came }
+renders_bound jobs events text values project binding x shelf bench s0 s1 b0 b1 renders sound of ended came =
+    record { work = x; renders = renders; sound = sound; run = of.run; came = came }
 
 -- by what the marks are read as
-module _ (text : List ℕ) (values : OptionValues) (project : ListProject) (binding : Binding)
+module _ (jobs : JobLength) (text : List ℕ) (values : OptionValues) (project : ListProject) (binding : Binding)
     (due : Result (Option (List Bool)) MarksFault) {S B : Type 0} (shelf : source.Ghosts S) (bench : output.Ghosts B)
     (s0 s1 : S) (b0 b1 : B) (ended : Result Progress ExecutionFault) where
   pub resumes_anew : due ≡ Ok None
-      → RendersBound in_rounds text values project binding (source_view shelf s0) (source_view shelf s1)
+      → RendersBound jobs in_rounds text values project binding (source_view shelf s0) (source_view shelf s1)
       (output_view bench b0) (output_view bench b1) ended
-      → ResumesBound text values project binding due (source_view shelf s0) (source_view shelf s1)
+      → ResumesBound jobs text values project binding due (source_view shelf s0) (source_view shelf s1)
       (output_view bench b0) (output_view bench b1) ended
-  resumes_anew is came = subst (λ (d : Result (Option (List Bool)) MarksFault). ResumesBound text values project binding d
+  resumes_anew is came = subst (λ (d : Result (Option (List Bool)) MarksFault). ResumesBound jobs text values project binding d
       (source_view shelf s0) (source_view shelf s1) (output_view bench b0) (output_view bench b1) ended) (sym is) came
 
-  pub resumes_marked : (x : MarkedWork) → IsMarkedFor text project binding values x
-      → ((marked : List Bool) × (due ≡ Ok (Some marked)) × AreCutBy marked x.work)
+  pub resumes_marked : (x : MarkedWork) → IsMarkedFor text project binding values x → HasSoundJobs x
+      → ((marked : List Bool) × (due ≡ Ok (Some marked)) × AreCutBy jobs marked x.work)
       → IsResumedWork x (source_view shelf s0) (source_view shelf s1) (output_view bench b0) (output_view bench b1) ended
-      → ResumesBound text values project binding due (source_view shelf s0) (source_view shelf s1)
+      → ResumesBound jobs text values project binding due (source_view shelf s0) (source_view shelf s1)
       (output_view bench b0) (output_view bench b1) ended
-  resumes_marked x of found came =
-      subst (λ (d : Result (Option (List Bool)) MarksFault). ResumesBound text values project binding d
+  resumes_marked x of sound found came =
+      subst (λ (d : Result (Option (List Bool)) MarksFault). ResumesBound jobs text values project binding d
       (source_view shelf s0) (source_view shelf s1) (output_view bench b0) (output_view bench b1) ended) (sym found.1)
-      (record { work = x; is_for = of; cut = found.2; came = came })
+      (record { work = x; is_for = of; cut = found.2; sound = sound; came = came })
 
 -- ---- over the sources as they were before the list was opened
 
-module _ (text : List ℕ) (values : OptionValues) (project : ListProject) (binding : Binding) {S B : Type 0}
-    (shelf : source.Ghosts S) (bench : output.Ghosts B) (old mid new : S) (b0 b1 : B)
+module _ (jobs : JobLength) (text : List ℕ) (values : OptionValues) (project : ListProject) (binding : Binding)
+    {S B : Type 0} (shelf : source.Ghosts S) (bench : output.Ghosts B) (old mid new : S) (b0 b1 : B)
     (same : shelf.stored mid ≡ shelf.stored old) (quiet : shelf.failures mid ≡ shelf.failures old)
     (ended : Result Progress ExecutionFault) where
   pub renders_opened : (events : ℕ → List BoardEvent)
-      → RendersBound events text values project binding (source_view shelf mid) (source_view shelf new)
+      → RendersBound jobs events text values project binding (source_view shelf mid) (source_view shelf new)
       (output_view bench b0) (output_view bench b1) ended
-      → RendersBound events text values project binding (source_view shelf old) (source_view shelf new)
+      → RendersBound jobs events text values project binding (source_view shelf old) (source_view shelf new)
       (output_view bench b0) (output_view bench b1) ended
   renders_opened events r = record {
     work = r.work;
     renders = r.renders;
+    sound = r.sound;
     run = r.run;
     came = record {
       order = r.came.order;
@@ -263,14 +265,15 @@ module _ (text : List ℕ) (values : OptionValues) (project : ListProject) (bind
   }
 
   goes_on_opened : (marked : List Bool)
-      → GoesOnBound text values project binding marked (source_view shelf mid) (source_view shelf new)
+      → GoesOnBound jobs text values project binding marked (source_view shelf mid) (source_view shelf new)
       (output_view bench b0) (output_view bench b1) ended
-      → GoesOnBound text values project binding marked (source_view shelf old) (source_view shelf new)
+      → GoesOnBound jobs text values project binding marked (source_view shelf old) (source_view shelf new)
       (output_view bench b0) (output_view bench b1) ended
   goes_on_opened marked r = record {
     work = r.work;
     is_for = r.is_for;
     cut = r.cut;
+    sound = r.sound;
     came = record {
       order = r.came.order;
       is_order = r.came.is_order;
@@ -290,9 +293,9 @@ module _ (text : List ℕ) (values : OptionValues) (project : ListProject) (bind
   }
 
   pub resumes_opened : (due : Result (Option (List Bool)) MarksFault)
-      → ResumesBound text values project binding due (source_view shelf mid) (source_view shelf new)
+      → ResumesBound jobs text values project binding due (source_view shelf mid) (source_view shelf new)
       (output_view bench b0) (output_view bench b1) ended
-      → ResumesBound text values project binding due (source_view shelf old) (source_view shelf new)
+      → ResumesBound jobs text values project binding due (source_view shelf old) (source_view shelf new)
       (output_view bench b0) (output_view bench b1) ended
   resumes_opened (Ok None) r = renders_opened in_rounds r
   resumes_opened (Ok (Some marked)) r = goes_on_opened marked r
@@ -324,8 +327,8 @@ module _ {S B X : Type 0} (shelf : source.Ghosts S) (bench : output.Ghosts B) (I
 
 -- ---- all of a call behind marks that were opened
 
-module _ {S B : Type 0} (shelf : source.Ghosts S) (bench : output.Ghosts B) (text : List ℕ) (values : OptionValues)
-    (project : ListProject) (binding : Binding) (was x : MarkedWork) (of : IsMarkedFor text project binding values was)
+module _ {S B : Type 0} (shelf : source.Ghosts S) (bench : output.Ghosts B) (jobs : JobLength) (text : List ℕ)
+    (values : OptionValues) (project : ListProject) (binding : Binding) (was x : MarkedWork) (of : IsMarkedFor text project binding values was)
     (plan : x.work.planned ≡ was.work.planned) (sounds : x.work.sounds ≡ was.work.sounds) (same_run : x.run ≡ was.run)
     (s0 s1 : S) (b0 mid b1 : B) (found : Option ℕ)
     (same : IsUntouched bench.stored bench.may_leave bench.moment bench.left_since b0 mid)
@@ -337,7 +340,7 @@ module _ {S B : Type 0} (shelf : source.Ghosts S) (bench : output.Ghosts B) (tex
   due = opened_of (run_of text (range_of project values)) (bench.stored b0)
 
   abbrev Came : Result Progress ExecutionFault → Type 0
-  Came = ResumesBound text values project binding due (source_view shelf s0) (source_view shelf s1)
+  Came = ResumesBound jobs text values project binding due (source_view shelf s0) (source_view shelf s1)
       (output_view bench b0) (output_view bench b1)
 
   now_of : IsMarkedFor text project binding values x
@@ -348,35 +351,35 @@ module _ {S B : Type 0} (shelf : source.Ghosts S) (bench : output.Ghosts B) (tex
       (from_list text project binding values x now_of (shelf.stored s0) (bench.may_leave b0) left)
 
   pub anew_after_open : (IsTrue (bench.honest b0) → NoneStartedBy (Some (marks_of x (shelf.stored s0))) (bench.may_leave mid))
-      → (IsTrue (bench.honest b0) → due ≡ Ok None) → IsRenderingOf project binding values x.work
+      → (IsTrue (bench.honest b0) → due ≡ Ok None) → IsRenderingOf jobs project binding values x.work → HasSoundJobs x
       → BeginsWork shelf bench in_rounds x s0 s1 mid b1 result
       → DoesWork shelf bench IsAllDone (λ told progress. told ≡ progress) (marks_of x (shelf.stored s0)) x.run Left Left
       Came s0 s1 b0 b1 result
-  anew_after_open unstarted is_none renders did = after_open shelf bench IsAllDone (λ told progress. told ≡ progress)
+  anew_after_open unstarted is_none renders sound did = after_open shelf bench IsAllDone (λ told progress. told ≡ progress)
       (marks_of x (shelf.stored s0)) x.run s0 s1 b0 mid b1 result found same reads ⊤ (NoneStarted (bench.may_leave mid))
       Left Left
       (IsRenderedWork in_rounds x (source_view shelf s0) (source_view shelf s1) (output_view bench mid)
       (output_view bench b1))
       Came did (λ whole left. tt) (λ whole left c at. sym (started_as (c marks_name)) ∙ unstarted whole c at) resumable
-      (λ ended whole came. resumes_anew text values project binding due shelf bench s0 s1 b0 b1 ended (is_none whole)
-      (renders_bound in_rounds text values project binding x shelf bench s0 s1 b0 b1 renders now_of ended
+      (λ ended whole came. resumes_anew jobs text values project binding due shelf bench s0 s1 b0 b1 ended (is_none whole)
+      (renders_bound jobs in_rounds text values project binding x shelf bench s0 s1 b0 b1 renders sound now_of ended
       (rendered_before shelf bench IsAllDone (λ told progress. told ≡ progress) (marks_of x (shelf.stored s0)) x.run
       s0 s1 b0 mid b1 result found same reads in_rounds x ended came)))
 
   pub marked_after_open : (IsTrue (bench.honest b0)
       → AreLeftBy (Some (marks_of was (shelf.stored s0))) (bench.may_leave b0)
       → StandsAsMarked x (shelf.stored s0) (bench.stored mid) (bench.may_leave mid))
-      → (IsTrue (bench.honest b0) → (marked : List Bool) × (due ≡ Ok (Some marked)) × AreCutBy marked x.work)
-      → GoesOnWithWork shelf bench x s0 s1 mid b1 result
+      → (IsTrue (bench.honest b0) → (marked : List Bool) × (due ≡ Ok (Some marked)) × AreCutBy jobs marked x.work)
+      → HasSoundJobs x → GoesOnWithWork shelf bench x s0 s1 mid b1 result
       → DoesWork shelf bench IsAllDone (λ told progress. told ≡ progress) (marks_of x (shelf.stored s0)) x.run Left Left
       Came s0 s1 b0 b1 result
-  marked_after_open stands cut did = after_open shelf bench IsAllDone (λ told progress. told ≡ progress)
+  marked_after_open stands cut sound did = after_open shelf bench IsAllDone (λ told progress. told ≡ progress)
       (marks_of x (shelf.stored s0)) x.run s0 s1 b0 mid b1 result found same reads
       (StandsAsMarked x (shelf.stored s0) (bench.stored mid) (bench.may_leave mid))
       (StandsAsMarked x (shelf.stored s0) (bench.stored mid) (bench.may_leave mid)) Left Left
       (IsResumedWork x (source_view shelf s0) (source_view shelf s1) (output_view bench mid) (output_view bench b1))
       Came did (λ whole left. stands whole (was_left left)) (λ whole left. stands whole (was_left left)) resumable
-      (λ ended whole came. resumes_marked text values project binding due shelf bench s0 s1 b0 b1 ended x now_of
+      (λ ended whole came. resumes_marked jobs text values project binding due shelf bench s0 s1 b0 b1 ended x now_of sound
       (cut whole)
       (resumed_before shelf bench IsAllDone (λ told progress. told ≡ progress) (marks_of x (shelf.stored s0)) x.run
       s0 s1 b0 mid b1 result found same reads x ended came))

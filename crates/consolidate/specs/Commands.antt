@@ -23,6 +23,7 @@ use Rattle.opening.specs.declared.checking.Accepted.{Accepted}
 use Rattle.markfile.specs.Format.{marks_name}
 use Rattle.markfile.specs.Started.{NoneStarted}
 use Rattle.rendering.specs.Marked.{IsOther}
+use Rattle.rendering.specs.declared.cutting.JobLength.{JobLength}
 use Rattle.rendering.specs.Rendering as rendering
 use Rattle.consolidation.specs.Consolidated as consolidation
 use Rattle.consolidation.specs.Consolidated.{AreDurable, IsElsewhere, IsWorkOf, Work, work_fault}
@@ -146,9 +147,9 @@ module _ {S B : Type 0} (shelf : source.Ghosts S) (bench : output.Ghosts B) wher
     pub failed_source : IfErr result (λ fault. IsSource fault → HoldsOfSource fault (shelf.failed_at shelf_new))
     pub failed_output : IfErr result (λ fault. IsOutput fault → HoldsOfOutput fault (bench.failed_at bench_new))
 
-  -- the list was rendered over these stores, with this outcome
-  pub record IsRendering (list : List ℕ) (values : OptionValues) (shelf_old shelf_new : S) (bench_old bench_new : B)
-      (result : Result Rendered Fault) : Type 0 where
+  -- the list was rendered over these stores in jobs of this length, with this outcome
+  pub record IsRendering (jobs : JobLength) (list : List ℕ) (values : OptionValues) (shelf_old shelf_new : S)
+      (bench_old bench_new : B) (result : Result Rendered Fault) : Type 0 where
     pub rendered : IsTrue (shelf.honest shelf_old) → IsTrue (bench.honest bench_old)
         → IfOk result (IsRendered list values (shelf.stored shelf_old) (bench.stored bench_new))
     pub durable : IsTrue (bench.honest bench_old)
@@ -172,7 +173,7 @@ module _ {S B : Type 0} (shelf : source.Ghosts S) (bench : output.Ghosts B) wher
     pub outcome : IsTrue (shelf.honest shelf_old) → IsTrue (bench.honest bench_old) → HasBegun result
         → (ended : Result Progress ExecutionFault)
         × AnswersAs rendering_fault (λ _ progress. progress.finished ≡ true) result ended
-        × RendersList in_rounds list values (source_view shelf shelf_old) (source_view shelf shelf_new)
+        × RendersList jobs in_rounds list values (source_view shelf shelf_old) (source_view shelf shelf_new)
         (output_view bench bench_old) (output_view bench bench_new) ended
     pub stores : KeepsStores shelf_old shelf_new bench_old bench_new result
 

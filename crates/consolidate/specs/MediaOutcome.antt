@@ -13,7 +13,8 @@ use Rattle.passes.specs.Left.{Leaving}
 use Rattle.execution.specs.Boards.{fresh_board}
 use Rattle.execution.specs.EventRun.{snapshot_of}
 use Rattle.execution.specs.Outcome.{Outcome}
-use Rattle.execution.specs.Plan.{AreBlank}
+use Rattle.execution.specs.Filled.{AreApart}
+use Rattle.execution.specs.Plan.{AreBlank, SourcesFit}
 use Rattle.execution.specs.declared.fault.ExecutionFault.{ExecutionFault}
 use Rattle.execution.specs.declared.fault.ExecutionFault.TheVariants as execution
 use Rattle.consolidation.specs.Jobs.{work_of}
@@ -46,13 +47,15 @@ consolidation_fault media reported execution.Mark = fault.Output file.List
 consolidation_fault media reported (execution.Output number) = fault.Output (output_file media reported number)
 
 -- From its first write on a call executed these events, so many for so many pieces, of the media of a project: the
--- pieces are handed out each in its turn, and what comes last is the report, where a program of this version asks for
--- one, and the list. What the call answers is how that ended.
+-- pieces, which lie apart and are parts of the media, are handed out each in its turn, and what comes last is the report,
+-- where a program of this version asks for one, and the list. What the call answers is how that ended.
 pub record ConsolidatesMedia {X : Type 0} (leave : Leaving) (project : ListProject) (binding : Binding) (handle : ℕ)
     (asked : Option (List ℕ)) (events : ℕ → List BoardEvent) (Reports : X → Progress → Type 0)
     (source_old source_new : SourceView) (output_old output_new : OutputView) (result : Result X Fault) : Type 0 where
   pub plan : MediaPlan
   pub planned : IsPlanOf leave project binding handle asked true source_old.files plan
+  pub fits : SourcesFit (job_plan plan) source_old.files
+  pub apart : AreApart (jobs_over (work_of plan) source_old.files)
   pub ended : Result Progress ExecutionFault
   pub answers : AnswersAs (consolidation_fault (length plan.runs) (is_some asked)) Reports result ended
   pub board : Board

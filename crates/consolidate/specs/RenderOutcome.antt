@@ -17,10 +17,11 @@ use Rattle.list_terms.specs.Heard.{IsAccepted}
 use Rattle.list_terms.specs.Project.{ListProject}
 use Rattle.markfile.specs.Opened.{opened_of}
 use Rattle.markfile.specs.declared.fault.MarksFault.{MarksFault}
-use Rattle.rendering.specs.Maker.{plan_of}
+use Rattle.rendering.specs.Maker.{HasSoundJobs, plan_of}
 use Rattle.rendering.specs.Marked.{MarkedWork, run_of}
 use Rattle.rendering.specs.Planned.{IsRenderingOf}
 use Rattle.rendering.specs.Work.{AreCutBy, done_before, work_of}
+use Rattle.rendering.specs.declared.cutting.JobLength.{JobLength}
 use Rattle.workboard.specs.Indexed.{IsOrder}
 use Rattle.work_terms.specs.Disk.{Files}
 use Rattle.consolidate.specs.Marks.{IsMarkedFor}
@@ -68,49 +69,52 @@ pub record IsResumedWork (marked : MarkedWork) (source_old source_new : SourceVi
   pub came : IsWorkedOff (λ laid. laid ≡ output_old.files) ⊥ marked (board_with done order)
       (in_rounds (work_of marked.work).count) source_old source_new output_old output_new ended
 
--- the jobs are the blocks of a bound project, so many at once, and make its rendering and the marks of a list of this
--- text
-pub record RendersBound (events : ℕ → List BoardEvent) (text : List ℕ) (values : OptionValues) (project : ListProject)
-    (binding : Binding) (source_old source_new : SourceView) (output_old output_new : OutputView)
+-- the jobs are all blocks of a bound project, each of this length but the last; they lie apart, each is a part of the
+-- rendered file, and they make it and the marks of a list of this text
+pub record RendersBound (jobs : JobLength) (events : ℕ → List BoardEvent) (text : List ℕ) (values : OptionValues)
+    (project : ListProject) (binding : Binding) (source_old source_new : SourceView) (output_old output_new : OutputView)
     (ended : Result Progress ExecutionFault) : Type 0 where
   pub work : MarkedWork
-  pub renders : IsRenderingOf project binding values work.work
+  pub renders : IsRenderingOf jobs project binding values work.work
+  pub sound : HasSoundJobs work
   pub run : work.run ≡ run_of text (range_of project values)
   pub came : IsRenderedWork events work source_old source_new output_old output_new ended
 
--- the jobs that are left are the blocks of a bound project that aren't among these marks, and make its rendering
-pub record GoesOnBound (text : List ℕ) (values : OptionValues) (project : ListProject) (binding : Binding)
-    (marked : List Bool) (source_old source_new : SourceView) (output_old output_new : OutputView)
+-- the jobs that remain are the blocks of a bound project that aren't among these marks, none longer than this; they lie
+-- apart, each is a part of the rendered file, and with what is marked they make it
+pub record GoesOnBound (jobs : JobLength) (text : List ℕ) (values : OptionValues) (project : ListProject)
+    (binding : Binding) (marked : List Bool) (source_old source_new : SourceView) (output_old output_new : OutputView)
     (ended : Result Progress ExecutionFault) : Type 0 where
   pub work : MarkedWork
   pub is_for : IsMarkedFor text project binding values work
-  pub cut : AreCutBy marked work.work
+  pub cut : AreCutBy jobs marked work.work
+  pub sound : HasSoundJobs work
   pub came : IsResumedWork work source_old source_new output_old output_new ended
 
 -- the same by what the marks are read as: all blocks are jobs where none are started
-abbrev pub ResumesBound : List ℕ → OptionValues → ListProject → Binding → Result (Option (List Bool)) MarksFault
+abbrev pub ResumesBound : JobLength → List ℕ → OptionValues → ListProject → Binding → Result (Option (List Bool)) MarksFault
     → SourceView → SourceView → OutputView → OutputView → Result Progress ExecutionFault → Type 0
-ResumesBound text values project binding (Ok None) source_old source_new output_old output_new ended =
-    RendersBound in_rounds text values project binding source_old source_new output_old output_new ended
-ResumesBound text values project binding (Ok (Some marked)) source_old source_new output_old output_new ended =
-    GoesOnBound text values project binding marked source_old source_new output_old output_new ended
-ResumesBound text values project binding (Err fault) source_old source_new output_old output_new ended = ⊥
+ResumesBound jobs text values project binding (Ok None) source_old source_new output_old output_new ended =
+    RendersBound jobs in_rounds text values project binding source_old source_new output_old output_new ended
+ResumesBound jobs text values project binding (Ok (Some marked)) source_old source_new output_old output_new ended =
+    GoesOnBound jobs text values project binding marked source_old source_new output_old output_new ended
+ResumesBound jobs text values project binding (Err fault) source_old source_new output_old output_new ended = ⊥
 
 -- of the project of an accepted list
-pub record RendersList (events : ℕ → List BoardEvent) (text : List ℕ) (values : OptionValues)
+pub record RendersList (jobs : JobLength) (events : ℕ → List BoardEvent) (text : List ℕ) (values : OptionValues)
     (source_old source_new : SourceView) (output_old output_new : OutputView) (ended : Result Progress ExecutionFault)
     : Type 0 where
   pub project : ListProject
   pub binding : Binding
   pub accepted : IsAccepted text source_old.files project binding
-  pub came : RendersBound events text values project binding source_old source_new output_old output_new ended
+  pub came : RendersBound jobs events text values project binding source_old source_new output_old output_new ended
 
 -- of the project of an accepted list, by the marks among the outputs
-pub record ResumesList (text : List ℕ) (values : OptionValues) (source_old source_new : SourceView)
+pub record ResumesList (jobs : JobLength) (text : List ℕ) (values : OptionValues) (source_old source_new : SourceView)
     (output_old output_new : OutputView) (ended : Result Progress ExecutionFault) : Type 0 where
   pub project : ListProject
   pub binding : Binding
   pub accepted : IsAccepted text source_old.files project binding
-  pub came : ResumesBound text values project binding
+  pub came : ResumesBound jobs text values project binding
       (opened_of (run_of text (range_of project values)) output_old.files) source_old source_new output_old output_new
       ended

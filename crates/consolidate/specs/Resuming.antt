@@ -18,6 +18,7 @@ use Rattle.markfile.specs.Opened.{opened_of}
 use Rattle.markfile.specs.Started.{is_started}
 use Rattle.rendering.specs.Marked.{IsOther, run_of}
 use Rattle.rendering.specs.Rendering as rendering
+use Rattle.rendering.specs.declared.cutting.JobLength.{JobLength}
 use Rattle.consolidate.specs.Commands.{KeepsStores, RefusesBadText, all_notices, render_refusal}
 use Rattle.consolidate.specs.Fault.{refusal_of}
 use Rattle.consolidate.specs.Marks.{AreBothDurable, HasAllMarks, HoldsMarked, IsLeftByRendering, IsLeftOf, count_in, marks_refusal}
@@ -46,9 +47,9 @@ module _ {S B : Type 0} (shelf : source.Ghosts S) (bench : output.Ghosts B) wher
   abbrev pub IsLeft : List ℕ → OptionValues → S → B → Type 0
   IsLeft list values sources left = IsLeftByRendering list values (shelf.stored sources) (bench.may_leave left)
 
-  -- the rendering of the list was gone on with over these stores, with this outcome
-  pub record IsResuming (list : List ℕ) (values : OptionValues) (shelf_old shelf_new : S) (bench_old bench_new : B)
-      (result : Result Resumed Fault) : Type 0 where
+  -- the rendering of the list was gone on with over these stores in jobs of this length, with this outcome
+  pub record IsResuming (jobs : JobLength) (list : List ℕ) (values : OptionValues) (shelf_old shelf_new : S)
+      (bench_old bench_new : B) (result : Result Resumed Fault) : Type 0 where
     pub rendered : IsTrue (shelf.honest shelf_old) → IsTrue (bench.honest bench_old)
         → IsLeft list values shelf_old bench_old
         → IfOk result (IsResumed list values (shelf.stored shelf_old) (bench.stored bench_new))
@@ -74,7 +75,7 @@ module _ {S B : Type 0} (shelf : source.Ghosts S) (bench : output.Ghosts B) wher
         → IsLeft list values shelf_old bench_old → HasBegun result
         → (ended : Result Progress ExecutionFault)
         × AnswersAs rendering_fault (λ _ progress. progress.finished ≡ true) result ended
-        × ResumesList list values (source_view shelf shelf_old) (source_view shelf shelf_new)
+        × ResumesList jobs list values (source_view shelf shelf_old) (source_view shelf shelf_new)
         (output_view bench bench_old) (output_view bench bench_new) ended
     pub report : (project : ListProject) → text_value list ≡ Ok project
         → IfOk result (λ told. told.frames ≡ (range_of project values).to - (range_of project values).from)

@@ -16,6 +16,7 @@ use Rattle.markfile.specs.Format.{marks_name}
 use Rattle.markfile.specs.Started.{NoneStarted}
 use Rattle.rendering.specs.Marked.{IsOther}
 use Rattle.rendering.specs.Rendering as rendering
+use Rattle.rendering.specs.declared.cutting.JobLength.{JobLength}
 use Rattle.passes.specs.Left.{Leaving}
 use Rattle.consolidation.specs.Consolidated as consolidation
 use Rattle.consolidation.specs.Consolidated.{AreDurable, IsElsewhere}
@@ -61,14 +62,13 @@ BeforeList (Ok told) P = told.finished ≡ false → P
 BeforeList (Err told) P = told ≢ fault.Output file.List → P
 
 module _ {S B : Type 0} (shelf : source.Ghosts S) (bench : output.Ghosts B) where
-  -- the list was rendered by these events over these stores, with this outcome
-  pub record IsRenderSchedule (list : List ℕ) (values : OptionValues) (events : List BoardEvent) (shelf_old shelf_new
-      : S)
-      (bench_old bench_new : B) (result : Result Progress Fault) : Type 0 where
+  -- the list was rendered by these events over these stores in jobs of this length, with this outcome
+  pub record IsRenderSchedule (jobs : JobLength) (list : List ℕ) (values : OptionValues) (events : List BoardEvent)
+      (shelf_old shelf_new : S) (bench_old bench_new : B) (result : Result Progress Fault) : Type 0 where
     pub outcome : IsTrue (shelf.honest shelf_old) → IsTrue (bench.honest bench_old) → HasBegun result
         → (ended : Result Progress ExecutionFault)
         × AnswersAs rendering_fault (λ told progress. told ≡ progress) result ended
-        × RendersList (λ _. events) list values (source_view shelf shelf_old) (source_view shelf shelf_new)
+        × RendersList jobs (λ _. events) list values (source_view shelf shelf_old) (source_view shelf shelf_new)
         (output_view bench bench_old) (output_view bench bench_new) ended
     pub finished : IsTrue (shelf.honest shelf_old) → IsTrue (bench.honest bench_old) → IfOk result (λ told.
         IsTrue told.finished → HasRendering list values (shelf.stored shelf_old) (bench.stored bench_new))

@@ -1,5 +1,5 @@
 // Consolidates a list.
-ghost use Rattle.std.specs.Prelude.{◌≡◌, ◌*◌, option_map};
+ghost use Rattle.std.specs.Prelude.{◌≡◌, ◌*◌, None, option_map};
 ghost use Rattle.job_terms.specs.Workers.{rounds};
 ghost use Rattle.passes.specs.Left.{left_by};
 ghost use Rattle.passes.specs.Standard.{AreStandard};
@@ -13,7 +13,7 @@ use crate::Fault;
 use crate::media::execution_of;
 use crate::opened::{Opened, open};
 use consolidation::{Consolidation, Sizes};
-use devices::{Bench, Shelf, Watch};
+use devices::{Bench, Shelf, Unwatched, Watch};
 use execution::ExecutionFault;
 use job_terms::Progress;
 use list_terms::Notice;
@@ -80,19 +80,46 @@ fn consolidate_checked<S: Shelf, B: Bench, W: Watch>(
 /// the frames that the pieces play that are left, and those at most `handle` frames away. Each run of kept frames becomes
 /// a medium (`M00001.wav` and so on, Broadcast Wave, EBU Tech 3285), with the channels, the depth and the texts of its
 /// source and the time of its first frame as TimeReference; `consolidated.adl` is the list over these media. Whatever the
-/// passes, it sounds as the given list does, sample for sample. Where a program asks for a report, by its version,
-/// `consolidated.json` tells where each medium and each entry comes from, and `SHA256SUMS` has the checksums of all
-/// files, as `sha256sum -c` takes them.
+/// passes, it sounds as the given list does, sample for sample.
 ///
 /// The list is refused first, then a file in the order of the source index, then an entry in the order of the list,
 /// then more than 32,767 runs (53) or entries (55), and want of memory. All of these come before the first write, and no
 /// memory is taken behind it. The media are laid out at their full length; then the pieces of their runs are jobs, done
 /// in turn by one worker. A job whose device fails is done again; the third time it is given up (66). Outside the jobs a
-/// device that fails ends the call at once (62). A report is made before the first write, by one more reading of the
-/// kept frames (52 where a source fails, 56 where no memory was left), and written behind the media; the list is written
-/// last, so an unfinished output has none. The watch is told how many frames are looked at for silence, and then behind
-/// each job how many frames of all media are there.
-pub fn consolidate<S: Shelf, B: Bench, W: Watch>(
+/// device that fails ends the call at once (62). The list is written last, so an unfinished output has none.
+pub fn consolidate<S: Shelf, B: Bench>(
+    alloc: Global,
+    list: &[u8],
+    handle: u64,
+    passes: Vec<Box<dyn Pass>>,
+    shelf: &mut S,
+    bench: &mut B,
+) -> Result<Written, Fault>
+    ensures consolidated { IsConsolidation S.Shelf B.Bench
+        (left_by (λ pass. looking pass) (λ pass. gives pass) passes.items)
+        list.now handle None shelf.old shelf.new bench.old bench.new result }
+    ensures standard { AreStandard (λ pass. looking pass) (λ pass. gives pass) passes.items
+        → IsConsolidation S.Shelf B.Bench standard_groups list.now handle None shelf.old shelf.new bench.old bench.new
+        result }
+{
+    consolidate_watched(
+        alloc,
+        list,
+        handle,
+        passes,
+        None,
+        shelf,
+        bench,
+        &mut Unwatched,
+    )
+}
+
+/// The same with a report, where a program asks for one, by its version, and with a watch: `consolidated.json` says where
+/// each medium and each entry comes from, and `SHA256SUMS` has the checksums of all files, as `sha256sum -c` takes them. A
+/// report is made before the first write, by one more reading of the kept frames (52 where a source fails, 56 where no
+/// memory was left), and written after the media, before the list. The watch is notified how many frames are looked at for
+/// silence, and then after each job how many frames of all media are there.
+pub fn consolidate_watched<S: Shelf, B: Bench, W: Watch>(
     alloc: Global,
     list: &[u8],
     handle: u64,

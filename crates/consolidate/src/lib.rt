@@ -2,6 +2,7 @@
 #![tactic(auto)]
 
 mod checking;
+mod choice;
 mod compare_fault;
 mod compared;
 mod consolidated;
@@ -16,17 +17,18 @@ mod scheduled;
 mod schedules;
 
 pub use checking::check_project;
+pub use choice::RenderChoice;
 pub use compare_fault::{CompareFault, ListFault};
 pub use compared::{Compared, compare};
 pub use comparison::{Comparison, Selection};
-pub use consolidated::{Written, consolidate};
+pub use consolidated::{Written, consolidate, consolidate_watched};
 pub use consolidation::{LIST, REPORT, SUMS, Sizes};
 pub use fault::{Fault, OutputFile};
 pub use job_terms::{BoardEvent, Progress};
 pub use list_terms::Notice;
 pub use markfile::{MARKS, MarksFault, SOUND};
 pub use opening::Accepted;
-pub use rendered::{Rendered, render};
-pub use rendering::{Depth, Options, Order};
-pub use resumed::{Resumed, resume};
-pub use schedules::{Work, run_schedule};
+pub use rendered::{Rendered, render, render_watched};
+pub use rendering::{Depth, JobLength, Options, Order};
+pub use resumed::{Resumed, resume, resume_watched};
+pub use schedules::{Work, run_schedule, run_schedule_by};

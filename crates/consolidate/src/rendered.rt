@@ -7,6 +7,7 @@ ghost use Rattle.list_terms.specs.Accepted.{range_of};
 ghost use Rattle.markfile.specs.Started.{NoneStarted};
 ghost use Rattle.rendering.specs.Marked.{run_of};
 ghost use Rattle.rendering.specs.Rendering.{HasRange, HaveChannels, render_fault, values_of};
+ghost use Rattle.rendering.specs.declared.cutting.JobLength.TheVariants.{OneBlock};
 ghost use Rattle.consolidate.specs.Commands.{IsRendering};
 ghost use Rattle.consolidate.specs.Fault.{refusal_of};
 ghost use Rattle.consolidate.specs.Marks.{list_marking};
@@ -15,19 +16,20 @@ ghost use Rattle.consolidate.specs.RenderOutcome.{RendersBound, in_rounds};
 ghost use Rattle.consolidate.specs.RenderWorks.{DoesWork};
 
 use crate::Fault;
+use crate::choice::RenderChoice;
 use crate::marked::render_anew;
 use crate::opened::{Opened, open};
-use devices::{Bench, Shelf, Watch};
+use devices::{Bench, Shelf, Unwatched, Watch};
 use list_terms::Notice;
 use projectcheck::Checked;
-use rendering::{Options, RenderingWork};
+use rendering::{JobLength, Options, RenderingWork};
 use std::alloc::Global;
 
 /// What was rendered: so many frames of so many channels, and what the list's user should know of.
 #[derive(Debug, Drop)]
 pub struct Rendered {
     pub frames: u64,
-    pub channels: u8,
+    pub channels: u32,
     pub notices: Vec<Notice>,
 }
 
@@ -36,32 +38,40 @@ fn render_checked<S: Shelf, B: Bench, W: Watch>(
     alloc: Global,
     list: &[u8],
     checked: &Checked,
-    options: &Options,
+    choice: &RenderChoice,
     shelf: &mut S,
     bench: &mut B,
     watch: &mut W,
 ) -> Result<rendering::Rendered, Fault>
-    requires { HaveChannels options.now }
+    requires { HaveChannels choice.now.options }
     ensures does { DoesWork S.Shelf B.Bench (λ _. ⊤) (λ _ progress. progress.finished ≡ true)
-        (list_marking list.now (values_of options.now) (S.stored shelf.old) checked.now.project checked.now.bound)
-        (run_of list.now (range_of checked.now.project (values_of options.now))) ⊤ (NoneStarted (B.may_leave bench.old))
-        (RendersBound in_rounds list.now (values_of options.now) checked.now.project checked.now.bound
+        (list_marking list.now (values_of choice.now.options) (S.stored shelf.old) checked.now.project checked.now.bound)
+        (run_of list.now (range_of checked.now.project (values_of choice.now.options))) ⊤ (NoneStarted (B.may_leave bench.old))
+        (RendersBound choice.now.jobs in_rounds list.now (values_of choice.now.options) checked.now.project checked.now.bound
         (source_view S.Shelf shelf.old) (source_view S.Shelf shelf.new) (output_view B.Bench bench.old)
         (output_view B.Bench bench.new)) shelf.old shelf.new bench.old bench.new result }
     ensures reads_back { IfOk result (λ _. (mix : ℕ → ℕ → ℤ)
-        → ReadsBack (range_of checked.now.project (values_of options.now)) mix
-        (rendering_of (range_of checked.now.project (values_of options.now)) mix)) }
+        → ReadsBack (range_of checked.now.project (values_of choice.now.options)) mix
+        (rendering_of (range_of checked.now.project (values_of choice.now.options)) mix)) }
     ensures report { IfOk result
-        (λ rendered. HasRange rendered (range_of checked.now.project (values_of options.now))) }
-    ensures refusals { Answers refusal_of result (render_fault checked.now.project (values_of options.now)) }
+        (λ rendered. HasRange rendered (range_of checked.now.project (values_of choice.now.options))) }
+    ensures refusals { Answers refusal_of result (render_fault checked.now.project (values_of choice.now.options)) }
     ensures own { (text : List ℕ) → IfErr result (IsOfRendering text) }
 {
-    let work = match RenderingWork::plan(alloc, checked, options, list) {
+    let work = match RenderingWork::plan(alloc, checked, &choice.options, list, choice.jobs) {
         Ok(work) => work,
         Err(fault) => return Err(Fault::of_rendering(fault)),
     };
     let rendered = work.rendered();
-    match render_anew(alloc, work, checked, options.order, shelf, bench, watch) {
+    match render_anew(
+        alloc,
+        work,
+        checked,
+        choice.options.order,
+        shelf,
+        bench,
+        watch,
+    ) {
         Ok(_) => return Ok(rendered),
         Err(fault) => return Err(fault),
     }
@@ -75,28 +85,46 @@ fn render_checked<S: Shelf, B: Bench, W: Watch>(
 /// then an empty range, and want of memory. All of these come before the first write, and no memory is taken behind it.
 ///
 /// The file is laid out at its full length and synced; then `render.marks` is begun, which has one byte for each block of
-/// 4,096 frames (the last may be shorter). Stretches of blocks are jobs, done by one worker in the chosen order: a job's
-/// bytes are written at their place and synced, and then its blocks are marked, and the marks synced. So `resume` goes on
-/// with a rendering that was stopped. A job whose device fails is done again; the third time it is given up (66), and
-/// what is written is unfinished. Outside the jobs, and where a mark isn't written, a device that fails ends the call at
-/// once (62). The watch is told behind each job how many frames are there.
-pub fn render<S: Shelf, B: Bench, W: Watch>(
+/// 4,096 frames (the last may be shorter). Each block is a job, done by one worker in the chosen order: its bytes are
+/// written at their position and synced, then it is marked, and the marks are synced. So `resume` goes on with a rendering
+/// that was stopped. A job whose device fails is done again; the third time it is given up (66), and what is written is
+/// unfinished. Outside the jobs, and where a mark isn't written, a device that fails ends the call at once (62).
+pub fn render<S: Shelf, B: Bench>(
     alloc: Global,
     list: &[u8],
     options: &Options,
     shelf: &mut S,
     bench: &mut B,
-    watch: &mut W,
 ) -> Result<Rendered, Fault>
     requires { HaveChannels options.now }
-    ensures { IsRendering S.Shelf B.Bench list.now
+    ensures { IsRendering S.Shelf B.Bench OneBlock list.now
         (values_of options.now) shelf.old shelf.new bench.old bench.new result }
 {
+    let choice = RenderChoice {
+        options: *options,
+        jobs: JobLength::OneBlock,
+    };
+    render_watched(alloc, list, &choice, shelf, bench, &mut Unwatched)
+}
+
+/// The same in jobs of a chosen length, with a watch, which is notified after each job of how many frames are there.
+pub fn render_watched<S: Shelf, B: Bench, W: Watch>(
+    alloc: Global,
+    list: &[u8],
+    choice: &RenderChoice,
+    shelf: &mut S,
+    bench: &mut B,
+    watch: &mut W,
+) -> Result<Rendered, Fault>
+    requires { HaveChannels choice.now.options }
+    ensures { IsRendering S.Shelf B.Bench choice.now.jobs list.now
+        (values_of choice.now.options) shelf.old shelf.new bench.old bench.new result }
+{
     let Opened { checked, notices } = open(alloc, list, shelf)?;
-    let rendered = render_checked(alloc, list, &checked, options, shelf, bench, watch)?;
+    let rendered = render_checked(alloc, list, &checked, choice, shelf, bench, watch)?;
     Ok(Rendered {
         frames: rendered.frames,
-        channels: rendered.channels,
+        channels: u32::from(rendered.channels),
         notices,
     })
 }

@@ -10,6 +10,7 @@ ghost use Rattle.markfile.specs.Opened.{opened_of};
 ghost use Rattle.markfile.specs.Started.{is_started};
 ghost use Rattle.rendering.specs.Marked.{HoldsMarked, IsLeftByRun, run_of};
 ghost use Rattle.rendering.specs.Rendering.{HaveChannels, render_fault, values_of};
+ghost use Rattle.rendering.specs.declared.cutting.JobLength.TheVariants.{OneBlock};
 ghost use Rattle.consolidate.specs.Fault.{refusal_of};
 ghost use Rattle.consolidate.specs.Marks.{count_in, fault_in, list_marking};
 ghost use Rattle.consolidate.specs.Own.{IsOfResuming};
@@ -18,12 +19,13 @@ ghost use Rattle.consolidate.specs.RenderWorks.{DoesWork};
 ghost use Rattle.consolidate.specs.Resuming.{IsResuming};
 
 use crate::Fault;
+use crate::choice::RenderChoice;
 use crate::marked::{go_on_marked, render_anew};
 use crate::opened::{Opened, open};
-use devices::{Bench, Shelf, Watch};
+use devices::{Bench, Shelf, Unwatched, Watch};
 use list_terms::Notice;
 use projectcheck::Checked;
-use rendering::{Options, RenderingWork};
+use rendering::{JobLength, Options, RenderingWork};
 use std::alloc::Global;
 
 /// What was gone on with: so many frames in all, so many blocks of 4,096 frames (the last may be shorter) that were
@@ -47,53 +49,53 @@ fn resume_checked<S: Shelf, B: Bench, W: Watch>(
     alloc: Global,
     list: &[u8],
     checked: &Checked,
-    options: &Options,
+    choice: &RenderChoice,
     shelf: &mut S,
     bench: &mut B,
     watch: &mut W,
 ) -> Result<Found, Fault>
-    requires { HaveChannels options.now }
+    requires { HaveChannels choice.now.options }
     ensures does { DoesWork S.Shelf B.Bench (λ _. ⊤) (λ _ progress. progress.finished ≡ true)
-        (list_marking list.now (values_of options.now) (S.stored shelf.old) checked.now.project checked.now.bound)
-        (run_of list.now (range_of checked.now.project (values_of options.now)))
-        (IsLeftByRun (list_marking list.now (values_of options.now) (S.stored shelf.old) checked.now.project
+        (list_marking list.now (values_of choice.now.options) (S.stored shelf.old) checked.now.project checked.now.bound)
+        (run_of list.now (range_of checked.now.project (values_of choice.now.options)))
+        (IsLeftByRun (list_marking list.now (values_of choice.now.options) (S.stored shelf.old) checked.now.project
         checked.now.bound) (B.may_leave bench.old))
-        (IsLeftByRun (list_marking list.now (values_of options.now) (S.stored shelf.old) checked.now.project
+        (IsLeftByRun (list_marking list.now (values_of choice.now.options) (S.stored shelf.old) checked.now.project
         checked.now.bound) (B.may_leave bench.old))
-        (ResumesBound list.now (values_of options.now) checked.now.project checked.now.bound
-        (opened_of (run_of list.now (range_of checked.now.project (values_of options.now))) (B.stored bench.old))
+        (ResumesBound choice.now.jobs list.now (values_of choice.now.options) checked.now.project checked.now.bound
+        (opened_of (run_of list.now (range_of checked.now.project (values_of choice.now.options))) (B.stored bench.old))
         (source_view S.Shelf shelf.old) (source_view S.Shelf shelf.new) (output_view B.Bench bench.old)
         (output_view B.Bench bench.new)) shelf.old shelf.new bench.old bench.new result }
     ensures reads_back { IfOk result (λ _. (mix : ℕ → ℕ → ℤ)
-        → ReadsBack (range_of checked.now.project (values_of options.now)) mix
-        (rendering_of (range_of checked.now.project (values_of options.now)) mix)) }
+        → ReadsBack (range_of checked.now.project (values_of choice.now.options)) mix
+        (rendering_of (range_of checked.now.project (values_of choice.now.options)) mix)) }
     ensures marked { IsTrue (B.honest bench.old) → IfOk result (λ found. found.marked ≡ count_in (opened_of
-        (run_of list.now (range_of checked.now.project (values_of options.now))) (B.stored bench.old))) }
+        (run_of list.now (range_of checked.now.project (values_of choice.now.options))) (B.stored bench.old))) }
     ensures keeps { IsTrue (S.honest shelf.old) → IsTrue (B.honest bench.old)
-        → IsLeftByRun (list_marking list.now (values_of options.now) (S.stored shelf.old) checked.now.project
+        → IsLeftByRun (list_marking list.now (values_of choice.now.options) (S.stored shelf.old) checked.now.project
         checked.now.bound) (B.may_leave bench.old)
         → (marks : List ℕ) → B.stored bench.old marks_name ≡ Some marks → is_started (Some marks) ≡ true
         → LeavesOnly B.moment B.left_since bench.old bench.new
-        (HoldsMarked (list_marking list.now (values_of options.now) (S.stored shelf.old) checked.now.project
+        (HoldsMarked (list_marking list.now (values_of choice.now.options) (S.stored shelf.old) checked.now.project
         checked.now.bound) marks) }
     ensures report { IfOk result (λ found. found.frames
-        ≡ (range_of checked.now.project (values_of options.now)).to
-        - (range_of checked.now.project (values_of options.now)).from) }
+        ≡ (range_of checked.now.project (values_of choice.now.options)).to
+        - (range_of checked.now.project (values_of choice.now.options)).from) }
     ensures refusals { IsTrue (B.honest bench.old) → Answers refusal_of result (first_fault
-        (render_fault checked.now.project (values_of options.now)) (fault_in (opened_of
-        (run_of list.now (range_of checked.now.project (values_of options.now))) (B.stored bench.old)))) }
+        (render_fault checked.now.project (values_of choice.now.options)) (fault_in (opened_of
+        (run_of list.now (range_of checked.now.project (values_of choice.now.options))) (B.stored bench.old)))) }
     ensures own { (text : List ℕ) → IfErr result (IsOfResuming text) }
 {
-    let mut work = match RenderingWork::plan(alloc, checked, options, list) {
+    let mut work = match RenderingWork::plan(alloc, checked, &choice.options, list, choice.jobs) {
         Ok(work) => work,
         Err(fault) => return Err(Fault::of_rendering(fault)),
     };
     let frames = work.rendered().frames;
-    let found = match work.open(alloc, bench) {
+    let found = match work.open(alloc, choice.jobs, bench) {
         Ok(found) => found,
         Err(fault) => return Err(Fault::Marks(fault)),
     };
-    let order = options.order;
+    let order = choice.options.order;
     match found {
         None => match render_anew(alloc, work, checked, order, shelf, bench, watch) {
             Ok(_) => return Ok(Found { frames, marked: 0 }),
@@ -113,22 +115,41 @@ fn resume_checked<S: Shelf, B: Bench, W: Watch>(
 ///
 /// Its refusals are those of `render`, and behind them those of the marks: the device of the output fails at one of the
 /// two files (62), the marks belong to another list, range, number of channels or depth (67), or they are broken, or the
-/// rendered file isn't theirs (68), and want of memory for them (69). All of these come before the first write. The
-/// watch is told behind each job how many frames are there.
-pub fn resume<S: Shelf, B: Bench, W: Watch>(
+/// rendered file isn't theirs (68), and want of memory for them (69). All of these come before the first write.
+pub fn resume<S: Shelf, B: Bench>(
     alloc: Global,
     list: &[u8],
     options: &Options,
     shelf: &mut S,
     bench: &mut B,
-    watch: &mut W,
 ) -> Result<Resumed, Fault>
     requires { HaveChannels options.now }
-    ensures { IsResuming S.Shelf B.Bench list.now
+    ensures { IsResuming S.Shelf B.Bench OneBlock list.now
         (values_of options.now) shelf.old shelf.new bench.old bench.new result }
 {
+    let choice = RenderChoice {
+        options: *options,
+        jobs: JobLength::OneBlock,
+    };
+    resume_watched(alloc, list, &choice, shelf, bench, &mut Unwatched)
+}
+
+/// The same in jobs of at most a chosen length, with a watch, which is notified after each job of how many frames are
+/// there. An earlier run may have had jobs of another length.
+pub fn resume_watched<S: Shelf, B: Bench, W: Watch>(
+    alloc: Global,
+    list: &[u8],
+    choice: &RenderChoice,
+    shelf: &mut S,
+    bench: &mut B,
+    watch: &mut W,
+) -> Result<Resumed, Fault>
+    requires { HaveChannels choice.now.options }
+    ensures { IsResuming S.Shelf B.Bench choice.now.jobs list.now
+        (values_of choice.now.options) shelf.old shelf.new bench.old bench.new result }
+{
     let Opened { checked, notices } = open(alloc, list, shelf)?;
-    let found = resume_checked(alloc, list, &checked, options, shelf, bench, watch)?;
+    let found = resume_checked(alloc, list, &checked, choice, shelf, bench, watch)?;
     Ok(Resumed {
         frames: found.frames,
         marked: found.marked,

@@ -15,12 +15,13 @@ ghost use Rattle.consolidate.specs.RenderWorks.{DoesWork, IsAllDone};
 ghost use Rattle.consolidate.specs.Schedules.{IsRenderSchedule};
 
 use crate::Fault;
+use crate::choice::RenderChoice;
 use crate::marked::render_by_events;
 use crate::opened::{Opened, open};
 use devices::{Bench, Shelf};
 use job_terms::{BoardEvent, Progress};
 use projectcheck::Checked;
-use rendering::{Options, RenderingWork};
+use rendering::RenderingWork;
 use std::alloc::Global;
 
 /// Renders an opened project of this list by these events.
@@ -28,29 +29,37 @@ fn schedule_checked<S: Shelf, B: Bench>(
     alloc: Global,
     list: &[u8],
     checked: &Checked,
-    options: &Options,
+    choice: &RenderChoice,
     events: &[BoardEvent],
     shelf: &mut S,
     bench: &mut B,
 ) -> Result<Progress, Fault>
-    requires { HaveChannels options.now }
+    requires { HaveChannels choice.now.options }
     ensures does { DoesWork S.Shelf B.Bench IsAllDone (λ told progress. told ≡ progress)
-        (list_marking list.now (values_of options.now) (S.stored shelf.old) checked.now.project checked.now.bound)
-        (run_of list.now (range_of checked.now.project (values_of options.now))) ⊤ (NoneStarted (B.may_leave bench.old))
-        (RendersBound (λ _. events.now) list.now (values_of options.now) checked.now.project checked.now.bound
+        (list_marking list.now (values_of choice.now.options) (S.stored shelf.old) checked.now.project checked.now.bound)
+        (run_of list.now (range_of checked.now.project (values_of choice.now.options))) ⊤ (NoneStarted (B.may_leave bench.old))
+        (RendersBound choice.now.jobs (λ _. events.now) list.now (values_of choice.now.options) checked.now.project checked.now.bound
         (source_view S.Shelf shelf.old) (source_view S.Shelf shelf.new) (output_view B.Bench bench.old)
         (output_view B.Bench bench.new)) shelf.old shelf.new bench.old bench.new result }
     ensures reads_back { IfOk result (λ _. (mix : ℕ → ℕ → ℤ)
-        → ReadsBack (range_of checked.now.project (values_of options.now)) mix
-        (rendering_of (range_of checked.now.project (values_of options.now)) mix)) }
-    ensures refusals { Answers refusal_of result (render_fault checked.now.project (values_of options.now)) }
+        → ReadsBack (range_of checked.now.project (values_of choice.now.options)) mix
+        (rendering_of (range_of checked.now.project (values_of choice.now.options)) mix)) }
+    ensures refusals { Answers refusal_of result (render_fault checked.now.project (values_of choice.now.options)) }
     ensures own { (text : List ℕ) → IfErr result (IsOfRenderSchedule text) }
 {
-    let work = match RenderingWork::plan(alloc, checked, options, list) {
+    let work = match RenderingWork::plan(alloc, checked, &choice.options, list, choice.jobs) {
         Ok(work) => work,
         Err(fault) => return Err(Fault::of_rendering(fault)),
     };
-    match render_by_events(alloc, work, checked, options.order, events, shelf, bench) {
+    match render_by_events(
+        alloc,
+        work,
+        checked,
+        choice.options.order,
+        events,
+        shelf,
+        bench,
+    ) {
         Ok(progress) => return Ok(progress),
         Err(fault) => return Err(fault),
     }
@@ -60,17 +69,17 @@ fn schedule_checked<S: Shelf, B: Bench>(
 pub fn schedule_render<S: Shelf, B: Bench>(
     alloc: Global,
     list: &[u8],
-    options: &Options,
+    choice: &RenderChoice,
     events: &[BoardEvent],
     shelf: &mut S,
     bench: &mut B,
 ) -> Result<Progress, Fault>
-    requires { HaveChannels options.now }
-    ensures { IsRenderSchedule S.Shelf B.Bench list.now
-        (values_of options.now) events.now shelf.old shelf.new bench.old bench.new result }
+    requires { HaveChannels choice.now.options }
+    ensures { IsRenderSchedule S.Shelf B.Bench choice.now.jobs list.now
+        (values_of choice.now.options) events.now shelf.old shelf.new bench.old bench.new result }
 {
     let Opened { checked, .. } = open(alloc, list, shelf)?;
-    match schedule_checked(alloc, list, &checked, options, events, shelf, bench) {
+    match schedule_checked(alloc, list, &checked, choice, events, shelf, bench) {
         Ok(progress) => return Ok(progress),
         Err(fault) => return Err(fault),
     }

@@ -203,22 +203,22 @@ module _ (marked : MarkedWork) (sources : Files) (is : IsRenderWork marked.work)
 -- the same of a stretch that was taken out of them
 pub placed_stretch : (was now : MarkedWork) (k : ℕ) (s : Stretch) (at : ℕ) (bytes : List ℕ) (sources : Files)
     → was ≡ now → IsRenderWork was.work × IsRunOf was.work was.run → s ≡ stretch_at was.work.stretches k
-    → s.behind ≤ s.first + 1024 → at ≡ place_of was.work.planned.range s → k < length now.work.stretches
+    → s.behind ≤ s.first + 2048 → at ≡ place_of was.work.planned.range s → k < length now.work.stretches
     → bytes ≡ (work_of now.work).bytes sources k
     → IsStretchOf (marks_of now sources) k sound_name at bytes marks_name (44 + s.first)
-    (take (s.behind - s.first) (replicate 1024 1))
+    (take (s.behind - s.first) (replicate 2048 1))
 placed_stretch was now k s at bytes sources e is same few place = subst (λ (x : MarkedWork). k < length x.work.stretches
     → bytes ≡ (work_of x.work).bytes sources k → IsStretchOf (marks_of x sources) k sound_name at bytes marks_name
-    (44 + s.first) (take (s.behind - s.first) (replicate 1024 1))) e (λ below right. made below right)
+    (44 + s.first) (take (s.behind - s.first) (replicate 2048 1))) e (λ below right. made below right)
   where
     made : k < length was.work.stretches → bytes ≡ (work_of was.work).bytes sources k
         → IsStretchOf (marks_of was sources) k sound_name at bytes marks_name (44 + s.first)
-        (take (s.behind - s.first) (replicate 1024 1))
+        (take (s.behind - s.first) (replicate 2048 1))
     made below right =
         let t = stretch_at was.work.stretches k in
-        let ones : List ℕ = take (s.behind - s.first) (replicate 1024 1) in
+        let ones : List ℕ = take (s.behind - s.first) (replicate 2048 1) in
         let set : ones ≡ replicate (t.behind - t.first) 1 =
-        take-replicate (s.behind - s.first) 1024 1 (omega (arith, few))
+        take-replicate (s.behind - s.first) 2048 1 (omega (arith, few))
         ∙ ap (λ (x : Stretch). replicate (x.behind - x.first) 1) same in
         subst (λ (x : Stretch). IsStretchOf (marks_of was sources) k sound_name at bytes marks_name (44 + x.first)
         ones) (sym same)

@@ -1,5 +1,7 @@
 -- Blocks cut into stretches.
 use Rattle.std.specs.Prelude.{◌≡◌, ℕ, ◌+◌, ◌-◌, ◌*◌, ◌/◌, ◌<◌, ◌≤◌, Bool, false, cond, nat_le, max, min, List, [], ◌∷◌, length, slice_index_or}
+use Rattle.rendering.specs.declared.cutting.JobLength.{JobLength}
+use Rattle.rendering.specs.declared.cutting.JobLength.TheVariants as length_of_jobs
 use Rattle.rendering.specs.declared.stretch.Stretch.{Stretch}
 
 -- the stretches follow one another, from one block on up to, and without, another; each has at least one block
@@ -34,6 +36,9 @@ AreLongest most stretches = (k : ℕ) (d : Stretch) → k + 1 < length stretches
     → (slice_index_or stretches k d).done ≡ (slice_index_or stretches (k + 1) d).done
     → (slice_index_or stretches k d).behind - (slice_index_or stretches k d).first ≡ most
 
--- how many blocks of so many bytes are done at once: one where there are few, else what makes 4 MiB, at least one
-abbrev pub blocks_at_once : (blocks block_size : ℕ) → ℕ
-blocks_at_once blocks block_size = cond (nat_le blocks 64) 1 (max (4194304 / block_size) 1)
+-- how many blocks of so many bytes a job has: one; or, for speed, a sixty-fourth of all, but what makes 1 MiB at least and
+-- 16 MiB at most, where there are more than 64
+abbrev pub blocks_in_job : JobLength → (blocks block_size : ℕ) → ℕ
+blocks_in_job length_of_jobs.OneBlock blocks block_size = 1
+blocks_in_job length_of_jobs.Longer blocks block_size = cond (nat_le blocks 64) 1
+    (max (min (max (blocks / 64) (1048576 / block_size)) (16777216 / block_size)) 1)

@@ -12,8 +12,9 @@ use Rattle.work_terms.specs.Disk.{Files}
 use Rattle.renderplan.specs.Planned.{IsPlan, Planned}
 use Rattle.wavwrite.specs.Info.{Fits}
 use Rattle.job_terms.specs.Workers.{JobsBy}
+use Rattle.rendering.specs.declared.cutting.JobLength.{JobLength}
 use Rattle.rendering.specs.declared.stretch.Stretch.{Stretch}
-use Rattle.rendering.specs.Cut.{AreEven, AreLongest, IsCut, IsShort, IsUniform, blocks_at_once}
+use Rattle.rendering.specs.Cut.{AreLongest, IsCut, IsShort, IsUniform, blocks_in_job}
 use Rattle.rendering.specs.Written.{bytes_of_blocks, frames_before}
 
 -- a plan over opened files
@@ -36,7 +37,7 @@ pub record RenderWork : Type 0 where
 pub record IsRenderWork (work : RenderWork) : Type 0 where
   pub planned : IsPlan work.planned
   pub cut : IsCut 0 work.stretches (block_count work.planned.range)
-  pub short : All (IsShort 1024) work.stretches
+  pub short : All (IsShort 2048) work.stretches
   pub fits : Fits (render_info work.planned.range)
 
 -- what the plan's pieces sound like over these sources
@@ -61,20 +62,16 @@ stretch_at stretches k = slice_index_or stretches k no_stretch
 abbrev pub stretch_frames : Range → Stretch → ℕ
 stretch_frames range s = frames_before range s.behind - frames_before range s.first
 
--- how many blocks are done at once
-abbrev pub at_once : Range → ℕ
-at_once range = blocks_at_once (block_count range) (bytes_for range block_length)
+-- how many blocks a job of a range has
+abbrev pub job_blocks : JobLength → Range → ℕ
+job_blocks jobs range = blocks_in_job jobs (block_count range) (bytes_for range block_length)
 
--- as many blocks in each stretch but the last
-abbrev pub AreAtOnce : Range → List Stretch → Type 0
-AreAtOnce range stretches = AreEven (at_once range) (block_count range) stretches
-
--- these are all its blocks, each stretch marked whole or not at all, and as long as can be
-pub record AreCutBy (marked : List Bool) (work : RenderWork) : Type 0 where
+-- these are all its blocks, each stretch marked whole or not at all, and as long as such a job can be
+pub record AreCutBy (jobs : JobLength) (marked : List Bool) (work : RenderWork) : Type 0 where
   pub cut : IsCut 0 work.stretches (block_count work.planned.range)
   pub uniform : All (IsUniform marked) work.stretches
-  pub short : All (IsShort (at_once work.planned.range)) work.stretches
-  pub longest : AreLongest (at_once work.planned.range) work.stretches
+  pub short : All (IsShort (job_blocks jobs work.planned.range)) work.stretches
+  pub longest : AreLongest (job_blocks jobs work.planned.range) work.stretches
 
 -- where a stretch begins in the rendered file
 abbrev pub place_of : Range → Stretch → ℕ

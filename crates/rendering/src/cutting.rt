@@ -1,28 +1,56 @@
 // Cuts blocks into stretches.
-ghost use Rattle.std.specs.Prelude.{◌≡◌, ◌≤◌, ◌<◌, ◌-◌, ◌/◌, ◌^◌, true, false, length, max, cond, nat_le, IfOk};
+ghost use Rattle.std.specs.Prelude.{◌≡◌, ◌≤◌, ◌<◌, ◌-◌, ◌/◌, ◌^◌, true, false, length, max, min, cond, nat_le, IfOk};
 ghost use Rattle.std.specs.List.{All};
-ghost use Rattle.rendering.specs.Cut.{AreEven, AreLongest, IsCut, IsFresh, IsShort, IsUniform, blocks_at_once};
+ghost use Rattle.rendering.specs.Cut.{AreEven, AreLongest, IsCut, IsFresh, IsShort, IsUniform, blocks_in_job};
 
 use crate::stretch::Stretch;
 use std::alloc::{AllocError, Global};
 
-/// The most blocks that are each done alone where there are no more.
-const FEW: u32 = 64;
+/// How long the jobs of a rendering are, in blocks of 4,096 frames, the last of which may be shorter.
+#[derive(Clone, Copy, Debug, PartialEq, Eq)]
+pub enum JobLength {
+    /// One block, as the rule of the board has it: whatever is lost with a job is lost of one block.
+    OneBlock,
+    /// For speed: a sixty-fourth of all blocks, but as many as make 1 MiB at least and 16 MiB at most, where there are more
+    /// than 64; else one.
+    Longer,
+}
 
-/// The bytes that are done at once where there are more blocks.
-const AT_ONCE: u32 = 4_194_304;
+/// The most blocks that are each a job where there are no more; of more, a job has at most the same share.
+const SHARES: u32 = 64;
 
-/// How many blocks of so many bytes are done at once.
-pub fn blocks_at_once(blocks: u32, block_size: u32) -> u32
+/// The fewest bytes of a longer job.
+const LEAST_BYTES: u32 = 1_048_576;
+
+/// The most bytes of a longer job.
+const MOST_BYTES: u32 = 16_777_216;
+
+/// How many blocks of so many bytes a job has.
+pub fn blocks_in_job(jobs: JobLength, blocks: u32, block_size: u32) -> u32
     requires { 0 < block_size }
-    ensures value { result ≡ blocks_at_once blocks block_size }
+    ensures value { result ≡ blocks_in_job jobs blocks block_size }
     ensures some { 1 ≤ result }
-    ensures few { 4096 ≤ block_size → result ≤ 1024 }
+    ensures few { 8192 ≤ block_size → result ≤ 2048 }
 {
-    if blocks <= FEW {
+    match jobs {
+        JobLength::OneBlock => 1,
+        JobLength::Longer => blocks_at_once(blocks, block_size),
+    }
+}
+
+/// How many blocks of so many bytes a longer job has.
+fn blocks_at_once(blocks: u32, block_size: u32) -> u32
+    requires { 0 < block_size }
+    ensures value { result ≡ cond (nat_le blocks 64) 1
+        (max (min (max (blocks / 64) (1048576 / block_size)) (16777216 / block_size)) 1) }
+    ensures some { 1 ≤ result }
+    ensures few { 8192 ≤ block_size → result ≤ 2048 }
+{
+    if blocks <= SHARES {
         return 1;
     }
-    (AT_ONCE / block_size).max(1)
+    let share = (blocks / SHARES).max(LEAST_BYTES / block_size);
+    share.min(MOST_BYTES / block_size).max(1)
 }
 
 /// All blocks, none of which is done, so many in each stretch but the last.

@@ -13,6 +13,7 @@ mod span;
 mod stretch;
 mod work;
 
+pub use cutting::JobLength;
 pub use fault::RenderFault;
 pub use job_terms::Order;
 pub use maker::RenderingWork;

@@ -10,19 +10,17 @@ ghost use Rattle.job_terms.specs.Workers.{jobs_over};
 ghost use Rattle.workboard.specs.Indexed.{IsOrder};
 ghost use Rattle.markfile.specs.Fault.{ReadsMarks};
 ghost use Rattle.markfile.specs.Opened.{opened_of};
-ghost use Rattle.sound_terms.specs.Blocks.{block_count};
-ghost use Rattle.rendering.specs.Cut.{AreEven};
 ghost use Rattle.execution.specs.Filled.{AreFilled};
 ghost use Rattle.execution.specs.Marking.{AreLeftBy, IsRunningBy, LaysBy, NoneStartedBy};
 ghost use Rattle.execution.specs.Plan.{AreBlank, IsAt, Stays};
 ghost use Rattle.rendering.specs.Fault.{refusal_of};
 ghost use Rattle.rendering.specs.Maker.{HasSoundJobs, IsMarkedWork, plan_of};
 ghost use Rattle.rendering.specs.Marked.{IsFoundAs, IsRunOf, run_of};
-ghost use Rattle.rendering.specs.Planned.{IsRenderingBy, IsRenderingOf};
+ghost use Rattle.rendering.specs.Planned.{IsRenderingOf};
 ghost use Rattle.rendering.specs.Rendering.{HasRange, HaveChannels, render_fault, values_of};
 ghost use Rattle.rendering.specs.Work.{AreCutBy, IsRenderWork, done_before, work_of};
 
-use crate::cutting::fresh_stretches;
+use crate::cutting::JobLength;
 use crate::marked::{FRONT, MOST_BLOCKS, count_of};
 use crate::{Options, Order, RenderFault, Rendered, Rendering};
 use devices::{Bench, DeviceFault, Shelf};
@@ -62,23 +60,6 @@ impl<'a> Model for RenderingWork<'a> {
 }
 
 impl<'a> Rendering<'a> {
-    /// Cuts its blocks into jobs of so many, the last of which has what remains; none of them is done.
-    fn cut_evenly(&mut self, alloc: Global, blocks: u32) -> Result<(), AllocError>
-        requires { (1 ≤ blocks) × (blocks ≤ 1024) }
-        ensures planned { self.new.planned ≡ self.old.planned }
-        ensures sounds { self.new.sounds ≡ self.old.sounds }
-        ensures even { OnOk result (AreEven blocks (block_count self.new.planned.range) self.new.stretches) }
-        ensures whole { IsRenderWork self.new }
-    {
-        match fresh_stretches(alloc, self.blocks.count(), blocks) {
-            Ok(stretches) => {
-                self.stretches = stretches;
-                return Ok(());
-            }
-            Err(fault) => return Err(fault),
-        }
-    }
-
     /// How many jobs it has.
     pub(crate) fn job_count(&self) -> u32
         ensures { result ≡ (work_of self.now).count }
@@ -194,61 +175,27 @@ impl<'a> JobMaker for RenderingWork<'a> {
 }
 
 impl<'a> RenderingWork<'a> {
-    /// A rendering of what was chosen of a project, whose marks belong to this list. Nothing of it is written yet.
+    /// A rendering of what was chosen of a project, in jobs of this length, whose marks belong to this list. Nothing of it
+    /// is written yet.
     pub fn plan(
         alloc: Global,
         checked: &'a Checked,
         options: &Options,
         list: &[u8],
+        jobs: JobLength,
     ) -> Result<Self, RenderFault>
         requires { HaveChannels options.now }
-        ensures planned { IfOk result (λ marked. IsRenderingOf checked.now.project checked.now.bound
+        ensures planned { IfOk result (λ marked. IsRenderingOf jobs checked.now.project checked.now.bound
             (values_of options.now) marked.work) }
         ensures run { IfOk result (λ marked. marked.run ≡ run_of list.now marked.work.planned.range) }
         ensures whole { IfOk result (λ marked. IsMarkedWork marked) }
         ensures jobs { IfOk result (λ marked. HasSoundJobs marked) }
         ensures refusals { Answers refusal_of result (render_fault checked.now.project (values_of options.now)) }
     {
-        let rendering = match Rendering::plan(alloc, checked, options) {
+        let rendering = match Rendering::plan(alloc, checked, options, jobs) {
             Ok(rendering) => rendering,
             Err(fault) => return Err(fault),
         };
-        let run = rendering.run(list);
-        match FreshMarks::of(alloc, &run) {
-            Ok(fresh) => Ok(RenderingWork {
-                rendering,
-                run,
-                fresh,
-            }),
-            Err(_) => Err(RenderFault::MarksMemory),
-        }
-    }
-
-    /// The same, with so many blocks in each job but the last.
-    pub fn plan_by(
-        alloc: Global,
-        checked: &'a Checked,
-        options: &Options,
-        list: &[u8],
-        blocks: u32,
-    ) -> Result<Self, RenderFault>
-        requires channels { HaveChannels options.now }
-        requires blocks { (1 ≤ blocks) × (blocks ≤ 1024) }
-        ensures planned { IfOk result (λ marked. IsRenderingBy blocks checked.now.project checked.now.bound
-            (values_of options.now) marked.work) }
-        ensures run { IfOk result (λ marked. marked.run ≡ run_of list.now marked.work.planned.range) }
-        ensures whole { IfOk result (λ marked. IsMarkedWork marked) }
-        ensures jobs { IfOk result (λ marked. HasSoundJobs marked) }
-        ensures refusals { Answers refusal_of result (render_fault checked.now.project (values_of options.now)) }
-    {
-        let mut rendering = match Rendering::plan(alloc, checked, options) {
-            Ok(rendering) => rendering,
-            Err(fault) => return Err(fault),
-        };
-        match rendering.cut_evenly(alloc, blocks) {
-            Ok(()) => {}
-            Err(_) => return Err(RenderFault::Memory),
-        }
         let run = rendering.run(list);
         match FreshMarks::of(alloc, &run) {
             Ok(fresh) => Ok(RenderingWork {
@@ -268,11 +215,12 @@ impl<'a> RenderingWork<'a> {
     }
 
     /// Opens the marks that an earlier run left, once the rendered file and the marks are synced. Where they are this
-    /// run's, the blocks that they mark are done, and it gives how many those are; `None` where none are started.
-    /// Nothing is written.
+    /// run's, the blocks that they mark are done, the others are cut into jobs of this length, and it gives how many are
+    /// marked; `None` where none are started. Nothing is written.
     pub fn open<B: Bench>(
         &mut self,
         alloc: Global,
+        jobs: JobLength,
         bench: &mut B,
     ) -> Result<Option<u32>, MarksFault>
         ensures running { IsTrue (B.honest bench.old) → (sources : Files)
@@ -290,7 +238,7 @@ impl<'a> RenderingWork<'a> {
         ensures found { IsTrue (B.honest bench.old)
             → IsFoundAs result (opened_of self.old.run (B.stored bench.old)) }
         ensures cut { IsTrue (B.honest bench.old) → IfOk result (λ found. IfSome found (λ _. (marked : List Bool)
-            × (opened_of self.old.run (B.stored bench.old) ≡ Ok (Some marked)) × AreCutBy marked self.new.work)) }
+            × (opened_of self.old.run (B.stored bench.old) ≡ Ok (Some marked)) × AreCutBy jobs marked self.new.work)) }
         ensures unchanged { IfOk result (λ found. found ≡ None → self.new ≡ self.old) }
         ensures planned { self.new.work.planned ≡ self.old.work.planned }
         ensures sounds { self.new.work.sounds ≡ self.old.work.sounds }
@@ -307,7 +255,7 @@ impl<'a> RenderingWork<'a> {
         let Some(marks) = found else {
             return Ok(None);
         };
-        match self.rendering.cut_by(alloc, marks.marked.as_slice()) {
+        match self.rendering.cut_by(alloc, marks.marked.as_slice(), jobs) {
             Ok(()) => return Ok(Some(count_of(marks.marked.as_slice()))),
             Err(_) => return Err(MarksFault::Memory),
         }

@@ -12,7 +12,7 @@ ghost use Rattle.rendering.specs.Written.{WritesRendering};
 
 use crate::Rendering;
 use crate::blocks::BLOCK_LENGTH;
-use crate::cutting::{blocks_at_once, stretches_of};
+use crate::cutting::{JobLength, blocks_in_job, stretches_of};
 use crate::stretch::Stretch;
 use devices::{Bench, DeviceFault, Shelf};
 use markfile::RunId;
@@ -22,7 +22,7 @@ use std::alloc::{AllocError, Global};
 pub(crate) const FRONT: u64 = 44;
 
 /// The most blocks of a job.
-pub(crate) const MOST_BLOCKS: usize = 1024;
+pub(crate) const MOST_BLOCKS: usize = 2048;
 
 impl<'a> Rendering<'a> {
     /// The stretch of this job.
@@ -31,7 +31,7 @@ impl<'a> Rendering<'a> {
         ensures stretch { result ≡ stretch_at self.now.stretches job }
         ensures some { result.first < result.behind }
         ensures there { result.behind ≤ block_count self.now.planned.range }
-        ensures few { result.behind ≤ result.first + 1024 }
+        ensures few { result.behind ≤ result.first + 2048 }
     {
         self.stretches[job as usize]
     }
@@ -93,16 +93,21 @@ impl<'a> Rendering<'a> {
         }
     }
 
-    /// Cuts its blocks by these marks, one for each: the marked ones are done.
-    pub(crate) fn cut_by(&mut self, alloc: Global, marked: &[bool]) -> Result<(), AllocError>
+    /// Cuts its blocks into jobs of this length by these marks, one for each block: the marked ones are done.
+    pub(crate) fn cut_by(
+        &mut self,
+        alloc: Global,
+        marked: &[bool],
+        jobs: JobLength,
+    ) -> Result<(), AllocError>
         requires { length marked.now ≡ block_count self.old.planned.range }
         ensures planned { self.new.planned ≡ self.old.planned }
         ensures sounds { self.new.sounds ≡ self.old.sounds }
-        ensures cut { OnOk result (AreCutBy marked.now self.new) }
+        ensures cut { OnOk result (AreCutBy jobs marked.now self.new) }
         ensures whole { IsRenderWork self.new }
     {
         let block = self.blocks.length_of(BLOCK_LENGTH) as u32;
-        let most = blocks_at_once(self.blocks.count(), block);
+        let most = blocks_in_job(jobs, self.blocks.count(), block);
         match stretches_of(alloc, marked, most) {
             Ok(stretches) => {
                 self.stretches = stretches;

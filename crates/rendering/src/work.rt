@@ -10,15 +10,15 @@ ghost use Rattle.list_terms.specs.Accepted as accepted;
 ghost use Rattle.list_terms.specs.Heard.{sounds_of};
 ghost use Rattle.markfile.specs.Range as marks;
 ghost use Rattle.wavwrite.specs.Info.{Fits};
-ghost use Rattle.rendering.specs.Cut.{IsCut, IsShort};
+ghost use Rattle.rendering.specs.Cut.{AreEven, IsCut, IsShort};
 ghost use Rattle.rendering.specs.Fault.{ComesFirst, refusal_of};
 ghost use Rattle.rendering.specs.Planned.{IsPlanFor, IsRenderingOf, MixAs};
 ghost use Rattle.rendering.specs.Rendering.{HasRange, HaveChannels, render_fault, values_of};
-ghost use Rattle.rendering.specs.Work.{AreAtOnce, IsRenderWork};
+ghost use Rattle.rendering.specs.Work.{IsRenderWork, job_blocks};
 ghost use Rattle.rendering.specs.declared.fault.RenderFault.TheVariants.{Memory};
 
 use crate::blocks::{BLOCK_LENGTH, Blocks};
-use crate::cutting::{blocks_at_once, fresh_stretches};
+use crate::cutting::{JobLength, blocks_in_job, fresh_stretches};
 use crate::span::span_of;
 use crate::stretch::Stretch;
 use crate::{Options, RenderFault};
@@ -136,15 +136,20 @@ fn head_of(alloc: Global, info: &SoundInfoRef) -> Result<Vec<u8>, AllocError>
     Ok(head)
 }
 
-/// All blocks, cut into stretches that are done at once.
-fn stretches_of(alloc: Global, blocks: &Blocks) -> Result<Vec<Stretch>, RenderFault>
+/// All blocks, cut into jobs of this length.
+fn stretches_of(
+    alloc: Global,
+    blocks: &Blocks,
+    jobs: JobLength,
+) -> Result<Vec<Stretch>, RenderFault>
     ensures cut { IfOk result (λ stretches. IsCut 0 stretches.items (block_count blocks.now.planned.range)) }
-    ensures even { IfOk result (λ stretches. AreAtOnce blocks.now.planned.range stretches.items) }
-    ensures short { IfOk result (λ stretches. All (IsShort 1024) stretches.items) }
+    ensures even { IfOk result (λ stretches. AreEven (job_blocks jobs blocks.now.planned.range)
+        (block_count blocks.now.planned.range) stretches.items) }
+    ensures short { IfOk result (λ stretches. All (IsShort 2048) stretches.items) }
     ensures only_memory { IfErr result (λ fault. fault ≡ Memory) }
 {
     let count = blocks.count();
-    let most = blocks_at_once(count, blocks.length_of(BLOCK_LENGTH) as u32);
+    let most = blocks_in_job(jobs, count, blocks.length_of(BLOCK_LENGTH) as u32);
     let stretches = fresh_stretches(alloc, count, most)?;
     Ok(stretches)
 }
@@ -154,9 +159,10 @@ fn prepared<'a>(
     alloc: Global,
     checked: &'a Checked,
     options: &Options,
+    jobs: JobLength,
 ) -> Result<Rendering<'a>, RenderFault>
     requires { HaveChannels options.now }
-    ensures prepared { IfOk result (IsPlanFor checked.now.project checked.now.bound (values_of options.now)) }
+    ensures prepared { IfOk result (IsPlanFor jobs checked.now.project checked.now.bound (values_of options.now)) }
     ensures first { IfErr result (ComesFirst (accepted.range_of checked.now.project (values_of options.now))) }
     ensures whole { IfOk result (λ rendering. IsRenderWork rendering) }
 {
@@ -170,7 +176,7 @@ fn prepared<'a>(
         channels: info.channels(),
     };
     let blocks = Blocks::new(alloc, plan, checked.bound().sounds())?;
-    let stretches = stretches_of(alloc, &blocks)?;
+    let stretches = stretches_of(alloc, &blocks, jobs)?;
     Ok(Rendering {
         blocks,
         rendered,
@@ -181,13 +187,20 @@ fn prepared<'a>(
 }
 
 impl<'a> Rendering<'a> {
-    /// A rendering of what was chosen of a project. Nothing of it is written yet, and it takes no more memory.
-    pub fn plan(alloc: Global, checked: &'a Checked, options: &Options) -> Result<Self, RenderFault>
+    /// A rendering of what was chosen of a project, in jobs of this length. Nothing of it is written yet, and it takes no
+    /// more memory.
+    pub fn plan(
+        alloc: Global,
+        checked: &'a Checked,
+        options: &Options,
+        jobs: JobLength,
+    ) -> Result<Self, RenderFault>
         requires { HaveChannels options.now }
-        ensures planned { IfOk result (IsRenderingOf checked.now.project checked.now.bound (values_of options.now)) }
+        ensures planned { IfOk result
+            (IsRenderingOf jobs checked.now.project checked.now.bound (values_of options.now)) }
         ensures refusals { Answers refusal_of result (render_fault checked.now.project (values_of options.now)) }
     {
-        let rendering = prepared(alloc, checked, options)?;
+        let rendering = prepared(alloc, checked, options, jobs)?;
         Ok(rendering)
     }
 

@@ -3,6 +3,7 @@
 #![tactic(auto)]
 
 pub mod boards;
+pub mod calls;
 pub mod files;
 pub mod lists;
 pub mod numbers;

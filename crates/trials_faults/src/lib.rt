@@ -10,6 +10,8 @@ mod recorded;
 #[cfg(test)]
 mod resumed;
 #[cfg(test)]
+mod schedules;
+#[cfg(test)]
 mod stops;
 #[cfg(test)]
 mod works;

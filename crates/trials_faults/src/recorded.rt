@@ -9,6 +9,8 @@ pub(crate) struct Recorded {
     samples: u64,
     least: u64,
     behind: u64,
+    /// How often samples were read.
+    reads: u32,
 }
 
 impl Recorded {
@@ -18,7 +20,13 @@ impl Recorded {
             samples,
             least: u64::MAX,
             behind: 0,
+            reads: 0,
         }
+    }
+
+    /// How often samples were read.
+    pub(crate) fn reads(&self) -> u32 {
+        self.reads
     }
 
     /// How many bytes of samples stand before the first that was read since this was asked last, and up to how many it
@@ -54,6 +62,7 @@ impl Shelf for Recorded {
             let first = at - self.samples;
             self.least = self.least.min(first);
             self.behind = self.behind.max(first.saturating_add(buffer.len() as u64));
+            self.reads = self.reads.saturating_add(1);
         }
         self.shelf.read_at(name, at, buffer)
     }

@@ -218,18 +218,13 @@ const BY_EVENTS: Call = Call::Schedule {
 };
 
 #[test]
-fn crashes_that_keep_nothing(rt: HostRuntime) -> Result<(), Fail> {
-    sweep(&rt, rt.alloc(), Call::Render, &LEFT[..3])
+fn crashes_of_a_rendering(rt: HostRuntime) -> Result<(), Fail> {
+    sweep(&rt, rt.alloc(), Call::Render, &LEFT)
 }
 
 #[test]
-fn crashes_that_keep_a_byte(rt: HostRuntime) -> Result<(), Fail> {
-    sweep(&rt, rt.alloc(), BY_EVENTS, &LEFT[3..6])
-}
-
-#[test]
-fn crashes_that_keep_all(rt: HostRuntime) -> Result<(), Fail> {
-    sweep(&rt, rt.alloc(), Call::Render, &LEFT[6..])
+fn crashes_of_a_rendering_by_events(rt: HostRuntime) -> Result<(), Fail> {
+    sweep(&rt, rt.alloc(), BY_EVENTS, &LEFT)
 }
 
 #[test]

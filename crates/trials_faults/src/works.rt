@@ -3,8 +3,8 @@ ghost use Rattle.rendering.specs.Rendering.{HaveChannels};
 
 use crate::recorded::Recorded;
 use consolidate::{
-    BoardEvent, Depth, Fault, Options, Order, Progress, Resumed, Work, consolidate, render, resume,
-    run_schedule,
+    BoardEvent, Depth, Fault, JobLength, Options, Order, Progress, RenderChoice, Resumed, Work,
+    consolidate_watched, render_watched, resume_watched, run_schedule,
 };
 use passes::{DropSilent, JoinCuts, Pass, Regroup, SplitFades};
 use shelf::{Bench, MemoryBench, MemoryShelf, Shelf, Unwatched};
@@ -38,8 +38,8 @@ pub(crate) const THREE_BLOCKS: &[u8] = b"<ADL>
 </ADL>
 ";
 
-/// The frames of 200 blocks.
-const MANY_FRAMES: u64 = 819_200;
+/// The frames of 65 blocks.
+const MANY_FRAMES: u64 = 266_240;
 
 /// A list with one entry, which plays as many frames so.
 const MANY_BLOCKS: &[u8] = b"<ADL>
@@ -51,7 +51,7 @@ const MANY_BLOCKS: &[u8] = b"<ADL>
 (Index) 1 (F) \"URL:file://localhost/A.wav\" _ 00.00.00.00/0000 _
 </SOURCE_INDEX>
 <EVENT_LIST>
-(Entry) 1 (Cut) I 1 1 1 00.00.00.00/0000 00.00.00.00/0000 00.00.17.01/1280
+(Entry) 1 (Cut) I 1 1 1 00.00.00.00/0000 00.00.00.00/0000 00.00.05.13/1280
 </EVENT_LIST>
 </ADL>
 ";
@@ -161,12 +161,12 @@ pub(crate) fn three_blocks(alloc: Global) -> Result<Vec<u8>, Fail> {
     Ok(file)
 }
 
-/// The two bytes of a sample of 200 blocks. They come again after a prime number of samples.
+/// The two bytes of a sample of 65 blocks. They come again after a prime number of samples.
 fn sample(place: u64) -> [u8; 2] {
     ((place % 65_521) as u16).to_le_bytes()
 }
 
-/// A file of 200 blocks.
+/// A file of 65 blocks.
 fn many_blocks(alloc: Global) -> Result<Vec<u8>, Fail> {
     let mut file = head_of(alloc, 1, Depth::Sixteen, MANY_FRAMES, 0)?;
     for place in 0..MANY_FRAMES {
@@ -212,7 +212,7 @@ fn standard(alloc: Global) -> Result<Vec<Box<dyn Pass>>, AllocError> {
 }
 
 /// So many rounds of one worker, who is given a job, makes its bytes and delivers them.
-fn rounds(alloc: Global, count: usize) -> Result<Vec<BoardEvent>, AllocError> {
+pub(crate) fn rounds(alloc: Global, count: usize) -> Result<Vec<BoardEvent>, AllocError> {
     let mut events = Vec::new(alloc);
     for _ in 0..count {
         events.push(BoardEvent::Give(1))?;
@@ -256,6 +256,7 @@ pub(crate) struct Job {
     list: &'static [u8],
     /// How many channels are rendered, two or one, and how deep.
     is_wide: bool,
+    jobs: JobLength,
     depth: Depth,
     source: Vec<u8>,
     /// How many frames the source has.
@@ -277,6 +278,7 @@ impl Job {
             call,
             list: THREE_BLOCKS,
             is_wide: false,
+            jobs: JobLength::OneBlock,
             depth: Depth::Sixteen,
             source: three_blocks(alloc)?,
             frames: FRAMES,
@@ -299,6 +301,7 @@ impl Job {
             call,
             list: SILENT_MIDDLE,
             is_wide: false,
+            jobs: JobLength::OneBlock,
             depth: Depth::Sixteen,
             source: silent_middle(alloc)?,
             frames: 12,
@@ -324,7 +327,7 @@ impl Job {
         Ok(job)
     }
 
-    /// The rendering of 200 blocks of two channels of 24 bits, of which 170 make a job of 4 MiB.
+    /// The rendering of 65 blocks of two channels of 24 bits, in longer jobs, the first of which has 42 blocks.
     pub(crate) fn of_many_blocks(alloc: Global) -> Result<Self, Fail> {
         let mut wanted = Vec::new(alloc);
         wanted.push((SOUND, many_rendered(alloc)?))?;
@@ -333,6 +336,7 @@ impl Job {
             call: Call::Render,
             list: MANY_BLOCKS,
             is_wide: true,
+            jobs: JobLength::Longer,
             depth: Depth::TwentyFour,
             source: many_blocks(alloc)?,
             frames: MANY_FRAMES,
@@ -387,11 +391,21 @@ impl Job {
         }
     }
 
+    /// The same, in its jobs.
+    fn choice(&self) -> RenderChoice
+        ensures { HaveChannels result.options }
+    {
+        RenderChoice {
+            options: self.options(),
+            jobs: self.jobs,
+        }
+    }
+
     fn render<S: Shelf>(&self, shelf: &mut S, bench: &mut MemoryBench) -> Result<(), Fault> {
-        match render(
+        match render_watched(
             self.alloc,
             self.list,
-            &self.options(),
+            &self.choice(),
             shelf,
             bench,
             &mut Unwatched,
@@ -407,10 +421,10 @@ impl Job {
         shelf: &mut S,
         bench: &mut MemoryBench,
     ) -> Result<Resumed, Fault> {
-        resume(
+        resume_watched(
             self.alloc,
             self.list,
-            &self.options(),
+            &self.choice(),
             shelf,
             bench,
             &mut Unwatched,
@@ -424,7 +438,7 @@ impl Job {
         shelf: &mut S,
         bench: &mut MemoryBench,
     ) -> Result<(), Fault> {
-        match consolidate(
+        match consolidate_watched(
             self.alloc,
             self.list,
             0,
@@ -447,8 +461,9 @@ impl Job {
         bench: &mut MemoryBench,
     ) -> Result<Progress, Fault> {
         let options = self.options();
-        let work = Work::Rendering { options };
-        run_schedule(self.alloc, work, self.list, events, shelf, bench)
+        let list = self.list;
+        let work = Work::Render { list, options };
+        run_schedule(self.alloc, work, events, shelf, bench)
     }
 
     fn consolidate_by<S: Shelf>(
@@ -458,8 +473,13 @@ impl Job {
         shelf: &mut S,
         bench: &mut MemoryBench,
     ) -> Result<Progress, Fault> {
-        let work = Work::Consolidation { handle: 0, passes };
-        run_schedule(self.alloc, work, self.list, events, shelf, bench)
+        let work = Work::Consolidate {
+            list: self.list,
+            handle: 0,
+            passes,
+            order: Order::ByTime,
+        };
+        run_schedule(self.alloc, work, events, shelf, bench)
     }
 
     /// Does it.

@@ -5,7 +5,7 @@ use adlmodel::Project;
 use adlread::read;
 use consolidate::{Written, consolidate};
 use passes::{DropSilent, JoinCuts, Pass, Regroup, SplitFades};
-use shelf::{MemoryBench, MemoryShelf, Unwatched};
+use shelf::{MemoryBench, MemoryShelf};
 use std::alloc::{AllocError, Global};
 use std::test::Fail;
 
@@ -53,9 +53,7 @@ fn written(alloc: Global, letters: &[u8], bench: &mut MemoryBench) -> Result<Wri
     let mut shelf = MemoryShelf::new(alloc).with_file("A.wav", silent_middle(alloc)?.as_slice())?;
     let text = list(alloc, ENTRY)?;
     let passes = passes_of(alloc, letters)?;
-    let list = text.as_bytes();
-    let watch = &mut Unwatched;
-    Ok(consolidate(alloc, list, 0, passes, None, &mut shelf, bench, watch)?)
+    Ok(consolidate(alloc, text.as_bytes(), 0, passes, &mut shelf, bench)?)
 }
 
 /// How many frames of 4 bytes the media have, of which there are three at most; behind the last one none.

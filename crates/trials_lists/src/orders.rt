@@ -55,8 +55,11 @@ fn begun(
         two_blocks(alloc, [1, 1])?.as_slice(),
     )?;
     let text = list(alloc, entries)?;
-    let work = Work::Rendering { options: by(order) };
-    let progress = run_schedule(alloc, work, text.as_bytes(), &round(1), &mut shelf, bench)?;
+    let work = Work::Render {
+        list: text.as_bytes(),
+        options: by(order),
+    };
+    let progress = run_schedule(alloc, work, &round(1), &mut shelf, bench)?;
     Ok((progress.idle, progress.done))
 }
 

@@ -3,7 +3,7 @@ use crate::lists::{list, sound};
 use consolidate::{
     BoardEvent, Depth, Fault, Options, Order, Progress, Work, consolidate, render, run_schedule,
 };
-use shelf::{MemoryBench, MemoryShelf, Unwatched};
+use shelf::{MemoryBench, MemoryShelf};
 use std::alloc::{AllocError, Global};
 use std::process::Abort;
 use std::test::Fail;
@@ -84,7 +84,7 @@ impl Project {
         bench: &mut MemoryBench,
     ) -> Result<(), Fault> {
         let list = self.list.as_bytes();
-        render(alloc, list, &OPTIONS, shelf, bench, &mut Unwatched).map(|_| ())
+        render(alloc, list, &OPTIONS, shelf, bench).map(|_| ())
     }
 
     fn consolidate(
@@ -95,7 +95,7 @@ impl Project {
     ) -> Result<(), Fault> {
         let list = self.list.as_bytes();
         let passes = Vec::new(alloc);
-        consolidate(alloc, list, 0, passes, None, shelf, bench, &mut Unwatched).map(|_| ())
+        consolidate(alloc, list, 0, passes, shelf, bench).map(|_| ())
     }
 
     /// What `render` or `consolidate` writes.
@@ -120,13 +120,21 @@ impl Project {
         let list = self.list.as_bytes();
         match self.kind {
             Kind::Rendering => {
-                let work = Work::Rendering { options: OPTIONS };
-                run_schedule(alloc, work, list, events, shelf, bench)
+                let work = Work::Render {
+                    list,
+                    options: OPTIONS,
+                };
+                run_schedule(alloc, work, events, shelf, bench)
             }
             Kind::Consolidation => {
                 let passes = Vec::new(alloc);
-                let work = Work::Consolidation { handle: 0, passes };
-                run_schedule(alloc, work, list, events, shelf, bench)
+                let work = Work::Consolidate {
+                    list,
+                    handle: 0,
+                    passes,
+                    order: Order::ByTime,
+                };
+                run_schedule(alloc, work, events, shelf, bench)
             }
         }
     }

@@ -30,14 +30,14 @@ returns-in-Err-clause-does g c =
     let list = c.args.list.now in
     let project = c.args.checked.now.project in
     let binding = c.args.checked.now.bound in
-    let values = values_of c.args.options.now in
+    let values = values_of c.args.choice.now.options in
     let sources = g.S.Shelf.stored c.args.shelf.now in
     let m = list_marking list values sources project binding in
     let due = opened_of (run_of list (range_of project values)) (g.B.Bench.stored c.args.bench.now) in
     let begun = IsLeftByRun m (g.B.Bench.may_leave c.args.bench.now) in
     unplanned g.S.Shelf g.B.Bench (λ _. ⊤) (λ _ progress. progress.finished ≡ true) m
     (run_of list (range_of project values)) begun begun
-    (ResumesBound list values project binding due (source_view g.S.Shelf c.args.shelf.now)
+    (ResumesBound c.args.choice.now.jobs list values project binding due (source_view g.S.Shelf c.args.shelf.now)
     (source_view g.S.Shelf c.args.shelf.now) (output_view g.B.Bench c.args.bench.now)
     (output_view g.B.Bench c.args.bench.now))
     g.met.B.Bench.only_now c.args.shelf.now c.args.bench.now c.in-Err.fault c.of_rendering.result
@@ -48,14 +48,14 @@ returns-in-Err-open-clause-does g c =
     let list = c.args.list.now in
     let project = c.args.checked.now.project in
     let binding = c.args.checked.now.bound in
-    let values = values_of c.args.options.now in
+    let values = values_of c.args.choice.now.options in
     let sources = g.S.Shelf.stored c.args.shelf.now in
     let m = list_marking list values sources project binding in
     let due = opened_of (run_of list (range_of project values)) (g.B.Bench.stored c.args.bench.now) in
     let begun = IsLeftByRun m (g.B.Bench.may_leave c.args.bench.now) in
     unopened g.S.Shelf g.B.Bench (λ _. ⊤) (λ _ progress. progress.finished ≡ true) m
     (run_of list (range_of project values)) begun begun
-    (ResumesBound list values project binding due (source_view g.S.Shelf c.args.shelf.now)
+    (ResumesBound c.args.choice.now.jobs list values project binding due (source_view g.S.Shelf c.args.shelf.now)
     (source_view g.S.Shelf c.args.shelf.now) (output_view g.B.Bench c.args.bench.now)
     (output_view g.B.Bench c.open.new.bench))
     c.args.shelf.now c.args.bench.now c.open.new.bench c.in-Err-open.fault c.in-Err-open.ensures.untouched
@@ -66,33 +66,33 @@ returns-in-Ok-render_anew-clause-does g c =
     let list = c.args.list.now in
     let project = c.args.checked.now.project in
     let binding = c.args.checked.now.bound in
-    let values = values_of c.args.options.now in
+    let values = values_of c.args.choice.now.options in
     let sources = g.S.Shelf.stored c.args.shelf.now in
     let m = list_marking list values sources project binding in
     let due = opened_of (run_of list (range_of project values)) (g.B.Bench.stored c.args.bench.now) in
     let begun = IsLeftByRun m (g.B.Bench.may_leave c.args.bench.now) in
-    let was = marked_for list project binding values c.in-Ok.work c.in-Ok.ensures.planned c.in-Ok.ensures.run in
+    let was = marked_for c.args.choice.now.jobs list project binding values c.in-Ok.work c.in-Ok.ensures.planned c.in-Ok.ensures.run in
     let of = reopened list project binding values c.in-Ok.work c.open.new.self was c.in-Ok-open.ensures.planned
     c.in-Ok-open.ensures.sounds c.in-Ok-open.ensures.run in
     project_ok g.S.Shelf g.B.Bench list project binding values c.open.new.self of c.args.shelf.now c.render_anew.new.shelf
     c.args.bench.now c.render_anew.new.bench (λ _. ⊤) (λ _ progress. progress.finished ≡ true) begun begun begun begun
-    (ResumesBound list values project binding due (source_view g.S.Shelf c.args.shelf.now)
+    (ResumesBound c.args.choice.now.jobs list values project binding due (source_view g.S.Shelf c.args.shelf.now)
     (source_view g.S.Shelf c.render_anew.new.shelf) (output_view g.B.Bench c.args.bench.now)
     (output_view g.B.Bench c.render_anew.new.bench))
-    (ResumesBound list values project binding due (source_view g.S.Shelf c.args.shelf.now)
+    (ResumesBound c.args.choice.now.jobs list values project binding due (source_view g.S.Shelf c.args.shelf.now)
     (source_view g.S.Shelf c.render_anew.new.shelf) (output_view g.B.Bench c.args.bench.now)
     (output_view g.B.Bench c.render_anew.new.bench))
     _ _
-    (anew_after_open g.S.Shelf g.B.Bench list values project binding c.in-Ok.work c.open.new.self was
+    (anew_after_open g.S.Shelf g.B.Bench c.args.choice.now.jobs list values project binding c.in-Ok.work c.open.new.self was
     c.in-Ok-open.ensures.planned c.in-Ok-open.ensures.sounds c.in-Ok-open.ensures.run c.args.shelf.now
     c.render_anew.new.shelf c.args.bench.now c.open.new.bench c.render_anew.new.bench c.in-Ok-open.found c.in-Ok-open.ensures.untouched
     c.in-Ok-open.ensures.only_reads _ (λ right. c.in-Ok-open.ensures.unstarted right sources c.in-None.is)
     (λ right. subst (λ (r : RunId). opened_of r (g.B.Bench.stored c.args.bench.now) ≡ Ok None) was.run
     (subst (λ (f : Option ℕ). IsFoundAs (Ok f) (opened_of c.in-Ok.work.run (g.B.Bench.stored c.args.bench.now)))
     c.in-None.is (c.in-Ok-open.ensures.found right)))
-    (subst (λ (w : MarkedWork). IsRenderingOf project binding values w.work)
+    (subst (λ (w : MarkedWork). IsRenderingOf c.args.choice.now.jobs project binding values w.work)
     (sym (c.in-Ok-open.ensures.unchanged c.in-None.is)) c.in-Ok.ensures.planned)
-    c.in-Ok-render_anew.ensures.does)
+    c.in-Ok-open.ensures.jobs c.in-Ok-render_anew.ensures.does)
     (λ _. c.in-Ok-render_anew.ensures.finished) c.in-Ok-render_anew.ensures.finished (λ left. left) (λ left. left) (λ ended came. came)
 
 pub returns-in-Err-render_anew-clause-does : goal.returns-in-Err-render_anew-clause-does
@@ -100,33 +100,33 @@ returns-in-Err-render_anew-clause-does g c =
     let list = c.args.list.now in
     let project = c.args.checked.now.project in
     let binding = c.args.checked.now.bound in
-    let values = values_of c.args.options.now in
+    let values = values_of c.args.choice.now.options in
     let sources = g.S.Shelf.stored c.args.shelf.now in
     let m = list_marking list values sources project binding in
     let due = opened_of (run_of list (range_of project values)) (g.B.Bench.stored c.args.bench.now) in
     let begun = IsLeftByRun m (g.B.Bench.may_leave c.args.bench.now) in
-    let was = marked_for list project binding values c.in-Ok.work c.in-Ok.ensures.planned c.in-Ok.ensures.run in
+    let was = marked_for c.args.choice.now.jobs list project binding values c.in-Ok.work c.in-Ok.ensures.planned c.in-Ok.ensures.run in
     let of = reopened list project binding values c.in-Ok.work c.open.new.self was c.in-Ok-open.ensures.planned
     c.in-Ok-open.ensures.sounds c.in-Ok-open.ensures.run in
     project_err g.S.Shelf g.B.Bench list project binding values c.open.new.self of c.args.shelf.now c.render_anew.new.shelf
     c.args.bench.now c.render_anew.new.bench (λ _. ⊤) (λ _ progress. progress.finished ≡ true) begun begun begun begun
-    (ResumesBound list values project binding due (source_view g.S.Shelf c.args.shelf.now)
+    (ResumesBound c.args.choice.now.jobs list values project binding due (source_view g.S.Shelf c.args.shelf.now)
     (source_view g.S.Shelf c.render_anew.new.shelf) (output_view g.B.Bench c.args.bench.now)
     (output_view g.B.Bench c.render_anew.new.bench))
-    (ResumesBound list values project binding due (source_view g.S.Shelf c.args.shelf.now)
+    (ResumesBound c.args.choice.now.jobs list values project binding due (source_view g.S.Shelf c.args.shelf.now)
     (source_view g.S.Shelf c.render_anew.new.shelf) (output_view g.B.Bench c.args.bench.now)
     (output_view g.B.Bench c.render_anew.new.bench))
     _
-    (anew_after_open g.S.Shelf g.B.Bench list values project binding c.in-Ok.work c.open.new.self was
+    (anew_after_open g.S.Shelf g.B.Bench c.args.choice.now.jobs list values project binding c.in-Ok.work c.open.new.self was
     c.in-Ok-open.ensures.planned c.in-Ok-open.ensures.sounds c.in-Ok-open.ensures.run c.args.shelf.now
     c.render_anew.new.shelf c.args.bench.now c.open.new.bench c.render_anew.new.bench c.in-Ok-open.found c.in-Ok-open.ensures.untouched
     c.in-Ok-open.ensures.only_reads _ (λ right. c.in-Ok-open.ensures.unstarted right sources c.in-None.is)
     (λ right. subst (λ (r : RunId). opened_of r (g.B.Bench.stored c.args.bench.now) ≡ Ok None) was.run
     (subst (λ (f : Option ℕ). IsFoundAs (Ok f) (opened_of c.in-Ok.work.run (g.B.Bench.stored c.args.bench.now)))
     c.in-None.is (c.in-Ok-open.ensures.found right)))
-    (subst (λ (w : MarkedWork). IsRenderingOf project binding values w.work)
+    (subst (λ (w : MarkedWork). IsRenderingOf c.args.choice.now.jobs project binding values w.work)
     (sym (c.in-Ok-open.ensures.unchanged c.in-None.is)) c.in-Ok.ensures.planned)
-    c.in-Err-render_anew.ensures.does)
+    c.in-Ok-open.ensures.jobs c.in-Err-render_anew.ensures.does)
     (λ left. left) (λ left. left) (λ ended came. came)
 
 pub returns-in-Ok-render_anew-clause-reads_back : goal.returns-in-Ok-render_anew-clause-reads_back
@@ -137,24 +137,24 @@ returns-in-Ok-go_on_marked-clause-does g c =
     let list = c.args.list.now in
     let project = c.args.checked.now.project in
     let binding = c.args.checked.now.bound in
-    let values = values_of c.args.options.now in
+    let values = values_of c.args.choice.now.options in
     let sources = g.S.Shelf.stored c.args.shelf.now in
     let m = list_marking list values sources project binding in
     let due = opened_of (run_of list (range_of project values)) (g.B.Bench.stored c.args.bench.now) in
     let begun = IsLeftByRun m (g.B.Bench.may_leave c.args.bench.now) in
-    let was = marked_for list project binding values c.in-Ok.work c.in-Ok.ensures.planned c.in-Ok.ensures.run in
+    let was = marked_for c.args.choice.now.jobs list project binding values c.in-Ok.work c.in-Ok.ensures.planned c.in-Ok.ensures.run in
     let of = reopened list project binding values c.in-Ok.work c.open.new.self was c.in-Ok-open.ensures.planned
     c.in-Ok-open.ensures.sounds c.in-Ok-open.ensures.run in
     project_ok g.S.Shelf g.B.Bench list project binding values c.open.new.self of c.args.shelf.now c.go_on_marked.new.shelf
     c.args.bench.now c.go_on_marked.new.bench (λ _. ⊤) (λ _ progress. progress.finished ≡ true) begun begun begun begun
-    (ResumesBound list values project binding due (source_view g.S.Shelf c.args.shelf.now)
+    (ResumesBound c.args.choice.now.jobs list values project binding due (source_view g.S.Shelf c.args.shelf.now)
     (source_view g.S.Shelf c.go_on_marked.new.shelf) (output_view g.B.Bench c.args.bench.now)
     (output_view g.B.Bench c.go_on_marked.new.bench))
-    (ResumesBound list values project binding due (source_view g.S.Shelf c.args.shelf.now)
+    (ResumesBound c.args.choice.now.jobs list values project binding due (source_view g.S.Shelf c.args.shelf.now)
     (source_view g.S.Shelf c.go_on_marked.new.shelf) (output_view g.B.Bench c.args.bench.now)
     (output_view g.B.Bench c.go_on_marked.new.bench))
     _ _
-    (marked_after_open g.S.Shelf g.B.Bench list values project binding c.in-Ok.work c.open.new.self was
+    (marked_after_open g.S.Shelf g.B.Bench c.args.choice.now.jobs list values project binding c.in-Ok.work c.open.new.self was
     c.in-Ok-open.ensures.planned c.in-Ok-open.ensures.sounds c.in-Ok-open.ensures.run c.args.shelf.now
     c.go_on_marked.new.shelf c.args.bench.now c.open.new.bench c.go_on_marked.new.bench c.in-Ok-open.found
     c.in-Ok-open.ensures.untouched c.in-Ok-open.ensures.only_reads _
@@ -167,11 +167,11 @@ returns-in-Ok-go_on_marked-clause-does g c =
           (c.in-Ok-open.ensures.filled right sources left done agrees),
     ))
     (λ right. subst (λ (r : RunId). (marked : List Bool)
-    × (opened_of r (g.B.Bench.stored c.args.bench.now) ≡ Ok (Some marked)) × AreCutBy marked c.open.new.self.work) was.run
+    × (opened_of r (g.B.Bench.stored c.args.bench.now) ≡ Ok (Some marked)) × AreCutBy c.args.choice.now.jobs marked c.open.new.self.work) was.run
     (subst (λ (f : Option ℕ). IfSome f (λ _. (marked : List Bool)
     × (opened_of c.in-Ok.work.run (g.B.Bench.stored c.args.bench.now) ≡ Ok (Some marked))
-    × AreCutBy marked c.open.new.self.work)) c.in-Some.is (c.in-Ok-open.ensures.cut right)))
-    c.in-Ok-go_on_marked.ensures.does)
+    × AreCutBy c.args.choice.now.jobs marked c.open.new.self.work)) c.in-Some.is (c.in-Ok-open.ensures.cut right)))
+    c.in-Ok-open.ensures.jobs c.in-Ok-go_on_marked.ensures.does)
     (λ _. c.in-Ok-go_on_marked.ensures.finished) c.in-Ok-go_on_marked.ensures.finished (λ left. left) (λ left. left) (λ ended came. came)
 
 pub returns-in-Err-go_on_marked-clause-does : goal.returns-in-Err-go_on_marked-clause-does
@@ -179,24 +179,24 @@ returns-in-Err-go_on_marked-clause-does g c =
     let list = c.args.list.now in
     let project = c.args.checked.now.project in
     let binding = c.args.checked.now.bound in
-    let values = values_of c.args.options.now in
+    let values = values_of c.args.choice.now.options in
     let sources = g.S.Shelf.stored c.args.shelf.now in
     let m = list_marking list values sources project binding in
     let due = opened_of (run_of list (range_of project values)) (g.B.Bench.stored c.args.bench.now) in
     let begun = IsLeftByRun m (g.B.Bench.may_leave c.args.bench.now) in
-    let was = marked_for list project binding values c.in-Ok.work c.in-Ok.ensures.planned c.in-Ok.ensures.run in
+    let was = marked_for c.args.choice.now.jobs list project binding values c.in-Ok.work c.in-Ok.ensures.planned c.in-Ok.ensures.run in
     let of = reopened list project binding values c.in-Ok.work c.open.new.self was c.in-Ok-open.ensures.planned
     c.in-Ok-open.ensures.sounds c.in-Ok-open.ensures.run in
     project_err g.S.Shelf g.B.Bench list project binding values c.open.new.self of c.args.shelf.now c.go_on_marked.new.shelf
     c.args.bench.now c.go_on_marked.new.bench (λ _. ⊤) (λ _ progress. progress.finished ≡ true) begun begun begun begun
-    (ResumesBound list values project binding due (source_view g.S.Shelf c.args.shelf.now)
+    (ResumesBound c.args.choice.now.jobs list values project binding due (source_view g.S.Shelf c.args.shelf.now)
     (source_view g.S.Shelf c.go_on_marked.new.shelf) (output_view g.B.Bench c.args.bench.now)
     (output_view g.B.Bench c.go_on_marked.new.bench))
-    (ResumesBound list values project binding due (source_view g.S.Shelf c.args.shelf.now)
+    (ResumesBound c.args.choice.now.jobs list values project binding due (source_view g.S.Shelf c.args.shelf.now)
     (source_view g.S.Shelf c.go_on_marked.new.shelf) (output_view g.B.Bench c.args.bench.now)
     (output_view g.B.Bench c.go_on_marked.new.bench))
     _
-    (marked_after_open g.S.Shelf g.B.Bench list values project binding c.in-Ok.work c.open.new.self was
+    (marked_after_open g.S.Shelf g.B.Bench c.args.choice.now.jobs list values project binding c.in-Ok.work c.open.new.self was
     c.in-Ok-open.ensures.planned c.in-Ok-open.ensures.sounds c.in-Ok-open.ensures.run c.args.shelf.now
     c.go_on_marked.new.shelf c.args.bench.now c.open.new.bench c.go_on_marked.new.bench c.in-Ok-open.found
     c.in-Ok-open.ensures.untouched c.in-Ok-open.ensures.only_reads _
@@ -209,11 +209,11 @@ returns-in-Err-go_on_marked-clause-does g c =
           (c.in-Ok-open.ensures.filled right sources left done agrees),
     ))
     (λ right. subst (λ (r : RunId). (marked : List Bool)
-    × (opened_of r (g.B.Bench.stored c.args.bench.now) ≡ Ok (Some marked)) × AreCutBy marked c.open.new.self.work) was.run
+    × (opened_of r (g.B.Bench.stored c.args.bench.now) ≡ Ok (Some marked)) × AreCutBy c.args.choice.now.jobs marked c.open.new.self.work) was.run
     (subst (λ (f : Option ℕ). IfSome f (λ _. (marked : List Bool)
     × (opened_of c.in-Ok.work.run (g.B.Bench.stored c.args.bench.now) ≡ Ok (Some marked))
-    × AreCutBy marked c.open.new.self.work)) c.in-Some.is (c.in-Ok-open.ensures.cut right)))
-    c.in-Err-go_on_marked.ensures.does)
+    × AreCutBy c.args.choice.now.jobs marked c.open.new.self.work)) c.in-Some.is (c.in-Ok-open.ensures.cut right)))
+    c.in-Ok-open.ensures.jobs c.in-Err-go_on_marked.ensures.does)
     (λ left. left) (λ left. left) (λ ended came. came)
 
 pub returns-in-Ok-go_on_marked-clause-reads_back : goal.returns-in-Ok-go_on_marked-clause-reads_back
@@ -224,7 +224,7 @@ returns-in-Err-clause-keeps g c honest right left told there started =
     let list = c.args.list.now in
     let project = c.args.checked.now.project in
     let binding = c.args.checked.now.bound in
-    let values = values_of c.args.options.now in
+    let values = values_of c.args.choice.now.options in
     let sources = g.S.Shelf.stored c.args.shelf.now in
     let m = list_marking list values sources project binding in
     let held = left_holds m (g.B.Bench.may_leave c.args.bench.now) (g.B.Bench.stored c.args.bench.now) told left
@@ -237,7 +237,7 @@ returns-in-Err-open-clause-keeps g c honest right left told there started =
     let list = c.args.list.now in
     let project = c.args.checked.now.project in
     let binding = c.args.checked.now.bound in
-    let values = values_of c.args.options.now in
+    let values = values_of c.args.choice.now.options in
     let sources = g.S.Shelf.stored c.args.shelf.now in
     let m = list_marking list values sources project binding in
     let held = left_holds m (g.B.Bench.may_leave c.args.bench.now) (g.B.Bench.stored c.args.bench.now) told left
@@ -251,10 +251,10 @@ returns-in-Ok-render_anew-clause-keeps g c honest right left told there started 
     let list = c.args.list.now in
     let project = c.args.checked.now.project in
     let binding = c.args.checked.now.bound in
-    let values = values_of c.args.options.now in
+    let values = values_of c.args.choice.now.options in
     let sources = g.S.Shelf.stored c.args.shelf.now in
     let m = list_marking list values sources project binding in
-    let was = marked_for list project binding values c.in-Ok.work c.in-Ok.ensures.planned c.in-Ok.ensures.run in
+    let was = marked_for c.args.choice.now.jobs list project binding values c.in-Ok.work c.in-Ok.ensures.planned c.in-Ok.ensures.run in
     let of = reopened list project binding values c.in-Ok.work c.open.new.self was c.in-Ok-open.ensures.planned
     c.in-Ok-open.ensures.sounds c.in-Ok-open.ensures.run in
     let now = subst IsTrue (sym c.in-Ok-open.ensures.only_reads.honest_same) right in
@@ -269,10 +269,10 @@ returns-in-Err-render_anew-clause-keeps g c honest right left told there started
     let list = c.args.list.now in
     let project = c.args.checked.now.project in
     let binding = c.args.checked.now.bound in
-    let values = values_of c.args.options.now in
+    let values = values_of c.args.choice.now.options in
     let sources = g.S.Shelf.stored c.args.shelf.now in
     let m = list_marking list values sources project binding in
-    let was = marked_for list project binding values c.in-Ok.work c.in-Ok.ensures.planned c.in-Ok.ensures.run in
+    let was = marked_for c.args.choice.now.jobs list project binding values c.in-Ok.work c.in-Ok.ensures.planned c.in-Ok.ensures.run in
     let of = reopened list project binding values c.in-Ok.work c.open.new.self was c.in-Ok-open.ensures.planned
     c.in-Ok-open.ensures.sounds c.in-Ok-open.ensures.run in
     let now = subst IsTrue (sym c.in-Ok-open.ensures.only_reads.honest_same) right in
@@ -287,12 +287,12 @@ returns-in-Ok-go_on_marked-clause-keeps g c honest right left told there started
     let list = c.args.list.now in
     let project = c.args.checked.now.project in
     let binding = c.args.checked.now.bound in
-    let values = values_of c.args.options.now in
+    let values = values_of c.args.choice.now.options in
     let sources = g.S.Shelf.stored c.args.shelf.now in
     let m = list_marking list values sources project binding in
     let held = left_holds m (g.B.Bench.may_leave c.args.bench.now) (g.B.Bench.stored c.args.bench.now) told left
     (g.met.B.Bench.reads_now c.args.bench.now right) there started in
-    let was = marked_for list project binding values c.in-Ok.work c.in-Ok.ensures.planned c.in-Ok.ensures.run in
+    let was = marked_for c.args.choice.now.jobs list project binding values c.in-Ok.work c.in-Ok.ensures.planned c.in-Ok.ensures.run in
     let of = reopened list project binding values c.in-Ok.work c.open.new.self was c.in-Ok-open.ensures.planned
     c.in-Ok-open.ensures.sounds c.in-Ok-open.ensures.run in
     let was_left = run_leaves (marks_of c.in-Ok.work sources) (g.B.Bench.may_leave c.args.bench.now)
@@ -320,12 +320,12 @@ returns-in-Err-go_on_marked-clause-keeps g c honest right left told there starte
     let list = c.args.list.now in
     let project = c.args.checked.now.project in
     let binding = c.args.checked.now.bound in
-    let values = values_of c.args.options.now in
+    let values = values_of c.args.choice.now.options in
     let sources = g.S.Shelf.stored c.args.shelf.now in
     let m = list_marking list values sources project binding in
     let held = left_holds m (g.B.Bench.may_leave c.args.bench.now) (g.B.Bench.stored c.args.bench.now) told left
     (g.met.B.Bench.reads_now c.args.bench.now right) there started in
-    let was = marked_for list project binding values c.in-Ok.work c.in-Ok.ensures.planned c.in-Ok.ensures.run in
+    let was = marked_for c.args.choice.now.jobs list project binding values c.in-Ok.work c.in-Ok.ensures.planned c.in-Ok.ensures.run in
     let of = reopened list project binding values c.in-Ok.work c.open.new.self was c.in-Ok-open.ensures.planned
     c.in-Ok-open.ensures.sounds c.in-Ok-open.ensures.run in
     let was_left = run_leaves (marks_of c.in-Ok.work sources) (g.B.Bench.may_leave c.args.bench.now)
@@ -353,10 +353,10 @@ returns-in-Ok-render_anew-clause-marked g c right =
     let list = c.args.list.now in
     let project = c.args.checked.now.project in
     let binding = c.args.checked.now.bound in
-    let values = values_of c.args.options.now in
+    let values = values_of c.args.choice.now.options in
     let sources = g.S.Shelf.stored c.args.shelf.now in
     let m = list_marking list values sources project binding in
-    let was = marked_for list project binding values c.in-Ok.work c.in-Ok.ensures.planned c.in-Ok.ensures.run in
+    let was = marked_for c.args.choice.now.jobs list project binding values c.in-Ok.work c.in-Ok.ensures.planned c.in-Ok.ensures.run in
     none_counted (opened_of (run_of list (range_of project values)) (g.B.Bench.stored c.args.bench.now))
     (subst (λ (r : RunId). IsFoundAs (Ok None) (opened_of r (g.B.Bench.stored c.args.bench.now))) was.run
     (subst (λ (f : Option ℕ). IsFoundAs (Ok f) (opened_of c.in-Ok.work.run (g.B.Bench.stored c.args.bench.now)))
@@ -368,10 +368,10 @@ returns-in-Ok-go_on_marked-clause-marked g c right =
     let list = c.args.list.now in
     let project = c.args.checked.now.project in
     let binding = c.args.checked.now.bound in
-    let values = values_of c.args.options.now in
+    let values = values_of c.args.choice.now.options in
     let sources = g.S.Shelf.stored c.args.shelf.now in
     let m = list_marking list values sources project binding in
-    let was = marked_for list project binding values c.in-Ok.work c.in-Ok.ensures.planned c.in-Ok.ensures.run in
+    let was = marked_for c.args.choice.now.jobs list project binding values c.in-Ok.work c.in-Ok.ensures.planned c.in-Ok.ensures.run in
     some_counted c.in-Some.marked (opened_of (run_of list (range_of project values)) (g.B.Bench.stored
     c.args.bench.now))
     (subst (λ (r : RunId). IsFoundAs (Ok (Some c.in-Some.marked)) (opened_of r (g.B.Bench.stored c.args.bench.now)))
@@ -385,7 +385,7 @@ returns-in-Err-clause-refusals g c right =
     let list = c.args.list.now in
     let project = c.args.checked.now.project in
     let binding = c.args.checked.now.bound in
-    let values = values_of c.args.options.now in
+    let values = values_of c.args.choice.now.options in
     let sources = g.S.Shelf.stored c.args.shelf.now in
     let m = list_marking list values sources project binding in
     plan_due_as _ _ (render_fault project values) (opened_of (run_of list (range_of project values))
@@ -396,10 +396,10 @@ returns-in-Err-open-clause-refusals g c right =
     let list = c.args.list.now in
     let project = c.args.checked.now.project in
     let binding = c.args.checked.now.bound in
-    let values = values_of c.args.options.now in
+    let values = values_of c.args.choice.now.options in
     let sources = g.S.Shelf.stored c.args.shelf.now in
     let m = list_marking list values sources project binding in
-    let was = marked_for list project binding values c.in-Ok.work c.in-Ok.ensures.planned c.in-Ok.ensures.run in
+    let was = marked_for c.args.choice.now.jobs list project binding values c.in-Ok.work c.in-Ok.ensures.planned c.in-Ok.ensures.run in
     subst (λ (d : Option Refusal). IsDue (refusal_of_marks c.in-Err-open.fault)
     (first_fault d (fault_in (opened_of (run_of list (range_of project values)) (g.B.Bench.stored
     c.args.bench.now))))) (sym c.in-Ok.ensures.refusals)
@@ -412,10 +412,10 @@ returns-in-Err-render_anew-clause-refusals g c right =
     let list = c.args.list.now in
     let project = c.args.checked.now.project in
     let binding = c.args.checked.now.bound in
-    let values = values_of c.args.options.now in
+    let values = values_of c.args.choice.now.options in
     let sources = g.S.Shelf.stored c.args.shelf.now in
     let m = list_marking list values sources project binding in
-    let was = marked_for list project binding values c.in-Ok.work c.in-Ok.ensures.planned c.in-Ok.ensures.run in
+    let was = marked_for c.args.choice.now.jobs list project binding values c.in-Ok.work c.in-Ok.ensures.planned c.in-Ok.ensures.run in
     subst (λ (d : Option Refusal). IsDue (refusal_of c.in-Err-render_anew.fault)
     (first_fault d (fault_in (opened_of (run_of list (range_of project values)) (g.B.Bench.stored
     c.args.bench.now))))) (sym c.in-Ok.ensures.refusals)
@@ -432,10 +432,10 @@ returns-in-Err-go_on_marked-clause-refusals g c right =
     let list = c.args.list.now in
     let project = c.args.checked.now.project in
     let binding = c.args.checked.now.bound in
-    let values = values_of c.args.options.now in
+    let values = values_of c.args.choice.now.options in
     let sources = g.S.Shelf.stored c.args.shelf.now in
     let m = list_marking list values sources project binding in
-    let was = marked_for list project binding values c.in-Ok.work c.in-Ok.ensures.planned c.in-Ok.ensures.run in
+    let was = marked_for c.args.choice.now.jobs list project binding values c.in-Ok.work c.in-Ok.ensures.planned c.in-Ok.ensures.run in
     subst (λ (d : Option Refusal). IsDue (refusal_of c.in-Err-go_on_marked.fault)
     (first_fault d (fault_in (opened_of (run_of list (range_of project values)) (g.B.Bench.stored
     c.args.bench.now))))) (sym c.in-Ok.ensures.refusals)
@@ -453,10 +453,10 @@ returns-in-Ok-render_anew-clause-refusals g c right =
     let list = c.args.list.now in
     let project = c.args.checked.now.project in
     let binding = c.args.checked.now.bound in
-    let values = values_of c.args.options.now in
+    let values = values_of c.args.choice.now.options in
     let sources = g.S.Shelf.stored c.args.shelf.now in
     let m = list_marking list values sources project binding in
-    let was = marked_for list project binding values c.in-Ok.work c.in-Ok.ensures.planned c.in-Ok.ensures.run in
+    let was = marked_for c.args.choice.now.jobs list project binding values c.in-Ok.work c.in-Ok.ensures.planned c.in-Ok.ensures.run in
     ap (λ (d : Option Refusal). first_fault d (fault_in (opened_of (run_of list (range_of project values))
     (g.B.Bench.stored c.args.bench.now)))) c.in-Ok.ensures.refusals
     ∙ found_due None (opened_of (run_of list (range_of project values)) (g.B.Bench.stored c.args.bench.now)) (subst
@@ -470,10 +470,10 @@ returns-in-Ok-go_on_marked-clause-refusals g c right =
     let list = c.args.list.now in
     let project = c.args.checked.now.project in
     let binding = c.args.checked.now.bound in
-    let values = values_of c.args.options.now in
+    let values = values_of c.args.choice.now.options in
     let sources = g.S.Shelf.stored c.args.shelf.now in
     let m = list_marking list values sources project binding in
-    let was = marked_for list project binding values c.in-Ok.work c.in-Ok.ensures.planned c.in-Ok.ensures.run in
+    let was = marked_for c.args.choice.now.jobs list project binding values c.in-Ok.work c.in-Ok.ensures.planned c.in-Ok.ensures.run in
     ap (λ (d : Option Refusal). first_fault d (fault_in (opened_of (run_of list (range_of project values))
     (g.B.Bench.stored c.args.bench.now)))) c.in-Ok.ensures.refusals
     ∙ found_due (Some c.in-Some.marked) (opened_of (run_of list (range_of project values)) (g.B.Bench.stored

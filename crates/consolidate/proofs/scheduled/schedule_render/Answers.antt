@@ -25,13 +25,13 @@ returns-in_err-checked g c =
       durable = search rules;
       marked = search rules;
       any_moment = λ honest right none. idle g.B.Bench.moment g.B.Bench.left_since c.args.bench.now
-          (IsLeftOf c.args.list.now (values_of c.args.options.now) (g.S.Shelf.stored c.args.shelf.now))
-          (λ x left. unstarted_left c.args.list.now (values_of c.args.options.now) (g.S.Shelf.stored
+          (IsLeftOf c.args.list.now (values_of c.args.choice.now.options) (g.S.Shelf.stored c.args.shelf.now))
+          (λ x left. unstarted_left c.args.list.now (values_of c.args.choice.now.options) (g.S.Shelf.stored
           c.args.shelf.now) x
           (none x (g.met.B.Bench.only_now c.args.bench.now x left)));
-      left = λ honest right none. unstarted_outcomes c.args.list.now (values_of c.args.options.now)
+      left = λ honest right none. unstarted_outcomes c.args.list.now (values_of c.args.choice.now.options)
           (g.S.Shelf.stored c.args.shelf.now) (g.B.Bench.may_leave c.args.bench.now) none;
-      refusals = λ honest. opening_due (refusal_of fault) c.args.list.now (values_of c.args.options.now)
+      refusals = λ honest. opening_due (refusal_of fault) c.args.list.now (values_of c.args.choice.now.options)
           (g.S.Shelf.stored c.args.shelf.now) told.turn (told.refusals honest);
       bad_text = told.bad_text;
       own = search rules;
@@ -47,7 +47,7 @@ returns-in-Err g c =
     let opened = c.in_ok-checked.ensures in
     let told = c.in-Err.ensures in
     let checked = c.in_ok-checked.field-0.checked in
-    let values = values_of c.args.options.now in
+    let values = values_of c.args.choice.now.options in
     record {
       outcome = λ honest right begun.
           let out = told.does.outcome (subst IsTrue (sym opened.only_reads.honest_same) honest) right tt begun in (
@@ -57,7 +57,7 @@ returns-in-Err g c =
               project = checked.project;
               binding = checked.bound;
               accepted = opened.accepted honest;
-              came = renders_opened c.args.list.now values checked.project checked.bound g.S.Shelf g.B.Bench
+              came = renders_opened c.args.choice.now.jobs c.args.list.now values checked.project checked.bound g.S.Shelf g.B.Bench
                   c.args.shelf.now c.open.new.shelf c.schedule_checked.new.shelf c.args.bench.now
                   c.schedule_checked.new.bench opened.only_reads.same (opened.only_reads.cause.left tt) out.0
                   (λ _. c.args.events.now) out.2;
@@ -90,7 +90,7 @@ returns-in-Ok g c =
     let opened = c.in_ok-checked.ensures in
     let told = c.in-Ok.ensures in
     let checked = c.in_ok-checked.field-0.checked in
-    let values = values_of c.args.options.now in
+    let values = values_of c.args.choice.now.options in
     record {
       outcome = λ honest right begun.
           let out = told.does.outcome (subst IsTrue (sym opened.only_reads.honest_same) honest) right tt tt in (
@@ -100,7 +100,7 @@ returns-in-Ok g c =
               project = checked.project;
               binding = checked.bound;
               accepted = opened.accepted honest;
-              came = renders_opened c.args.list.now values checked.project checked.bound g.S.Shelf g.B.Bench
+              came = renders_opened c.args.choice.now.jobs c.args.list.now values checked.project checked.bound g.S.Shelf g.B.Bench
                   c.args.shelf.now c.open.new.shelf c.schedule_checked.new.shelf c.args.bench.now
                   c.schedule_checked.new.bench opened.only_reads.same (opened.only_reads.cause.left tt) out.0
                   (λ _. c.args.events.now) out.2;

@@ -100,10 +100,10 @@ returns-in-Ok-cut_by-clause-cut g c honest =
     subst (λ (f : Option Marks). Answers (Ok f) (opened_of c.self.inside.run files)) c.in-Some.is
     (c.in-Ok.ensures.found honest) in
     subst (λ (x : MarkedWork). (marked : List Bool) × (opened_of x.run files ≡ Ok (Some marked))
-    × AreCutBy marked c.cut_by.new.self) c.self.view_is (
+    × AreCutBy c.args.jobs marked c.cut_by.new.self) c.self.view_is (
       c.in-Some.marks.marked.items,
       found,
-      subst (λ (x : List Bool). AreCutBy x c.cut_by.new.self) c.as_slice.ensures.value cut.cut,
+      subst (λ (x : List Bool). AreCutBy c.args.jobs x c.cut_by.new.self) c.as_slice.ensures.value cut.cut,
     )
 
 pub returns-in-Err-cut_by-clause-found : goal.returns-in-Err-cut_by-clause-found

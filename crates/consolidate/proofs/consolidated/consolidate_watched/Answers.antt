@@ -17,7 +17,7 @@ use Rattle.consolidate.specs.declared.consolidated.Written.{Written}
 use Rattle.consolidate.proofs.First.{consolidated_first}
 use Rattle.consolidate.proofs.MediaCalls.{answers_err, answers_ok, listed_media, turned_early}
 use Rattle.consolidate.proofs.Stores.{answered_as, opened_before, refused_as, stopped_early}
-use Rattle.consolidate.proofs.consolidated.consolidate.Goals as goal
+use Rattle.consolidate.proofs.consolidated.consolidate_watched.Goals as goal
 
 pub returns-in_err-checked-clause-consolidated : goal.returns-in_err-checked-clause-consolidated
 returns-in_err-checked-clause-consolidated g c =

@@ -15,7 +15,7 @@ use Rattle.consolidate.proofs.Listed.{held_list, left_list, left_opened, moments
 use Rattle.consolidate.proofs.RenderProjects.{resumes_opened}
 use Rattle.consolidate.proofs.Resumes.{left_holds, opening_due_of_resuming, resuming_due}
 use Rattle.consolidate.proofs.Stores.{answered_as, late_not_early, opened_before, refused_as, stopped_early}
-use Rattle.consolidate.proofs.resumed.resume.Goals as goal
+use Rattle.consolidate.proofs.resumed.resume_watched.Goals as goal
 
 pub returns-in_err-checked : goal.returns-in_err-checked
 returns-in_err-checked g c =
@@ -28,14 +28,14 @@ returns-in_err-checked g c =
       marked = λ right project is. tt;
       all_marked = λ honest right left. tt;
       any_moment = λ honest right left. idle g.B.Bench.moment g.B.Bench.left_since c.args.bench.now
-          (IsLeftOf c.args.list.now (values_of c.args.options.now) (g.S.Shelf.stored c.args.shelf.now))
-          (λ x at. now_left c.args.list.now (values_of c.args.options.now) (g.S.Shelf.stored c.args.shelf.now)
+          (IsLeftOf c.args.list.now (values_of c.args.choice.now.options) (g.S.Shelf.stored c.args.shelf.now))
+          (λ x at. now_left c.args.list.now (values_of c.args.choice.now.options) (g.S.Shelf.stored c.args.shelf.now)
           (g.B.Bench.may_leave c.args.bench.now) left x (g.met.B.Bench.only_now c.args.bench.now x at));
       left = λ honest right left. left;
       keeps_marked = λ honest right left marks there started. idle g.B.Bench.moment g.B.Bench.left_since
           c.args.bench.now
-          (HoldsMarked c.args.list.now (values_of c.args.options.now) (g.S.Shelf.stored c.args.shelf.now) marks)
-          (λ x at p b accepted. left_holds (list_marking c.args.list.now (values_of c.args.options.now)
+          (HoldsMarked c.args.list.now (values_of c.args.choice.now.options) (g.S.Shelf.stored c.args.shelf.now) marks)
+          (λ x at p b accepted. left_holds (list_marking c.args.list.now (values_of c.args.choice.now.options)
           (g.S.Shelf.stored c.args.shelf.now) p b) (g.B.Bench.may_leave c.args.bench.now)
           (g.B.Bench.stored c.args.bench.now) marks (left p b accepted)
           (g.met.B.Bench.reads_now c.args.bench.now right) there started x
@@ -43,7 +43,7 @@ returns-in_err-checked g c =
       outcome = λ honest right left begun. absurd (late_not_early (sym begun ∙ told.early));
       report = λ project is. tt;
       refusals = λ honest right. opening_due_of_resuming (refusal_of fault) c.args.list.now
-          (values_of c.args.options.now) (g.S.Shelf.stored c.args.shelf.now) (g.B.Bench.stored c.args.bench.now)
+          (values_of c.args.choice.now.options) (g.S.Shelf.stored c.args.shelf.now) (g.B.Bench.stored c.args.bench.now)
           told.turn (told.refusals honest);
       bad_text = told.bad_text;
       own = search rules;
@@ -60,7 +60,7 @@ returns-in_err-found g c =
     let opened = c.in_ok-checked.ensures in
     let told = c.in_err-found.ensures in
     let checked = c.in_ok-checked.field-0.checked in
-    let values = values_of c.args.options.now in
+    let values = values_of c.args.choice.now.options in
     rw (p.1, p.2) (record {
       rendered = λ honest right left. tt;
       durable = λ right. tt;
@@ -101,7 +101,7 @@ returns-in_err-found g c =
               project = checked.project;
               binding = checked.bound;
               accepted = opened.accepted honest;
-              came = resumes_opened c.args.list.now values checked.project checked.bound g.S.Shelf g.B.Bench
+              came = resumes_opened c.args.choice.now.jobs c.args.list.now values checked.project checked.bound g.S.Shelf g.B.Bench
                   c.args.shelf.now c.open.new.shelf c.resume_checked.new.shelf c.args.bench.now
                   c.resume_checked.new.bench opened.only_reads.same (opened.only_reads.cause.left tt) out.0
                   (opened_of (run_of c.args.list.now (range_of checked.project values))
@@ -127,7 +127,7 @@ returns g c =
     let opened = c.in_ok-checked.ensures in
     let told = c.in_ok-found.ensures in
     let checked = c.in_ok-checked.field-0.checked in
-    let values = values_of c.args.options.now in
+    let values = values_of c.args.choice.now.options in
     record {
       rendered = λ honest right left. record {
         project = checked.project;
@@ -188,7 +188,7 @@ returns g c =
               project = checked.project;
               binding = checked.bound;
               accepted = opened.accepted honest;
-              came = resumes_opened c.args.list.now values checked.project checked.bound g.S.Shelf g.B.Bench
+              came = resumes_opened c.args.choice.now.jobs c.args.list.now values checked.project checked.bound g.S.Shelf g.B.Bench
                   c.args.shelf.now c.open.new.shelf c.resume_checked.new.shelf c.args.bench.now
                   c.resume_checked.new.bench opened.only_reads.same (opened.only_reads.cause.left tt) out.0
                   (opened_of (run_of c.args.list.now (range_of checked.project values))

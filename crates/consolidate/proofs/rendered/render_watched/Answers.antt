@@ -15,7 +15,7 @@ use Rattle.rendering.specs.Marked.{full_marks, run_of}
 use Rattle.consolidate.specs.Marks.{IsLeftOf}
 use Rattle.consolidate.proofs.Crashes.{idle}
 use Rattle.consolidate.proofs.Listed.{left_list, moments_list, rendered_file, same_spelt, unstarted_left, unstarted_outcomes}
-use Rattle.consolidate.proofs.rendered.render.Goals as goal
+use Rattle.consolidate.proofs.rendered.render_watched.Goals as goal
 
 pub returns-in_err-checked : goal.returns-in_err-checked
 returns-in_err-checked g c =
@@ -27,14 +27,14 @@ returns-in_err-checked g c =
       durable = search rules;
       marked = search rules;
       any_moment = λ honest right none. idle g.B.Bench.moment g.B.Bench.left_since c.args.bench.now
-          (IsLeftOf c.args.list.now (values_of c.args.options.now) (g.S.Shelf.stored c.args.shelf.now))
-          (λ x left. unstarted_left c.args.list.now (values_of c.args.options.now) (g.S.Shelf.stored
+          (IsLeftOf c.args.list.now (values_of c.args.choice.now.options) (g.S.Shelf.stored c.args.shelf.now))
+          (λ x left. unstarted_left c.args.list.now (values_of c.args.choice.now.options) (g.S.Shelf.stored
           c.args.shelf.now) x
           (none x (g.met.B.Bench.only_now c.args.bench.now x left)));
-      left = λ honest right none. unstarted_outcomes c.args.list.now (values_of c.args.options.now)
+      left = λ honest right none. unstarted_outcomes c.args.list.now (values_of c.args.choice.now.options)
           (g.S.Shelf.stored c.args.shelf.now) (g.B.Bench.may_leave c.args.bench.now) none;
       report = tt;
-      refusals = λ honest. opening_due (refusal_of fault) c.args.list.now (values_of c.args.options.now)
+      refusals = λ honest. opening_due (refusal_of fault) c.args.list.now (values_of c.args.choice.now.options)
           (g.S.Shelf.stored c.args.shelf.now) told.turn (told.refusals honest);
       bad_text = told.bad_text;
       own = search rules;
@@ -52,7 +52,7 @@ returns-in_err-rendered g c =
     let opened = c.in_ok-checked.ensures in
     let told = c.in_err-rendered.ensures in
     let checked = c.in_ok-checked.field-0.checked in
-    let values = values_of c.args.options.now in
+    let values = values_of c.args.choice.now.options in
     rw (p.1, p.2) (record {
       rendered = search rules;
       durable = search rules;
@@ -81,7 +81,7 @@ returns-in_err-rendered g c =
               project = checked.project;
               binding = checked.bound;
               accepted = opened.accepted honest;
-              came = renders_opened c.args.list.now values checked.project checked.bound g.S.Shelf g.B.Bench
+              came = renders_opened c.args.choice.now.jobs c.args.list.now values checked.project checked.bound g.S.Shelf g.B.Bench
                   c.args.shelf.now c.open.new.shelf c.render_checked.new.shelf c.args.bench.now
                   c.render_checked.new.bench opened.only_reads.same (opened.only_reads.cause.left tt) out.0 in_rounds
                   out.2;
@@ -98,7 +98,7 @@ returns g c =
     let opened = c.in_ok-checked.ensures in
     let told = c.in_ok-rendered.ensures in
     let checked = c.in_ok-checked.field-0.checked in
-    let values = values_of c.args.options.now in
+    let values = values_of c.args.choice.now.options in
     record {
       rendered = λ honest right. record {
         project = checked.project;
@@ -136,7 +136,7 @@ returns g c =
               project = checked.project;
               binding = checked.bound;
               accepted = opened.accepted honest;
-              came = renders_opened c.args.list.now values checked.project checked.bound g.S.Shelf g.B.Bench
+              came = renders_opened c.args.choice.now.jobs c.args.list.now values checked.project checked.bound g.S.Shelf g.B.Bench
                   c.args.shelf.now c.open.new.shelf c.render_checked.new.shelf c.args.bench.now
                   c.render_checked.new.bench opened.only_reads.same (opened.only_reads.cause.left tt) out.0 in_rounds
                   out.2;
