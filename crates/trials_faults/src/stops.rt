@@ -202,29 +202,37 @@ impl Runs {
     }
 }
 
-/// Stops the rendering of three blocks at each call, and what goes on with it at each call again, with each of these left.
-fn sweep(rt: &impl Abort, alloc: Global, by: Call, lefts: &[Left]) -> Result<(), Fail> {
-    let mut runs = Runs::new(Job::new(alloc, by)?, 1)?;
-    let calls = runs.stop_each(rt, by, lefts)?;
-    // the files are made, and each block is written, synced, marked and synced
-    assert!(rt; calls > 20, "{calls}");
-    assert!(rt; runs.ended > 100, "{}", runs.ended);
-    Ok(())
-}
-
 const BY_EVENTS: Call = Call::Schedule {
     is_rendering: true,
     rounds: 5,
 };
 
-#[test]
-fn crashes_of_a_rendering(rt: HostRuntime) -> Result<(), Fail> {
-    sweep(&rt, rt.alloc(), Call::Render, &LEFT)
+/// Stops the rendering of three blocks, by rounds and by events, at each call, and what goes on with it at each call
+/// again, with each of these left.
+fn sweep(rt: &impl Abort, alloc: Global, lefts: &[Left]) -> Result<(), Fail> {
+    for by in [Call::Render, BY_EVENTS] {
+        let mut runs = Runs::new(Job::new(alloc, by)?, 1)?;
+        let calls = runs.stop_each(rt, by, lefts)?;
+        // the files are made, and each block is written, synced, marked and synced
+        assert!(rt; calls > 20, "{calls}");
+        assert!(rt; runs.ended > 100, "{}", runs.ended);
+    }
+    Ok(())
 }
 
 #[test]
-fn crashes_of_a_rendering_by_events(rt: HostRuntime) -> Result<(), Fail> {
-    sweep(&rt, rt.alloc(), BY_EVENTS, &LEFT)
+fn crashes_that_keep_nothing(rt: HostRuntime) -> Result<(), Fail> {
+    sweep(&rt, rt.alloc(), &LEFT[..3])
+}
+
+#[test]
+fn crashes_that_keep_a_byte(rt: HostRuntime) -> Result<(), Fail> {
+    sweep(&rt, rt.alloc(), &LEFT[3..6])
+}
+
+#[test]
+fn crashes_that_keep_all(rt: HostRuntime) -> Result<(), Fail> {
+    sweep(&rt, rt.alloc(), &LEFT[6..])
 }
 
 #[test]
