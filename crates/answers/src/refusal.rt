@@ -16,7 +16,9 @@ use crate::second_look::SecondLook;
 use adlmodel::{Source, place_of};
 use adlread::AdlFault;
 use console::{Console, Place, Refusal, put_place, put_refusal, put_refused};
-use consolidate::{Fault, LIST, ListFault, MARKS, MarksFault, OutputFile, REPORT, SOUND, SUMS};
+use consolidate::{
+    Fault, LIST, ListFault, MARKS, MarkFault, MarkedFile, OutputFile, REPORT, SOUND, SUMS,
+};
 use explanations::{Explanation, Look};
 use list_terms::Location;
 use std::alloc::Global;
@@ -187,13 +189,17 @@ fn output_place(file: OutputFile) -> Place<'static>
 }
 
 /// Where marks that can't be gone on with stand: the file at which the device failed, if it did.
-fn marks_place(fault: MarksFault) -> Place<'static>
+fn marks_place(fault: MarkFault) -> Place<'static>
     ensures { where_of result ≡ place_of_marks fault }
 {
     match fault {
-        MarksFault::Sound => Place::File(SOUND),
-        MarksFault::Marks => Place::File(MARKS),
-        MarksFault::OtherRun | MarksFault::BadMarks | MarksFault::Memory => Place::Nowhere,
+        MarkFault::Device {
+            file: MarkedFile::Sound,
+        } => Place::File(SOUND),
+        MarkFault::Device {
+            file: MarkedFile::Marks,
+        } => Place::File(MARKS),
+        MarkFault::OtherRun | MarkFault::BadMarks | MarkFault::Memory => Place::Nowhere,
     }
 }
 

@@ -16,7 +16,7 @@ use Rattle.markfile.specs.Fault.{ReadsMarks}
 use Rattle.markfile.specs.Format.{marks_name}
 use Rattle.markfile.specs.Opened.{opened_of}
 use Rattle.markfile.specs.Started.{NoneStarted}
-use Rattle.markfile.specs.declared.fault.MarksFault.{MarksFault}
+use Rattle.markfile.specs.declared.fault.MarkFault.{MarkFault}
 use Rattle.markfile.specs.declared.run.RunId.{RunId}
 use Rattle.execution.specs.Boards.{board_with, fresh_board}
 use Rattle.execution.specs.EventRun.{snapshot_of}
@@ -212,14 +212,14 @@ renders_bound jobs events text values project binding x shelf bench s0 s1 b0 b1 
 
 -- by what the marks are read as
 module _ (jobs : JobLength) (text : List ℕ) (values : OptionValues) (project : ListProject) (binding : Binding)
-    (due : Result (Option (List Bool)) MarksFault) {S B : Type 0} (shelf : source.Ghosts S) (bench : output.Ghosts B)
+    (due : Result (Option (List Bool)) MarkFault) {S B : Type 0} (shelf : source.Ghosts S) (bench : output.Ghosts B)
     (s0 s1 : S) (b0 b1 : B) (ended : Result Progress ExecutionFault) where
   pub resumes_anew : due ≡ Ok None
       → RendersBound jobs in_rounds text values project binding (source_view shelf s0) (source_view shelf s1)
       (output_view bench b0) (output_view bench b1) ended
       → ResumesBound jobs text values project binding due (source_view shelf s0) (source_view shelf s1)
       (output_view bench b0) (output_view bench b1) ended
-  resumes_anew is came = subst (λ (d : Result (Option (List Bool)) MarksFault). ResumesBound jobs text values project binding d
+  resumes_anew is came = subst (λ (d : Result (Option (List Bool)) MarkFault). ResumesBound jobs text values project binding d
       (source_view shelf s0) (source_view shelf s1) (output_view bench b0) (output_view bench b1) ended) (sym is) came
 
   pub resumes_marked : (x : MarkedWork) → IsMarkedFor text project binding values x → HasSoundJobs x
@@ -228,7 +228,7 @@ module _ (jobs : JobLength) (text : List ℕ) (values : OptionValues) (project :
       → ResumesBound jobs text values project binding due (source_view shelf s0) (source_view shelf s1)
       (output_view bench b0) (output_view bench b1) ended
   resumes_marked x of sound found came =
-      subst (λ (d : Result (Option (List Bool)) MarksFault). ResumesBound jobs text values project binding d
+      subst (λ (d : Result (Option (List Bool)) MarkFault). ResumesBound jobs text values project binding d
       (source_view shelf s0) (source_view shelf s1) (output_view bench b0) (output_view bench b1) ended) (sym found.1)
       (record { work = x; is_for = of; cut = found.2; sound = sound; came = came })
 
@@ -292,7 +292,7 @@ module _ (jobs : JobLength) (text : List ℕ) (values : OptionValues) (project :
     };
   }
 
-  pub resumes_opened : (due : Result (Option (List Bool)) MarksFault)
+  pub resumes_opened : (due : Result (Option (List Bool)) MarkFault)
       → ResumesBound jobs text values project binding due (source_view shelf mid) (source_view shelf new)
       (output_view bench b0) (output_view bench b1) ended
       → ResumesBound jobs text values project binding due (source_view shelf old) (source_view shelf new)
@@ -314,7 +314,7 @@ module _ {S B X : Type 0} (shelf : source.Ghosts S) (bench : output.Ghosts B) (I
       only_now s b told (λ late. late_not_early (sym late ∙ ap (λ (r : Refusal). r.late) same)) quiet.0 quiet.1 left
 
   -- marks that aren't opened
-  pub unopened : (s : S) (b0 b1 : B) (of : MarksFault)
+  pub unopened : (s : S) (b0 b1 : B) (of : MarkFault)
       → IsUntouched bench.stored bench.may_leave bench.moment bench.left_since b0 b1
       → ReadsMarks {X = Option ℕ} bench b0 b1 (Err of) → (started → IsLeftByRun m (bench.may_leave b0))
       → DoesWork shelf bench IsFinished Reports m run began started Came s s b0 b1 (Err (fault.Marks of))
@@ -336,7 +336,7 @@ module _ {S B : Type 0} (shelf : source.Ghosts S) (bench : output.Ghosts B) (job
   abbrev Left : Type 0
   Left = IsLeftByRun (list_marking text values (shelf.stored s0) project binding) (bench.may_leave b0)
 
-  abbrev due : Result (Option (List Bool)) MarksFault
+  abbrev due : Result (Option (List Bool)) MarkFault
   due = opened_of (run_of text (range_of project values)) (bench.stored b0)
 
   abbrev Came : Result Progress ExecutionFault → Type 0

@@ -14,8 +14,8 @@ use Rattle.list_terms.specs.Text.{text_value}
 use Rattle.markfile.specs.Format.{marks_name, sound_name}
 use Rattle.markfile.specs.Opened.{front_fault, opened_by, opened_of, told}
 use Rattle.markfile.specs.Started.{is_started}
-use Rattle.markfile.specs.declared.fault.MarksFault.{MarksFault}
-use Rattle.markfile.specs.declared.fault.MarksFault.TheVariants as marks
+use Rattle.markfile.specs.declared.fault.MarkFault.{MarkFault}
+use Rattle.markfile.specs.declared.fault.MarkFault.TheVariants as marks
 use Rattle.markfile.specs.declared.run.RunId.{RunId}
 use Rattle.execution.specs.Marking.{AreTrueMarks, HoldsIn, Marking, is_marked}
 use Rattle.rendering.specs.Fault as rendering
@@ -124,29 +124,28 @@ started_found run files is there started none =
     not_none fault (on_true (is_started (Some is)) (told is fault) (Ok None) (Ok None) started
     (subst (λ (f : Option (List ℕ)). opened_by run (option_map length (files sound_name)) f ≡ Ok None) there none))
   where
-    not_none : (fault : Option MarksFault) → told is fault ≡ Ok None → ⊥
+    not_none : (fault : Option MarkFault) → told is fault ≡ Ok None → ⊥
     not_none None e = cc
     not_none (Some fault) e = cc
 
-pub found_due : (found : Option ℕ) (due : Result (Option (List Bool)) MarksFault) → IsFoundAs (Ok found) due
+pub found_due : (found : Option ℕ) (due : Result (Option (List Bool)) MarkFault) → IsFoundAs (Ok found) due
     → fault_in due ≡ None
 found_due None due is = ap fault_in is
 found_due (Some count) due is = ap fault_in is.1
 
-pub none_counted : (due : Result (Option (List Bool)) MarksFault) → IsFoundAs (Ok None) due → 0 ≡ count_in due
+pub none_counted : (due : Result (Option (List Bool)) MarkFault) → IsFoundAs (Ok None) due → 0 ≡ count_in due
 none_counted due is = sym (ap count_in is)
 
-pub some_counted : (count : ℕ) (due : Result (Option (List Bool)) MarksFault) → IsFoundAs (Ok (Some count)) due
+pub some_counted : (count : ℕ) (due : Result (Option (List Bool)) MarkFault) → IsFoundAs (Ok (Some count)) due
     → count ≡ count_in due
 some_counted count due is = is.2 ∙ sym (ap count_in is.1)
 
 -- ---- which refusal is due
 
 -- marks come behind all else
-marks_turn : (due : Result (Option (List Bool)) MarksFault) → IfSome (fault_in due) (λ d. 10 ≤ turn_of d)
+marks_turn : (due : Result (Option (List Bool)) MarkFault) → IfSome (fault_in due) (λ d. 10 ≤ turn_of d)
 marks_turn (Ok found) = tt
-marks_turn (Err marks.Sound) = omega arith
-marks_turn (Err marks.Marks) = omega arith
+marks_turn (Err (marks.Device file)) = omega arith
 marks_turn (Err marks.OtherRun) = omega arith
 marks_turn (Err marks.BadMarks) = omega arith
 marks_turn (Err marks.Memory) = omega arith
@@ -189,13 +188,13 @@ plan_turn Memory = omega arith
 plan_turn MarksMemory = omega arith
 
 -- a plan is refused before marks are opened
-pub plan_due : (of : RenderFault) (first : Option Refusal) (due : Result (Option (List Bool)) MarksFault)
+pub plan_due : (of : RenderFault) (first : Option Refusal) (due : Result (Option (List Bool)) MarkFault)
     → IsDue (rendering.refusal_of of) first → IsDue (rendering.refusal_of of) (first_fault first (fault_in due))
 plan_due of first due is =
     due_behind 10 (rendering.refusal_of of) first (fault_in due) (plan_turn of) (marks_turn due) is
 
 pub plan_due_as : (of : RenderFault) (told : Fault) (first : Option Refusal)
-    (due : Result (Option (List Bool)) MarksFault) → refusal_of told ≡ rendering.refusal_of of
+    (due : Result (Option (List Bool)) MarkFault) → refusal_of told ≡ rendering.refusal_of of
     → IsDue (rendering.refusal_of of) first → IsDue (refusal_of told) (first_fault first (fault_in due))
 plan_due_as of told first due same is =
     subst (λ (r : Refusal). IsDue r (first_fault first (fault_in due))) (sym same) (plan_due of first due is)
@@ -206,13 +205,12 @@ in_place refusal None turn late = tt
 in_place refusal (Some due) turn late = omega (arith, turn, late)
 
 -- what the marks are refused for is due
-pub open_due : (of : MarksFault) (due : Result (Option (List Bool)) MarksFault)
+pub open_due : (of : MarkFault) (due : Result (Option (List Bool)) MarkFault)
     → IsFoundAs (Err of) due → IsDue (refusal_of_marks of) (fault_in due)
 open_due marks.OtherRun due is = rw (is) refl
 open_due marks.BadMarks due is = rw (is) refl
 open_due marks.Memory due is = in_place (refusal_of_marks marks.Memory) (fault_in due) (omega arith) (marks_turn due)
-open_due marks.Sound due is = in_place (refusal_of_marks marks.Sound) (fault_in due) (omega arith) (marks_turn due)
-open_due marks.Marks due is = in_place (refusal_of_marks marks.Marks) (fault_in due) (omega arith) (marks_turn due)
+open_due (marks.Device file) due is = in_place (refusal_of_marks (marks.Device file)) (fault_in due) (omega arith) (marks_turn due)
 
 -- ---- whose fault it is
 

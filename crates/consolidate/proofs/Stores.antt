@@ -6,8 +6,8 @@ use Rattle.devices.specs.declared.source.Shelf as source
 use Rattle.devices.specs.declared.bench.Bench as output
 use Rattle.work_terms.specs.Disk.{Files, HasRead, IsUntouched, Rises}
 use Rattle.markfile.specs.Fault.{ReadsMarks, name_of, number_of}
-use Rattle.markfile.specs.declared.fault.MarksFault.{MarksFault}
-use Rattle.markfile.specs.declared.fault.MarksFault.TheVariants as marks
+use Rattle.markfile.specs.declared.fault.MarkFault.{MarkFault}
+use Rattle.markfile.specs.declared.fault.MarkFault.TheVariants as marks
 use Rattle.consolidate.proofs.Crashes.{joined}
 use Rattle.consolidate.specs.Commands.{HoldsOfOutput, IsOutput, IsSource, KeepsStores, ReadsSources}
 use Rattle.consolidate.specs.Fault.{name_of_output, refusal_of}
@@ -29,18 +29,16 @@ raised_behind old mid new before r = record {
 }
 
 -- no fault of marks tells of a source
-no_source : (of : MarksFault) → IsSource (fault.Marks of) → ⊥
-no_source marks.Sound e = late_not_early (sym e)
-no_source marks.Marks e = late_not_early (sym e)
+no_source : (of : MarkFault) → IsSource (fault.Marks of) → ⊥
+no_source (marks.Device file) e = late_not_early (sym e)
 no_source marks.OtherRun e = late_not_early (sym e)
 no_source marks.BadMarks e = late_not_early (sym e)
 no_source marks.Memory e = late_not_early (sym e)
 
 -- a device's fault of marks names its file
-at_file : (of : MarksFault) (P : List ℕ → Type 0) → number_of of ≡ 62 → P (name_of of) → HoldsOfOutput (fault.Marks
+at_file : (of : MarkFault) (P : List ℕ → Type 0) → number_of of ≡ 62 → P (name_of of) → HoldsOfOutput (fault.Marks
     of) P
-at_file marks.Sound P e p = p
-at_file marks.Marks P e p = p
+at_file (marks.Device file) P e p = p
 at_file marks.OtherRun P e p = absurd (let n : 67 ≡ 62 = e in omega (arith, n))
 at_file marks.BadMarks P e p = absurd (let n : 68 ≡ 62 = e in omega (arith, n))
 at_file marks.Memory P e p = absurd (let n : 69 ≡ 62 = e in omega (arith, n))
@@ -289,7 +287,7 @@ module _ {S B : Type 0} (shelf : source.Ghosts S) (bench : output.Ghosts B) wher
   }
 
   -- marks that aren't opened
-  pub not_opened : (X Y : Type 0) (s : S) (before after : B) (of : MarksFault)
+  pub not_opened : (X Y : Type 0) (s : S) (before after : B) (of : MarkFault)
       → IsUntouched bench.stored bench.may_leave bench.moment bench.left_since before after
       → ReadsMarks {X = X} bench before after (Err of)
       → KeepsStores shelf bench {X = Y} s s before after (Err (fault.Marks of))

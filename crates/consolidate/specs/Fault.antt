@@ -5,8 +5,8 @@ use Rattle.sound_terms.specs.Sounds.{SoundFacts}
 use Rattle.work_terms.specs.Refusals.{Refusal, Where, Nowhere, File, Job}
 use Rattle.list_terms.specs.Renewed.{media_name}
 use Rattle.markfile.specs.Fault.{name_of, number_of}
-use Rattle.markfile.specs.declared.fault.MarksFault.{MarksFault}
-use Rattle.markfile.specs.declared.fault.MarksFault.TheVariants as marks
+use Rattle.markfile.specs.declared.fault.MarkFault.{MarkFault}
+use Rattle.markfile.specs.declared.fault.MarkFault.TheVariants as marks
 use Rattle.passes.specs.declared.fault.PassFault.TheVariants as pass
 use Rattle.mediaset.specs.Fault as mediaset
 use Rattle.relink.specs.Fault as relink
@@ -36,14 +36,14 @@ name_of_output output.Report = codes "consolidated.json"
 name_of_output output.List = codes "consolidated.adl"
 
 -- the file at which the device failed
-abbrev pub place_of_marks : MarksFault → Where
+abbrev pub place_of_marks : MarkFault → Where
 place_of_marks marks.OtherRun = Nowhere
 place_of_marks marks.BadMarks = Nowhere
 place_of_marks marks.Memory = Nowhere
-place_of_marks fault = File (name_of fault)
+place_of_marks (marks.Device file) = File (name_of (marks.Device file))
 
 -- of marks that an earlier rendering left
-abbrev pub refusal_of_marks : MarksFault → Refusal
+abbrev pub refusal_of_marks : MarkFault → Refusal
 refusal_of_marks fault = record { number = number_of fault; place = place_of_marks fault; late = false }
 
 abbrev pub refusal_of : Fault → Refusal

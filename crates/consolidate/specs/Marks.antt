@@ -11,7 +11,7 @@ use Rattle.list_terms.specs.Project.{ListProject}
 use Rattle.list_terms.specs.Text.{text_value}
 use Rattle.markfile.specs.Format.{head_of, marks_name, sound_name}
 use Rattle.markfile.specs.Opened.{opened_of}
-use Rattle.markfile.specs.declared.fault.MarksFault.{MarksFault}
+use Rattle.markfile.specs.declared.fault.MarkFault.{MarkFault}
 use Rattle.markfile.specs.declared.run.RunId.{RunId}
 use Rattle.rendering.specs.Marked as rendering
 use Rattle.rendering.specs.Marked.{IsLeftByRun, IsResumable, MarkedWork, block_end, block_place, full_marks, run_of}
@@ -78,7 +78,7 @@ pub record IsMarkedFor (text : List ℕ) (project : ListProject) (binding : Bind
   pub run : marked.run ≡ run_of text (range_of project values)
 
 -- the first fault of the marks among these outputs
-abbrev pub fault_in : Result (Option (List Bool)) MarksFault → Option Refusal
+abbrev pub fault_in : Result (Option (List Bool)) MarkFault → Option Refusal
 fault_in (Ok found) = None
 fault_in (Err fault) = Some (refusal_of_marks fault)
 
@@ -87,7 +87,7 @@ marks_refusal text values outputs (Err refusal) = None
 marks_refusal text values outputs (Ok project) = fault_in (opened_of (run_of text (range_of project values)) outputs)
 
 -- how many blocks these outputs have marked
-abbrev pub count_in : Result (Option (List Bool)) MarksFault → ℕ
+abbrev pub count_in : Result (Option (List Bool)) MarkFault → ℕ
 count_in (Ok None) = 0
 count_in (Ok (Some marked)) = count_by (λ mark. mark) marked
 count_in (Err fault) = 0

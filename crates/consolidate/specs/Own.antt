@@ -4,8 +4,8 @@ use Rattle.std.specs.Prelude as bytes
 use Rattle.work_terms.specs.Disk.{Files}
 use Rattle.opening.specs.Own as opening
 use Rattle.opening.specs.Own.{IsOfOpening}
-use Rattle.markfile.specs.declared.fault.MarksFault.{MarksFault}
-use Rattle.markfile.specs.declared.fault.MarksFault.TheVariants as marks
+use Rattle.markfile.specs.declared.fault.MarkFault.{MarkFault}
+use Rattle.markfile.specs.declared.fault.MarkFault.TheVariants as marks
 use Rattle.consolidate.specs.declared.fault.OutputFile.{OutputFile}
 use Rattle.consolidate.specs.declared.fault.OutputFile.TheVariants.{Rendering, Marks, Medium, Sums, Report, List}
 use Rattle.consolidate.specs.declared.fault.Fault.{Fault}
@@ -27,7 +27,7 @@ IsRenderedFile Marks = ⊤
 IsRenderedFile _ = ⊥
 
 -- no memory for new marks
-abbrev pub IsOfFresh : MarksFault → Type 0
+abbrev pub IsOfFresh : MarkFault → Type 0
 IsOfFresh marks.Memory = ⊤
 IsOfFresh _ = ⊥
 

@@ -16,7 +16,7 @@ use Rattle.list_terms.specs.Binding.{Binding}
 use Rattle.list_terms.specs.Heard.{IsAccepted}
 use Rattle.list_terms.specs.Project.{ListProject}
 use Rattle.markfile.specs.Opened.{opened_of}
-use Rattle.markfile.specs.declared.fault.MarksFault.{MarksFault}
+use Rattle.markfile.specs.declared.fault.MarkFault.{MarkFault}
 use Rattle.rendering.specs.Maker.{HasSoundJobs, plan_of}
 use Rattle.rendering.specs.Marked.{MarkedWork, run_of}
 use Rattle.rendering.specs.Planned.{IsRenderingOf}
@@ -92,7 +92,7 @@ pub record GoesOnBound (jobs : JobLength) (text : List ℕ) (values : OptionValu
   pub came : IsResumedWork work source_old source_new output_old output_new ended
 
 -- the same by what the marks are read as: all blocks are jobs where none are started
-abbrev pub ResumesBound : JobLength → List ℕ → OptionValues → ListProject → Binding → Result (Option (List Bool)) MarksFault
+abbrev pub ResumesBound : JobLength → List ℕ → OptionValues → ListProject → Binding → Result (Option (List Bool)) MarkFault
     → SourceView → SourceView → OutputView → OutputView → Result Progress ExecutionFault → Type 0
 ResumesBound jobs text values project binding (Ok None) source_old source_new output_old output_new ended =
     RendersBound jobs in_rounds text values project binding source_old source_new output_old output_new ended

@@ -14,7 +14,7 @@ ghost use Rattle.consolidate.specs.declared.fault.Fault.TheVariants as told;
 
 use consolidation::{ConsolidationFault, LIST, REPORT, SUMS};
 use execution::ExecutionFault;
-use markfile::{MARKS, MarksFault, SOUND};
+use markfile::{MARKS, MarkFault, SOUND};
 use mediaset::RunFault;
 use passes::PassFault;
 use projectcheck::Checked;
@@ -112,7 +112,7 @@ pub enum Fault {
     /// they belong to another rendering (67), or they are broken, or the rendered file isn't theirs (68). 69: no memory
     /// was left for marks.
     #[error("{0}")]
-    Marks(MarksFault),
+    Marks(MarkFault),
     /// 60: no memory was left for what a worker holds, or for the bytes of a medium. What is written is unfinished.
     #[error("out of memory")]
     WorkerMemory,
@@ -155,7 +155,7 @@ impl Fault {
             RenderFault::Intervals => Fault::Intervals,
             RenderFault::EmptyRange => Fault::EmptyRange,
             RenderFault::Memory => Fault::RenderMemory,
-            RenderFault::MarksMemory => Fault::Marks(MarksFault::Memory),
+            RenderFault::MarksMemory => Fault::Marks(MarkFault::Memory),
         }
     }
 

@@ -26,7 +26,7 @@ pub use consolidation::{LIST, REPORT, SUMS, Sizes};
 pub use fault::{Fault, OutputFile};
 pub use job_terms::{BoardEvent, Progress};
 pub use list_terms::Notice;
-pub use markfile::{MARKS, MarksFault, SOUND};
+pub use markfile::{MARKS, MarkFault, MarkedFile, SOUND};
 pub use opening::Accepted;
 pub use rendered::{Rendered, render, render_watched};
 pub use rendering::{Depth, JobLength, Options, Order};

@@ -15,5 +15,4 @@ mod RoundEvents
 mod Runs
 mod Sound
 mod Starts
-mod Stretches
 mod TurnLaws

@@ -11,7 +11,6 @@ pub mod Marking
 pub mod MarkingLaws
 pub mod Outcome
 pub mod OutcomeLaws
-pub mod Placed
 pub mod Plan
 pub mod Turns
 pub mod View

@@ -147,7 +147,8 @@ impl<W: JobMaker> Execution<W> {
         bench: &mut B,
         watch: &mut T,
     ) -> Result<Progress, ExecutionFault>
-        ensures executed { Executed (rounds (3 * (W.plan self.old.work).jobs.count)) (snapshot_of (W.plan self.old.work) self.old.board 0 (source_view S.Shelf shelf.old)
+        ensures executed { Executed (rounds (3 * (W.plan self.old.work).jobs.count))
+            (snapshot_of (W.plan self.old.work) self.old.board 0 (source_view S.Shelf shelf.old)
             (output_view B.Bench bench.old)) (hands_at self.old)
             (snapshot_of (W.plan self.new.work) self.new.board 0 (source_view S.Shelf shelf.new)
             (output_view B.Bench bench.new)) (shelf.new ≡ shelf.old) result }
@@ -185,7 +186,8 @@ impl<W: JobMaker> Execution<W> {
         bench: &mut B,
         watch: &mut T,
     ) -> Result<Progress, ExecutionFault>
-        ensures resumed { Resumed (rounds (3 * (W.plan self.old.work).jobs.count)) (snapshot_of (W.plan self.old.work) self.old.board 0 (source_view S.Shelf shelf.old)
+        ensures resumed { Resumed (rounds (3 * (W.plan self.old.work).jobs.count))
+            (snapshot_of (W.plan self.old.work) self.old.board 0 (source_view S.Shelf shelf.old)
             (output_view B.Bench bench.old)) (hands_at self.old)
             (snapshot_of (W.plan self.new.work) self.new.board 0 (source_view S.Shelf shelf.new)
             (output_view B.Bench bench.new)) result }

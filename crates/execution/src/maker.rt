@@ -67,7 +67,8 @@ pub trait JobMaker {
             → OnOk result (AreBlank (jobs_over (plan self.old).jobs sources) ((plan self.old).whole sources)
             (B.stored bench.new)) }
         ensures same { plan self.new ≡ plan self.old }
-        ensures marks { IsTrue (B.honest bench.old) → (sources : Files) → (done : ℕ → Bool) → ((k : ℕ) → k < (plan self.old).jobs.count → done k ≡ false)
+        ensures marks { IsTrue (B.honest bench.old) → (sources : Files) → (done : ℕ → Bool)
+            → ((k : ℕ) → k < (plan self.old).jobs.count → done k ≡ false)
             → OnOk result (IsRunningBy ((plan self.old).marking sources) done (B.may_leave bench.new)) }
         ensures any_moment { IsTrue (B.honest bench.old) → (sources : Files)
             → NoneStartedBy ((plan self.old).marking sources) (B.may_leave bench.old)

@@ -5,7 +5,7 @@ use crate::meanings::{Meaning, Spot, meaning_at};
 use crate::names::PrintedName;
 use crate::remedies::{SystemWord, remedy_by};
 use adlread::AdlFault;
-use consolidate::{Fault, ListFault, MARKS, MarksFault, OutputFile};
+use consolidate::{Fault, ListFault, MARKS, MarkFault, OutputFile};
 use shelf::Reason;
 use std::fmt;
 use std::fmt::Display;
@@ -157,7 +157,7 @@ impl<'a> Explanation<'a> {
 fn spot_of(fault: &Fault) -> Spot {
     match fault {
         Fault::Project(fault) => project_spot(fault),
-        Fault::Output(_) | Fault::Marks(MarksFault::Sound | MarksFault::Marks) => Spot::File,
+        Fault::Output(_) | Fault::Marks(MarkFault::Device { .. }) => Spot::File,
         Fault::GivenUp { .. } => Spot::Job,
         _ => Spot::Nowhere,
     }
@@ -307,7 +307,7 @@ fn unfinished_after(fault: &Fault, output: Option<Reason>) -> Option<Unfinished>
         Fault::GivenUp { .. }
         | Fault::BlockMemory
         | Fault::WorkerMemory
-        | Fault::Marks(MarksFault::Sound | MarksFault::Marks) => Some(Unfinished::Whole),
+        | Fault::Marks(MarkFault::Device { .. }) => Some(Unfinished::Whole),
         Fault::Output(file) => unfinished_at(*file, output),
         _ => None,
     }

@@ -9,8 +9,8 @@ use Rattle.sound_terms.specs.Laws.{length-u32_bytes}
 use Rattle.sound_terms.specs.Waves.{u32_bytes}
 use Rattle.work_terms.specs.Disk.{Files}
 use Rattle.markfile.specs.declared.run.RunId.{RunId}
-use Rattle.markfile.specs.declared.fault.MarksFault.{MarksFault}
-use Rattle.markfile.specs.declared.fault.MarksFault.TheVariants.{BadMarks, OtherRun}
+use Rattle.markfile.specs.declared.fault.MarkFault.{MarkFault}
+use Rattle.markfile.specs.declared.fault.MarkFault.TheVariants.{BadMarks, OtherRun}
 use Rattle.markfile.specs.Format.{AreMarksOf, head_of, is_marked, marks_name, sound_name}
 use Rattle.markfile.specs.declared.opening.Marks.{Marks}
 use Rattle.markfile.specs.Opened.{Answers, AreFound, fits_run, front_fault, has_length, marks_in, opened_by, opened_of, told}
@@ -53,7 +53,7 @@ both : (a b : Bool) → (a && b) ≡ true → (a ≡ true) × (b ≡ true)
 both true b h = (refl, h)
 both false b h = absurd (apart (sym h))
 
-told_by : (marks : List ℕ) (fault : Option MarksFault) (marked : List Bool) → told marks fault ≡ Ok (Some marked)
+told_by : (marks : List ℕ) (fault : Option MarkFault) (marked : List Bool) → told marks fault ≡ Ok (Some marked)
     → (fault ≡ None) × (marked ≡ map (λ (byte : ℕ). byte == 1) (drop 44 marks))
 told_by marks None marked e = (refl, cc)
 told_by marks (Some f) marked e = absurd (no_fault e)
@@ -61,16 +61,16 @@ told_by marks (Some f) marked e = absurd (no_fault e)
     no_fault : told marks (Some f) ≡ Ok (Some marked) → ⊥
     no_fault h = cc
 
-no_marks : (due : Result (Option (List Bool)) MarksFault) (marked : List Bool) → due ≡ Ok None
+no_marks : (due : Result (Option (List Bool)) MarkFault) (marked : List Bool) → due ≡ Ok None
     → due ≡ Ok (Some marked) → ⊥
 no_marks due marked e f = cc
 
-started_by : (b : Bool) (x : Result (Option (List Bool)) MarksFault) (marked : List Bool)
+started_by : (b : Bool) (x : Result (Option (List Bool)) MarkFault) (marked : List Bool)
     → cond b x (Ok None) ≡ Ok (Some marked) → (b ≡ true) × (x ≡ Ok (Some marked))
 started_by true x marked e = (refl, e)
 started_by false x marked e = absurd (no_marks (Ok None) marked refl e)
 
-some_none : (fault : MarksFault) → Some fault ≡ None → ⊥
+some_none : (fault : MarkFault) → Some fault ≡ None → ⊥
 some_none fault e = cc
 
 faultless : (a b d : Bool)
@@ -151,7 +151,7 @@ found run whole files marked e = go (files marks_name) refl e
 
 -- the same by what is answered
 pub found_by : (run : RunId) → length run.digest ≡ 32 → (files : Files)
-    (result : Result (Option Marks) MarksFault) → Answers result (opened_of run files)
+    (result : Result (Option Marks) MarkFault) → Answers result (opened_of run files)
     → IfOk result (λ answer. IfSome answer (λ marks. AreFound run files marks.marked.items))
 found_by run whole files (Ok (Some marks)) due = found run whole files marks.marked.items due
 found_by run whole files (Ok None) due = tt

@@ -2,5 +2,6 @@ mod Found
 mod Moments
 mod NewMarks
 mod Ranges
+mod Single
 mod Torn
 mod Unstarted

@@ -4,31 +4,36 @@ use Rattle.work_terms.specs.Disk as disk
 use Rattle.devices.specs.declared.bench.Bench.{Ghosts}
 use Rattle.devices.specs.Frame as frame
 use Rattle.markfile.specs.Format.{marks_name, sound_name}
-use Rattle.markfile.specs.declared.fault.MarksFault.{MarksFault}
-use Rattle.markfile.specs.declared.fault.MarksFault.TheVariants.{Sound, Marks, OtherRun, BadMarks, Memory}
+use Rattle.markfile.specs.declared.fault.MarkFault.{MarkFault}
+use Rattle.markfile.specs.declared.fault.MarkFault.TheVariants.{Device, OtherRun, BadMarks, Memory}
+use Rattle.markfile.specs.declared.fault.MarkedFile.{MarkedFile}
+use Rattle.markfile.specs.declared.fault.MarkedFile.TheVariants.{Sound, Marks}
 
 -- the number of the refusal
-abbrev pub number_of : MarksFault → ℕ
-number_of Sound = 62
-number_of Marks = 62
+abbrev pub number_of : MarkFault → ℕ
+number_of (Device file) = 62
 number_of OtherRun = 67
 number_of BadMarks = 68
 number_of Memory = 69
 
+-- the name of a file of a rendering
+abbrev pub name_of_file : MarkedFile → List ℕ
+name_of_file Sound = sound_name
+name_of_file Marks = marks_name
+
 -- the file at which the device failed, where it did
-abbrev pub name_of : MarksFault → List ℕ
-name_of Sound = sound_name
-name_of Marks = marks_name
+abbrev pub name_of : MarkFault → List ℕ
+name_of (Device file) = name_of_file file
 name_of OtherRun = marks_name
 name_of BadMarks = marks_name
 name_of Memory = marks_name
 
 -- a call that writes nothing: 62 alone tells that the device failed, at the file that the fault names
-abbrev pub ReadsMarks : {B X : Type 0} → Ghosts B → B → B → Result X MarksFault → Type 0
+abbrev pub ReadsMarks : {B X : Type 0} → Ghosts B → B → B → Result X MarkFault → Type 0
 ReadsMarks bench old new result = disk.ReadsTo bench.stored bench.honest bench.failures bench.failed_at old new result
     (λ fault. number_of fault ≡ 62) (λ fault failed. failed (name_of fault))
 
 -- a call that writes the marks alone
-abbrev pub WritesMarks : {B X : Type 0} → Ghosts B → B → B → Result X MarksFault → Type 0
+abbrev pub WritesMarks : {B X : Type 0} → Ghosts B → B → B → Result X MarkFault → Type 0
 WritesMarks bench old new result = frame.OnlyWrites bench (λ n. n ≢ marks_name) old new result
     (λ fault. number_of fault ≡ 62) (λ fault failed. failed (name_of fault))

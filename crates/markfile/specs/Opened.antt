@@ -5,9 +5,9 @@ use Rattle.sound_terms.specs.Waves.{u32_bytes}
 use Rattle.work_terms.specs.Disk.{Files, IsEmptyOrAbsent}
 use Rattle.markfile.specs.declared.run.RunId.{RunId}
 use Rattle.markfile.specs.declared.opening.Marks as opening
-use Rattle.markfile.specs.declared.fault.MarksFault.{MarksFault}
-use Rattle.markfile.specs.declared.fault.MarksFault.TheVariants.{OtherRun, BadMarks, Memory}
-use Rattle.markfile.specs.declared.fault.MarksFault.TheVariants as fault
+use Rattle.markfile.specs.declared.fault.MarkFault.{MarkFault}
+use Rattle.markfile.specs.declared.fault.MarkFault.TheVariants.{OtherRun, BadMarks, Memory}
+use Rattle.markfile.specs.declared.fault.MarkFault.TheVariants as fault
 use Rattle.markfile.specs.Format.{AreMarksOf, is_marked, marks_name, sound_name}
 use Rattle.markfile.specs.Started.{is_started}
 
@@ -22,40 +22,39 @@ fits_run run front size sound =
 
 -- the first thing that is wrong for this run, by the front of marks that are started, their length and that of the
 -- rendered file
-abbrev pub front_fault : RunId → List ℕ → ℕ → Option ℕ → Option MarksFault
+abbrev pub front_fault : RunId → List ℕ → ℕ → Option ℕ → Option MarkFault
 front_fault run front size sound = if stands_at (codes "ADLMRK1") 1 front
     then (if stands_at run.digest 8 front then (if fits_run run front size sound then None else Some BadMarks)
     else Some OtherRun)
     else Some BadMarks
 
 -- which of the bytes behind the front are marks, or what is wrong
-abbrev pub told : List ℕ → Option MarksFault → Result (Option (List Bool)) MarksFault
+abbrev pub told : List ℕ → Option MarkFault → Result (Option (List Bool)) MarkFault
 told marks None = Ok (Some (map (λ byte. byte == 1) (drop 44 marks)))
 told marks (Some fault) = Err fault
 
 -- which blocks are marked, none told where nothing is started, or why this run can't go on with them
-abbrev pub marks_in : RunId → Option ℕ → List ℕ → Result (Option (List Bool)) MarksFault
+abbrev pub marks_in : RunId → Option ℕ → List ℕ → Result (Option (List Bool)) MarkFault
 marks_in run sound marks = if is_started (Some marks)
     then told marks (front_fault run (take 44 marks) (length marks) sound)
     else Ok None
 
-abbrev pub opened_by : RunId → Option ℕ → Option (List ℕ) → Result (Option (List Bool)) MarksFault
+abbrev pub opened_by : RunId → Option ℕ → Option (List ℕ) → Result (Option (List Bool)) MarkFault
 opened_by run sound None = Ok None
 opened_by run sound (Some marks) = marks_in run sound marks
 
 -- the same by the files as they are read
-abbrev pub opened_of : RunId → Files → Result (Option (List Bool)) MarksFault
+abbrev pub opened_of : RunId → Files → Result (Option (List Bool)) MarkFault
 opened_of run files = opened_by run (option_map length (files sound_name)) (files marks_name)
 
 -- this is answered where that is due; a device may fail in place of any answer, memory only where marks are given
-abbrev pub Answers : Result (Option opening.Marks) MarksFault → Result (Option (List Bool)) MarksFault → Type 0
+abbrev pub Answers : Result (Option opening.Marks) MarkFault → Result (Option (List Bool)) MarkFault → Type 0
 Answers (Ok None) due = due ≡ Ok None
 Answers (Ok (Some marks)) due = due ≡ Ok (Some marks.marked.items)
 Answers (Err OtherRun) due = due ≡ Err OtherRun
 Answers (Err BadMarks) due = due ≡ Err BadMarks
 Answers (Err Memory) due = IsOk due
-Answers (Err fault.Sound) due = Unit {0}
-Answers (Err fault.Marks) due = Unit {0}
+Answers (Err (fault.Device file)) due = Unit {0}
 
 -- nothing of a file is pending: a crash leaves it as it is read, and where reads find none, none or an empty one
 abbrev pub IsSettledAs : Option (List ℕ) → Option (List ℕ) → Type 0

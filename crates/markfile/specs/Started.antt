@@ -1,5 +1,5 @@
 -- What a crash may leave of the marks, while a run starts them and while it sets them.
-use Rattle.std.specs.Prelude.{◌≡◌, ℕ, ◌<◌, ◌≤◌, Bool, true, false, ◌&&◌, ◌==◌, nat_le, Option, None, Some, List, length, slice_index_or}
+use Rattle.std.specs.Prelude.{◌≡◌, ◌≢◌, ℕ, ◌<◌, ◌≤◌, Bool, true, false, ◌&&◌, ◌==◌, nat_le, Option, None, Some, List, length, slice_index_or}
 use Rattle.work_terms.specs.Disk.{Files, Changes, IsBeside}
 use Rattle.devices.specs.declared.bench.Bench.{Ghosts}
 use Rattle.markfile.specs.declared.run.RunId.{RunId}
@@ -48,6 +48,21 @@ pub record LeavesMarks (run : RunId) (from behind : ℕ) (old : List ℕ) (outco
     pub there : c marks_name ≡ Some marks
     pub ours : AreMarksOf run marks
     pub others : (k : ℕ) → (from ≤ k → k < behind → ⊥) → is_marked marks k ≡ is_marked old k
+
+-- the mark of this block is set; all others are as they were
+pub record IsSet (run : RunId) (block : ℕ) (old new : List ℕ) : Type 0 where
+  pub ours : AreMarksOf run new
+  pub set : is_marked new block ≡ true
+  pub others : (k : ℕ) → k ≢ block → is_marked new k ≡ is_marked old k
+
+-- while it is set: the run's marks, and every other one as it was; every other file is as it might have been left
+-- before
+pub record LeavesMark (run : RunId) (block : ℕ) (old : List ℕ) (outcomes : Files → Type 0) (c : Files) : Type 0 where
+  pub beside : IsBeside outcomes marks_name c
+  pub marks : List ℕ
+  pub there : c marks_name ≡ Some marks
+  pub ours : AreMarksOf run marks
+  pub others : (k : ℕ) → k ≢ block → is_marked marks k ≡ is_marked old k
 
 -- these are the run's marks, and a crash leaves them so
 pub record Lasts {B : Type 0} (bench : Ghosts B) (run : RunId) (marks : List ℕ) (now : B) : Type 0 where

@@ -1,18 +1,37 @@
 // Why marks aren't made, set or read.
-ghost use Rattle.std.specs.Prelude.{◌≡◌};
-ghost use Rattle.markfile.specs.Fault.{number_of};
+ghost use Rattle.std.specs.Prelude.{◌≡◌, Some};
+ghost use Rattle.markfile.specs.Fault.{name_of_file, number_of};
 
+use crate::{MARKS, SOUND};
+use std::fmt;
 use thiserror::Error;
+
+/// One of the two files of a rendering.
+#[derive(Clone, Copy, Debug, PartialEq, Eq)]
+pub enum MarkedFile {
+    /// The rendered file, `render.wav`.
+    Sound,
+    /// Its marks, `render.marks`.
+    Marks,
+}
+
+impl fmt::Display for MarkedFile {
+    ghost output = { λ file. Some (name_of_file file) };
+
+    fn fmt<W: fmt::Write>(&self, f: &mut fmt::Formatter<W>) -> fmt::Result {
+        match self {
+            MarkedFile::Sound => f.write_str(SOUND),
+            MarkedFile::Marks => f.write_str(MARKS),
+        }
+    }
+}
 
 /// Why the marks of a rendering aren't made, set or read.
 #[derive(Clone, Copy, Debug, PartialEq, Eq, Error)]
-pub enum MarksFault {
-    /// 62: the device failed at the rendered file.
-    #[error("the rendered file can't be read")]
-    Sound,
-    /// 62: the device failed at the marks. What is written of them may be unfinished.
-    #[error("the marks can't be read or written")]
-    Marks,
+pub enum MarkFault {
+    /// 62: the device failed at this file. What was written of the marks may be unfinished.
+    #[error("{file} can't be read or written")]
+    Device { file: MarkedFile },
     /// 67: the marks belong to another list, or to another range, depth or number of channels.
     #[error("the marks belong to another rendering")]
     OtherRun,
@@ -24,16 +43,16 @@ pub enum MarksFault {
     Memory,
 }
 
-impl MarksFault {
+impl MarkFault {
     /// The number of the refusal.
     pub fn number(&self) -> u8
         ensures { result ≡ number_of self.now }
     {
         match self {
-            MarksFault::Sound | MarksFault::Marks => 62,
-            MarksFault::OtherRun => 67,
-            MarksFault::BadMarks => 68,
-            MarksFault::Memory => 69,
+            MarkFault::Device { .. } => 62,
+            MarkFault::OtherRun => 67,
+            MarkFault::BadMarks => 68,
+            MarkFault::Memory => 69,
         }
     }
 }

@@ -7,7 +7,7 @@ ghost use Rattle.markfile.specs.Format.{marks_name};
 ghost use Rattle.markfile.specs.Opened.{fits_run, front_fault};
 
 use crate::settled::Sizes;
-use crate::{MARKS, MarksFault, RunId};
+use crate::{MARKS, MarkFault, MarkedFile, RunId};
 use devices::Bench;
 
 /// The bytes of the front.
@@ -48,33 +48,35 @@ pub fn front_fault(
     front: &[u8; 44],
     marks: u64,
     sound: Option<u64>,
-) -> Option<MarksFault>
+) -> Option<MarkFault>
     ensures fault { result ≡ front_fault run.now front.now marks sound }
     ensures no_device { IfSome result (λ fault. number_of fault ≢ 62) }
 {
     if !is_of_marks(front) {
-        return Some(MarksFault::BadMarks);
+        return Some(MarkFault::BadMarks);
     }
     if !is_of_run(run, front) {
-        return Some(MarksFault::OtherRun);
+        return Some(MarkFault::OtherRun);
     }
     if !fits_run(run, front, marks, sound) {
-        return Some(MarksFault::BadMarks);
+        return Some(MarkFault::BadMarks);
     }
     None
 }
 
 /// Reads the front of marks that have one.
-pub fn read_front<B: Bench>(bench: &mut B) -> Result<[u8; 44], MarksFault>
+pub fn read_front<B: Bench>(bench: &mut B) -> Result<[u8; 44], MarkFault>
     ensures front { IsTrue (B.honest bench.old) → (marks : List ℕ) → B.stored bench.old marks_name ≡ Some marks
         → IfOk result (λ front. front ≡ take 44 marks) }
-    ensures device { IfErr result (λ fault. fault ≡ MarksFault.Marks) }
+    ensures device { IfErr result (λ fault. fault ≡ MarkFault.Device MarkedFile.Marks) }
     ensures untouched { IsUntouched B.stored B.may_leave B.moment B.left_since bench.old bench.new }
     ensures only_reads { ReadsMarks B.Bench bench.old bench.new result }
 {
     let mut front = [0; FRONT];
     match bench.read_at(MARKS, 0, &mut front) {
         Ok(()) => return Ok(front),
-        Err(_) => return Err(MarksFault::Marks),
+        Err(_) => return Err(MarkFault::Device {
+            file: MarkedFile::Marks,
+        }),
     }
 }

@@ -12,12 +12,12 @@ mod settled;
 mod starting;
 mod synced;
 
-pub use fault::MarksFault;
+pub use fault::{MarkFault, MarkedFile};
 pub use fresh::FreshMarks;
 pub use opening::{Marks, open_marks};
 pub use run::{RunId, RunRange};
-pub use setting::{MOST_AT_ONCE, mark};
-pub use starting::start;
+pub use setting::{MOST_AT_ONCE, mark, mark_all};
+pub use starting::{start, start_fresh};
 
 /// The name of the file that is rendered.
 pub const SOUND: &str = "render.wav";

@@ -7,7 +7,7 @@ ghost use Rattle.markfile.specs.Opened.{Answers, AreFound, AreSettled, marks_in,
 
 use crate::front::{FRONT, OPEN, front_fault, read_front};
 use crate::settled::{Sizes, settle_both};
-use crate::{MARKS, MarksFault, RunId};
+use crate::{MARKS, MarkFault, MarkedFile, RunId};
 use devices::Bench;
 use std::alloc::{AllocError, Global};
 
@@ -25,25 +25,27 @@ fn marks_among(alloc: Global, bytes: &[u8]) -> Result<Vec<bool>, AllocError>
 }
 
 /// Reads so many marks, which have to be all.
-fn read_marked<B: Bench>(alloc: Global, bench: &mut B, blocks: u32) -> Result<Marks, MarksFault>
+fn read_marked<B: Bench>(alloc: Global, bench: &mut B, blocks: u32) -> Result<Marks, MarkFault>
     ensures marked { IsTrue (B.honest bench.old) → (marks : List ℕ) → B.stored bench.old marks_name ≡ Some marks
         → length marks ≡ 44 + blocks
         → IfOk result (λ read. read.marked.items ≡ map (λ byte. byte == 1) (drop 44 marks)) }
     ensures count { IfOk result (λ read. length read.marked.items ≡ blocks) }
-    ensures due { IfErr result (λ fault. (fault ≢ MarksFault.BadMarks) × (fault ≢ MarksFault.OtherRun)) }
+    ensures due { IfErr result (λ fault. (fault ≢ MarkFault.BadMarks) × (fault ≢ MarkFault.OtherRun)) }
     ensures untouched { IsUntouched B.stored B.may_leave B.moment B.left_since bench.old bench.new }
     ensures only_reads { ReadsMarks B.Bench bench.old bench.new result }
 {
     let Ok(mut bytes) = vec![in alloc; 0; blocks as usize] else {
-        return Err(MarksFault::Memory);
+        return Err(MarkFault::Memory);
     };
     match bench.read_at(MARKS, FRONT as u64, bytes.as_mut_slice()) {
         Ok(()) => {}
-        Err(_) => return Err(MarksFault::Marks),
+        Err(_) => return Err(MarkFault::Device {
+            file: MarkedFile::Marks,
+        }),
     }
     match marks_among(alloc, bytes.as_slice()) {
         Ok(marked) => return Ok(Marks { marked }),
-        Err(_) => return Err(MarksFault::Memory),
+        Err(_) => return Err(MarkFault::Memory),
     }
 }
 
@@ -54,7 +56,7 @@ fn read_marks<B: Bench>(
     run: &RunId,
     size: u64,
     sound: Option<u64>,
-) -> Result<Option<Marks>, MarksFault>
+) -> Result<Option<Marks>, MarkFault>
     ensures found { IsTrue (B.honest bench.old) → (marks : List ℕ) → B.stored bench.old marks_name ≡ Some marks
         → length marks ≡ size → 44 ≤ size → Answers result (marks_in run.now sound marks) }
     ensures each { IfOk result (λ found. IfSome found (λ marks. length marks.marked.items ≡ run.now.blocks)) }
@@ -86,7 +88,7 @@ pub fn open_marks<B: Bench>(
     alloc: Global,
     bench: &mut B,
     run: &RunId,
-) -> Result<Option<Marks>, MarksFault>
+) -> Result<Option<Marks>, MarkFault>
     ensures found { IsTrue (B.honest bench.old) → Answers result (opened_of run.now (B.stored bench.old)) }
     ensures each { IfOk result (λ found. IfSome found (λ marks. length marks.marked.items ≡ run.now.blocks)) }
     ensures whole { IsTrue (B.honest bench.old) → IfOk result (λ found. IfSome found (λ marks.

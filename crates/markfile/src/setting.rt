@@ -1,23 +1,23 @@
 // Marks that are set.
-ghost use Rattle.std.specs.Prelude.{◌≡◌, ◌≢◌, ◌+◌, ◌-◌, ◌≤◌, ℕ, IsTrue, List, OnOk, replicate, ⊤};
+ghost use Rattle.std.specs.Prelude.{◌≡◌, ◌≢◌, ◌+◌, ◌-◌, ◌^◌, ◌<◌, ◌≤◌, ◌∷◌, [], ℕ, IfErr, IsTrue, List, OnOk, replicate, ⊤};
 ghost use Rattle.work_terms.specs.Disk.{Changes, Files, IsDurable, IsTorn, IsWritten, LeavesOnly};
 ghost use Rattle.devices.specs.Frame.{OnlyWrites};
 ghost use Rattle.markfile.specs.Fault.{WritesMarks};
-ghost use Rattle.markfile.specs.Format.{AreMarksOf, marks_name};
-ghost use Rattle.markfile.specs.Started.{AreSet, IsAfter, Lasts, LeavesMarks};
+ghost use Rattle.markfile.specs.Format.{marks_name};
+ghost use Rattle.markfile.specs.Started.{AreSet, IsAfter, IsSet, Lasts, LeavesMark, LeavesMarks};
 ghost use Rattle.markfile.specs.declared.run.RunId.{RunId};
 
-use crate::MarksFault;
 use crate::front::FRONT;
 use crate::synced::write_synced;
+use crate::{MarkFault, MarkedFile};
 use devices::{Bench, DeviceFault};
 
-/// The most marks that one call sets: the blocks of 4,194,304 bytes, of which each has 8,192 at least.
-pub const MOST_AT_ONCE: usize = 512;
+/// The most marks that one call sets.
+pub const MOST_AT_ONCE: usize = 2048;
 
 /// Writes so many marks from a place on, and syncs them.
 fn write_ones<B: Bench>(bench: &mut B, at: u64, count: usize) -> Result<(), DeviceFault>
-    requires { count ≤ 512 }
+    requires { count ≤ 2048 }
     ensures written { IsTrue (B.honest bench.old)
         → OnOk result (Changes (IsWritten at (replicate count 1)) marks_name
         (B.stored bench.old) (B.stored bench.new)) }
@@ -33,28 +33,79 @@ fn write_ones<B: Bench>(bench: &mut B, at: u64, count: usize) -> Result<(), Devi
     write_synced(bench, at, &ones[..count])
 }
 
-/// Sets the marks of the blocks from one on up to, and without, another, in one write, and syncs them. Their bytes have
-/// to be on the disk. After a fault any of these marks may be set.
-pub fn mark<B: Bench>(bench: &mut B, from: u32, behind: u32) -> Result<(), MarksFault>
-    requires order { from ≤ behind }
-    requires few { behind - from ≤ 512 }
+/// Sets the marks from one block on up to, and without, another.
+fn set_marks<B: Bench>(bench: &mut B, from: u64, end: u64) -> Result<(), MarkFault>
+    requires order { from ≤ end }
+    requires few { end - from ≤ 2048 }
+    requires numbered { end ≤ 2 ^ 32 }
     ensures written { IsTrue (B.honest bench.old)
-        → OnOk result (Changes (IsWritten (44 + from) (replicate (behind - from) 1)) marks_name
+        → OnOk result (Changes (IsWritten (44 + from) (replicate (end - from) 1)) marks_name
         (B.stored bench.old) (B.stored bench.new)) }
     ensures marked { IsTrue (B.honest bench.old) → (run : RunId) (marks : List ℕ)
-        → Lasts B.Bench run marks bench.old → behind ≤ run.blocks
-        → OnOk result ((now : List ℕ) × AreSet run from behind marks now × Lasts B.Bench run now bench.new) }
+        → Lasts B.Bench run marks bench.old → end ≤ run.blocks
+        → OnOk result ((now : List ℕ) × AreSet run from end marks now × Lasts B.Bench run now bench.new) }
     ensures any_moment { IsTrue (B.honest bench.old) → (run : RunId) (marks : List ℕ)
         → Lasts B.Bench run marks bench.old
         → LeavesOnly B.moment B.left_since bench.old bench.new
-        (LeavesMarks run from behind marks (B.may_leave bench.old)) }
+        (LeavesMarks run from end marks (B.may_leave bench.old)) }
     ensures crash { IsTrue (B.honest bench.old) → (run : RunId) (marks : List ℕ)
         → Lasts B.Bench run marks bench.old
-        → (c : Files) → B.may_leave bench.new c → LeavesMarks run from behind marks (B.may_leave bench.old) c }
+        → (c : Files) → B.may_leave bench.new c → LeavesMarks run from end marks (B.may_leave bench.old) c }
+    ensures fault { IfErr result (λ fault. fault ≡ MarkFault.Device MarkedFile.Marks) }
     ensures only_writes { WritesMarks B.Bench bench.old bench.new result }
 {
-    match write_ones(bench, FRONT as u64 + from as u64, (behind - from) as usize) {
+    match write_ones(bench, FRONT as u64 + from, (end - from) as usize) {
         Ok(()) => return Ok(()),
-        Err(_) => return Err(MarksFault::Marks),
+        Err(_) => {
+            return Err(MarkFault::Device {
+                file: MarkedFile::Marks,
+            });
+        }
     }
+}
+
+/// Sets the marks of the blocks from one on up to, and without, another, in one write, and syncs them. Their bytes have
+/// to be on the disk. `Device` where the device fails at the marks: any of these may be set then.
+pub fn mark_all<B: Bench>(bench: &mut B, from: u32, end: u32) -> Result<(), MarkFault>
+    requires order { from ≤ end }
+    requires few { end - from ≤ 2048 }
+    ensures written { IsTrue (B.honest bench.old)
+        → OnOk result (Changes (IsWritten (44 + from) (replicate (end - from) 1)) marks_name
+        (B.stored bench.old) (B.stored bench.new)) }
+    ensures marked { IsTrue (B.honest bench.old) → (run : RunId) (marks : List ℕ)
+        → Lasts B.Bench run marks bench.old → end ≤ run.blocks
+        → OnOk result ((now : List ℕ) × AreSet run from end marks now × Lasts B.Bench run now bench.new) }
+    ensures any_moment { IsTrue (B.honest bench.old) → (run : RunId) (marks : List ℕ)
+        → Lasts B.Bench run marks bench.old
+        → LeavesOnly B.moment B.left_since bench.old bench.new
+        (LeavesMarks run from end marks (B.may_leave bench.old)) }
+    ensures crash { IsTrue (B.honest bench.old) → (run : RunId) (marks : List ℕ)
+        → Lasts B.Bench run marks bench.old
+        → (c : Files) → B.may_leave bench.new c → LeavesMarks run from end marks (B.may_leave bench.old) c }
+    ensures fault { IfErr result (λ fault. fault ≡ MarkFault.Device MarkedFile.Marks) }
+    ensures only_writes { WritesMarks B.Bench bench.old bench.new result }
+{
+    set_marks(bench, from as u64, end as u64)
+}
+
+/// Sets the mark of one block, and syncs it. Its bytes have to be on the disk. `Device` where the device fails at the
+/// marks: this one may be set or not then.
+pub fn mark<B: Bench>(bench: &mut B, block: u32) -> Result<(), MarkFault>
+    ensures written { IsTrue (B.honest bench.old)
+        → OnOk result (Changes (IsWritten (44 + block) (1 ∷ [])) marks_name
+        (B.stored bench.old) (B.stored bench.new)) }
+    ensures marked { IsTrue (B.honest bench.old) → (run : RunId) (marks : List ℕ)
+        → Lasts B.Bench run marks bench.old → block < run.blocks
+        → OnOk result ((now : List ℕ) × IsSet run block marks now × Lasts B.Bench run now bench.new) }
+    ensures any_moment { IsTrue (B.honest bench.old) → (run : RunId) (marks : List ℕ)
+        → Lasts B.Bench run marks bench.old
+        → LeavesOnly B.moment B.left_since bench.old bench.new
+        (LeavesMark run block marks (B.may_leave bench.old)) }
+    ensures crash { IsTrue (B.honest bench.old) → (run : RunId) (marks : List ℕ)
+        → Lasts B.Bench run marks bench.old
+        → (c : Files) → B.may_leave bench.new c → LeavesMark run block marks (B.may_leave bench.old) c }
+    ensures fault { IfErr result (λ fault. fault ≡ MarkFault.Device MarkedFile.Marks) }
+    ensures only_writes { WritesMarks B.Bench bench.old bench.new result }
+{
+    set_marks(bench, block as u64, block as u64 + 1)
 }

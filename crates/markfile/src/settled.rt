@@ -5,7 +5,7 @@ ghost use Rattle.markfile.specs.Fault.{ReadsMarks, number_of};
 ghost use Rattle.markfile.specs.Format.{marks_name, sound_name};
 ghost use Rattle.markfile.specs.Opened.{AreSettled, IsSettledAs};
 
-use crate::{MARKS, MarksFault, SOUND};
+use crate::{MARKS, MarkFault, MarkedFile, SOUND};
 use devices::{Bench, DeviceFault, ShelfFault};
 
 /// Syncs a file where it is there, and gives its length then.
@@ -37,7 +37,7 @@ pub struct Sizes {
 }
 
 /// Syncs the rendered file and the marks where they are there.
-pub fn settle_both<B: Bench>(bench: &mut B) -> Result<Sizes, MarksFault>
+pub fn settle_both<B: Bench>(bench: &mut B) -> Result<Sizes, MarkFault>
     ensures sound { IsTrue (B.honest bench.old)
         → IfOk result (λ sizes. sizes.sound ≡ option_map length (B.stored bench.old sound_name)) }
     ensures marks { IsTrue (B.honest bench.old)
@@ -50,10 +50,14 @@ pub fn settle_both<B: Bench>(bench: &mut B) -> Result<Sizes, MarksFault>
 {
     let sound = match settle(bench, SOUND) {
         Ok(size) => size,
-        Err(_) => return Err(MarksFault::Sound),
+        Err(_) => return Err(MarkFault::Device {
+            file: MarkedFile::Sound,
+        }),
     };
     match settle(bench, MARKS) {
         Ok(marks) => return Ok(Sizes { sound, marks }),
-        Err(_) => return Err(MarksFault::Marks),
+        Err(_) => return Err(MarkFault::Device {
+            file: MarkedFile::Marks,
+        }),
     }
 }

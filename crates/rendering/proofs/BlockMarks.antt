@@ -1,9 +1,8 @@
 -- The blocks of a job in the rendered file, and their marks.
-use Rattle.std.proofs.Common.{◌≡◌, ◌≢◌, ◌∙◌, ◌⊎◌, ℕ, suc, ◌+◌, ◌-◌, ◌*◌, ◌/◌, ◌<◌, ◌≤◌, List, length, take, get_or, replicate, refl, sym, ap, subst, inl, inr, arith}
+use Rattle.std.proofs.Common.{◌≡◌, ◌≢◌, ◌∙◌, ◌⊎◌, ℕ, suc, ◌+◌, ◌-◌, ◌*◌, ◌/◌, ◌<◌, ◌≤◌, List, length, get_or, refl, sym, ap, subst, inl, inr, arith}
 use Rattle.std.specs.Prelude.{min}
 use Rattle.std.proofs.Math.Nat.{div-mul-le_self, lt-div-mul-add, mul-le-mul_right}
 use Rattle.std.proofs.lemmas.Bool.{cases_lt}
-use Rattle.std.proofs.lemmas.List.{get_or-replicate, length-replicate, take-replicate}
 use Rattle.sound_terms.specs.Depth.{bits_of}
 use Rattle.sound_terms.specs.Blocks.{block_count, block_start}
 use Rattle.sound_terms.specs.Render.{Range, render_info}
@@ -12,9 +11,9 @@ use Rattle.work_terms.specs.Disk.{Files}
 use Rattle.rendering.specs.declared.stretch.Stretch.{Stretch}
 use Rattle.rendering.specs.CutLaws.{cut-apart}
 use Rattle.markfile.specs.Format.{marks_name, sound_name}
-use Rattle.execution.specs.Placed.{IsStretchOf}
 use Rattle.rendering.specs.Maker.{marks_of}
 use Rattle.rendering.specs.Marked.{IsRunOf, MarkedWork, block_end, block_place}
+use Rattle.rendering.specs.Placed.{IsStretchOf}
 use Rattle.rendering.specs.Work.{IsRenderWork, bytes_for, heard, no_stretch, place_of, stretch_at, work_of}
 use Rattle.rendering.specs.Written.{frames_before}
 use Rattle.rendering.proofs.Frames.{length-frames_of}
@@ -170,26 +169,16 @@ module _ (marked : MarkedWork) (sources : Files) (is : IsRenderWork marked.work)
           | inr ge ↦ absurd (ne (omega (arith, le, ge)))
         ]
 
-    -- its bytes and its marks
-    pub job_marks : (k : ℕ) (bytes ones : List ℕ) → k < length marked.work.stretches → bytes ≡ bytes_at k
-        → ones ≡ replicate ((at k).behind - (at k).first) 1
-        → IsStretchOf (marks_of marked sources) k sound_name (place_of range (at k)) bytes marks_name
-        (44 + (at k).first) ones
-    job_marks k bytes ones below right set =
+    -- its blocks and its bytes
+    job_stretch : (k : ℕ) (bytes : List ℕ) → k < length marked.work.stretches → bytes ≡ bytes_at k
+        → IsStretchOf (marks_of marked sources) k (place_of range (at k)) bytes (at k).first (at k).behind
+    job_stretch k bytes below right =
         let inside = stretch_inside marked.work k is below in
-        let part = are_parts marked.work sources is k below in
-        let count : length ones ≡ (at k).behind - (at k).first =
-        ap (λ (x : List ℕ). length x) set ∙ length-replicate {A = ℕ} ((at k).behind - (at k).first) 1 in
-        record {
+        let part = are_parts marked.work sources is k below in record {
           there = below;
           inside = omega (arith, inside.1, run.blocks);
-          name_is = refl;
-          marks_is = refl;
-          apart = names_apart;
-          mark_first = refl;
-          mark_last = omega (arith, count, inside.0);
-          set = λ i less. ap (λ (x : List ℕ). get_or x i 0) set
-              ∙ get_or-replicate {A = ℕ} ((at k).behind - (at k).first) i 1 0 (omega (arith, less, count));
+          begins = refl;
+          ends = refl;
           right = λ i less. ap (λ (x : List ℕ). get_or x i 0) right
               ∙ part.part i (subst (λ (x : List ℕ). i < length x) right less);
           own = λ b from to.
@@ -203,25 +192,17 @@ module _ (marked : MarkedWork) (sources : Files) (is : IsRenderWork marked.work)
 -- the same of a stretch that was taken out of them
 pub placed_stretch : (was now : MarkedWork) (k : ℕ) (s : Stretch) (at : ℕ) (bytes : List ℕ) (sources : Files)
     → was ≡ now → IsRenderWork was.work × IsRunOf was.work was.run → s ≡ stretch_at was.work.stretches k
-    → s.behind ≤ s.first + 2048 → at ≡ place_of was.work.planned.range s → k < length now.work.stretches
+    → at ≡ place_of was.work.planned.range s → k < length now.work.stretches
     → bytes ≡ (work_of now.work).bytes sources k
-    → IsStretchOf (marks_of now sources) k sound_name at bytes marks_name (44 + s.first)
-    (take (s.behind - s.first) (replicate 2048 1))
-placed_stretch was now k s at bytes sources e is same few place = subst (λ (x : MarkedWork). k < length x.work.stretches
-    → bytes ≡ (work_of x.work).bytes sources k → IsStretchOf (marks_of x sources) k sound_name at bytes marks_name
-    (44 + s.first) (take (s.behind - s.first) (replicate 2048 1))) e (λ below right. made below right)
+    → IsStretchOf (marks_of now sources) k at bytes s.first s.behind
+placed_stretch was now k s at bytes sources e is same place = subst (λ (x : MarkedWork). k < length x.work.stretches
+    → bytes ≡ (work_of x.work).bytes sources k → IsStretchOf (marks_of x sources) k at bytes s.first s.behind) e made
   where
     made : k < length was.work.stretches → bytes ≡ (work_of was.work).bytes sources k
-        → IsStretchOf (marks_of was sources) k sound_name at bytes marks_name (44 + s.first)
-        (take (s.behind - s.first) (replicate 2048 1))
+        → IsStretchOf (marks_of was sources) k at bytes s.first s.behind
     made below right =
         let t = stretch_at was.work.stretches k in
-        let ones : List ℕ = take (s.behind - s.first) (replicate 2048 1) in
-        let set : ones ≡ replicate (t.behind - t.first) 1 =
-        take-replicate (s.behind - s.first) 2048 1 (omega (arith, few))
-        ∙ ap (λ (x : Stretch). replicate (x.behind - x.first) 1) same in
-        subst (λ (x : Stretch). IsStretchOf (marks_of was sources) k sound_name at bytes marks_name (44 + x.first)
-        ones) (sym same)
-        (subst (λ (n : ℕ). IsStretchOf (marks_of was sources) k sound_name n bytes marks_name (44 + t.first) ones)
+        subst (λ (x : Stretch). IsStretchOf (marks_of was sources) k at bytes x.first x.behind) (sym same)
+        (subst (λ (n : ℕ). IsStretchOf (marks_of was sources) k n bytes t.first t.behind)
         (sym (place ∙ ap (place_of was.work.planned.range) same))
-        (job_marks was sources is.0 is.1 k bytes ones below right set))
+        (job_stretch was sources is.0 is.1 k bytes below right))

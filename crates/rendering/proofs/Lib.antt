@@ -9,4 +9,5 @@ mod Frames
 mod Parts
 mod Ranges
 mod Steps
+mod Stretches
 mod Works

@@ -16,7 +16,6 @@ use Rattle.markfile.specs.Format.{AreFresh, fresh_marks, marks_name, sound_name}
 use Rattle.markfile.specs.Started.{LeavesStart}
 use Rattle.markfile.specs.Started as mark_file
 use Rattle.execution.specs.Marking.{AreLeftBy, HoldsIn, IsRunning, LaysBy, Marking, NoneStartedBy, is_marked, is_started}
-use Rattle.execution.specs.Placed.{HasPlaced}
 use Rattle.execution.specs.Plan.{AreBlank, IsLast, Stays}
 use Rattle.execution.specs.Worlds.{IsPlaced}
 use Rattle.execution.specs.declared.fault.PlaceFault.{PlaceFault}
@@ -24,6 +23,7 @@ use Rattle.execution.specs.declared.fault.PlaceFault.TheVariants.{Mark, Write}
 use Rattle.rendering.specs.Maker.{HasSoundJobs, marks_of, plan_of}
 use Rattle.rendering.specs.MakerLaws.{some_job, started_as}
 use Rattle.rendering.specs.Marked.{IsRunOf, MarkedWork, laid_file, padded}
+use Rattle.rendering.specs.Placed.{HasPlaced}
 use Rattle.rendering.specs.Work.{IsRenderWork, RenderWork, bytes_for, heard, no_stretch, stretch_at, work_of}
 use Rattle.rendering.specs.Written.{frames_before}
 use Rattle.rendering.proofs.BlockMarks.{names_apart}
@@ -102,12 +102,21 @@ pub placed_as : (marked : MarkedWork) (k at : ℕ) (bytes : List ℕ) (old new :
     → at ≡ (work_of marked.work).at k → HasPlaced at bytes (old sound_name) (new sound_name) result
     → IsPlaced (plan_of marked).jobs (plan_of marked).marks k bytes old new result
 placed_as marked k at bytes old new (Ok x) is placed =
-    record { here = subst (λ (n : ℕ). HasPlaced {X = ⊤} n bytes (old sound_name) (new sound_name) (Ok x)) is placed; others = λ j ne. absurd (ne refl) }
+    record {
+      here = subst (λ (n : ℕ). HasPlaced {X = ⊤} n bytes (old sound_name) (new sound_name) (Ok x)) is placed;
+      others = λ j ne. absurd (ne refl);
+    }
 placed_as marked k at bytes old new (Err Write) is placed =
-    record { here = subst (λ (n : ℕ). HasPlaced {X = ⊤} n bytes (old sound_name) (new sound_name) (Err Write)) is placed; others = λ j ne. absurd (ne refl) }
+    record {
+      here = subst (λ (n : ℕ). HasPlaced {X = ⊤} n bytes (old sound_name) (new sound_name) (Err Write)) is placed;
+      others = λ j ne. absurd (ne refl);
+    }
 placed_as marked k at bytes old new (Err Mark) is placed = (
   refl,
-  record { here = subst (λ (n : ℕ). HasPlaced {X = ⊤} n bytes (old sound_name) (new sound_name) (Err Mark)) is placed; others = λ j ne. absurd (ne refl) },
+  record {
+    here = subst (λ (n : ℕ). HasPlaced {X = ⊤} n bytes (old sound_name) (new sound_name) (Err Mark)) is placed;
+    others = λ j ne. absurd (ne refl);
+  },
 )
 
 -- ---- the file is laid out

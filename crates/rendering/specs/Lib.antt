@@ -4,6 +4,7 @@ pub mod Fault
 pub mod Maker
 pub mod MakerLaws
 pub mod Marked
+pub mod Placed
 pub mod Planned
 pub mod Rendering
 pub mod Work

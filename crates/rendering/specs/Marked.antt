@@ -8,8 +8,8 @@ use Rattle.sound_terms.specs.Waves.{header_of, zeros}
 use Rattle.work_terms.specs.Disk.{Files}
 use Rattle.markfile.specs.Format.{AreMarksOf, head_of, marks_name, run_bytes, sound_name}
 use Rattle.markfile.specs.Started.{is_started}
-use Rattle.markfile.specs.declared.fault.MarksFault.{MarksFault}
-use Rattle.markfile.specs.declared.fault.MarksFault.TheVariants as fault
+use Rattle.markfile.specs.declared.fault.MarkFault.{MarkFault}
+use Rattle.markfile.specs.declared.fault.MarkFault.TheVariants as fault
 use Rattle.markfile.specs.declared.run.RunId.{RunId}
 use Rattle.execution.specs.Marking.{AreTrueMarks, HoldsIn, Marking, is_marked}
 use Rattle.rendering.specs.Work.{RenderWork, bytes_for}
@@ -59,14 +59,13 @@ pub record IsAllMarked (run : RunId) (file : Option (List ℕ)) : Type 0 where
   pub all : (b : ℕ) → b < run.blocks → is_marked marks b ≡ true
 
 -- so many blocks are found to be marked, none where nothing is started, or why this run can't go on with the marks
-abbrev pub IsFoundAs : Result (Option ℕ) MarksFault → Result (Option (List Bool)) MarksFault → Type 0
+abbrev pub IsFoundAs : Result (Option ℕ) MarkFault → Result (Option (List Bool)) MarkFault → Type 0
 IsFoundAs (Ok None) due = due ≡ Ok None
 IsFoundAs (Ok (Some count)) due = (marked : List Bool) × (due ≡ Ok (Some marked)) × (count ≡ count_by (λ mark. mark) marked)
 IsFoundAs (Err fault.OtherRun) due = due ≡ Err fault.OtherRun
 IsFoundAs (Err fault.BadMarks) due = due ≡ Err fault.BadMarks
 IsFoundAs (Err fault.Memory) due = IsOk due
-IsFoundAs (Err fault.Sound) due = ⊤
-IsFoundAs (Err fault.Marks) due = ⊤
+IsFoundAs (Err (fault.Device file)) due = ⊤
 
 -- what a crash may leave of a run: marks that aren't started, or true ones
 abbrev pub IsResumable : Marking → Files → Type 0

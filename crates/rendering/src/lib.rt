@@ -7,6 +7,7 @@ mod fault;
 mod layout;
 mod maker;
 mod marked;
+mod marking;
 mod options;
 mod order;
 mod span;

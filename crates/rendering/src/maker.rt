@@ -21,11 +21,12 @@ ghost use Rattle.rendering.specs.Rendering.{HasRange, HaveChannels, render_fault
 ghost use Rattle.rendering.specs.Work.{AreCutBy, IsRenderWork, done_before, work_of};
 
 use crate::cutting::JobLength;
-use crate::marked::{FRONT, MOST_BLOCKS, count_of};
+use crate::marked::count_of;
+use crate::marking::place_marked;
 use crate::{Options, Order, RenderFault, Rendered, Rendering};
 use devices::{Bench, DeviceFault, Shelf};
-use execution::{JobMaker, OutputFault, PlaceFault, place_marked};
-use markfile::{FreshMarks, MARKS, MarksFault, RunId, SOUND, open_marks, start};
+use execution::{JobMaker, OutputFault, PlaceFault};
+use markfile::{FreshMarks, MARKS, MarkFault, RunId, SOUND, open_marks, start_fresh};
 use projectcheck::Checked;
 use std::alloc::{AllocError, Global};
 use std::marker::Model;
@@ -119,7 +120,7 @@ fn lay_out_marked<B: Bench>(
         Ok(()) => {}
         Err(_) => return Err(OutputFault { file: SOUND_OUTPUT }),
     }
-    match start(bench, fresh) {
+    match start_fresh(bench, fresh) {
         Ok(()) => return Ok(()),
         Err(_) => return Err(OutputFault { file: MARKS_OUTPUT }),
     }
@@ -152,10 +153,7 @@ impl<'a> JobMaker for RenderingWork<'a> {
     fn place<B: Bench>(&mut self, job: u32, bytes: &[u8], bench: &mut B) -> Result<(), PlaceFault> {
         let stretch = self.rendering.stretch(job);
         let at = self.rendering.place_at(&stretch);
-        let mark_at = FRONT + stretch.first as u64;
-        let ones = [1; MOST_BLOCKS];
-        let count = (stretch.behind - stretch.first) as usize;
-        place_marked(bench, SOUND, at, bytes, MARKS, mark_at, &ones[..count])
+        place_marked(bench, at, bytes, stretch.first, stretch.behind)
     }
 
     fn lay_out<B: Bench>(&mut self, bench: &mut B) -> Result<(), OutputFault> {
@@ -222,7 +220,7 @@ impl<'a> RenderingWork<'a> {
         alloc: Global,
         jobs: JobLength,
         bench: &mut B,
-    ) -> Result<Option<u32>, MarksFault>
+    ) -> Result<Option<u32>, MarkFault>
         ensures running { IsTrue (B.honest bench.old) → (sources : Files)
             → AreLeftBy ((plan_of self.old).marking sources) (B.may_leave bench.old)
             → (done : ℕ → Bool) → ((k : ℕ) → k < (plan_of self.new).jobs.count → done k ≡ done_before self.new.work k)
@@ -257,7 +255,7 @@ impl<'a> RenderingWork<'a> {
         };
         match self.rendering.cut_by(alloc, marks.marked.as_slice(), jobs) {
             Ok(()) => return Ok(Some(count_of(marks.marked.as_slice()))),
-            Err(_) => return Err(MarksFault::Memory),
+            Err(_) => return Err(MarkFault::Memory),
         }
     }
 

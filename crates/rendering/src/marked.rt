@@ -18,12 +18,6 @@ use devices::{Bench, DeviceFault, Shelf};
 use markfile::RunId;
 use std::alloc::{AllocError, Global};
 
-/// The bytes of the marks before that of the first block.
-pub(crate) const FRONT: u64 = 44;
-
-/// The most blocks of a job.
-pub(crate) const MOST_BLOCKS: usize = 2048;
-
 impl<'a> Rendering<'a> {
     /// The stretch of this job.
     pub(crate) fn stretch(&self, job: u32) -> Stretch

@@ -2,7 +2,7 @@
 use crate::works::{CONSOLIDATED as TEXT, Call, Job};
 use adlread::read;
 use adlwrite::{WriteFault, write};
-use consolidate::{Fault, MarksFault, OutputFile};
+use consolidate::{Fault, MarkFault, MarkedFile, OutputFile};
 use shelf::{Bench, MemoryBench};
 use std::process::Abort;
 use std::test::Fail;
@@ -32,8 +32,16 @@ impl Ended {
                 if source.number() == 1 && fault.number() == 22 => { Ended::Unread }
             Fault::Silence { name } if name.as_str() == "A.wav" => Ended::Unheard,
             Fault::Output(file) => Ended::Unwritten(*file),
-            Fault::Marks(MarksFault::Sound) => Ended::Unwritten(OutputFile::Rendering),
-            Fault::Marks(MarksFault::Marks) => Ended::Unwritten(OutputFile::Marks),
+            Fault::Marks(
+                MarkFault::Device {
+                    file: MarkedFile::Sound,
+                },
+            ) => Ended::Unwritten(OutputFile::Rendering),
+            Fault::Marks(
+                MarkFault::Device {
+                    file: MarkedFile::Marks,
+                },
+            ) => Ended::Unwritten(OutputFile::Marks),
             Fault::GivenUp { job } => Ended::GivenUp(*job),
             _ => Ended::Otherwise(fault.number()),
         }

@@ -9,4 +9,4 @@ pub returns-clause-written : goal.returns-clause-written
 returns-clause-written g c honest =
     subst (λ bytes. OnOk c.write_synced.result (Changes (IsWritten c.args.at bytes) marks_name
     (g.B.Bench.stored c.args.bench.now) (g.B.Bench.stored c.write_synced.new.bench)))
-    (take-replicate c.args.count 512 1 c.requires) (c.write_synced.ensures.written honest)
+    (take-replicate c.args.count 2048 1 c.requires) (c.write_synced.ensures.written honest)

@@ -5,19 +5,19 @@ use Rattle.devices.specs.Frame.{OnlyWrites}
 use Rattle.execution.specs.Marking.{Marking}
 use Rattle.execution.specs.Plan.{Stays}
 use Rattle.execution.specs.declared.fault.PlaceFault.TheVariants.{Mark}
-use Rattle.rendering.specs.Maker.{marks_of, plan_of}
+use Rattle.rendering.specs.Maker.{plan_of}
 use Rattle.rendering.specs.Marked.{MarkedWork}
 use Rattle.rendering.specs.Work.{place_of, stretch_at}
-use Rattle.rendering.proofs.BlockMarks.{names_apart, placed_stretch}
+use Rattle.rendering.proofs.BlockMarks.{placed_stretch}
 use Rattle.rendering.proofs.Works.{placed_as, places_as}
 use Rattle.rendering.proofs.maker.RenderingWorkJobMaker.place.Goals as goal
 
 pub returns-clause-marks : goal.returns-clause-marks
 returns-clause-marks g c honest sources done right off run =
-    c.place_marked.ensures.marks honest (marks_of c.args.self.now sources) done c.args.job
+    c.place_marked.ensures.marks honest c.args.self.now sources done c.args.job
     (placed_stretch _ _ c.args.job c.stretch-stretch.result c.place_at-at.result c.args.bytes.now sources c.self.view_is
-    (c.self.invariant.0, c.self.invariant.1) c.stretch-stretch.ensures.stretch c.stretch-stretch.ensures.few
-    c.place_at-at.ensures c.requires.there right) off run
+    (c.self.invariant.0, c.self.invariant.1) c.stretch-stretch.ensures.stretch c.place_at-at.ensures c.requires.there
+    right) off run
 
 pub returns-clause-placed : goal.returns-clause-placed
 returns-clause-placed g c honest =
@@ -25,7 +25,7 @@ returns-clause-placed g c honest =
     (g.B.Bench.stored c.place_marked.new.bench) c.place_marked.result
     (c.place_at-at.ensures ∙ ap (place_of c.self.inside.rendering.planned.range) c.stretch-stretch.ensures.stretch
     ∙ ap (λ (x : MarkedWork). place_of x.work.planned.range (stretch_at x.work.stretches c.args.job)) c.self.view_is)
-    (c.place_marked.ensures.placed honest names_apart)
+    (c.place_marked.ensures.placed honest)
 
 pub returns-clause-only_writes : goal.returns-clause-only_writes
 returns-clause-only_writes g c = subst (λ (x : MarkedWork). OnlyWrites g.B.Bench (Stays (plan_of x)) c.args.bench.now
