@@ -8,7 +8,7 @@ use Rattle.std.proofs.lemmas.Bool.Decides.{nat_tests}
 use Rattle.std.proofs.lemmas.List.{get_or-append_right, get_or_append_left}
 use Rattle.std.proofs.lemmas.List.Sorted.{IsNonDecreasingBy-from_default}
 use Rattle.sound_terms.specs.declared.piece.Run.{Run}
-use Rattle.consolidation.specs.Named.{AreEnds}
+use Rattle.consolidation.specs.Ends.{AreEnds}
 use Rattle.consolidation.specs.Pieces.{job_count, job_from, job_of, jobs_before, piece_from, pieces_in}
 
 -- a piece of a run among these is the job behind those of the runs before

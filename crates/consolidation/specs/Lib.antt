@@ -1,8 +1,8 @@
 pub mod Consolidated
+pub mod Ends
 pub mod Fault
 pub mod Jobs
 pub mod Media
-pub mod Named
 pub mod Numbered
 pub mod Outputs
 pub mod Own

@@ -17,7 +17,7 @@ pub enum ConsolidationFault {
     /// 51 and 52: a pass over the pieces failed; 52 too where a source failed as it was read for the report.
     #[error("{0}")]
     Pass(PassFault),
-    /// 53 and 54: there are too many runs, or no memory was left for them and for the names of their media.
+    /// 53 and 54: there are too many runs, or no memory was left for them and for where the jobs of each end.
     #[error("{0}")]
     Runs(RunFault),
     /// 55 and 56: the list would have too many entries, or no memory was left for it or for the report.

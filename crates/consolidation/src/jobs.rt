@@ -5,15 +5,15 @@ ghost use Rattle.sound_terms.specs.declared.piece.Run as run;
 ghost use Rattle.list_terms.specs.Renewed.{media_name};
 ghost use Rattle.devices.specs.Frame.{OnlyReads, OnlyWrites};
 ghost use Rattle.mediacopy.specs.Pieces.{IsPieceOf, piece_bytes, piece_length, piece_place};
-ghost use Rattle.consolidation.specs.Named.{AreEnds};
+ghost use Rattle.consolidation.specs.Ends.{AreEnds};
 ghost use Rattle.consolidation.specs.Pieces.{job_count, jobs_before};
 ghost use Rattle.consolidation.specs.Pieces as spec;
 ghost use Rattle.consolidation.specs.Planned.{IsMediaPlan};
 
 use crate::Consolidation;
 use crate::media::PIECE;
-use devices::{Bench, DeviceFault, Shelf};
-use mediacopy::{CopyJob, fetch_piece, length_of, place_piece};
+use devices::{Bench, Shelf};
+use mediacopy::{CopyFault, CopyJob, fetch_piece, length_of, place_piece};
 use mediaset::Runs;
 use sound_terms::Run;
 
@@ -89,7 +89,7 @@ impl<'a> Consolidation<'a> {
         requires { IsPieceOf self.now.sounds self.now.runs piece }
         ensures { result ≡ piece_length self.now.sounds self.now.runs piece }
     {
-        length_of(self.sounds, self.runs.as_slice(), piece)
+        length_of(self.bound, self.runs.as_slice(), piece)
     }
 
     /// Fills `bytes` with the frames of a piece in its source.
@@ -98,14 +98,14 @@ impl<'a> Consolidation<'a> {
         piece: CopyJob,
         shelf: &mut S,
         bytes: &mut [u8],
-    ) -> Result<(), DeviceFault>
+    ) -> Result<(), CopyFault>
         requires within { IsPieceOf self.now.sounds self.now.runs piece }
         requires room { length bytes.old ≡ piece_length self.now.sounds self.now.runs piece }
         ensures fetched { IsTrue (S.honest shelf.old)
             → OnOk result (bytes.new ≡ piece_bytes (S.stored shelf.old) self.now.sounds self.now.runs piece) }
         ensures only_reads { OnlyReads S.Shelf shelf.old shelf.new result (λ _. ⊤) (λ _ failed. ⊤) }
     {
-        fetch_piece(shelf, self.sounds, self.runs.as_slice(), piece, bytes)
+        fetch_piece(shelf, self.bound, self.runs.as_slice(), piece, bytes)
     }
 
     /// Writes the bytes of a piece at their place in the medium of its run.
@@ -114,7 +114,7 @@ impl<'a> Consolidation<'a> {
         piece: CopyJob,
         bytes: &[u8],
         bench: &mut B,
-    ) -> Result<(), DeviceFault>
+    ) -> Result<(), CopyFault>
         requires within { IsPieceOf self.now.sounds self.now.runs piece }
         ensures placed { IsTrue (B.honest bench.old)
             → OnOk result (Changes (IsWritten (piece_place self.now.sounds self.now.runs piece) bytes.now)
@@ -126,7 +126,6 @@ impl<'a> Consolidation<'a> {
             (λ _ failed. failed (media_name (piece.run + 1))) }
         ensures later { B.moment bench.old ≤ B.moment bench.new }
     {
-        let name = self.names[piece.run as usize].as_str();
-        place_piece(bench, name, self.sounds, self.runs.as_slice(), piece, bytes)
+        place_piece(bench, self.bound, self.runs.as_slice(), piece, bytes)
     }
 }

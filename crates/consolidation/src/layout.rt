@@ -1,4 +1,4 @@
-// The name of each medium, and its file before any piece is copied.
+// The file of each medium before any piece is copied.
 ghost use Rattle.std.specs.Prelude.{◌≡◌, ◌≢◌, ◌<◌, ◌≤◌, ◌+◌, IsTrue, OnOk, length, ⊤};
 ghost use Rattle.list_terms.specs.Renewed.{media_name};
 ghost use Rattle.devices.specs.Frame.{OnlyWrites};
@@ -6,21 +6,9 @@ ghost use Rattle.consolidation.specs.Media.{IsLaidOut};
 
 use crate::Consolidation;
 use devices::{Bench, DeviceFault};
-use mediacopy::{info_of, lay_out};
-
-/// The bytes of the longest header: that with 65,536 bytes of CodingHistory.
-pub(crate) const LONGEST_HEADER: usize = 66_226;
+use mediacopy::{info_of, lay_out_in, medium_name};
 
 impl<'a> Consolidation<'a> {
-    /// The name of the medium of the run at this place.
-    pub(crate) fn medium_name(&self, place: usize) -> &str
-        requires { place < length self.now.runs }
-        ensures name { result.now ≡ media_name (place + 1) }
-        ensures few { place < 32767 }
-    {
-        self.names[place].as_str()
-    }
-
     /// Makes the medium of the run at this place at its full length, all samples zero. Its header is made in `room`.
     pub(crate) fn blank_medium<B: Bench>(
         &self,
@@ -34,13 +22,12 @@ impl<'a> Consolidation<'a> {
         ensures only_writes { OnlyWrites B.Bench (λ n. n ≢ media_name (place + 1)) bench.old bench.new result (λ _. ⊤)
             (λ _ failed. failed (media_name (place + 1))) }
         ensures later { B.moment bench.old ≤ B.moment bench.new }
-        ensures few { place < 32767 }
     {
         let run = &self.runs.as_slice()[place];
-        let sound = &self.sounds[run.file as usize];
+        let sound = &self.bound.sounds()[run.file as usize];
         let base = self.runs.homes().base(run.file);
         let info = info_of(sound, base, run);
-        let name = self.medium_name(place);
-        lay_out(bench, name, &info, room)
+        let name = medium_name(place as u64 + 1);
+        lay_out_in(bench, name.as_str(), &info, room)
     }
 }

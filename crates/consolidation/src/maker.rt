@@ -29,7 +29,10 @@ impl<'a> JobMaker for Consolidation<'a> {
         bytes: &mut [u8],
     ) -> Result<(), DeviceFault> {
         let piece = self.piece(job);
-        self.fetch(piece, shelf, bytes)
+        match self.fetch(piece, shelf, bytes) {
+            Ok(()) => Ok(()),
+            Err(_) => Err(DeviceFault),
+        }
     }
 
     fn place<B: Bench>(&mut self, job: u32, bytes: &[u8], bench: &mut B) -> Result<(), PlaceFault> {

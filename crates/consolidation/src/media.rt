@@ -1,29 +1,16 @@
-// The names of media, and where the jobs of each end.
+// Where the jobs of each run end.
 ghost use Rattle.std.specs.Prelude.{◌≡◌, ◌<◌, ◌+◌, ◌^◌, IfOk, All};
-ghost use Rattle.consolidation.specs.Named.{AreEnds, AreNamed};
+ghost use Rattle.consolidation.specs.Ends.{AreEnds};
 ghost use Rattle.consolidation.specs.Pieces as spec;
 ghost use Rattle.consolidation.specs.Planned.{IsAddressed};
 
 use mediaset::Runs;
-use relink::media_name;
 use sound_terms::Run;
 use std::alloc::{AllocError, Global};
 use wavread::Sound;
 
 /// The frames of a piece.
 pub const PIECE: u64 = 65_536;
-
-/// The names of the media of runs.
-pub fn names_of(alloc: Global, runs: &Runs) -> Result<Vec<String>, AllocError>
-    ensures { IfOk result (λ names. AreNamed runs.now.runs names.items) }
-{
-    let list = runs.as_slice();
-    let mut names = Vec::with_capacity(alloc, list.len())?;
-    for number in 0..list.len() as u32 {
-        names.push(media_name(alloc, number + 1)?)?;
-    }
-    Ok(names)
-}
 
 /// How many pieces a run has.
 fn pieces_in(run: &Run) -> u64

@@ -46,7 +46,7 @@ impl<'a> Consolidation<'a> {
         Written {
             media: self.runs.len() as u32,
             entries: self.entries,
-            sizes: sizes_of(self.sounds, self.runs.as_slice(), self.text.len()),
+            sizes: sizes_of(self.bound.sounds(), self.runs.as_slice(), self.text.len()),
         }
     }
 }

@@ -8,15 +8,15 @@ ghost use Rattle.consolidation.specs.Outputs.{FailsAtMedium};
 ghost use Rattle.consolidation.specs.Planned.{IsMediaPlan};
 
 use crate::Consolidation;
-use crate::layout::LONGEST_HEADER;
 use devices::Bench;
 use execution::OutputFault;
+use mediacopy::{LONGEST_HEADER, medium_name};
 
 impl<'a> Consolidation<'a> {
     /// Lays out the medium at a position. Its header is made in `room`.
     fn lay_out_output<B: Bench>(
         &self,
-        position: usize,
+        position: u32,
         room: &mut [u8],
         bench: &mut B,
     ) -> Result<(), OutputFault>
@@ -27,11 +27,9 @@ impl<'a> Consolidation<'a> {
             (FailsAtMedium (length self.now.runs)) }
         ensures later { B.moment bench.old ≤ B.moment bench.new }
     {
-        match self.blank_medium(position, room, bench) {
+        match self.blank_medium(position as usize, room, bench) {
             Ok(()) => Ok(()),
-            Err(_) => Err(OutputFault {
-                file: position as u32,
-            }),
+            Err(_) => Err(OutputFault { file: position }),
         }
     }
 
@@ -45,14 +43,14 @@ impl<'a> Consolidation<'a> {
         ensures planned { IsMediaPlan self.now }
     {
         let mut room = [0; LONGEST_HEADER];
-        for position in 0..self.runs.len() {
+        for position in 0..self.runs.len() as u32 {
             self.lay_out_output(position, &mut room, bench)?;
         }
         Ok(())
     }
 
     /// Syncs the medium at a position.
-    fn sync_output<B: Bench>(&self, position: usize, bench: &mut B) -> Result<(), OutputFault>
+    fn sync_output<B: Bench>(&self, position: u32, bench: &mut B) -> Result<(), OutputFault>
         requires { position < length self.now.runs }
         ensures durable { IsTrue (B.honest bench.old)
             → OnOk result (IsDurable (media_name (position + 1)) (B.stored bench.new) (B.may_leave bench.new)) }
@@ -61,11 +59,10 @@ impl<'a> Consolidation<'a> {
             (FailsAtMedium (length self.now.runs)) }
         ensures later { B.moment bench.old ≤ B.moment bench.new }
     {
-        match bench.sync(self.medium_name(position)) {
+        let name = medium_name(u64::from(position) + 1);
+        match bench.sync(name.as_str()) {
             Ok(()) => Ok(()),
-            Err(_) => Err(OutputFault {
-                file: position as u32,
-            }),
+            Err(_) => Err(OutputFault { file: position }),
         }
     }
 
@@ -79,7 +76,7 @@ impl<'a> Consolidation<'a> {
         ensures later { B.moment bench.old ≤ B.moment bench.new }
         ensures planned { IsMediaPlan self.now }
     {
-        for position in 0..self.runs.len() {
+        for position in 0..self.runs.len() as u32 {
             self.sync_output(position, bench)?;
         }
         Ok(())

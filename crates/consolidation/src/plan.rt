@@ -21,18 +21,17 @@ use mediaset::Runs;
 use passes::Pass;
 use projectcheck::Checked;
 use provenance::Report;
+use sourceindex::Bound;
 use std::alloc::Global;
 use std::marker::Model;
-use wavread::Sound;
 
-/// A consolidation before its first write: the runs of opened files that become media, with the home of each file; the
-/// names of the media, and how many jobs the runs up to and with each have; the text of the list over the media, with so
-/// many entries; and the report, where one is asked for.
+/// A consolidation before its first write: the runs of bound files that become media, with the home of each file; how
+/// many jobs the runs up to and with each have; the text of the list over the media, with so many entries; and the
+/// report, where one is asked for.
 #[derive(Drop)]
 pub struct Consolidation<'a> {
-    pub(crate) sounds: &'a [Sound],
+    pub(crate) bound: &'a Bound,
     pub(crate) runs: Runs,
-    pub(crate) names: Vec<String>,
     pub(crate) ends: Vec<u32>,
     pub(crate) text: Vec<u8>,
     pub(crate) entries: u32,
@@ -40,13 +39,14 @@ pub struct Consolidation<'a> {
 }
 
 impl<'a> Model for Consolidation<'a> {
-    ghost use Rattle.consolidation.specs.Named.{AreEnds, AreNamed};
+    ghost use Rattle.list_terms.specs.Heard.{sounds_of};
+    ghost use Rattle.consolidation.specs.Ends.{AreEnds};
     ghost use Rattle.consolidation.specs.Planned as planned;
 
     ghost Value = { planned.MediaPlan };
 
     ghost view = { λ c. record {
-      sounds = c.sounds.now;
+      sounds = sounds_of c.bound.now;
       homes = c.runs.homes;
       runs = c.runs.runs;
       text = c.text.items;
@@ -55,14 +55,14 @@ impl<'a> Model for Consolidation<'a> {
     } };
 
     ghost invariant = { λ c. planned.IsMediaPlan (record {
-      sounds = c.sounds.now;
+      sounds = sounds_of c.bound.now;
       homes = c.runs.homes;
       runs = c.runs.runs;
       text = c.text.items;
       entries = c.entries;
       report = c.report;
     })
-        × AreNamed c.runs.runs c.names.items × AreEnds c.runs.runs c.ends.items };
+        × AreEnds c.runs.runs c.ends.items };
 }
 
 impl<'a> Consolidation<'a> {
@@ -77,7 +77,7 @@ impl<'a> Consolidation<'a> {
     /// too, by one more reading of the frames that are kept.
     ///
     /// All memory that the consolidation needs is taken here. `Intervals`, `Pass`, `Runs` and `Relink`, in this turn; where
-    /// no memory was left for the names of media, `Runs`, and for the report, `Relink`. The watch is told how far the
+    /// no memory was left for where the jobs of the runs end, `Runs`, and for the report, `Relink`. The watch is told how far the
     /// looking for silence has come.
     #[tactic(auto, using(crate::proofs::Opened::bound_there))]
     pub fn plan<S: Shelf, W: Watch>(

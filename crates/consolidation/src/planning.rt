@@ -16,7 +16,7 @@ ghost use Rattle.consolidation.specs.Planned.{AreLeft, IsAddressed, IsMediumRun,
 ghost use Rattle.consolidation.specs.Reported.{HasReport, told_of};
 ghost use Rattle.consolidation.specs.Work.{IsLinked};
 
-use crate::media::{ends_of, names_of};
+use crate::media::ends_of;
 use crate::{Consolidation, ConsolidationFault};
 use adlmodel::Project;
 use adlwrite::text_of;
@@ -171,17 +171,13 @@ pub fn plan_of<'a, S: Shelf>(
     let entries = intervals.groups().len() as u64;
     let list = text_over(alloc, checked, intervals, &runs)?;
     all_read_back(bound.sounds(), &runs);
-    let Ok(names) = names_of(alloc, &runs) else {
-        return Err(ConsolidationFault::Runs(RunFault::Memory));
-    };
     let Ok(ends) = ends_of(alloc, bound.sounds(), &runs) else {
         return Err(ConsolidationFault::Runs(RunFault::Memory));
     };
     let report = report_for(alloc, checked, &runs, &list, handle, asked, shelf)?;
     Ok(Consolidation {
-        sounds: bound.sounds(),
+        bound,
         runs,
-        names,
         ends,
         text: list.text,
         entries: entries as u32,

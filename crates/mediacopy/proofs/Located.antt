@@ -1,12 +1,11 @@
 -- A piece in its source and in its medium, as code reads it.
-use Rattle.std.proofs.Common.{◌≡◌, ◌∙◌, ℕ, ◌+◌, ◌*◌, ◌%◌, ◌^◌, ◌<◌, ◌≤◌, List, [], length, take, drop, Option, Some, ap, arith, get_or, sym}
+use Rattle.std.proofs.Common.{◌≡◌, ◌∙◌, ℕ, ◌+◌, ◌*◌, ◌^◌, ◌<◌, ◌≤◌, List, [], length, take, drop, Option, ap, arith, get_or, sym}
 use Rattle.std.specs.Prelude.{unwrap_or}
 use Rattle.std.proofs.lemmas.Option.{get_or_from_slice_get}
 use Rattle.std.proofs.Math.Nat.{mul-le-mul_right}
 use Rattle.sound_terms.specs.declared.piece.Run.{Run}
-use Rattle.sound_terms.specs.Media.{frame_length, medium_info, no_sound, sound_at}
+use Rattle.sound_terms.specs.Media.{frame_length, no_sound, sound_at}
 use Rattle.sound_terms.specs.Sounds.{SoundFacts}
-use Rattle.sound_terms.specs.Waves.{file_length}
 use Rattle.work_terms.specs.Disk.{IsRange}
 use Rattle.mediacopy.specs.declared.piece.CopyJob.{CopyJob}
 use Rattle.mediacopy.specs.Pieces.{IsPieceOf, no_run, piece_place, run_at, source_of}

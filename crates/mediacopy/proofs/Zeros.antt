@@ -1,7 +1,7 @@
 -- Zeros that are added at the end of a file, and a file that is laid out.
-use Rattle.std.proofs.Common.{◌≡◌, ℕ, ◌+◌, ◌-◌, ◌%◌, ◌≤◌, List, [], ◌++◌, take, Option, Some, refl, sym, ap, ◌∙◌, arith}
+use Rattle.std.proofs.Common.{◌≡◌, ℕ, ◌+◌, ◌%◌, List, [], ◌++◌, Option, Some, sym, ap, ◌∙◌}
 use Rattle.std.specs.Prelude.{replicate, unwrap_or}
-use Rattle.std.proofs.lemmas.List.{append-nil, append_assoc, replicate-append-replicate, take-replicate}
+use Rattle.std.proofs.lemmas.List.{replicate-append-replicate}
 use Rattle.sound_terms.specs.Laws.{length-zeros}
 use Rattle.sound_terms.specs.Waves.{SoundInfo, data_size, file_of, header_of, zeros}
 use Rattle.work_terms.specs.Disk.{IsAppended}

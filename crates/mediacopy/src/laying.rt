@@ -1,16 +1,36 @@
 // Lays media out at their full length.
-ghost use Rattle.std.specs.Prelude.{◌≡◌, ◌≢◌, ◌≤◌, Some, ⊤, IsTrue, OnOk, length};
+ghost use Rattle.std.specs.Prelude.{◌≡◌, ◌≢◌, ◌≤◌, IfErr, Some, ⊤, IsTrue, OnOk, length};
 ghost use Rattle.sound_terms.specs.Waves.{data_place};
 ghost use Rattle.devices.specs.Frame.{OnlyWrites};
 ghost use Rattle.wavwrite.specs.Info.{Fits};
 ghost use Rattle.mediacopy.specs.Copied.{laid_out};
 
+use crate::CopyFault;
 use devices::{Bench, DeviceFault};
-use wavwrite::SoundInfoRef;
+use wavwrite::{SoundInfo, SoundInfoRef};
+
+/// The bytes of the longest header: that with 65,536 bytes of CodingHistory.
+pub const LONGEST_HEADER: usize = 66_226;
+
+/// Makes the file of this header with every sample zero. It takes no memory.
+pub fn lay_out<B: Bench>(bench: &mut B, name: &str, info: &SoundInfo) -> Result<(), CopyFault>
+    requires { Fits info.now }
+    ensures laid { IsTrue (B.honest bench.old) → OnOk result (B.stored bench.new name.now ≡ Some (laid_out info.now)) }
+    ensures output { IfErr result (λ fault. fault ≡ CopyFault.Output) }
+    ensures only_writes { OnlyWrites B.Bench (λ n. n ≢ name.now) bench.old bench.new result (λ _. ⊤)
+        (λ _ failed. failed name.now) }
+    ensures later { B.moment bench.old ≤ B.moment bench.new }
+{
+    let mut room = [0; LONGEST_HEADER];
+    match lay_out_in(bench, name, &info.lent(), &mut room) {
+        Ok(()) => Ok(()),
+        Err(_) => Err(CopyFault::Output),
+    }
+}
 
 /// Makes the file of this header with every sample zero. The header is made in `room`, which is long enough for it, so
-/// this takes no memory.
-pub fn lay_out<B: Bench>(
+/// many files can be laid out in the same.
+pub fn lay_out_in<B: Bench>(
     bench: &mut B,
     name: &str,
     info: &SoundInfoRef,

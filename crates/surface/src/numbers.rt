@@ -5,6 +5,7 @@ use adltoken::TokenFault;
 use adlwrite::WriteFault;
 use blockmachine::MachineFault;
 use interval::IntervalFault;
+use mediacopy::CopyFault;
 use mediaset::RunFault;
 use passes::PassFault;
 use projectcheck::EventFault;
@@ -51,12 +52,14 @@ pub fn of_groups(
     interval: &IntervalFault,
     pass: &PassFault,
     run: &RunFault,
+    copied: &CopyFault,
     linked: &RelinkFault,
-) -> [u8; 4] {
+) -> [u8; 5] {
     [
         interval.number(),
         pass.number(),
         run.number(),
+        copied.number(),
         linked.number(),
     ]
 }

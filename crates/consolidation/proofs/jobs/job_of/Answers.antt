@@ -2,7 +2,7 @@ use Rattle.std.proofs.Common.{◌∙◌, ◌-◌, ℕ, List, ap, get_or, sym}
 use Rattle.std.proofs.lemmas.Option.{slice_get-get_or}
 use Rattle.sound_terms.specs.declared.piece.Run.{Run}
 use Rattle.mediacopy.specs.Pieces.{no_run}
-use Rattle.consolidation.specs.Named.{AreEnds}
+use Rattle.consolidation.specs.Ends.{AreEnds}
 use Rattle.consolidation.specs.Pieces.{job_of, piece_from}
 use Rattle.consolidation.proofs.Jobwise.{job_at}
 use Rattle.consolidation.proofs.jobs.job_of.Goals as goal

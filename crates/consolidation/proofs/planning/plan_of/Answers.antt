@@ -94,7 +94,7 @@ returns-clause-planned g c =
     let given : c.in-Ok.homes ≡ homes_of binding = c.in-Ok.ensures ∙ ap homes_of c.bound-bound.ensures in
     let homes : c.in_ok-runs.runs.homes ≡ homes_of binding = c.in_ok-runs.ensures.homes ∙ given in
     record {
-      sounds = c.sounds-3.ensures.sounds ∙ ap sounds_of c.bound-bound.ensures;
+      sounds = ap sounds_of c.bound-bound.ensures;
       homes = homes;
       few = c.in_ok-runs.ensures.sound.few;
       kept = rw given at c.in_ok-runs.ensures.kept;

@@ -1,34 +1,33 @@
-use Rattle.std.proofs.Common.{◌≡◌, ◌∙◌, ◌+◌, ◌*◌, ◌<◌, ◌^◌, ℕ, ap, arith, refl}
+use Rattle.std.proofs.Common.{◌≡◌, ◌∙◌, ◌+◌, ℕ, ap, arith, rules}
 use Rattle.sound_terms.specs.Media.{frame_length}
-use Rattle.sound_terms.specs.Sounds.{SoundFacts}
-use Rattle.mediacopy.specs.Pieces.{piece_place, source_of}
-use Rattle.mediacopy.proofs.Located.{place_told, source_read}
+use Rattle.list_terms.specs.Heard.{sounds_of}
+use Rattle.list_terms.specs.Renewed.{media_name}
+use Rattle.mediacopy.proofs.Located.{place_told}
 use Rattle.mediacopy.proofs.copying.place_piece.Goals as goal
 
 pub overflow_mul-place : goal.overflow_mul-place
 overflow_mul-place g c =
-    let told = place_told c.args.sounds.now c.args.runs.now c.args.job c.requires.piece in
-    let same : c.index-sounds-run.result ≡ source_of c.args.sounds.now c.args.runs.now c.args.job =
-    c.index-sounds-run.is ∙ source_read c.args.sounds.now c.args.runs.now c.args.job c.requires.piece _ _ in
-    let width : c.frame_of.result ≡ frame_length (source_of c.args.sounds.now c.args.runs.now c.args.job) =
-    c.frame_of.ensures.value ∙ ap frame_length same in
+    let told = place_told (sounds_of c.args.bound.now) c.args.runs.now c.args.job c.requires.piece in
+    let width = c.frame_of.ensures.value ∙ ap frame_length c.source_of-sound.ensures in
     rw width (omega (arith, told))
 
 pub overflow_add-place : goal.overflow_add-place
 overflow_add-place g c =
-    let told = place_told c.args.sounds.now c.args.runs.now c.args.job c.requires.piece in
-    let same : c.index-sounds-run.result ≡ source_of c.args.sounds.now c.args.runs.now c.args.job =
-    c.index-sounds-run.is ∙ source_read c.args.sounds.now c.args.runs.now c.args.job c.requires.piece _ _ in
-    rw (c.place_in_media.ensures.place, c.frame_of.ensures.value, same) (omega (arith, told))
+    let told = place_told (sounds_of c.args.bound.now) c.args.runs.now c.args.job c.requires.piece in
+    rw (c.place_in_media.ensures.place, c.frame_of.ensures.value, c.source_of-sound.ensures) (omega (arith, told))
 
-pub returns-clause-placed : goal.returns-clause-placed
-returns-clause-placed g c = λ honest.
-    let same : c.index-sounds-run.result ≡ source_of c.args.sounds.now c.args.runs.now c.args.job =
-    c.index-sounds-run.is ∙ source_read c.args.sounds.now c.args.runs.now c.args.job c.requires.piece _ _ in
-    rw (c.place_in_media.ensures.place, c.frame_of.ensures.value, same) at (c.write_at.ensures.written honest)
+pub returns-in-Ok-clause-placed : goal.returns-in-Ok-clause-placed
+returns-in-Ok-clause-placed g c = λ honest.
+    let run : c.from.result ≡ c.args.job.run = search rules in
+    let named : c.as_str.result.now ≡ media_name (c.args.job.run + 1) =
+    c.as_str.ensures.value ∙ c.medium_name-name.ensures ∙ ap (λ (n : ℕ). media_name (n + 1)) run in
+    rw (c.place_in_media.ensures.place, c.frame_of.ensures.value, c.source_of-sound.ensures, named) at
+    (c.in-Ok.ensures.written honest)
 
-pub returns-clause-torn : goal.returns-clause-torn
-returns-clause-torn g c = λ honest.
-    let same : c.index-sounds-run.result ≡ source_of c.args.sounds.now c.args.runs.now c.args.job =
-    c.index-sounds-run.is ∙ source_read c.args.sounds.now c.args.runs.now c.args.job c.requires.piece _ _ in
-    rw (c.place_in_media.ensures.place, c.frame_of.ensures.value, same) at (c.write_at.ensures.torn honest)
+pub returns-in-Err-clause-torn : goal.returns-in-Err-clause-torn
+returns-in-Err-clause-torn g c = λ honest.
+    let run : c.from.result ≡ c.args.job.run = search rules in
+    let named : c.as_str.result.now ≡ media_name (c.args.job.run + 1) =
+    c.as_str.ensures.value ∙ c.medium_name-name.ensures ∙ ap (λ (n : ℕ). media_name (n + 1)) run in
+    rw (c.place_in_media.ensures.place, c.frame_of.ensures.value, c.source_of-sound.ensures, named) at
+    (c.in-Err.ensures.torn honest)

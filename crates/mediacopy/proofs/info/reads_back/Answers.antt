@@ -1,4 +1,3 @@
-use Rattle.std.proofs.Common.{◌≡◌}
 use Rattle.mediacopy.proofs.Medium.{is_medium}
 use Rattle.mediacopy.proofs.info.reads_back.Goals as goal
 

@@ -1,5 +1,5 @@
 use Rattle.std.proofs.Common.{◌≡◌, ◌∙◌, ap, arith, length, subst}
-use Rattle.consolidation.specs.Named.{AreEnds}
+use Rattle.consolidation.specs.Ends.{AreEnds}
 use Rattle.consolidation.specs.Pieces.{job_count, jobs_before}
 use Rattle.consolidation.specs.Planned.{IsMediaPlan, MediaPlan}
 use Rattle.consolidation.proofs.Jobwise.{before_all}
@@ -8,7 +8,7 @@ use Rattle.consolidation.proofs.plan.Consolidation.count.Goals as goal
 pub returns-clause-count : goal.returns-clause-count
 returns-clause-count c =
     let runs = c.self.inside.runs.runs in
-    let are : AreEnds runs c.self.inside.ends.items = c.self.invariant.2 in
+    let are : AreEnds runs c.self.inside.ends.items = c.self.invariant.1 in
     let before = c.before-2.ensures runs (rw c.deref.ensures.value are) in
     let value = ap length c.deref.ensures.value in
     let lent = c.deref.ensures.len in

@@ -2,7 +2,7 @@ use Rattle.std.proofs.Common.{◌≡◌, ◌+◌, ◌%◌, ◌++◌, [], ℕ, Is
 use Rattle.sound_terms.specs.Waves.{header_of}
 use Rattle.devices.specs.AppendLaws.{added_to}
 use Rattle.mediacopy.proofs.Zeros.{appended_to, laid}
-use Rattle.mediacopy.proofs.laying.lay_out.Goals as goal
+use Rattle.mediacopy.proofs.laying.lay_out_in.Goals as goal
 
 pub returns-clause-laid : goal.returns-clause-laid
 returns-clause-laid g c = λ honest.
