@@ -348,7 +348,8 @@ module _ {S B : Type 0} (shelf : source.Ghosts S) (bench : output.Ghosts B) (lea
       both honest right text accepted = if_both ended
           (HoldJobs (job_plan plan) (shelf.stored mid) (bench.stored after)
           × HoldLast (job_plan plan) (shelf.stored mid) (bench.stored after))
-          (AreDurable false counts.media (bench.stored after) (bench.may_leave after)) (whole_now shelf bench leave project binding handle None plan counts
+          (AreDurable false counts.media (bench.stored after) (bench.may_leave after))
+          (whole_now shelf bench leave project binding handle None plan counts
           old mid new before after board events untouched ended planned there fits due reads value names sounds made call
           none honest right text accepted)
           (durable_now shelf bench leave project binding handle None plan counts old mid new before after board events

@@ -1,6 +1,5 @@
 -- An outcome of a rendering, from the stores in the middle of a call to those at its begin.
-use Rattle.std.proofs.Common.{◌≡◌, ◌∙◌, ◌<◌, ◌≤◌, ℕ, Bool, Option, None, Some, Result, Ok, Err, List, take, refl, sym, ap, subst, arith}
-use Rattle.std.specs.Prelude.{⊤}
+use Rattle.std.proofs.Common.{◌≡◌, ◌∙◌, ℕ, Bool, Option, None, Result, List, take, sym, subst}
 use Rattle.work_terms.specs.Disk.{Files}
 use Rattle.devices.specs.ViewLaws.{writes_then}
 use Rattle.devices.specs.Views.{OutputView, SourceView, Writes}
@@ -12,8 +11,8 @@ use Rattle.execution.specs.EventRun.{Snapshot, snapshot_of}
 use Rattle.execution.specs.Laws.{KeepsLaws}
 use Rattle.execution.specs.Marking.{NoneStartedBy}
 use Rattle.execution.specs.Outcome.{EventsDone, Finished, NotFinished, NotLaidOut, Outcome, Stopped}
-use Rattle.execution.specs.Plan.{AreBlank, JobPlan, Stays}
-use Rattle.execution.specs.Worlds.{IsWorld, Leads, state_of}
+use Rattle.execution.specs.Plan.{JobPlan, Stays}
+use Rattle.execution.specs.Worlds.{Leads, state_of}
 use Rattle.execution.specs.declared.fault.ExecutionFault.{ExecutionFault}
 
 -- ---- no worker held anything, and nothing is said of the sources beside their files and failures

@@ -1,11 +1,11 @@
 -- What an execution of a rendering leaves of a project, and behind marks that were opened.
-use Rattle.std.proofs.Common.{◌≡◌, ◌∙◌, ℕ, Bool, Option, None, Some, Result, Ok, Err, List, IsTrue, refl, sym, ap, subst}
+use Rattle.std.proofs.Common.{◌≡◌, ◌∙◌, ℕ, Bool, Option, None, Some, Result, Ok, Err, List, IsTrue, sym, ap, subst}
 use Rattle.std.specs.Prelude.{⊤}
 use Rattle.work_terms.specs.Disk.{Files, IsUntouched}
 use Rattle.work_terms.specs.Refusals.{Refusal}
 use Rattle.devices.specs.declared.source.Shelf as source
 use Rattle.devices.specs.declared.bench.Bench as output
-use Rattle.devices.specs.Views.{OutputView, Writes, output_view, source_view}
+use Rattle.devices.specs.Views.{Writes, output_view, source_view}
 use Rattle.job_terms.specs.declared.BoardEvent.{BoardEvent}
 use Rattle.job_terms.specs.declared.Progress.{Progress}
 use Rattle.job_terms.specs.Workers.{Nothing, jobs_over}
@@ -328,7 +328,8 @@ module _ {S B X : Type 0} (shelf : source.Ghosts S) (bench : output.Ghosts B) (I
 -- ---- all of a call behind marks that were opened
 
 module _ {S B : Type 0} (shelf : source.Ghosts S) (bench : output.Ghosts B) (jobs : JobLength) (text : List ℕ)
-    (values : OptionValues) (project : ListProject) (binding : Binding) (was x : MarkedWork) (of : IsMarkedFor text project binding values was)
+    (values : OptionValues) (project : ListProject) (binding : Binding) (was x : MarkedWork)
+    (of : IsMarkedFor text project binding values was)
     (plan : x.work.planned ≡ was.work.planned) (sounds : x.work.sounds ≡ was.work.sounds) (same_run : x.run ≡ was.run)
     (s0 s1 : S) (b0 mid b1 : B) (found : Option ℕ)
     (same : IsUntouched bench.stored bench.may_leave bench.moment bench.left_since b0 mid)

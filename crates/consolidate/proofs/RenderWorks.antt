@@ -1,5 +1,5 @@
 -- What an execution of a marked rendering leaves.
-use Rattle.std.proofs.Common.{◌≡◌, ◌≢◌, ◌∙◌, ◌<◌, ◌==◌, ℕ, Bool, true, false, cond, Option, None, Some, Result, Ok, Err, List, IsTrue, length, inl, inr, refl, sym, ap, subst, arith}
+use Rattle.std.proofs.Common.{◌≡◌, ◌∙◌, ◌<◌, ◌==◌, ℕ, Bool, true, false, cond, None, Some, Result, Ok, Err, List, IsTrue, length, inl, inr, refl, sym, ap, subst, arith}
 use Rattle.std.specs.Prelude.{IfOk, ⊤}
 use Rattle.std.proofs.lemmas.List.{length-map, length-replicate}
 use Rattle.work_terms.specs.Disk.{Files, LeavesOnly}

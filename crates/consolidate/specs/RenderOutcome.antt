@@ -55,7 +55,8 @@ pub record IsRenderedWork (events : ℕ → List BoardEvent) (marked : MarkedWor
     : Type 0 where
   pub order : List ℕ
   pub is_order : IsOrder (work_of marked.work).count order
-  pub came : IsWorkedOff (AreBlank (jobs_over (plan_of marked).jobs source_old.files) ((plan_of marked).whole source_old.files)) ⊤ marked (fresh_board (work_of marked.work).count order)
+  pub came : IsWorkedOff (AreBlank (jobs_over (plan_of marked).jobs source_old.files)
+      ((plan_of marked).whole source_old.files)) ⊤ marked (fresh_board (work_of marked.work).count order)
       (events (work_of marked.work).count) source_old source_new output_old output_new ended
 
 -- the files were as they stood, the jobs done whose blocks were marked, and the others open, in an order of them all

@@ -1,5 +1,5 @@
 -- What the calls inside `render`, `resume` and the schedule of a rendering leave.
-use Rattle.std.specs.Prelude.{◌≡◌, ◌≢◌, ◌<◌, ℕ, ⊤, Bool, true, false, IsTrue, IfOk, Some, List, Result, Ok, Err, length, slice_index_or}
+use Rattle.std.specs.Prelude.{◌≡◌, ◌<◌, ℕ, ⊤, Bool, false, IsTrue, IfOk, Some, List, Result, length, slice_index_or}
 use Rattle.devices.specs.declared.source.Shelf as source
 use Rattle.devices.specs.declared.bench.Bench as output
 use Rattle.devices.specs.Views.{output_view, source_view}
@@ -22,7 +22,7 @@ use Rattle.work_terms.specs.Disk.{Files, LeavesOnly}
 use Rattle.consolidate.specs.Commands.{KeepsStores}
 use Rattle.consolidate.specs.Marks.{AreBothDurable}
 use Rattle.consolidate.specs.Outcomes.{AnswersAs, HasBegun}
-use Rattle.consolidate.specs.RenderOutcome.{IsRenderedWork, IsResumedWork, in_rounds, rendering_fault}
+use Rattle.consolidate.specs.RenderOutcome.{IsRenderedWork, IsResumedWork, rendering_fault}
 use Rattle.consolidate.specs.declared.fault.Fault.{Fault}
 use Rattle.consolidate.specs.declared.fault.Fault.TheVariants as fault
 

@@ -1,5 +1,5 @@
 -- What the events of any number of workers leave of a command.
-use Rattle.std.specs.Prelude.{◌≡◌, ◌≢◌, ℕ, ⊤, false, true, IsTrue, IfErr, IfOk, Option, None, Some, List, Result, Ok, Err, codes}
+use Rattle.std.specs.Prelude.{◌≡◌, ◌≢◌, ℕ, false, IsTrue, IfErr, IfOk, None, List, Result, Ok, Err, codes}
 use Rattle.devices.specs.declared.source.Shelf as source
 use Rattle.devices.specs.declared.bench.Bench as output
 use Rattle.devices.specs.Views.{output_view, source_view}

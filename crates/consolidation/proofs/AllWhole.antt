@@ -25,7 +25,8 @@ module _ (plan : MediaPlan) (is : IsMediaPlan plan) where
       → (written (codes "consolidated.adl") ≡ Some plan.text) × IsReportThere plan.report written
   holds_last sources written holds =
       last_held plan.text plan.report (whole_of plan sources) written (λ position below.
-      subst (λ (n : List ℕ). written n ≡ Some (whole_output plan sources n)) (output_after (length plan.runs) (is_some plan.report) position)
+      subst (λ (n : List ℕ). written n ≡ Some (whole_output plan sources n)) (output_after (length plan.runs)
+      (is_some plan.report) position)
       (holds (length plan.runs + position) (omega arith, omega (arith, below))))
 
   pub foreign_elsewhere : (reported : Bool) → is_some plan.report ≡ reported → (n : List ℕ)

@@ -97,7 +97,8 @@ returns-in-Ok-clause-scheduled g c =
       outcome = λ honest right begun. listed_media g.S.Shelf c.args.shelf.now c.open.new.shelf opened.only_reads.same
           (opened.only_reads.cause.left tt) Progress Progress leave list checked.project checked.bound c.args.handle None
           (λ _. c.args.events.now) reports reports (source_view g.S.Shelf c.schedule_consolidation.new.shelf)
-          (output_view g.B.Bench c.args.bench.now) (output_view g.B.Bench c.schedule_consolidation.new.bench) (Ok c.in-Ok.progress) (Ok c.in-Ok.progress)
+          (output_view g.B.Bench c.args.bench.now) (output_view g.B.Bench c.schedule_consolidation.new.bench)
+          (Ok c.in-Ok.progress) (Ok c.in-Ok.progress)
           (opened.accepted honest) (λ fault_for ended answers. answers)
           (told.outcome (honest_now honest) right list
           (rw c.open.ensures.only_reads.same (opened.accepted honest)) begun);
@@ -138,11 +139,13 @@ returns-in_err-checked-clause-standard g c are =
 pub returns-in-Err-clause-standard : goal.returns-in-Err-clause-standard
 returns-in-Err-clause-standard g c are =
     subst (λ (leave : Leaving). IsConsolidationSchedule g.S.Shelf g.B.Bench leave c.args.list.now c.args.handle
-    c.args.events.now c.args.shelf.now c.schedule_consolidation.new.shelf c.args.bench.now c.schedule_consolidation.new.bench (Err c.in-Err.fault))
+    c.args.events.now c.args.shelf.now c.schedule_consolidation.new.shelf c.args.bench.now
+    c.schedule_consolidation.new.bench (Err c.in-Err.fault))
     (standard_left _ _ c.args.passes.items are) (returns-in-Err-clause-scheduled g c)
 
 pub returns-in-Ok-clause-standard : goal.returns-in-Ok-clause-standard
 returns-in-Ok-clause-standard g c are =
     subst (λ (leave : Leaving). IsConsolidationSchedule g.S.Shelf g.B.Bench leave c.args.list.now c.args.handle
-    c.args.events.now c.args.shelf.now c.schedule_consolidation.new.shelf c.args.bench.now c.schedule_consolidation.new.bench (Ok c.in-Ok.progress))
+    c.args.events.now c.args.shelf.now c.schedule_consolidation.new.shelf c.args.bench.now
+    c.schedule_consolidation.new.bench (Ok c.in-Ok.progress))
     (standard_left _ _ c.args.passes.items are) (returns-in-Ok-clause-scheduled g c)

@@ -1,4 +1,4 @@
-use Rattle.std.proofs.Common.{◌∙◌, IsTrue, Ok, Err, None, Some, ap, rules, subst, sym}
+use Rattle.std.proofs.Common.{◌∙◌, IsTrue, Ok, Err, Some, ap, rules, subst, sym}
 use Rattle.std.proofs.lemmas.Result.{err_from_is_err_and}
 use Rattle.rendering.specs.Rendering.{values_of}
 use Rattle.rendering.specs.declared.work.Rendered as rendering

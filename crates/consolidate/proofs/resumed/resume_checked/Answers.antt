@@ -167,7 +167,8 @@ returns-in-Ok-go_on_marked-clause-does g c =
           (c.in-Ok-open.ensures.filled right sources left done agrees),
     ))
     (λ right. subst (λ (r : RunId). (marked : List Bool)
-    × (opened_of r (g.B.Bench.stored c.args.bench.now) ≡ Ok (Some marked)) × AreCutBy c.args.choice.now.jobs marked c.open.new.self.work) was.run
+    × (opened_of r (g.B.Bench.stored c.args.bench.now) ≡ Ok (Some marked))
+    × AreCutBy c.args.choice.now.jobs marked c.open.new.self.work) was.run
     (subst (λ (f : Option ℕ). IfSome f (λ _. (marked : List Bool)
     × (opened_of c.in-Ok.work.run (g.B.Bench.stored c.args.bench.now) ≡ Ok (Some marked))
     × AreCutBy c.args.choice.now.jobs marked c.open.new.self.work)) c.in-Some.is (c.in-Ok-open.ensures.cut right)))
@@ -209,7 +210,8 @@ returns-in-Err-go_on_marked-clause-does g c =
           (c.in-Ok-open.ensures.filled right sources left done agrees),
     ))
     (λ right. subst (λ (r : RunId). (marked : List Bool)
-    × (opened_of r (g.B.Bench.stored c.args.bench.now) ≡ Ok (Some marked)) × AreCutBy c.args.choice.now.jobs marked c.open.new.self.work) was.run
+    × (opened_of r (g.B.Bench.stored c.args.bench.now) ≡ Ok (Some marked))
+    × AreCutBy c.args.choice.now.jobs marked c.open.new.self.work) was.run
     (subst (λ (f : Option ℕ). IfSome f (λ _. (marked : List Bool)
     × (opened_of c.in-Ok.work.run (g.B.Bench.stored c.args.bench.now) ≡ Ok (Some marked))
     × AreCutBy c.args.choice.now.jobs marked c.open.new.self.work)) c.in-Some.is (c.in-Ok-open.ensures.cut right)))

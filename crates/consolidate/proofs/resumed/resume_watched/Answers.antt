@@ -1,4 +1,4 @@
-use Rattle.std.proofs.Common.{◌∙◌, ◌-◌, IsTrue, Ok, Err, None, Some, ap, rules, subst, sym}
+use Rattle.std.proofs.Common.{◌∙◌, ◌-◌, IsTrue, Ok, Err, Some, ap, rules, subst, sym}
 use Rattle.std.proofs.lemmas.Result.{err_from_is_err_and}
 use Rattle.list_terms.specs.Accepted.{range_of}
 use Rattle.list_terms.specs.Project.{ListProject}

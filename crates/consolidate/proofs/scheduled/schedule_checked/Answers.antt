@@ -44,8 +44,10 @@ returns-in-Ok-render_by_events-clause-does g c =
     (output_view g.B.Bench c.args.bench.now) (output_view g.B.Bench c.render_by_events.new.bench))
     _ _ c.in-Ok-render_by_events.ensures.does (λ done. done)
     refl (λ b. b) (λ st. st)
-    (renders_bound c.args.choice.now.jobs (λ _. c.args.events.now) c.args.list.now values checked.project checked.bound c.in-Ok.work g.S.Shelf g.B.Bench
-    c.args.shelf.now c.render_by_events.new.shelf c.args.bench.now c.render_by_events.new.bench c.in-Ok.ensures.planned c.in-Ok.ensures.jobs of)
+    (renders_bound c.args.choice.now.jobs
+    (λ _. c.args.events.now) c.args.list.now values checked.project checked.bound c.in-Ok.work g.S.Shelf g.B.Bench
+    c.args.shelf.now c.render_by_events.new.shelf c.args.bench.now c.render_by_events.new.bench
+    c.in-Ok.ensures.planned c.in-Ok.ensures.jobs of)
 
 pub returns-in-Err-render_by_events-clause-does : goal.returns-in-Err-render_by_events-clause-does
 returns-in-Err-render_by_events-clause-does g c =
@@ -64,8 +66,10 @@ returns-in-Err-render_by_events-clause-does g c =
     (source_view g.S.Shelf c.args.shelf.now) (source_view g.S.Shelf c.render_by_events.new.shelf)
     (output_view g.B.Bench c.args.bench.now) (output_view g.B.Bench c.render_by_events.new.bench))
     c.in-Err-render_by_events.fault c.in-Err-render_by_events.ensures.does (λ b. b) (λ st. st)
-    (renders_bound c.args.choice.now.jobs (λ _. c.args.events.now) c.args.list.now values checked.project checked.bound c.in-Ok.work g.S.Shelf g.B.Bench
-    c.args.shelf.now c.render_by_events.new.shelf c.args.bench.now c.render_by_events.new.bench c.in-Ok.ensures.planned c.in-Ok.ensures.jobs of)
+    (renders_bound c.args.choice.now.jobs
+    (λ _. c.args.events.now) c.args.list.now values checked.project checked.bound c.in-Ok.work g.S.Shelf g.B.Bench
+    c.args.shelf.now c.render_by_events.new.shelf c.args.bench.now c.render_by_events.new.bench
+    c.in-Ok.ensures.planned c.in-Ok.ensures.jobs of)
 
 pub returns-in-Ok-render_by_events-clause-reads_back : goal.returns-in-Ok-render_by_events-clause-reads_back
 returns-in-Ok-render_by_events-clause-reads_back g c mix = c.in-Ok.ensures.planned.reads_back mix

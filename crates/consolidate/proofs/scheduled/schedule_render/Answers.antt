@@ -1,4 +1,4 @@
-use Rattle.std.proofs.Common.{◌∙◌, IsTrue, None, Some, Ok, Err, ap, rules, subst, sym}
+use Rattle.std.proofs.Common.{◌∙◌, IsTrue, Some, Ok, Err, ap, rules, subst, sym}
 use Rattle.std.proofs.lemmas.Result.{err_from_is_err_and}
 use Rattle.rendering.specs.Rendering.{values_of}
 use Rattle.consolidate.specs.Fault.{refusal_of}

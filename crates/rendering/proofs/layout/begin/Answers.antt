@@ -38,7 +38,8 @@ returns-in-Ok-append_zeros-clause-beside g c =
     c.create.new.self (g.met.B.Bench.only_now c.args.bench.now) c.in-Ok.ensures.time c.in-Ok.ensures.crash)
     (one_call g.B.Bench.may_leave g.B.Bench.moment g.B.Bench.left_since (codes "render.wav") _ c.create.new.self
     c.append.new.self (g.met.B.Bench.only_now c.create.new.self) c.in-Ok-append.ensures.time
-    c.in-Ok-append.ensures.crash)) (leaves_others g.B.Bench (codes "render.wav") _ c.append.new.self c.append_zeros.new.self _ c.in-Ok-append_zeros.ensures.appends)
+    c.in-Ok-append.ensures.crash)) (leaves_others g.B.Bench
+    (codes "render.wav") _ c.append.new.self c.append_zeros.new.self _ c.in-Ok-append_zeros.ensures.appends)
 
 pub returns-in-Err-append_zeros-clause-beside : goal.returns-in-Err-append_zeros-clause-beside
 returns-in-Err-append_zeros-clause-beside g c =
@@ -50,7 +51,8 @@ returns-in-Err-append_zeros-clause-beside g c =
     c.create.new.self (g.met.B.Bench.only_now c.args.bench.now) c.in-Ok.ensures.time c.in-Ok.ensures.crash)
     (one_call g.B.Bench.may_leave g.B.Bench.moment g.B.Bench.left_since (codes "render.wav") _ c.create.new.self
     c.append.new.self (g.met.B.Bench.only_now c.create.new.self) c.in-Ok-append.ensures.time
-    c.in-Ok-append.ensures.crash)) (leaves_others g.B.Bench (codes "render.wav") _ c.append.new.self c.append_zeros.new.self _ c.in-Err-append_zeros.ensures.appends)
+    c.in-Ok-append.ensures.crash)) (leaves_others g.B.Bench
+    (codes "render.wav") _ c.append.new.self c.append_zeros.new.self _ c.in-Err-append_zeros.ensures.appends)
 
 pub returns-in-Ok-append_zeros-clause-begun : goal.returns-in-Ok-append_zeros-clause-begun
 unfolding zeros

@@ -116,7 +116,8 @@ returns-in-Err-start_fresh-clause-only_writes g c =
     (λ n stays. (stays_apart marked n c.requires.whole stays).0) {other = ⊤} tt c.in-Ok.ensures.only_writes)
     (c.in-Ok.ensures.only_writes.cause.left tt)
     (writes_as g.B.Bench (λ n. n ≢ marks_name) (Stays (plan_of marked))
-    (λ n stays. (stays_apart marked n c.requires.whole stays).1) (λ _. (omega arith, c.in-Err-start_fresh.ensures.only_writes.failed_there tt))
+    (λ n stays. (stays_apart marked n c.requires.whole stays).1) (λ _.
+    (omega arith, c.in-Err-start_fresh.ensures.only_writes.failed_there tt))
     c.in-Err-start_fresh.ensures.only_writes)
 
 pub returns-in-Err-start_fresh-clause-left : goal.returns-in-Err-start_fresh-clause-left
