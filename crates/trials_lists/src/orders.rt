@@ -1,4 +1,4 @@
-// Renderings whose jobs go by time and by source.
+// Works whose jobs go by time and by source.
 ghost use Rattle.rendering.specs.Rendering.{HaveChannels};
 
 use crate::lists::{head, list};
@@ -76,5 +76,40 @@ fn one_round_does_the_first_job_of_the_order(rt: HostRuntime) -> Result<(), Fail
         let wanted = two_blocks(alloc, samples)?;
         assert!(rt; bench.bytes("render.wav") == Some(wanted.as_slice()));
     }
+    Ok(())
+}
+
+/// An entry that plays one frame of ten seconds.
+const MOMENT: &str = "(Entry) 1 (Cut) I 1 1 1 00.00.05.00/0000 00.00.00.00/0000 00.00.00.00/0001
+";
+
+/// Consolidates it with ten frames on either side, by one round.
+fn consolidated(alloc: Global, order: Order) -> Result<MemoryBench, Fail> {
+    let mut file = head(alloc, 1, 480_000)?;
+    for _ in 0..480_000 {
+        file.extend_from_slice(&[1, 0])?;
+    }
+    let mut shelf = MemoryShelf::new(alloc).with_file("A.wav", file.as_slice())?;
+    let mut bench = MemoryBench::new(alloc);
+    let text = list(alloc, MOMENT)?;
+    let work = Work::Consolidate {
+        list: text.as_bytes(),
+        handle: 10,
+        passes: Vec::new(alloc),
+        order,
+    };
+    run_schedule(alloc, work, &round(1), &mut shelf, &mut bench)?;
+    Ok(bench)
+}
+
+#[test]
+fn both_orders_of_a_consolidation_are_one(rt: HostRuntime) -> Result<(), Fail> {
+    let by_time = consolidated(rt.alloc(), Order::ByTime)?;
+    let by_source = consolidated(rt.alloc(), Order::BySource)?;
+    let medium = by_time.bytes("M00001.wav").ok_or("no medium")?;
+    assert_eq!(rt; medium.len(), 732);
+    assert!(rt; by_source.bytes("M00001.wav") == Some(medium));
+    let list = by_time.bytes("consolidated.adl").ok_or("no list")?;
+    assert!(rt; by_source.bytes("consolidated.adl") == Some(list));
     Ok(())
 }
