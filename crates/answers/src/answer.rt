@@ -182,8 +182,8 @@ fn answer_check<S: Shelf + Reasons, O: Console, E: Console, A: Asides>(
                 out,
                 notices,
                 words,
-                accepted.entries as u64,
-                accepted.indexes as u64,
+                u64::from(accepted.entries),
+                u64::from(accepted.indexes),
             );
             tell_meanings(notices, list, err);
             DONE

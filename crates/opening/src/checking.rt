@@ -18,8 +18,8 @@ use std::alloc::{AllocError, Global};
 #[derive(Debug, Drop)]
 pub struct Accepted {
     pub notices: Vec<Notice>,
-    pub entries: usize,
-    pub indexes: usize,
+    pub entries: u32,
+    pub indexes: u32,
 }
 
 /// The notices of a list, and then those of its files.
@@ -46,11 +46,9 @@ pub fn check_project<S: Shelf>(alloc: Global, list: &[u8], shelf: &mut S) -> Res
     let Ok(notices) = notices_of(alloc, &checked) else {
         return Err(Fault::List(AdlFault::Memory));
     };
-    let entries = checked.project().events().len();
-    let indexes = checked.bound().indexes().len();
     Ok(Accepted {
         notices,
-        entries,
-        indexes,
+        entries: checked.project().events().len() as u32,
+        indexes: checked.bound().indexes().len() as u32,
     })
 }
