@@ -48,17 +48,64 @@ def mix_line(bench: Bench, name: str, cuts: list) -> str:
     return line(f"`compare`: {name} and its consolidation", costs["compare"], (costs["cmp"],))
 
 
+def verify_line(bench: Bench) -> str:
+    """A consolidation that is compared with its source before its line is printed, beside one that isn't."""
+    words = bench.words("consolidate", bench.put(list_text([Cut(0, 0, FRAMES)], channels="1~2")))
+    costs = bench.costs_of({"verified": Job([*words, "--verify"]), "consolidate": Job(words)})
+    return line("`consolidate --verify`", costs["verified"], (costs["consolidate"],))
+
+
+def other_media(bench: Bench) -> Path:
+    folder = bench.folder / "other"
+    folder.mkdir()
+    return folder
+
+
+def output_of(words: list) -> str:
+    return subprocess.run(words, capture_output=True, text=True).stdout
+
+
+def other_depth(bench: Bench) -> str:
+    """The same sound in a file of 32 bits, so that both sides are unpacked; beside it `cmp` of the source with a copy."""
+    other = other_media(bench)
+    make_sound(other / "A.wav", block_of(SECOND, 2, 32), SECONDS, 2, 32)
+    text = bench.put(list_text([Cut(0, 0, FRAMES)], channels="1~2"))
+    words = [bench.program, "compare", text, bench.media(), text, other]
+    found = output_of(words)
+    if found != f"same {FRAMES} frames 2 channels\n":
+        sys.exit(f"bench: the sound is the same at 32 bits, and compare says {found}")
+    costs = bench.costs_of({
+        "compare": Job(words), "cmp": Job(["cmp", bench.media() / "A.wav", bench.folder / "B.wav"])})
+    shutil.rmtree(other)
+    return line("`compare`: one file and the same sound at 32 bits", costs["compare"], (costs["cmp"],))
+
+
+def all_counted(bench: Bench) -> str:
+    """Each sample differs, from the first one on, and is counted."""
+    other = other_media(bench)
+    block = block_of(*BLOCK)
+    make_sound(other / "A.wav", block[6:] + block[:6], SECONDS, 2, 24)
+    text = bench.put(list_text([Cut(0, 0, FRAMES)], channels="1~2"))
+    words = [bench.program, "compare", text, bench.media(), text, other]
+    found = output_of(words)
+    if found != "differ at 00.00.00.00/0000 channel 1\n":
+        sys.exit(f"bench: the first sample differs, and compare says {found}")
+    costs = bench.costs_of({
+        "compare": Job(words, status=1), "cmp": Job(["cmp", bench.media() / "A.wav", bench.folder / "B.wav"])})
+    shutil.rmtree(other)
+    return line("`compare`: each sample differs, and is counted", costs["compare"], (costs["cmp"],))
+
+
 def last_sample(bench: Bench) -> str:
     """A difference in the very last sample."""
-    other = bench.folder / "other"
-    other.mkdir()
+    other = other_media(bench)
     shutil.copy(bench.media() / "A.wav", other / "A.wav")
     with (other / "A.wav").open("r+b") as file:
         file.seek(-1, 2)
         file.write(b"\x55")
     text = bench.put(list_text([Cut(0, 0, FRAMES)], channels="1~2"))
     words = [bench.program, "compare", text, bench.media(), text, other]
-    found = subprocess.run(words, capture_output=True, text=True).stdout
+    found = output_of(words)
     if found != "differ at 00.29.59.24/1919 channel 2\n":
         sys.exit(f"bench: the last sample differs, and compare says {found}")
     costs = bench.costs_of({
@@ -72,4 +119,7 @@ def lines(bench: Bench) -> list:
     make_sound(source, block_of(*BLOCK), SECONDS, 2, 24)
     shutil.copy(source, bench.folder / "B.wav")
     rows = [mix_line(bench, name, cuts) for name, cuts in MIXES.items()]
-    return [*table("Job", "Seconds", "Peak memory, KB", "Time to `cmp`"), *rows, last_sample(bench)]
+    rows += [other_depth(bench), last_sample(bench), all_counted(bench)]
+    return [
+        *table("Job", "Seconds", "Peak memory, KB", "Time to `cmp`"), *rows, "",
+        *table("Job", "Seconds", "Peak memory, KB", "Time to `consolidate`"), verify_line(bench)]

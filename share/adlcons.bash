@@ -3,9 +3,9 @@ _adlcons() {
     local word=${COMP_WORDS[COMP_CWORD]} last=${COMP_WORDS[COMP_CWORD - 1]} options=--help
     case ${COMP_WORDS[1]} in
         check) options='--all --search --report --help' ;;
-        consolidate) options='--all --search --handle --report --help' ;;
+        consolidate) options='--all --search --handle --report --verify --help' ;;
         show) options='--all --search --handle --help' ;;
-        compare) options='--all --search --from --to --channels --help' ;;
+        compare) options='--all --search --report --from --to --channels --help' ;;
         render | resume) options='--all --search --from --to --channels --depth --order --help' ;;
     esac
     if ((COMP_CWORD == 1)); then

@@ -149,6 +149,7 @@ Options:
       --search      Look for missing media by name in the folders below
       --handle <N>  Frames kept on each side of what plays [default: 48000]
       --report      Write where the media come from, and checksums
+      --verify      Read it again, and compare it with what was given
   -h, --help        Print help
 
 Example: adlcons consolidate session.adl sources consolidated --handle 96000
@@ -167,6 +168,7 @@ Arguments:
 Options:
       --all           List every fault of a refused list
       --search        Look for missing media by name in the folders below
+      --report        Print all that is found as JSON
       --from <T>      The first sample, hh.mm.ss.ff/rrrr [default: the first in]
       --to <T>        The time behind the last sample [default: the last out]
       --channels <N>  Channels, 1 to 64 [default: all that entries name]

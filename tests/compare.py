@@ -3,10 +3,14 @@
 import re
 
 import model
-from harness import EXPLANATION, LIST, MEDIA, OUT, Mismatch, Outcome, Scene, Suite, same, same_files, same_shape
+from harness import (
+    EXPLANATION, LIST, MEDIA, OUT, SAVED, Mismatch, Outcome, Scene, Suite, preloaded, same, same_files, same_shape,
+)
 from model.spelling import project_text
+from model import comparison
 from random_projects import Dice
-from tables import changed, data_chunk, format_chunk, riff_file, wave
+from reports import allowed
+from tables import FIRST_LIST, changed, data_chunk, format_chunk, riff_file, wave
 from worked_rows import HOUR, entry, mono, one_source, time
 
 PAIRS = 120
@@ -40,6 +44,26 @@ def compared(scene: Scene, first: model.Side, second: model.Side, options: model
     return got
 
 
+def same_counts(got: Outcome, first: model.Side, second: model.Side, options: model.Options) -> None:
+    """Standard error says how many samples of each channel differ, and of a pair that is the same nothing."""
+    found = comparison.difference(first, second, options)
+    lines = [line for line in got.error.decode().splitlines() if line.startswith("samples that differ")]
+    same("the samples that differ", lines, [comparison.counts_line(*found)] if found else [])
+
+
+def same_report(scene: Scene, first: model.Side, second: model.Side, options: model.Options) -> None:
+    """The report of two lists: by its schema, and by the model."""
+    put_pair(scene, first, second)
+    got = scene.run("compare", *PLACES, "--report", *options.words("compare"))
+    wanted = model.compare(first, second, options)
+    same("the status", got.status, wanted.status)
+    if wanted.line.startswith("refused"):
+        same_comparison(got, wanted)
+        return
+    same("standard error", got.error, b"")
+    same("the report", allowed(got.output.decode()), comparison.report(first, second, options))
+
+
 def same_comparison(got: Outcome, wanted: model.Answer) -> None:
     same("standard output", got.output.decode(), wanted.output())
     same("the status", got.status, wanted.status)
@@ -52,8 +76,13 @@ def expect_pair(
     """The program compares two lists with this line, and the model says so too; in turn they are as much the same."""
     wanted = model.compare(first, second, options)
     same("the line of the model", wanted.line, line)
-    same_comparison(compared(scene, first, second, options), wanted)
-    same_comparison(compared(scene, second, first, options), model.compare(second, first, options))
+    for one, other in ((first, second), (second, first)):
+        got = compared(scene, one, other, options)
+        wanted = model.compare(one, other, options)
+        same_comparison(got, wanted)
+        if not wanted.line.startswith("refused"):
+            same_counts(got, one, other, options)
+        same_report(scene, one, other, options)
 
 
 def pair(first: model.Side, second: model.Side, line: str, options: model.Options = model.STANDARD):
@@ -226,7 +255,11 @@ def random_pair(seed: int, met: set):
                 chosen = chosen_of(one, other, options)
                 wanted = model.compare(one, other, chosen)
                 met.update(part for part in MET if part in wanted.output())
-                same_comparison(compared(scene, one, other, chosen), wanted)
+                got = compared(scene, one, other, chosen)
+                same_comparison(got, wanted)
+                if not wanted.line.startswith("refused"):
+                    same_counts(got, one, other, chosen)
+                same_report(scene, one, other, chosen)
     return body
 
 
@@ -335,6 +368,86 @@ def values(scene: Scene) -> None:
             raise Mismatch(f"standard error lacks {pattern!r}: {got.error!r}")
 
 
+def counts(scene: Scene) -> None:
+    """Standard error names each channel on which samples differ, and how many do, by hand."""
+    text = one_source(model.entry_line(1, 1, time(0), time(HOUR), time(HOUR + 4), b"1~3", b"2~4"))
+    samples, other = [0] * 12, [0, 0, 0, 5, 0, 1, 5, 0, 1, 5, 0, 0]
+    first, second = model.Side(text, deep(samples, 16, 3)), model.Side(text, deep(other, 16, 3))
+    got = compared(scene, first, second)
+    same("standard output", got.output.decode(), f"{differ(1, 2)}\n")
+    same("its last line", got.error.splitlines()[-1], b"samples that differ: 3 on channel 2, 2 on channel 4")
+    for begin, end, line in (
+            (2, 4, b"samples that differ: 2 on channel 2, 1 on channel 4"),
+            (1, 2, b"samples that differ: 1 on channel 2, 1 on channel 4")):
+        options = model.Options(begin=time(HOUR + begin).decode(), end=time(HOUR + end).decode())
+        same("its last line", compared(scene, first, second, options).error.splitlines()[-1], line)
+    got = compared(scene, first, second, model.Options(channels=3))
+    same("its last line", got.error.splitlines()[-1], b"samples that differ: 3 on channel 2")
+
+
+def counted_hour(scene: Scene) -> None:
+    """What differs later than an hour from the first difference isn't counted, and that is said."""
+    samples = mono(1000, 2000)
+    first = model.Side(one_source(entry(1, 0, 0, 2)), samples)
+    for later, line in (
+            (HOUR - 2, "samples that differ: 4 on channel 1"),
+            (HOUR - 1, "samples that differ in the hour from then on: 3 on channel 1"),
+            (HOUR, "samples that differ in the hour from then on: 2 on channel 1")):
+        second = model.Side(one_source(entry(1, 0, later, later + 2)), samples)
+        got = compared(scene, first, second)
+        same("the last line", got.error.decode().splitlines()[-1], line)
+        same_counts(got, first, second, model.STANDARD)
+        same_report(scene, first, second, model.STANDARD)
+
+
+FIRST_PROJECT = FIRST_LIST, {"A.wav": wave()}
+VERIFIED = ("consolidate", LIST, MEDIA, OUT, "--verify", "--handle", "0")
+
+
+def verified_right(scene: Scene) -> None:
+    """What is compared and right has the line, the notices, the files and the status of a plain consolidation."""
+    given = model.Side(
+        one_source(entry(1, 0, 0, 4000, rise=1000, fall=7), entry(2, 3000, 3993, 8000), entry(3, 9000, 20_000, 21_000)),
+        deep(LONG))
+    for text, media in ((given.text, given.media), (one_source(), {}), FIRST_PROJECT):
+        scene.put(text, media)
+        for more in ((), ("--report",)):
+            plain = scene.run("consolidate", LIST, MEDIA, OUT, "--handle", "0", *more)
+            files = scene.files()
+            scene.empty_out()
+            for words, how in (((*VERIFIED, *more), {}), ((VERIFIED[0], "-", *VERIFIED[2:], *more), {"given": text})):
+                same("the answer", scene.run(*words, **how), plain)
+                same_files(scene.files(), files)
+                scene.empty_out()
+
+
+def verified_refused(scene: Scene) -> None:
+    """A consolidation that is refused is refused as ever."""
+    for text, media in ((b"no list", {}), (one_source(entry(1, 0, 0, 4)), {}), (one_source(entry(1, 1, 0, 4)), mono(1))):
+        scene.put(text, media)
+        same("the answer", scene.run(*VERIFIED), scene.run("consolidate", LIST, MEDIA, OUT, "--handle", "0"))
+        same_files(scene.files(), {})
+
+
+def spoiled(scene: Scene) -> None:
+    """Of each write in turn one byte is written wrongly: what was written is the same only where the model says so."""
+    given = model.Side(one_source(entry(1, 0, 0, 9000, rise=100), entry(2, 9500, 9900, 10_000)), deep(LONG))
+    scene.put(*given)
+    met = set()
+    for write in range(1, 40):
+        got = scene.run(*VERIFIED, env=preloaded(scene, SPOIL_WRITE=str(write)))
+        wanted = model.compare(given, written(scene))
+        met.add(wanted.line.split(" ")[0])
+        if wanted.line.startswith("same"):
+            same("the answer", (got.status, got.output), (0, b"written 2 media 2 entries\n"))
+        else:
+            saved, rest = got.error.split(b"\n", 1)
+            same_shape("what was saved", saved + b"\n", SAVED)
+            same_comparison(got._replace(error=rest), wanted)
+        scene.empty_out()
+    same("what was met", met, {"same", "differ", "refused"})
+
+
 def run(suite: Suite) -> None:
     for name, (first, second) in SAME_ROWS.items():
         frames = model.range_of(model.read_list(first.text), model.STANDARD).frames()
@@ -348,6 +461,9 @@ def run(suite: Suite) -> None:
         "a consolidation that was changed differs": verified, "a whole day": day, "a part of a list": part_of_a_list,
         "refusals of two lists": refusals, "one list from standard input": standard_input,
         "wrong words of compare": wrong_words, "the values of a difference": values,
+        "a consolidation that is compared and right": verified_right,
+        "a refused consolidation that would be compared": verified_refused, "a consolidation written wrongly": spoiled,
+        "the samples that differ, by hand": counts, "the samples that differ within an hour": counted_hour,
     }.items():
         suite.case(name, body)
     met = set()

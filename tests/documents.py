@@ -65,9 +65,12 @@ def library_example(_: Scene) -> None:
 
 
 def reports(scene: Scene) -> None:
-    """The reports of REPORT.md are those of the first list."""
+    """The reports of REPORT.md are those of the first list, and of one with another sample."""
     scene.put(FIRST_LIST, {"A.wav": wave()})
-    checked, consolidated = ("".join(block) + "\n" for block in blocks_of(DOCS / "REPORT.md"))
+    checked, compared, consolidated = ("".join(block) + "\n" for block in blocks_of(DOCS / "REPORT.md"))
+    (scene.folder / "M2").mkdir()
+    (scene.folder / "M2/A.wav").write_bytes(wave([1000, -1000, 32766, -32768]))
+    same("of a comparison", scene.run("compare", LIST, MEDIA, LIST, "M2", "--report").output.decode(), compared)
     same("of a check", scene.run("check", LIST, MEDIA, "--report").output.decode(), checked)
     scene.run("consolidate", LIST, MEDIA, OUT, "--report", "--handle", "0")
     same("of a consolidation", scene.files()["consolidated.json"].decode(), consolidated)

@@ -6,7 +6,9 @@ from itertools import count
 from pathlib import Path
 
 import model
-from harness import TIMEOUT, Mismatch, Outcome, Scene, Skipped, Suite, preloaded, same, same_files, words_of
+from harness import (
+    LIST, MEDIA, TIMEOUT, Mismatch, Outcome, Scene, Skipped, Suite, preloaded, same, same_files, words_of,
+)
 from tables import data_chunk, format_chunk, riff_file, wave
 
 MIDNIGHT = b"00.00.00.00/0000"
@@ -23,6 +25,7 @@ MET = {
 # A device that has no memory for a name fails.
 DEVICES = {20: b" at file OUT", 22: b" at index 1 file A.wav", 52: b"", 62: b" at file "}
 REFUSED = re.compile(rb"refused (\d\d)([^\n]*)\n")
+COMPARED = re.compile(rb"refused (\d\d)[^\n]* in list [12]\n")
 # How a written file without CodingHistory begins, and a mono block of 16 bits.
 HEAD = 690
 BLOCK = 8_192
@@ -115,6 +118,57 @@ def each_allocation(command: str, put, before=nothing, more: tuple = ()):
     return body
 
 
+def each_failing(scene: Scene, words: list):
+    """What a command prints and writes where each of its allocations fails in turn."""
+    log = scene.folder / "log"
+    environment = preloaded(scene, ALLOC_LOG=str(log))
+    for fails in count(1):
+        scene.empty_out()
+        log.unlink(missing_ok=True)
+        got = scene.run(*words, env={**environment, "ALLOC_FAILS": str(fails)})
+        if not log.exists():
+            return
+        yield got, scene.files()
+
+
+def compared(scene: Scene) -> None:
+    """A comparison is refused with its list, or answered as ever; a mistake in the words where these find no memory."""
+    fading(scene)
+    other = scene.folder / "M2"
+    other.mkdir()
+    (other / "A.wav").write_bytes(riff_file(format_chunk(channels=2), data_chunk([1] * 24)))
+    words = ["compare", LIST, MEDIA, LIST, "M2"]
+    done = scene.run(*words)
+    same("the unbroken answer", (done.status, done.output), (1, b"differ at 00.00.00.00/0001 channel 1\n"))
+    numbers = set()
+    for got, _ in each_failing(scene, words):
+        refused = COMPARED.fullmatch(got.output)
+        if not refused and (got.status, got.output) not in ((1, done.output), (2, b"")):
+            raise Mismatch(f"status {got.status}, {got.output!r} and {got.error!r}")
+        numbers.add(int(refused[1]) if refused else got.status)
+    same("the refusals", numbers - MEMORY - set(DEVICES), {1, 2})
+
+
+def verified(scene: Scene) -> None:
+    """A consolidation that is compared is refused with nothing written; or all is there, and it isn't compared; or it is
+    done."""
+    fading(scene)
+    words = [*words_of("consolidate", OPTIONS), "--verify"]
+    done, whole = scene.run(*words), scene.files()
+    same("the unbroken status", done.status, 0)
+    numbers = set()
+    for got, files in each_failing(scene, words):
+        refused = COMPARED.fullmatch(got.output)
+        if refused or (files == whole and got.output == b"refused 18\n"):
+            same("the status", got.status, 1)
+            same_files(files, whole)
+            numbers.add(int(refused[1]) if refused else 18)
+        else:
+            number_of(got, files, {}, (done.output, whole))
+    same("whether what is refused is there", bool(numbers), True)
+    same("the refusals", numbers - MEMORY - set(DEVICES), set())
+
+
 def each_allocation_of_test(name: str, met: set):
     """A test of the library goes well, and tells the refusal that it saw; or it has no memory for itself."""
     def body(scene: Scene) -> None:
@@ -142,6 +196,8 @@ def run(suite: Suite) -> None:
     suite.case("each allocation of consolidate fails", each_allocation("consolidate", fading))
     suite.case("each allocation of consolidate with a report fails",
                each_allocation("consolidate", fading, more=("--report",)))
+    suite.case("each allocation of a consolidation that is compared fails", verified)
+    suite.case("each allocation of compare fails", compared)
     suite.case("each allocation of render fails", each_allocation("render", three_blocks))
     suite.case("each allocation of resume fails", each_allocation("resume", three_blocks, half_done))
     for name, met in BY_EVENTS.items():

@@ -5,7 +5,8 @@
    which begins at zero and stands still otherwise: nobody waits for it. WRITE_FAILS is the first of these writes that
    fails, as all behind it do. At the write of the number STOP_WRITE the program stops until it is told to go on, and at
    that of KILL_WRITE it is killed with half of the bytes written. WRITE_ROOM is how many bytes are written until one
-   write fails for want of room; those behind it go well. ALLOC_FAILS is the allocation that fails, from 1, and
+   write fails for want of room; those behind it go well. Of the write of the number SPOIL_WRITE the last byte is another
+   one. ALLOC_FAILS is the allocation that fails, from 1, and
    ALLOC_LOG names a file that is made when it does. */
 #define _GNU_SOURCE
 #include <dlfcn.h>
@@ -127,7 +128,13 @@ ssize_t pwrite(int fd, const void *bytes, size_t count, off_t place) {
     }
     if (fails && writes >= atoi(fails)) return failed(EIO);
     size_t size = roomy(count);
-    return size == 0 && count > 0 ? failed(ENOSPC) : next(fd, bytes, size, place);
+    if (size == 0 && count > 0) return failed(ENOSPC);
+    ssize_t done = next(fd, bytes, size, place);
+    if (done > 0 && is_numbered("SPOIL_WRITE", writes)) {
+        char last = ((const char *)bytes)[done - 1] ^ 1;
+        next(fd, &last, 1, place + done - 1);
+    }
+    return done;
 }
 
 ssize_t pread(int fd, void *bytes, size_t count, off_t place) {

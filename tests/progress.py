@@ -11,7 +11,7 @@ import subprocess
 
 import model
 from harness import (
-    EXPLANATION, OUT, SAVED, TIMEOUT, Mismatch, Outcome, Scene, Suite, preloaded, same, same_outcome, same_shape,
+    EXPLANATION, LIST, MEDIA, OUT, SAVED, TIMEOUT, Mismatch, Outcome, Scene, Suite, preloaded, same, same_outcome, same_shape,
     words_of,
 )
 from tables import wave
@@ -163,6 +163,21 @@ def looking_for_silence(scene: Scene) -> None:
     same_outcome(rest, 0, "written 1 media 1 entries")
 
 
+def comparing(scene: Scene) -> None:
+    """Each block that is the same is reported; of a difference the answer comes before the samples are counted."""
+    frames = put_sound(scene)
+    words, environment = ["compare", LIST, MEDIA, LIST, MEDIA], preloaded(scene, **SLOW_READS)
+    shown = on_terminal(scene, words, env=environment)
+    same_outcome(without_lines(shown, frames, multiples(BLOCK, BLOCKS)), 0, f"same {frames} frames 1 channels")
+    other = scene.folder / "M2"
+    other.mkdir()
+    (other / "A.wav").write_bytes(wave([1 + place % 1000 for place in range(frames - 2)] + [0, 0]))
+    shown = on_terminal(scene, [*words[:-1], "M2"], env=environment)
+    before, after = shown.error.split(b"list 1 has", 1)
+    same("the blocks before the difference", counts_in(before, LINE, frames), multiples(BLOCK, BLOCKS - 1))
+    same_shape("what is reported of it", after, r"[^\r]*\r100 %: 2 of 2 frames\x1b\[K\r\x1b\[Ksamples that differ: 2 on channel 1\n")
+
+
 def refused(scene: Scene) -> None:
     """Where a job fails later on, the line is taken off before the refusal is explained."""
     frames = put_sound(scene)
@@ -191,5 +206,6 @@ def run(suite: Suite) -> None:
     suite.case("progress of a consolidation", consolidation)
     suite.case("progress within a medium", long_medium)
     suite.case("progress of a search for silence", looking_for_silence)
+    suite.case("progress of a comparison", comparing)
     suite.case("progress before a refusal", refused)
     suite.case("progress of short work", short)

@@ -39,7 +39,11 @@ def reported(scene: Scene, status: int) -> dict:
     """The report of the scene's list, which the schema allows."""
     got = scene.run("check", LIST, MEDIA, "--report")
     same("the status", got.status, status)
-    text = got.output.decode()
+    return allowed(got.output.decode())
+
+
+def allowed(text: str) -> dict:
+    """The report of this text, which is in its form and which the schema allows."""
     report = json.loads(text)
     same("the text", text, line_of(report))
     try:

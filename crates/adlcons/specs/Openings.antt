@@ -1,16 +1,22 @@
 -- Why a command doesn't come to its stores, and what it is to come to them.
-use Rattle.std.specs.Prelude.{◌≡◌, ℕ, IsTrue, true, false, List, [], Result}
+use Rattle.std.specs.Prelude.{◌≡◌, ◌×◌, ◌⊎◌, ℕ, Bool, IsTrue, true, false, List, [], codes, Result, Ok, Err}
 use Rattle.work_terms.specs.Refusals.{Refusal, Where, Nowhere, File}
 use Rattle.devices.specs.declared.source.Shelf as source
 use Rattle.shelf.specs.Folder.{OutputFolder, SourceFolder, folder_named}
 use Rattle.shelf.specs.declared.Overwrite.{Overwrite}
 use Rattle.shelf.specs.declared.Overwrite.TheVariants.{Files, Never}
 use Rattle.commandline.specs.CommandLine.{Asked, Resume, Selected}
+use Rattle.devices.specs.declared.bench.Bench as output
+use Rattle.sound_terms.specs.Passes.{standard_groups}
+use Rattle.consolidate.specs.Commands.{IsConsolidation}
+use Rattle.consolidate.specs.Comparing.{IsComparing}
+use Rattle.consolidate.specs.Fault.{refusal_of}
 use Rattle.consolidate.specs.declared.Fault.{Fault}
+use Rattle.consolidate.specs.declared.Written.{Written}
 use Rattle.console.specs.declared.console.Console as console
 use Rattle.console.specs.declared.lines.ListOfTwo.{ListOfTwo}
 use Rattle.console.specs.declared.lines.ListOfTwo.TheVariants.{First, Second}
-use Rattle.answers.specs.Answers.{ComparesBy, IsAnswered, IsChecked, IsCompared, Tells, accepted_lines, list_refusal_line, refusal_line}
+use Rattle.answers.specs.Answers.{ComparesBy, IsAnswered, IsChecked, IsComparedAs, IsVerified, Tells, accepted_lines, all_of_both, asking, list_refusal_line, refusal_line, written_lines}
 use Rattle.checkreport.specs.Reported.{IsReported}
 use Rattle.adlcons.specs.declared.folders.OpenFault.{OpenFault}
 use Rattle.adlcons.specs.declared.folders.OpenFault.TheVariants as opened
@@ -49,16 +55,20 @@ abbrev pub path_of : ListOfTwo → (list other : List ℕ) → List ℕ
 path_of First list other = list
 path_of Second list other = other
 
--- a comparison didn't come to the sources of both lists, and that is its line
+-- a command didn't come to the sources of one of two lists, which has this path, and that is its line
+pub record IsListKeptOut {O : Type 0} (out : console.Ghosts O) (which : ListOfTwo) (path : List ℕ) (old new : O)
+    (status : ℕ) : Type 0 where
+  pub fault : OpenFault
+  pub status_is : status ≡ 1
+  pub printed : Tells out old new (list_refusal_line which true (refusal_of_opening fault path []))
+
+-- a comparison didn't come to the sources of one of its lists
 pub record IsOneKeptOut {O : Type 0} (out : console.Ghosts O) (list other : List ℕ) (old new : O) (status : ℕ)
     : Type 0 where
   pub which : ListOfTwo
-  pub fault : OpenFault
-  pub status_is : status ≡ 1
-  pub printed : Tells out old new
-      (list_refusal_line which true (refusal_of_opening fault (path_of which list other) []))
+  pub kept_out : IsListKeptOut out which (path_of which list other) old new status
 
--- two lists were compared, each over the files of its folder
+-- two lists were compared, each over the files of its folder, with a report or without
 pub record ComparesFolders {O : Type 0} (shelf : source.Ghosts SourceFolder) (out : console.Ghosts O)
     (selected : Selected) (media other_media : List ℕ) (old new : O) (status : ℕ) : Type 0 where
   pub list : List ℕ
@@ -69,8 +79,8 @@ pub record ComparesFolders {O : Type 0} (shelf : source.Ghosts SourceFolder) (ou
   pub other_after : SourceFolder
   pub folder : before.folder ≡ folder_named media
   pub other_folder : other_before.folder ≡ folder_named other_media
-  pub answered : IsCompared (ComparesBy shelf shelf selected list other before after other_before other_after) out old
-      new status
+  pub answered : IsComparedAs selected.report
+      (ComparesBy shelf shelf selected list other before after other_before other_after) out old new status
 
 -- a list was checked over the files of this folder
 pub record ChecksFolder {O : Type 0} (shelf : source.Ghosts SourceFolder) (out : console.Ghosts O)
@@ -88,6 +98,47 @@ pub record ReportsFolder {O : Type 0} (shelf : source.Ghosts SourceFolder) (out 
   pub before : SourceFolder
   pub folder : before.folder ≡ folder_named media
   pub reported : IsTrue (shelf.honest before) → IsReported list (shelf.stored before) out old new status
+
+-- a list was compared with one over the files of this folder, where they are the same these lines were printed, and else
+-- what came of it
+pub record ComparesWritten {O : Type 0} (shelf : source.Ghosts SourceFolder) (out : console.Ghosts O)
+    (list lines target : List ℕ) (before : SourceFolder) (old new : O) (status : ℕ) : Type 0 where
+  pub written : List ℕ
+  pub after : SourceFolder
+  pub written_before : SourceFolder
+  pub written_after : SourceFolder
+  pub folder : written_before.folder ≡ folder_named target
+  pub compared : IsVerified lines
+      (IsComparing shelf shelf list written all_of_both before after written_before written_after) out old new status
+
+-- The answer to a consolidation with this outcome: a refusal is printed; else the list was compared with the written one,
+-- or that one can't be read again.
+abbrev pub AnswersVerified : {O : Type 0} → source.Ghosts SourceFolder → console.Ghosts O → (list target : List ℕ)
+    → (is_named : Bool) → (before : SourceFolder) → (old new : O) → (status : ℕ) → Result Written Fault → Type 0
+AnswersVerified shelf out list target is_named before old new status (Err fault) =
+    (status ≡ 1) × Tells out old new (refusal_line is_named (refusal_of fault))
+AnswersVerified shelf out list target is_named before old new status (Ok told) =
+    IsListKeptOut out Second (codes "consolidated.adl") old new status
+    ⊎ ComparesWritten shelf out list (written_lines told) target before old new status
+
+-- a list was consolidated over the files of one folder into another, and where that was done compared with what was
+-- written there
+pub record VerifiesInFolders {O : Type 0} (shelf : source.Ghosts SourceFolder) (bench : output.Ghosts OutputFolder)
+    (out : console.Ghosts O) (handle : ℕ) (report : Bool) (media target : List ℕ) (old new : O) (status : ℕ)
+    : Type 0 where
+  pub list : List ℕ
+  pub before : SourceFolder
+  pub after : SourceFolder
+  pub empty : OutputFolder
+  pub full : OutputFolder
+  pub folder : before.folder ≡ folder_named media
+  pub output : empty.folder ≡ folder_named target
+  pub careful : empty.overwrite ≡ Never
+  pub outcome : Result Written Fault
+  pub is_named : Bool
+  pub consolidated : IsConsolidation shelf bench standard_groups list handle (asking report) before after empty full
+      outcome
+  pub answered : AnswersVerified shelf out list target is_named after old new status outcome
 
 -- a rendering that is gone on with may replace files in its folder, no other command may
 abbrev pub overwrite_for : Asked → Overwrite

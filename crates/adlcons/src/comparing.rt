@@ -2,7 +2,7 @@
 ghost use Rattle.std.specs.Prelude.{◌≡◌, ◌≢◌, ◌≤◌, ◌⊎◌, IfOk, OnErr};
 ghost use Rattle.shelf.specs.Folder.{folder_named};
 ghost use Rattle.commandline.specs.Request.{selected_of};
-ghost use Rattle.adlcons.specs.Openings.{ComparesFolders, IsOneKeptOut, path_of};
+ghost use Rattle.adlcons.specs.Openings.{ComparesFolders, IsListKeptOut, IsOneKeptOut, path_of};
 
 use crate::asides::FolderAsides;
 use crate::folders::{
@@ -10,7 +10,7 @@ use crate::folders::{
 };
 use crate::media::{Manner, open_media, report_found};
 use crate::reading::read_list;
-use answers::{MISTAKE, REFUSED, answer_compare};
+use answers::{MISTAKE, Meter, REFUSED, answer_compare};
 use commandline::{BothPlaces, Selected};
 use console::{Console, ListOfTwo, put_in_list, put_refusal};
 use explanations::NamedList;
@@ -28,25 +28,26 @@ struct Unopened {
 
 /// A list as it was read, over the folder of its media.
 #[derive(Drop)]
-struct OpenedList<R: Files + AllocGlobal + Clone + Drop>
+pub struct OpenedList<R: Files + AllocGlobal + Clone + Drop>
 where
     R::File: FileExt,
 {
-    text: Vec<u8>,
-    shelf: FolderShelf<R>,
+    pub text: Vec<u8>,
+    pub shelf: FolderShelf<R>,
     /// Why the folder can't be listed, if it can't.
-    unlisted: Option<io::Error>,
+    pub unlisted: Option<io::Error>,
 }
 
 /// Compares these lists over these folders at what the words choose, and answers the status. What kept it from a list is
 /// printed.
-pub fn compare_folders<R, O: Console, E: Console>(
+pub fn compare_folders<R, O: Console, E: Console, M: Meter>(
     rt: &R,
     places: BothPlaces<'_>,
     selected: Selected<'_>,
     manner: Manner,
     out: &mut O,
     err: &mut E,
+    meter: &mut M,
 ) -> u8
 where
     R: Files + Input + AllocGlobal + Clone + Drop,
@@ -57,7 +58,7 @@ where
         places.entry.media.now places.entry.other_media.now out.old out.new result }
     ensures statuses { result ≤ 2 }
 {
-    match try_compare(rt, places, selected, manner, out, err) {
+    match try_compare(rt, places, selected, manner, out, err, meter) {
         Ok(status) => status,
         Err(unopened) => keep_one_out(unopened, places, out, err),
     }
@@ -73,16 +74,27 @@ fn keep_one_out<O: Console, E: Console>(
     ensures { IsOneKeptOut O.Console places.entry.list.now places.entry.other_list.now out.old out.new result }
 {
     let path = path_of(unopened.list, places);
-    let refusal = unopened.fault.refusal(path, "");
+    keep_list_out(unopened.list, unopened.fault, path, out, err)
+}
+
+/// The status of a command that doesn't come to the sources of this one of two lists, which has this path. Why is
+/// printed.
+pub fn keep_list_out<O: Console, E: Console>(
+    list: ListOfTwo,
+    fault: OpenFault,
+    path: &str,
+    out: &mut O,
+    err: &mut E,
+) -> u8
+    ensures { IsListKeptOut O.Console list path.now out.old out.new result }
+{
+    let refusal = fault.refusal(path, "");
     put_refusal(out, refusal);
-    put_in_list(out, unopened.list);
+    put_in_list(out, list);
     out.end_line();
-    let (list, explanation) = (
-        NamedList(unopened.list),
-        explanation_of(unopened.fault, refusal.number, None),
-    );
+    let (list, explanation) = (NamedList(list), explanation_of(fault, refusal.number, None));
     err.print_line(format_args!("{list}: {explanation}"));
-    1
+    REFUSED
 }
 
 /// The path of one of both lists.
@@ -96,13 +108,14 @@ fn path_of<'a>(list: ListOfTwo, places: BothPlaces<'a>) -> &'a str
 }
 
 /// Compares these lists, where both can be read: the first one is read first.
-fn try_compare<R, O: Console, E: Console>(
+fn try_compare<R, O: Console, E: Console, M: Meter>(
     rt: &R,
     places: BothPlaces<'_>,
     selected: Selected<'_>,
     manner: Manner,
     out: &mut O,
     err: &mut E,
+    meter: &mut M,
 ) -> Result<u8, Unopened>
 where
     R: Files + Input + AllocGlobal + Clone + Drop,
@@ -132,6 +145,7 @@ where
         &mut second.shelf,
         out,
         err,
+        meter,
         &asides,
         &other_asides,
     );
@@ -169,7 +183,12 @@ where
 }
 
 /// Opens a list over this folder.
-fn open_list<R>(rt: &R, path: &str, media: &str, manner: Manner) -> Result<OpenedList<R>, OpenFault>
+pub fn open_list<R>(
+    rt: &R,
+    path: &str,
+    media: &str,
+    manner: Manner,
+) -> Result<OpenedList<R>, OpenFault>
 where
     R: Files + Input + AllocGlobal + Clone + Drop,
     R::File: FileExt,

@@ -3,12 +3,12 @@ ghost use Rattle.std.specs.Prelude.{◌≡◌, ◌≢◌, ◌≤◌, ◌⊎◌, 
 ghost use Rattle.clap.specs.Walk.{Text, texts};
 ghost use Rattle.consolidate.specs.Commands.{IsConsolidation};
 ghost use Rattle.commandline.specs.CommandLine as asked;
-ghost use Rattle.commandline.specs.CommandLine.{asks_for_help, request_of};
+ghost use Rattle.commandline.specs.CommandLine.{asks_for_help, request_of, verifies};
 ghost use Rattle.commandline.specs.Request.{asked_of};
 ghost use Rattle.console.specs.Places.{where_of};
 ghost use Rattle.sound_terms.specs.Passes.{standard_groups};
 ghost use Rattle.answers.specs.Answers.{RendersBy, ResumesBy, asking, rendered_lines, resumed_lines, written_lines};
-ghost use Rattle.adlcons.specs.Openings.{ChecksFolder, ComparesFolders, IsKeptOut, IsOneKeptOut, ReportsFolder, WorksInFolders, overwrite_for, refusal_of_opening};
+ghost use Rattle.adlcons.specs.Openings.{ChecksFolder, ComparesFolders, IsKeptOut, IsOneKeptOut, ReportsFolder, VerifiesInFolders, WorksInFolders, overwrite_for, refusal_of_opening};
 ghost use Rattle.shelf.specs.declared.Overwrite.TheVariants as overwrite;
 
 use crate::asides::{FolderAsides, listed};
@@ -18,6 +18,7 @@ use crate::looks::{report_folder, show_folder};
 use crate::media::{Manner, open_media, report_found};
 use crate::output::{HeldFolder, Lock, hold_folder, require_ready_folder, require_unshared};
 use crate::reading::{ReadFault, read_list};
+use crate::verifying::verify_in_folders;
 use answers::{
     MISTAKE, Meter, REFUSED, answer_error, answer_request, answer_standard, explain,
     explain_notice, tell_further,
@@ -137,12 +138,21 @@ where
         (ResumesBy ⟦<FolderShelf<R> as devices::Shelf>⟧ ⟦<FolderBench<R> as devices::Bench>⟧ chosen)
         resumed_lines O.Console media target out.old out.new result }
     ensures consolidated { (list media target : Text) (handle : ℕ) (report : Bool)
-        → request_of (texts words.now) ≡ Some (asked.Consolidate list media target handle report) → result ≢ 2
+        → request_of (texts words.now) ≡ Some (asked.Consolidate list media target handle report)
+        → verifies (texts words.now) ≡ false → result ≢ 2
         → IsKeptOut O.Console list target out.old out.new result
         ⊎ WorksInFolders overwrite.Never
         (λ list. IsConsolidation ⟦<FolderShelf<R> as devices::Shelf>⟧ ⟦<FolderBench<R> as devices::Bench>⟧ standard_groups
         list handle (asking report))
         written_lines O.Console media target out.old out.new result }
+    // Such a consolidation is done only where the written list sounds the same. Where no memory remains for its lines that
+    // is reported as if there were none for its stores.
+    ensures verified { (list media target : Text) (handle : ℕ) (report : Bool)
+        → request_of (texts words.now) ≡ Some (asked.Consolidate list media target handle report)
+        → verifies (texts words.now) ≡ true → result ≢ 2
+        → IsKeptOut O.Console list target out.old out.new result
+        ⊎ VerifiesInFolders ⟦<FolderShelf<R> as devices::Shelf>⟧ ⟦<FolderBench<R> as devices::Bench>⟧ O.Console handle
+        report media target out.old out.new result }
     ensures compared { (list media other other_media : Text) (selected : asked.Selected)
         → request_of (texts words.now) ≡ Some (asked.Compare list media other other_media selected) → result ≢ 2
         → IsOneKeptOut O.Console list other out.old out.new result
@@ -166,7 +176,7 @@ where
         Request::Check(list, media) => check_folder(rt, list, media, manner, out, err, meter),
         Request::Report(list, media) => report_folder(rt, list, media, manner, out, err),
         Request::Compare(places, selected) => {
-            compare_folders(rt, places, selected, manner, out, err)
+            compare_folders(rt, places, selected, manner, out, err, meter)
         }
         Request::Show(list, media, handle) => show_folder(
             rt, list, media, handle, manner, out, err,
@@ -180,10 +190,46 @@ where
             work_in_folders(rt, request, places, manner, out, err, meter)
         }
         Request::Consolidate(places, handle, report) => {
-            let request = Request::Consolidate(places, handle, report);
-            work_in_folders(rt, request, places, manner, out, err, meter)
+            let verifies = parsed.verifies;
+            consolidate_folders(
+                rt, places, handle, report, verifies, manner, out, err, meter,
+            )
         }
     }
+}
+
+/// Consolidates a list over these folders, and compares it with what was written where that is asked for.
+fn consolidate_folders<R, O: Console, E: Console, M: Meter>(
+    rt: &R,
+    places: Places<'_>,
+    handle: u64,
+    report: bool,
+    verifies: bool,
+    manner: Manner,
+    out: &mut O,
+    err: &mut E,
+    meter: &mut M,
+) -> u8
+where
+    R: Files + Input + AllocGlobal + Clone + Drop,
+    R::File: FileExt + Lock,
+    ensures consolidated { verifies ≡ false
+        → IsKeptOut O.Console places.entry.list.now places.entry.out.now out.old out.new result
+        ⊎ WorksInFolders overwrite.Never
+        (λ list. IsConsolidation ⟦<FolderShelf<R> as devices::Shelf>⟧ ⟦<FolderBench<R> as devices::Bench>⟧ standard_groups
+        list handle (asking report))
+        written_lines O.Console places.entry.media.now places.entry.out.now out.old out.new result }
+    ensures verified { verifies ≡ true
+        → IsKeptOut O.Console places.entry.list.now places.entry.out.now out.old out.new result
+        ⊎ VerifiesInFolders ⟦<FolderShelf<R> as devices::Shelf>⟧ ⟦<FolderBench<R> as devices::Bench>⟧ O.Console handle
+        report places.entry.media.now places.entry.out.now out.old out.new result }
+    ensures statuses { result ≤ 2 }
+{
+    if verifies {
+        return verify_in_folders(rt, places, handle, report, manner, out, err, meter);
+    }
+    let request = Request::Consolidate(places, handle, report);
+    work_in_folders(rt, request, places, manner, out, err, meter)
 }
 
 /// The status of a command over this list that writes to this folder and doesn't come to its stores. Why is printed,
@@ -407,7 +453,7 @@ fn overwrite_for(request: &Request<'_>) -> Overwrite
 
 /// Holds the folder of the output, once it is ready for a command that writes: locked, empty or one where files may be
 /// replaced, and with none of them that is given too.
-fn ready_output<R, E: Console>(
+pub fn ready_output<R, E: Console>(
     rt: &R,
     places: Places<'_>,
     list: &[u8],
@@ -479,7 +525,7 @@ pub fn tell_unlisted<E: Console>(media: &str, reason: Option<io::Error>, err: &m
 
 /// The name of something in the folder of this path, where that was refused since it isn't empty; that of the marks of
 /// a rendering, if they are there.
-fn name_inside<R: Files + AllocGlobal + Clone + Drop>(
+pub fn name_inside<R: Files + AllocGlobal + Clone + Drop>(
     rt: &R,
     fault: OpenFault,
     path: &str,

@@ -7,12 +7,14 @@ mod comparing;
 mod example;
 mod folders;
 mod head;
+mod held;
 mod looks;
 mod media;
 mod meter;
 mod output;
 mod reading;
 mod stored;
+mod verifying;
 
 use anyhow::Result;
 use console::Printer;

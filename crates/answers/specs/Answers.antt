@@ -1,5 +1,5 @@
 -- What the program prints and answers of a command.
-use Rattle.std.specs.Prelude.{◌≡◌, ℕ, Bool, true, false, IsOk, IsErr, ⊤, List, [], ◌∷◌, ◌++◌, Option, None, Some, Result, Ok, Err, codes, if◌then◌else◌}
+use Rattle.std.specs.Prelude.{◌≡◌, ℕ, Bool, true, false, IsOk, IsErr, ⊤, List, [], ◌∷◌, ◌++◌, Option, None, Some, Result, Ok, Err, IfErr, codes, if◌then◌else◌}
 use Rattle.work_terms.specs.Refusals.{Refusal, Where, Nowhere, Index, IndexFile}
 use Rattle.opening.specs.declared.checking.Accepted.{Accepted}
 use Rattle.devices.specs.declared.source.Shelf as source
@@ -132,6 +132,52 @@ IsAnswered call report_lines = IsAnsweredBy call status_of (lines_of report_line
 abbrev pub IsCompared : {O : Type 0} → (Result Compared CompareFault → Type 0) → console.Ghosts O → (old new : O)
     → (status : ℕ) → Type 0
 IsCompared call = IsAnsweredBy call comparison_status comparison_lines
+
+-- a comparison whose report is asked for: a refusal is printed in its line, and of the report's text nothing is said
+pub record IsComparisonReported {O : Type 0} (call : Result Compared CompareFault → Type 0) (out : console.Ghosts O)
+    (old new : O) (status : ℕ) : Type 0 where
+  pub outcome : Result Compared CompareFault
+  pub called : call outcome
+  pub status_is : status ≡ comparison_status outcome
+  pub is_named : Bool
+  pub refused : IfErr outcome (λ fault. Tells out old new (comparison_refusal_line is_named fault))
+
+-- a comparison, with a report or without
+abbrev pub IsComparedAs : {O : Type 0} → Bool → (Result Compared CompareFault → Type 0) → console.Ghosts O
+    → (old new : O) → (status : ℕ) → Type 0
+IsComparedAs true call = IsComparisonReported call
+IsComparedAs false call = IsCompared call
+
+-- all of two lists
+abbrev pub all_of_both : Selection
+all_of_both = record { from = None; to = None; channels = None }
+
+-- what is printed of a consolidation with these lines that was compared with what it was made from
+abbrev pub verdict_of : (lines : List ℕ) → (rate : ℕ) → (separators : List ℕ) → Comparison → List ℕ
+verdict_of lines rate separators (Same frames channels) = lines
+verdict_of lines rate separators (Differs at channel first second) =
+    differ_text (text_of rate at separators) channel ++ 10 ∷ []
+
+abbrev pub verdict_lines : (lines : List ℕ) → Compared → List ℕ
+verdict_lines lines told = verdict_of lines (frames_per_second told.rate) told.separators told.comparison
+
+-- where neither has a sample both are the same
+abbrev pub verified_lines : (lines : List ℕ) → (is_named : Bool) → Result Compared CompareFault → List ℕ
+verified_lines lines is_named (Ok told) = verdict_lines lines told
+verified_lines lines is_named (Err (compare.First fault)) = comparison_refusal_line is_named (compare.First fault)
+verified_lines lines is_named (Err (compare.Second fault)) = comparison_refusal_line is_named (compare.Second fault)
+verified_lines lines is_named (Err compare.EmptyRange) = lines
+
+abbrev pub verified_status : Result Compared CompareFault → ℕ
+verified_status (Ok told) = status_of_comparison told.comparison
+verified_status (Err (compare.First fault)) = 1
+verified_status (Err (compare.Second fault)) = 1
+verified_status (Err compare.EmptyRange) = 0
+
+-- a consolidation with these lines was compared with what it was made from
+abbrev pub IsVerified : {O : Type 0} → (lines : List ℕ) → (Result Compared CompareFault → Type 0) → console.Ghosts O
+    → (old new : O) → (status : ℕ) → Type 0
+IsVerified lines call = IsAnsweredBy call verified_status (verified_lines lines)
 
 -- the list was checked over these sources, which were only read then, and not at all where it was accepted
 pub record IsChecked {S : Type 0} (shelf : source.Ghosts S) (list : List ℕ) (old new : S)

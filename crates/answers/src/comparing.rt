@@ -1,5 +1,5 @@
 // The answer to a comparison of two lists.
-ghost use Rattle.std.specs.Prelude.{◌≡◌, ◌≢◌, ◌≤◌, Err, IsErr};
+ghost use Rattle.std.specs.Prelude.{◌≡◌, ◌≢◌, ◌≤◌, Err, IsErr, false};
 ghost use Rattle.clap.specs.Walk.{Text};
 ghost use Rattle.comparison.specs.Range.{HasChannels};
 ghost use Rattle.consolidate.specs.Comparing.{IsComparing};
@@ -7,14 +7,17 @@ ghost use Rattle.sampletime.specs.FrameRate.{frames_per_second};
 ghost use Rattle.commandline.specs.Request.{selected_of};
 ghost use Rattle.console.specs.Printing.{Prints};
 ghost use Rattle.list_terms.specs.Text.{rate_of as rate_at};
-ghost use Rattle.answers.specs.Answers.{ComparesBy, IsCompared, compared_lines, comparison_refusal_line, comparison_text, list_refusal_line, status_of_comparison};
+ghost use Rattle.answers.specs.Answers.{ComparesBy, IsComparedAs, compared_lines, comparison_refusal_line, comparison_text, list_refusal_line, status_of_comparison};
 ghost use Rattle.consolidate.specs.CompareFault as comparing;
 ghost use Rattle.answers.specs.Times.{bad_time_line, selection_of};
 
 use crate::answer::{DONE, REFUSED, refuse_time};
 use crate::asides::Asides;
 use crate::chosen::selection_of;
-use crate::difference::report_difference;
+use crate::comparison_report::put_comparison_report;
+use crate::counts::report_counts;
+use crate::difference::{BothLists, report_difference};
+use crate::meter::Meter;
 use crate::refusal::{look_at_list, put_list_fault};
 use crate::report::{tell_changed, tell_meanings_of_two};
 use adlread::rate_of;
@@ -32,12 +35,14 @@ use std::alloc::Global;
 /// Compares two lists, each over the sources of a shelf of its own, at what the words choose, and prints the notices of
 /// both and one line. The status is 0 where they sound the same, 1 where they differ or one is refused, and 2 where a
 /// time can't be read at the first list's rate, which is reported on `err`. A difference and a refusal are explained
-/// there.
+/// there; of a difference it says too at how many samples of each channel the lists differ, in the hour from it on, for
+/// which the sources are opened once more.
 pub fn answer_compare<
     S: Shelf + Reasons,
     T: Shelf + Reasons,
     O: Console,
     E: Console,
+    M: Meter,
     A: Asides,
     B: Asides,
 >(
@@ -49,12 +54,14 @@ pub fn answer_compare<
     second_shelf: &mut T,
     out: &mut O,
     err: &mut E,
+    meter: &mut M,
     first_asides: &A,
     second_asides: &B,
 ) -> u8
-    // Both lists were compared, and the answer is printed.
+    // Both lists were compared, and the answer is printed; of the text of a report nothing is claimed.
     ensures compared { result ≢ 2
-        → IsCompared (ComparesBy S.Shelf T.Shelf (selected_of selected.entry) first_list.now second_list.now
+        → IsComparedAs selected.entry.report
+        (ComparesBy S.Shelf T.Shelf (selected_of selected.entry) first_list.now second_list.now
         first_shelf.old first_shelf.new second_shelf.old second_shelf.new) O.Console out.old out.new result }
     // A time can't be read.
     ensures bad_time { (option : Text)
@@ -65,16 +72,21 @@ pub fn answer_compare<
     ensures two { result ≡ 2
         → (first_shelf.new ≡ first_shelf.old) × (second_shelf.new ≡ second_shelf.old) × (out.new ≡ out.old) }
 {
+    let lists = BothLists {
+        first: first_list,
+        second: second_list,
+    };
     match selection_of(selected, rate_of(first_list)) {
         Ok(selection) => answer_selection(
             alloc,
+            selected.report,
+            lists,
             &selection,
-            first_list,
-            second_list,
             first_shelf,
             second_shelf,
             out,
             err,
+            meter,
             first_asides,
             second_asides,
         ),
@@ -82,86 +94,159 @@ pub fn answer_compare<
     }
 }
 
-/// Compares two lists at what was chosen, and prints what came of it.
+/// Compares two lists at what was chosen, and prints what came of it, as a report where that is asked for.
 fn answer_selection<
     S: Shelf + Reasons,
     T: Shelf + Reasons,
     O: Console,
     E: Console,
+    M: Meter,
     A: Asides,
     B: Asides,
 >(
     alloc: Global,
+    is_report: bool,
+    lists: BothLists<'_>,
     selection: &Selection,
-    first_list: &[u8],
-    second_list: &[u8],
     first_shelf: &mut S,
     second_shelf: &mut T,
     out: &mut O,
     err: &mut E,
+    meter: &mut M,
     first_asides: &A,
     second_asides: &B,
 ) -> u8
     requires { HasChannels selection.now }
-    ensures compared { IsCompared (IsComparing S.Shelf T.Shelf first_list.now second_list.now selection.now
+    ensures compared { IsComparedAs is_report
+        (IsComparing S.Shelf T.Shelf lists.entry.first.now lists.entry.second.now selection.now
         first_shelf.old first_shelf.new second_shelf.old second_shelf.new) O.Console out.old out.new result }
     ensures statuses { result ≤ 1 }
 {
     let outcome = compare(
         alloc,
-        first_list,
-        second_list,
+        lists.first,
+        lists.second,
         selection,
         first_shelf,
         second_shelf,
+        meter,
     );
+    meter.clear();
     tell_changed(alloc, first_shelf, err);
     tell_changed(alloc, second_shelf, err);
     match outcome {
-        Ok(compared) => {
-            put_compared(&compared, out);
-            report_compared(alloc, first_list, second_list, selection, &compared, err);
-            status_of(compared.comparison)
-        }
+        Ok(compared) => put_done(
+            alloc,
+            is_report,
+            lists,
+            selection,
+            &compared,
+            out,
+            err,
+            meter,
+            first_asides,
+            second_asides,
+        ),
         Err(fault) => {
+            let reasons = (first_shelf.reason(), second_shelf.reason());
             let _ = put_refusal_of_two(alloc, &fault, out);
-            match &fault {
-                CompareFault::First(fault) => {
-                    let (list, reason) = (ListOfTwo::First, first_shelf.reason());
-                    explain_list(alloc, list, first_list, fault, reason, first_asides, err)
-                }
-                CompareFault::Second(fault) => {
-                    let (list, reason) = (ListOfTwo::Second, second_shelf.reason());
-                    explain_list(alloc, list, second_list, fault, reason, second_asides, err)
-                }
-                CompareFault::EmptyRange => err.print_line(Explanation::by(58, None, None)),
-            }
+            explain_refusal(
+                alloc,
+                lists,
+                &fault,
+                reasons,
+                first_asides,
+                second_asides,
+                err,
+            );
             REFUSED
         }
     }
 }
 
-/// Prints on `err` what is found of a difference, and what the notices of both lists mean.
-fn report_compared<E: Console>(
+/// Prints what came of a comparison, and answers the status: a report, where that is asked for, or its lines, and what is
+/// found of a difference.
+fn put_done<O: Console, E: Console, M: Meter, A: Asides, B: Asides>(
     alloc: Global,
-    first_list: &[u8],
-    second_list: &[u8],
+    is_report: bool,
+    lists: BothLists<'_>,
+    selection: &Selection,
+    compared: &Compared,
+    out: &mut O,
+    err: &mut E,
+    meter: &mut M,
+    first_asides: &A,
+    second_asides: &B,
+) -> u8
+    requires { HasChannels selection.now }
+    ensures status { result ≡ status_of_comparison compared.now.comparison }
+    ensures few { result ≤ 1 }
+    ensures printed { is_report ≡ false → Prints O.contents O.failures out.old out.new (compared_lines compared.now) }
+{
+    if is_report {
+        put_comparison_report(
+            alloc,
+            lists,
+            selection,
+            compared,
+            out,
+            meter,
+            first_asides,
+            second_asides,
+        );
+        return status_of(compared.comparison);
+    }
+    put_compared(compared, out);
+    report_compared(
+        alloc,
+        lists,
+        selection,
+        compared,
+        err,
+        meter,
+        first_asides,
+        second_asides,
+    );
+    status_of(compared.comparison)
+}
+
+/// Prints on `err` what is found of a difference, and what the notices of both lists mean.
+pub fn report_compared<E: Console, M: Meter, A: Asides, B: Asides>(
+    alloc: Global,
+    lists: BothLists<'_>,
     selection: &Selection,
     compared: &Compared,
     err: &mut E,
-) {
-    report_difference(alloc, first_list, second_list, selection, compared, err);
+    meter: &mut M,
+    first_asides: &A,
+    second_asides: &B,
+)
+    requires { HasChannels selection.now }
+{
+    report_difference(alloc, lists, selection, compared, err);
+    if let Comparison::Differs { at, .. } = compared.comparison {
+        report_counts(
+            alloc,
+            lists,
+            selection,
+            at,
+            err,
+            meter,
+            first_asides,
+            second_asides,
+        );
+    }
     tell_meanings_of_two(
         compared.first_notices.as_slice(),
         compared.second_notices.as_slice(),
-        first_list,
-        second_list,
+        lists.first,
+        lists.second,
         err,
     );
 }
 
 /// The status of a comparison: 0 where two lists sound the same, and 1 where they differ.
-fn status_of(comparison: Comparison) -> u8
+pub fn status_of(comparison: Comparison) -> u8
     ensures status { result ≡ status_of_comparison comparison }
     ensures few { result ≤ 1 }
 {
@@ -182,7 +267,7 @@ fn put_compared<O: Console>(compared: &Compared, out: &mut O)
 }
 
 /// Prints how two lists compare, by times of this form, without the line's end.
-fn put_comparison<O: Console>(
+pub fn put_comparison<O: Console>(
     comparison: Comparison,
     rate: Rate,
     separators: Separators,
@@ -225,7 +310,7 @@ fn put_refusal_of_two<O: Console>(alloc: Global, fault: &CompareFault, out: &mut
 }
 
 /// Prints the line of the refusal of one of two lists.
-fn put_refusal_in<O: Console>(
+pub fn put_refusal_in<O: Console>(
     alloc: Global,
     list: ListOfTwo,
     fault: &ListFault,
@@ -240,8 +325,32 @@ fn put_refusal_in<O: Console>(
     is_named
 }
 
+/// Prints the explanation of a refusal of two lists, by what either store has of a reason.
+fn explain_refusal<E: Console, A: Asides, B: Asides>(
+    alloc: Global,
+    lists: BothLists<'_>,
+    fault: &CompareFault,
+    reasons: (Option<Reason>, Option<Reason>),
+    first_asides: &A,
+    second_asides: &B,
+    err: &mut E,
+) {
+    let (reason, other) = reasons;
+    match fault {
+        CompareFault::First(fault) => {
+            let (list, text) = (ListOfTwo::First, lists.first);
+            explain_list(alloc, list, text, fault, reason, first_asides, err)
+        }
+        CompareFault::Second(fault) => {
+            let (list, text) = (ListOfTwo::Second, lists.second);
+            explain_list(alloc, list, text, fault, other, second_asides, err)
+        }
+        CompareFault::EmptyRange => err.print_line(Explanation::by(58, None, None)),
+    }
+}
+
 /// Prints the explanation of a refusal of one of two lists, with what a second look at its media finds.
-fn explain_list<'a, E: Console, A: Asides>(
+pub fn explain_list<'a, E: Console, A: Asides>(
     alloc: Global,
     list: ListOfTwo,
     text: &'a [u8],

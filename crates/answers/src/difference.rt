@@ -8,6 +8,13 @@ use sampletime::SampleTime;
 use sound_terms::Event;
 use std::alloc::Global;
 
+/// The texts of two lists that are compared.
+#[derive(Clone, Copy)]
+pub struct BothLists<'a> {
+    pub first: &'a [u8],
+    pub second: &'a [u8],
+}
+
 /// A sample of one of two lists: its time, its channel and its exact sum.
 #[derive(Clone, Copy)]
 struct SampleOfList {
@@ -22,8 +29,7 @@ struct SampleOfList {
 /// sums are printed alone.
 pub fn report_difference<E: Console>(
     alloc: Global,
-    first_list: &[u8],
-    second_list: &[u8],
+    lists: BothLists<'_>,
     selection: &Selection,
     compared: &Compared,
     err: &mut E,
@@ -37,8 +43,8 @@ pub fn report_difference<E: Console>(
     else {
         return;
     };
-    let one = read(alloc, first_list).ok();
-    let other = read(alloc, second_list).ok();
+    let one = read(alloc, lists.first).ok();
+    let other = read(alloc, lists.second).ok();
     let (one, other) = (events_of(&one), events_of(&other));
     let sample = SampleOfList {
         list: ListOfTwo::First,
@@ -65,7 +71,7 @@ pub fn report_difference<E: Console>(
 }
 
 /// The entries of a project that could be read.
-fn events_of(project: &Option<Project>) -> &[Event] {
+pub fn events_of(project: &Option<Project>) -> &[Event] {
     match project {
         Some(project) => project.events(),
         None => &[],
@@ -84,7 +90,7 @@ fn report_sample<E: Console>(sample: SampleOfList, events: &[Event], err: &mut E
 }
 
 /// The time at which the first of these entries begins.
-fn first_in(events: &[Event], others: &[Event]) -> Option<SampleTime> {
+pub fn first_in(events: &[Event], others: &[Event]) -> Option<SampleTime> {
     let mut least = None;
     for event in events.iter().chain(others.iter()) {
         least = match least {

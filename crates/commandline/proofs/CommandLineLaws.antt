@@ -134,12 +134,14 @@ pub selected-bad_channels : (found : Found) (channels : Option Text) → channel
     → None ≡ channels_in channels → selected_of (rows_of found) ≡ None
 selected-bad_channels found channels named bad = rw (row_of_value found (codes "channels") channels named, ← bad) refl
 
-pub selected-all : (found : Found) (channels from to : Option Text) (count : Option ℕ)
+pub selected-all : (found : Found) (channels from to : Option Text) (count : Option ℕ) (report : Bool)
     → channels ≡ first_value found (codes "channels") → Some count ≡ channels_in channels
     → from ≡ first_value found (codes "from") → to ≡ first_value found (codes "to")
-    → selected_of (rows_of found) ≡ Some (record { from = from; to = to; channels = count })
-selected-all found channels from to count named is begin end =
+    → report ≡ is_set (codes "report") (rows_of found)
+    → selected_of (rows_of found) ≡ Some (record { from = from; to = to; channels = count; report = report })
+selected-all found channels from to count report named is begin end reports =
     rw (
+      reports,
       row_of_value found (codes "channels") channels named,
       ← is,
       row_of_value found (codes "from") from begin,

@@ -49,7 +49,7 @@ over_folders name = with_rule (over_media name) (place_rule (codes "OUT"))
 abbrev pub consolidate_shape : Shape
 consolidate_shape =
     let handled = with_rule (over_folders (codes "consolidate")) (default_rule (codes "handle") (codes "48000")) in
-    (with_rule handled (flag_rule (codes "report"))).top
+    (with_rule (with_rule handled (flag_rule (codes "report"))) (flag_rule (codes "verify"))).top
 
 -- with the times and the channels that may be chosen
 abbrev pub with_range : App → App
@@ -73,7 +73,7 @@ over_both =
     with_rule (with_rule (over_media (codes "compare")) (place_rule (codes "LIST2"))) (place_rule (codes "MEDIA2"))
 
 abbrev pub compare_shape : Shape
-compare_shape = (with_range over_both).top
+compare_shape = (with_range (with_rule over_both (flag_rule (codes "report")))).top
 
 -- The program itself: it has a version and wants a command, and its words are those behind its name.
 abbrev pub top_app : App
@@ -109,11 +109,12 @@ pub record Chosen : Type 0 where
   pub depth : Depth
   pub order : Order
 
--- what is chosen of a comparison: times by their texts, a number of channels
+-- what is chosen of a comparison: times by their texts, a number of channels, and whether it is reported as JSON
 pub record Selected : Type 0 where
   pub from : Option Text
   pub to : Option Text
   pub channels : Option ℕ
+  pub report : Bool
 
 -- What the program is asked for: a command with its list, the folder of its media, and the folder that is written to
 -- (a resumed one goes on with what is in there), and whether a report is written; two lists to be compared, each with
@@ -191,6 +192,7 @@ selected_by rows channels = record {
   from = first_of (codes "from") rows;
   to = first_of (codes "to") rows;
   channels = channels;
+  report = is_set (codes "report") rows;
 }
 
 abbrev pub selected_of : List Row → Option Selected
@@ -275,6 +277,10 @@ has_flag id words = option_map_or (is_flagged id) (subcommand_of adlcons_app wor
 -- the words ask for all that is at fault in a list, and not just for the first of it
 abbrev pub tells_all : List Text → Bool
 tells_all = has_flag (codes "all")
+
+-- the words ask for what is written to be compared with what was given
+abbrev pub verifies : List Text → Bool
+verifies = has_flag (codes "verify")
 
 -- the words ask for media in the folders below that of the media
 abbrev pub searches : List Text → Bool

@@ -22,6 +22,7 @@ selected_of selected = record {
   from = option_map (λ text. text.now) selected.from;
   to = option_map (λ text. text.now) selected.to;
   channels = selected.channels;
+  report = selected.report;
 }
 
 -- what the request asks for

@@ -4,7 +4,7 @@ use Rattle.clap.specs.declared.error.ErrorKind.TheVariants.{DisplayHelp, Display
 use Rattle.clap.proofs.OnLiterals.{clap_on_literals}
 use Rattle.sound_terms.specs.declared.Depth.TheVariants.{Sixteen, TwentyFour, ThirtyTwo}
 use Rattle.job_terms.specs.declared.Order.TheVariants.{ByTime, BySource}
-use Rattle.commandline.specs.CommandLine.{Check, Chosen, Compare, Render, Report, Resume, Consolidate, Show, Explain, ExplainNotice, asks_for_help, has_flag, named_by, request_of, searches, tells_all, words_fault}
+use Rattle.commandline.specs.CommandLine.{Check, Chosen, Compare, Render, Report, Resume, Consolidate, Show, Explain, ExplainNotice, asks_for_help, has_flag, named_by, request_of, searches, tells_all, verifies, words_fault}
 
 -- ---- good words
 
@@ -65,6 +65,14 @@ searches_asked = refl
 searches_unasked : searches (codes "check" ∷ codes "L.adl" ∷ codes "M" ∷ codes "--all" ∷ []) ≡ false
 unfolding has_flag clap_on_literals
 searches_unasked = refl
+
+verifies_asked : verifies (codes "consolidate" ∷ codes "L" ∷ codes "M" ∷ codes "O" ∷ codes "--verify" ∷ []) ≡ true
+unfolding has_flag clap_on_literals
+verifies_asked = refl
+
+verifies_unasked : verifies (codes "consolidate" ∷ codes "L" ∷ codes "M" ∷ codes "O" ∷ []) ≡ false
+unfolding has_flag clap_on_literals
+verifies_unasked = refl
 
 -- ---- values that no option takes, which are mistakes
 
@@ -154,14 +162,21 @@ consolidates_with_report = refl
 
 compares : request_of (codes "compare" ∷ codes "L" ∷ codes "M" ∷ codes "L2" ∷ codes "M2" ∷ [])
     ≡ Some (Compare (codes "L") (codes "M") (codes "L2") (codes "M2")
-    (record { from = None; to = None; channels = None }))
+    (record { from = None; to = None; channels = None; report = false }))
 unfolding words_fault named_by clap_on_literals
 compares = refl
+
+compares_with_report : request_of (codes "compare" ∷ codes "L" ∷ codes "M" ∷ codes "L2" ∷ codes "M2"
+    ∷ codes "--report" ∷ [])
+    ≡ Some (Compare (codes "L") (codes "M") (codes "L2") (codes "M2")
+    (record { from = None; to = None; channels = None; report = true }))
+unfolding words_fault named_by clap_on_literals
+compares_with_report = refl
 
 compares_input : request_of (codes "compare" ∷ codes "L" ∷ codes "M" ∷ codes "-" ∷ codes "M2"
     ∷ codes "--to=x" ∷ codes "--channels" ∷ codes "64" ∷ [])
     ≡ Some (Compare (codes "L") (codes "M") (codes "-") (codes "M2")
-    (record { from = None; to = Some (codes "x"); channels = Some 64 }))
+    (record { from = None; to = Some (codes "x"); channels = Some 64; report = false }))
 unfolding words_fault named_by clap_on_literals
 compares_input = refl
 

@@ -94,7 +94,9 @@ fn consolidate_command<'a>(alloc: Global) -> Result<Command<'a>, AllocError>
     let help = "Frames kept on each side of what plays";
     let command = with_default(alloc, command, "handle", "N", "48000", help)?;
     let report = "Write where the media come from, and checksums";
-    with_flag(alloc, command, "report", report)
+    let command = with_flag(alloc, command, "report", report)?;
+    let verify = "Read it again, and compare it with what was given";
+    with_flag(alloc, command, "verify", verify)
 }
 
 /// The command that renders a list.
@@ -133,6 +135,8 @@ fn compare_command<'a>(alloc: Global) -> Result<Command<'a>, AllocError>
     ensures local { IfOk result (λ command. (fields_of command).has_globals ≡ false) }
 {
     let command = over_both(alloc)?;
+    let report = "Print all that is found as JSON";
+    let command = with_flag(alloc, command, "report", report)?;
     with_range(alloc, command)
 }
 

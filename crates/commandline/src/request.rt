@@ -59,13 +59,15 @@ pub enum Request<'a> {
     ExplainNotice(Option<&'a str>),
 }
 
-/// What the words ask for; whether standard error lists all that is at fault in a list that is refused; and whether a
-/// medium that isn't right inside its folder is looked for in the folders below.
+/// What the words ask for; whether standard error lists all that is at fault in a list that is refused; whether a medium
+/// that isn't right inside its folder is looked for in the folders below; and whether a consolidation is compared with
+/// what was given.
 #[derive(Clone, Copy, Debug, PartialEq, Eq)]
 pub struct Parsed<'a> {
     pub request: Request<'a>,
     pub tells_all: bool,
     pub searches: bool,
+    pub verifies: bool,
 }
 
 /// Reads the words behind the program's name. The error is clap's: a mistake in the words, a request for help or for
@@ -74,6 +76,7 @@ pub fn parse<'a>(alloc: Global, words: &'a [&'a str]) -> Result<Parsed<'a>, Erro
     ensures read { IfOk result (λ parsed. request_of (texts words.entry.now) ≡ Some (asked_of parsed.request)) }
     ensures all { IfOk result (λ parsed. parsed.tells_all ≡ line.tells_all (texts words.entry.now)) }
     ensures search { IfOk result (λ parsed. parsed.searches ≡ line.searches (texts words.entry.now)) }
+    ensures verify { IfOk result (λ parsed. parsed.verifies ≡ line.verifies (texts words.entry.now)) }
     ensures no_help { IfOk result (λ _. asks_for_help (texts words.entry.now) ≡ false) }
     ensures refused { IfErr result
         (λ error. (kind_of error ≡ OutOfMemory) ⊎ (request_of (texts words.entry.now) ≡ None)) }
@@ -87,6 +90,7 @@ pub fn parse<'a>(alloc: Global, words: &'a [&'a str]) -> Result<Parsed<'a>, Erro
             request,
             tells_all: asks_for("all", &matches),
             searches: asks_for("search", &matches),
+            verifies: asks_for("verify", &matches),
         }),
         None => Err(command.error(ErrorKind::ValueValidation, mistake_of(&matches))?),
     }
@@ -257,6 +261,7 @@ fn selected_in<'a>(words: &ArgMatches<'a>) -> Option<Selected<'a>>
         from: words.get_str("from"),
         to: words.get_str("to"),
         channels,
+        report: is_set("report", words),
     })
 }
 

@@ -9,8 +9,8 @@ ghost use Rattle.comparison.specs.Side.{HasRoom, heard};
 use crate::CompareFault;
 use crate::room::Room;
 use crate::side::Side;
-use crate::sides::{is_alike, sum_both};
-use devices::Shelf;
+use crate::sides::{is_alike, show_progress, sum_both};
+use devices::{Shelf, Watch};
 
 /// At how many of so many frames the sums of a channel differ. The channel is counted from 0, and the sums lie frame by
 /// frame.
@@ -160,8 +160,8 @@ fn count_block<S: Shelf, T: Shelf>(
 }
 
 /// Writes over the count of each channel at how many samples the sums of two sides differ, in all that both plans have.
-/// The counts are zero before.
-pub fn count_sides<S: Shelf, T: Shelf>(
+/// The counts are zero before. The watch sees after each block how many frames have been gone over.
+pub fn count_sides<S: Shelf, T: Shelf, W: Watch>(
     first: &mut Side,
     second: &mut Side,
     first_shelf: &mut S,
@@ -169,6 +169,7 @@ pub fn count_sides<S: Shelf, T: Shelf>(
     first_room: &mut Room,
     second_room: &mut Room,
     counts: &mut [u32],
+    watch: &mut W,
 ) -> Result<(), CompareFault>
     requires same { second.old.planned.range ≡ first.old.planned.range }
     requires first_room { HasRoom first.old first_room.old }
@@ -195,6 +196,7 @@ pub fn count_sides<S: Shelf, T: Shelf>(
             second_room,
             counts,
         )?;
+        show_progress(k, first, watch);
     }
     Ok(())
 }

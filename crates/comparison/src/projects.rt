@@ -21,7 +21,7 @@ use crate::room::Room;
 use crate::side::Side;
 use crate::sides::compare_sides;
 use crate::{CompareFault, SideFault};
-use devices::Shelf;
+use devices::{Shelf, Watch};
 use interval::from_checked;
 use projectcheck::Checked;
 use renderplan::Plan;
@@ -148,13 +148,14 @@ pub fn sides_of<'a, 'b>(
 }
 
 /// Where two projects differ first in an extent.
-fn compare_in<S: Shelf, T: Shelf>(
+fn compare_in<S: Shelf, T: Shelf, W: Watch>(
     alloc: Global,
     first: &Checked,
     second: &Checked,
     extent: &Extent,
     first_shelf: &mut S,
     second_shelf: &mut T,
+    watch: &mut W,
 ) -> Result<Option<Difference>, CompareFault>
     requires channels { (1 ≤ extent.now.channels) × (extent.now.channels ≤ 64) }
     requires some { extent.now.from < extent.now.to }
@@ -180,6 +181,7 @@ fn compare_in<S: Shelf, T: Shelf>(
         second_shelf,
         &mut first_room,
         &mut second_room,
+        watch,
     )
 }
 
@@ -192,14 +194,15 @@ pub fn time_of(samples: u64) -> SampleTime
 
 /// Whether two projects sound the same, on every channel at every time that was chosen, and where they differ first: by
 /// their exact sums, before any rounding. Nothing is read or summed where neither plays. `EmptyRange` comes before any
-/// memory is taken.
-pub fn compare_projects<S: Shelf, T: Shelf>(
+/// memory is taken. The watch sees after each block that is the same how many frames are compared.
+pub fn compare_projects<S: Shelf, T: Shelf, W: Watch>(
     alloc: Global,
     first: &Checked,
     second: &Checked,
     selection: &Selection,
     first_shelf: &mut S,
     second_shelf: &mut T,
+    watch: &mut W,
 ) -> Result<Comparison, CompareFault>
     requires { HasChannels selection.now }
     ensures compared { IsTrue (S.honest first_shelf.old) → IsTrue (T.honest second_shelf.old)
@@ -225,7 +228,15 @@ pub fn compare_projects<S: Shelf, T: Shelf>(
     if extent.to.get() <= extent.from.get() {
         return Err(CompareFault::EmptyRange);
     }
-    match compare_in(alloc, first, second, &extent, first_shelf, second_shelf)? {
+    match compare_in(
+        alloc,
+        first,
+        second,
+        &extent,
+        first_shelf,
+        second_shelf,
+        watch,
+    )? {
         Some(difference) => Ok(Comparison::Differs {
             at: time_of(difference.at),
             channel: difference.channel,

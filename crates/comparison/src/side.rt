@@ -156,6 +156,18 @@ impl<'a> Side<'a> {
         self.plan.frames_of(k) as usize
     }
 
+    /// How many frames have been gone over with block k, and how many there are in all.
+    pub fn progress_of(&self, k: u64) -> (u64, u64) {
+        let last = self.blocks().saturating_sub(1);
+        (self.frames_up_to(k), self.frames_up_to(last))
+    }
+
+    /// The frames of all blocks up to block k, with it.
+    fn frames_up_to(&self, k: u64) -> u64 {
+        k.saturating_mul(u64::from(BLOCK_LENGTH))
+            .saturating_add(self.frames_of(k) as u64)
+    }
+
     /// The time at which block k begins.
     pub fn start_of(&self, k: u64) -> u64
         requires { k < block_count self.now.planned.range }

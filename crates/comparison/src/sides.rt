@@ -11,7 +11,7 @@ use crate::differing::{Difference, first_difference};
 use crate::room::Room;
 use crate::side::Side;
 use crate::stored::sum_alike;
-use devices::Shelf;
+use devices::{Shelf, Watch};
 use renderplan::Program;
 
 /// Sums block k of the first side, as `Side::sum` does.
@@ -286,15 +286,23 @@ fn compare_block<S: Shelf, T: Shelf>(
     )
 }
 
+/// Shows a watch how many frames of a side have been gone over with block k.
+pub fn show_progress<W: Watch>(k: u64, side: &Side, watch: &mut W) {
+    let (done, whole) = side.progress_of(k);
+    watch.reached(done, whole);
+}
+
 /// Where two sides differ first, on the channels and in the samples that both plans have; `None` where they sound
-/// alike. The rooms hold any block. Blocks are compared in turn, and none after the one that differs.
-pub fn compare_sides<S: Shelf, T: Shelf>(
+/// alike. The rooms hold any block. Blocks are compared in turn, and none after the one that differs; after each that
+/// doesn't the watch sees how many frames are compared.
+pub fn compare_sides<S: Shelf, T: Shelf, W: Watch>(
     first: &mut Side,
     second: &mut Side,
     first_shelf: &mut S,
     second_shelf: &mut T,
     first_room: &mut Room,
     second_room: &mut Room,
+    watch: &mut W,
 ) -> Result<Option<Difference>, CompareFault>
     requires same { second.old.planned.range ≡ first.old.planned.range }
     requires first_room { HasRoom first.old first_room.old }
@@ -322,6 +330,7 @@ pub fn compare_sides<S: Shelf, T: Shelf>(
         if found.is_some() {
             return Ok(found);
         }
+        show_progress(k, first, watch);
     }
     Ok(None)
 }

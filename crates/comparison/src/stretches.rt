@@ -13,7 +13,7 @@ use crate::counting::count_sides;
 use crate::projects::{sides_of, time_of};
 use crate::range::{Extent, Selection, compared_in};
 use crate::{CompareFault, SideFault};
-use devices::Shelf;
+use devices::{Shelf, Watch};
 use projectcheck::Checked;
 use sampletime::SampleTime;
 use std::alloc::{AllocError, Global};
@@ -68,7 +68,7 @@ fn zeros_for(alloc: Global, channels: u8) -> Result<Vec<u32>, AllocError>
 
 /// Writes over the count of each channel, which is zero, at how many samples of an extent two projects differ. Nothing is
 /// read where it is empty.
-fn count_in<S: Shelf, T: Shelf>(
+fn count_in<S: Shelf, T: Shelf, W: Watch>(
     alloc: Global,
     first: &Checked,
     second: &Checked,
@@ -76,6 +76,7 @@ fn count_in<S: Shelf, T: Shelf>(
     first_shelf: &mut S,
     second_shelf: &mut T,
     counts: &mut [u32],
+    watch: &mut W,
 ) -> Result<(), CompareFault>
     requires channels { (1 ≤ extent.now.channels) × (extent.now.channels ≤ 64) }
     requires wide { length counts.old ≡ extent.now.channels }
@@ -105,13 +106,14 @@ fn count_in<S: Shelf, T: Shelf>(
         &mut first_room,
         &mut second_room,
         counts,
+        watch,
     )
 }
 
 /// At how many samples two projects differ on each channel, by their exact sums, in a stretch of what
 /// `compare_projects` compares: so many frames at most, from a time on. No block is read that has none of them. Counts of
-/// an empty stretch are zero.
-pub fn differing_in<S: Shelf, T: Shelf>(
+/// an empty stretch are zero. The watch sees after each block how many frames of the stretch have been gone over.
+pub fn differing_in<S: Shelf, T: Shelf, W: Watch>(
     alloc: Global,
     first: &Checked,
     second: &Checked,
@@ -120,6 +122,7 @@ pub fn differing_in<S: Shelf, T: Shelf>(
     frames: u64,
     first_shelf: &mut S,
     second_shelf: &mut T,
+    watch: &mut W,
 ) -> Result<DifferingCounts, CompareFault>
     requires { HasChannels selection.now }
     ensures counted { let stretch = spec.stretch_in
@@ -155,6 +158,7 @@ pub fn differing_in<S: Shelf, T: Shelf>(
         first_shelf,
         second_shelf,
         written,
+        watch,
     )?;
     Ok(DifferingCounts { counts })
 }

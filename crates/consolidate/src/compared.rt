@@ -6,7 +6,7 @@ ghost use Rattle.consolidate.specs.Comparing.{IsComparing};
 use crate::compare_fault::{CompareFault, ListFault};
 use crate::opened::open_list;
 use comparison::{Comparison, Selection, compare_projects};
-use devices::Shelf;
+use devices::{Shelf, Watch};
 use list_terms::Notice;
 use sampletime::{Rate, Separators};
 use std::alloc::Global;
@@ -29,14 +29,16 @@ pub struct Compared {
 ///
 /// The first list is refused first, then the second one, each as `check_project` refuses it; then an empty range, by
 /// default one in which neither list has a sample. Want of memory for the sums comes after all of these, and before
-/// any is made; a device that fails while they are made ends the call at once (22).
-pub fn compare<S: Shelf, T: Shelf>(
+/// any is made; a device that fails while they are made ends the call at once (22). The watch sees how many frames are
+/// compared, of all that are to be.
+pub fn compare<S: Shelf, T: Shelf, W: Watch>(
     alloc: Global,
     first_list: &[u8],
     second_list: &[u8],
     selection: &Selection,
     first_shelf: &mut S,
     second_shelf: &mut T,
+    watch: &mut W,
 ) -> Result<Compared, CompareFault>
     requires { HasChannels selection.now }
     ensures { IsComparing S.Shelf T.Shelf first_list.now second_list.now selection.now first_shelf.old first_shelf.new
@@ -57,6 +59,7 @@ pub fn compare<S: Shelf, T: Shelf>(
         selection,
         first_shelf,
         second_shelf,
+        watch,
     ) {
         Ok(comparison) => Ok(Compared {
             comparison,

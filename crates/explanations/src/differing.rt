@@ -62,6 +62,15 @@ fn fmt_fraction<W: fmt::Write>(fraction: u64, f: &mut fmt::Formatter<W>) -> fmt:
     Ok(())
 }
 
+/// Writes the number of an entry, if only a few entries are before it.
+fn fmt_entry<W: fmt::Write>(number: u32, before: usize, f: &mut fmt::Formatter<W>) -> fmt::Result {
+    if before >= MOST {
+        return Ok(());
+    }
+    let comma = if before == 0 { "" } else { ", " };
+    write!(f, "{comma}entry {number}")
+}
+
 /// The entries of a list that may sound at a time on a channel, by their numbers: whose span holds the time, and whose
 /// channels hold the channel. At most 20 are named, and how many more there are.
 #[derive(Clone, Copy)]
@@ -73,7 +82,7 @@ pub struct SoundingEntries<'a> {
 
 impl SoundingEntries<'_> {
     /// Whether an entry is one of them.
-    fn has(&self, event: &Event) -> bool {
+    pub fn has(&self, event: &Event) -> bool {
         event.dest_in <= self.at
             && self.at < event.dest_out
             && event.dest.first <= self.channel
@@ -86,10 +95,7 @@ impl fmt::Display for SoundingEntries<'_> {
         let mut count: usize = 0;
         for event in self.events {
             if self.has(event) {
-                if count < MOST {
-                    let (comma, number) = (if count == 0 { "" } else { ", " }, event.number);
-                    write!(f, "{comma}entry {number}")?;
-                }
+                fmt_entry(event.number, count, f)?;
                 count = count.saturating_add(1);
             }
         }
@@ -98,6 +104,34 @@ impl fmt::Display for SoundingEntries<'_> {
             None | Some(0) => Ok(()),
             Some(more) => write!(f, " and {more} more"),
         }
+    }
+}
+
+/// At how many samples two lists differ, by channels, of which the first is 1: of all that is compared, or of a part of
+/// it, an hour from the first difference on. Channels on which none differs aren't named.
+#[derive(Clone, Copy)]
+pub struct DifferingSamples<'a> {
+    pub counts: &'a [u32],
+    pub is_part: bool,
+}
+
+impl fmt::Display for DifferingSamples<'_> {
+    fn fmt<W: fmt::Write>(&self, f: &mut fmt::Formatter<W>) -> fmt::Result {
+        f.write_str(if self.is_part {
+            "samples that differ in the hour from then on"
+        } else {
+            "samples that differ"
+        })?;
+        let mut mark = ":";
+        let mut channel: u8 = 0;
+        for count in self.counts {
+            channel = channel.saturating_add(1);
+            if *count > 0 {
+                write!(f, "{mark} {count} on channel {channel}")?;
+                mark = ",";
+            }
+        }
+        Ok(())
     }
 }
 
@@ -120,21 +154,24 @@ impl fmt::Display for Agreement {
             return f.write_str("they differ from the first sample on");
         }
         f.write_str("before it they are the same, from ")?;
-        self.fmt_time(self.from, f)?;
+        fmt_time(self.from, self.rate, self.separators, f)?;
         let counted = if samples == 1 { "sample" } else { "samples" };
         write!(f, " on: {samples} {counted} (")?;
-        self.fmt_time(length, f)?;
+        fmt_time(length, self.rate, self.separators, f)?;
         f.write_str(")")
     }
 }
 
-impl Agreement {
-    /// Writes a time as the first list does.
-    fn fmt_time<W: fmt::Write>(&self, time: SampleTime, f: &mut fmt::Formatter<W>) -> fmt::Result {
-        for byte in text_of(time, self.separators, self.rate) {
-            let character = char::from(byte);
-            write!(f, "{character}")?;
-        }
-        Ok(())
+/// Writes a time as a list of this rate, with these separators, does.
+pub fn fmt_time<W: fmt::Write>(
+    time: SampleTime,
+    rate: Rate,
+    separators: Separators,
+    f: &mut fmt::Formatter<W>,
+) -> fmt::Result {
+    for byte in text_of(time, separators, rate) {
+        let character = char::from(byte);
+        write!(f, "{character}")?;
     }
+    Ok(())
 }

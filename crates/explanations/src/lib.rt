@@ -3,6 +3,7 @@
 
 mod changed;
 mod column;
+mod comparison_report;
 mod differing;
 mod explanation;
 mod file_kind;
@@ -21,7 +22,8 @@ mod saved;
 mod shown;
 
 pub use changed::ChangedSources;
-pub use differing::{Agreement, ExactSample, NamedList, SoundingEntries};
+pub use comparison_report::ComparisonReport;
+pub use differing::{Agreement, DifferingSamples, ExactSample, NamedList, SoundingEntries};
 pub use explanation::{Explanation, FoundFolder, FurtherExplanation};
 pub use found_format::FoundFormat;
 pub use found_sound::FoundSound;

@@ -2,8 +2,11 @@
 ghost use Rattle.comparison.specs.Range.{HasChannels};
 
 use crate::lists::list;
+use comparison::differing_in;
 use consolidate::{CompareFault, Comparison, Selection, compare};
-use shelf::MemoryShelf;
+use opening::open_project;
+use sampletime::SampleTime;
+use shelf::{MemoryShelf, Unwatched};
 use sound_terms::{Bext, Depth};
 use std::alloc::Global;
 use std::test::Fail;
@@ -62,7 +65,16 @@ fn compared(alloc: Global, first: (&str, i32), second: (&str, i32)) -> Result<En
     let mut one = MemoryShelf::new(alloc).with_file("A.wav", sound(alloc, first.1)?.as_slice())?;
     let mut two = MemoryShelf::new(alloc).with_file("A.wav", sound(alloc, second.1)?.as_slice())?;
     let (first_list, second_list) = (first_list.as_bytes(), second_list.as_bytes());
-    match compare(alloc, first_list, second_list, &all(), &mut one, &mut two) {
+    let watch = &mut Unwatched;
+    match compare(
+        alloc,
+        first_list,
+        second_list,
+        &all(),
+        &mut one,
+        &mut two,
+        watch,
+    ) {
         Ok(compared) => Ok(ending(compared.comparison)),
         Err(CompareFault::EmptyRange) => Ok(("empty", 0, 0)),
         Err(fault) => Err(Fail::from(fault)),
@@ -85,6 +97,61 @@ const CASES: [Case; 6] = [
 fn lists_sound_the_same_or_differ_first_at_a_sample(rt: HostRuntime) -> Result<(), Fail> {
     for (first, second, ends) in CASES {
         assert_eq!(rt; compared(rt.alloc(), first, second)?, ends);
+    }
+    Ok(())
+}
+
+/// At how many samples of channel 1 two lists of these entries differ, over files that end in these samples: so many
+/// frames at most, from a time on.
+fn counted(
+    alloc: Global,
+    first: (&str, i32),
+    second: (&str, i32),
+    from: u64,
+    frames: u64,
+) -> Result<Option<u32>, Fail> {
+    let first_list = list(alloc, first.0)?;
+    let second_list = list(alloc, second.0)?;
+    let mut one = MemoryShelf::new(alloc).with_file("A.wav", sound(alloc, first.1)?.as_slice())?;
+    let mut two = MemoryShelf::new(alloc).with_file("A.wav", sound(alloc, second.1)?.as_slice())?;
+    let first = open_project(alloc, first_list.as_bytes(), &mut one)?;
+    let second = open_project(alloc, second_list.as_bytes(), &mut two)?;
+    let from = SampleTime::new(from).ok_or("no time")?;
+    let watch = &mut Unwatched;
+    let counts = differing_in(
+        alloc,
+        &first,
+        &second,
+        &all(),
+        from,
+        frames,
+        &mut one,
+        &mut two,
+        watch,
+    )?;
+    Ok(counts.as_slice().first().copied())
+}
+
+/// Entries and the last sample of each file, a stretch, and at how many of its samples they differ.
+type CountedCase = ((&'static str, i32), (&'static str, i32), (u64, u64), u32);
+
+const COUNTED: [CountedCase; 9] = [
+    ((WHOLE, 7), (WHOLE, 7), (0, 4), 0),
+    ((WHOLE, 7), (WHOLE, 8), (0, 4), 1),
+    ((WHOLE, 7), (SHORT, 7), (0, 100), 1),
+    ((LAYERS, 7), (WHOLE, 7), (0, 100), 3),
+    ((LAYERS, 7), (WHOLE, 7), (1, 100), 2),
+    ((LAYERS, 7), (WHOLE, 7), (0, 3), 2),
+    ((NONE, 7), (WHOLE, 7), (1, 2), 1),
+    ((NONE, 7), (WHOLE, 7), (4, 100), 0),
+    ((NONE, 7), (WHOLE, 7), (0, 0), 0),
+];
+
+#[test]
+fn the_samples_that_differ_are_counted(rt: HostRuntime) -> Result<(), Fail> {
+    for (first, second, (from, frames), count) in COUNTED {
+        let found = counted(rt.alloc(), first, second, from, frames)?;
+        assert_eq!(rt; found, Some(count));
     }
     Ok(())
 }

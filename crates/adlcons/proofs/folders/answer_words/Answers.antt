@@ -1,4 +1,4 @@
-use Rattle.std.proofs.Common.{◌≡◌, Some, refl, rules}
+use Rattle.std.proofs.Common.{◌≡◌, ◌∙◌, Some, refl, rules}
 use Rattle.commandline.specs.CommandLine.{Compare, Consolidate, Render, Resume}
 use Rattle.commandline.specs.Request.{chosen_of, selected_of}
 use Rattle.commandline.specs.RequestLaws.{compare_fields, consolidate_fields, render_fields, resume_fields}
@@ -35,7 +35,7 @@ returns-in-Resume-clause-resumed g c = λ list media target chosen request.
     (chosen_of c.in-Resume.chosen) refl some)
 
 pub returns-in-Consolidate-clause-consolidated : goal.returns-in-Consolidate-clause-consolidated
-returns-in-Consolidate-clause-consolidated g c = λ list media target handle report request.
+returns-in-Consolidate-clause-consolidated g c = λ list media target handle report request plain.
     let places = c.in-Consolidate.places in
     let same : Some (Consolidate places.list.now places.media.now places.out.now c.in-Consolidate.handle
     c.in-Consolidate.report) ≡ Some (Consolidate list media target handle report) = search rules in
@@ -47,8 +47,22 @@ returns-in-Consolidate-clause-consolidated g c = λ list media target handle rep
     let the_handle : c.in-Consolidate.handle ≡ handle = parts.3 in
     let the_report : c.in-Consolidate.report ≡ report = parts.4 in
     rw (← the_list, ← the_media, ← the_target, ← the_handle, ← the_report)
-    (λ some. c.work_in_folders-in-Consolidate.ensures.consolidated places.list.now places.media.now
-    places.out.now c.in-Consolidate.handle c.in-Consolidate.report refl)
+    (λ some. c.consolidate_folders.ensures.consolidated (c.in-Ok.ensures.verify ∙ plain))
+
+pub returns-in-Consolidate-clause-verified : goal.returns-in-Consolidate-clause-verified
+returns-in-Consolidate-clause-verified g c = λ list media target handle report request asked.
+    let places = c.in-Consolidate.places in
+    let same : Some (Consolidate places.list.now places.media.now places.out.now c.in-Consolidate.handle
+    c.in-Consolidate.report) ≡ Some (Consolidate list media target handle report) = search rules in
+    let parts = consolidate_fields places.list.now places.media.now places.out.now c.in-Consolidate.handle
+    c.in-Consolidate.report list media target handle report same in
+    let the_list : places.list.now ≡ list = parts.0 in
+    let the_media : places.media.now ≡ media = parts.1 in
+    let the_target : places.out.now ≡ target = parts.2 in
+    let the_handle : c.in-Consolidate.handle ≡ handle = parts.3 in
+    let the_report : c.in-Consolidate.report ≡ report = parts.4 in
+    rw (← the_list, ← the_media, ← the_target, ← the_handle, ← the_report)
+    (λ some. c.consolidate_folders.ensures.verified (c.in-Ok.ensures.verify ∙ asked))
 
 pub returns-in-Compare-clause-compared : goal.returns-in-Compare-clause-compared
 returns-in-Compare-clause-compared g c = λ list media other other_media selected request.

@@ -55,3 +55,11 @@ returns-in-Some-clause-search c =
     ∙ ap (λ (rows : Option (Text × List Row)). option_map_or (is_flagged (codes "search")) rows false)
     (c.in_ok-matches.ensures.ok.2 (is_simple-adlcons _ app)).1
     ∙ has_flag-adlcons (codes "search") _ (texts c.args.words.now) app
+
+pub returns-in-Some-clause-verify : goal.returns-in-Some-clause-verify
+returns-in-Some-clause-verify c =
+    let app = c.in_ok-command.ensures in
+    c.asks_for-in-Some-2.ensures
+    ∙ ap (λ (rows : Option (Text × List Row)). option_map_or (is_flagged (codes "verify")) rows false)
+    (c.in_ok-matches.ensures.ok.2 (is_simple-adlcons _ app)).1
+    ∙ has_flag-adlcons (codes "verify") _ (texts c.args.words.now) app

@@ -11,5 +11,5 @@ returns-in_err-channels c =
 
 pub returns : goal.returns
 returns c =
-    sym (selected-all (found_of c.args.words.now) _ _ _ c.in_ok-channels.channels c.get_str.ensures
-    c.in_ok-channels.ensures.read c.get_str-2.ensures c.get_str-3.ensures)
+    sym (selected-all (found_of c.args.words.now) _ _ _ c.in_ok-channels.channels _ c.get_str.ensures
+    c.in_ok-channels.ensures.read c.get_str-2.ensures c.get_str-3.ensures c.is_set.ensures)

@@ -1,0 +1,11 @@
+use Rattle.adlcons.proofs.verifying.put_verified.Goals as goal
+
+pub returns-clause-compared : goal.returns-clause-compared
+returns-clause-compared g c = record {
+  written = c.deref.result.now;
+  after = c.answer_verified.new.shelf;
+  written_before = c.args.written.shelf;
+  written_after = c.answer_verified.new.written_shelf;
+  folder = c.requires;
+  compared = c.answer_verified.ensures.verified;
+}

@@ -1,0 +1,204 @@
+// A consolidation over folders that is compared with what it was made from, before its line is printed.
+ghost use Rattle.std.specs.Prelude.{◌≡◌, ◌≢◌, ◌≤◌, ◌⊎◌, ◌×◌, codes, IfOk, OnErr};
+ghost use Rattle.shelf.specs.Folder.{folder_named};
+ghost use Rattle.console.specs.Printing.{Prints};
+ghost use Rattle.console.specs.declared.lines.ListOfTwo.TheVariants.{Second};
+ghost use Rattle.adlcons.specs.Openings.{ComparesWritten, IsKeptOut, IsListKeptOut, VerifiesInFolders};
+
+use crate::asides::{FolderAsides, listed};
+use crate::comparing::{OpenedList, keep_list_out, open_list};
+use crate::folders::{
+    OpenFault, keep_out, name_inside, ready_output, tell_all_further, tell_unlisted,
+    unlisted_reason,
+};
+use crate::held::HeldLines;
+use crate::media::{Manner, open_media, report_found};
+use crate::output::Lock;
+use crate::reading::read_list;
+use answers::{Meter, REFUSED, answer_standard, answer_verified, put_lines};
+use commandline::{Places, Request};
+use console::{Console, ListOfTwo};
+use consolidate::LIST;
+use shelf::{FolderBench, FolderShelf, Overwrite};
+use std::fs::Files;
+use std::os::unix::fs::FileExt;
+
+/// Of the written project the first fault is reported, and no file of it is looked for in folders below.
+const PLAIN: Manner = Manner {
+    tells_all: false,
+    searches: false,
+};
+
+/// Consolidates a list over these folders and compares it with what was written, which is opened as any project is. The
+/// line of the consolidation is printed where both sound the same, and else where they differ first, or why they can't
+/// be compared. A refusal of the consolidation is printed as ever. Where no memory remains for its lines nothing is
+/// compared.
+pub fn verify_in_folders<R, O: Console, E: Console, M: Meter>(
+    rt: &R,
+    places: Places<'_>,
+    handle: u64,
+    report: bool,
+    manner: Manner,
+    out: &mut O,
+    err: &mut E,
+    meter: &mut M,
+) -> u8
+where
+    R: Files + Input + AllocGlobal + Clone + Drop,
+    R::File: FileExt + Lock,
+    ensures answered { IsKeptOut O.Console places.entry.list.now places.entry.out.now out.old out.new result
+        ⊎ VerifiesInFolders ⟦<FolderShelf<R> as devices::Shelf>⟧ ⟦<FolderBench<R> as devices::Bench>⟧ O.Console handle
+        report places.entry.media.now places.entry.out.now out.old out.new result }
+    ensures statuses { result ≤ 1 }
+{
+    match try_verified(rt, places, handle, report, manner, out, err, meter) {
+        Ok(status) => status,
+        Err(fault) => {
+            let inside = name_inside(rt, fault, places.out);
+            let inside = inside.as_ref().map(|name| name.as_str());
+            keep_out(fault, places.list, places.out, inside, out, err)
+        }
+    }
+}
+
+/// Does so where the places can be opened, and memory remains for the lines.
+fn try_verified<R, O: Console, E: Console, M: Meter>(
+    rt: &R,
+    places: Places<'_>,
+    handle: u64,
+    report: bool,
+    manner: Manner,
+    out: &mut O,
+    err: &mut E,
+    meter: &mut M,
+) -> Result<u8, OpenFault>
+where
+    R: Files + Input + AllocGlobal + Clone + Drop,
+    R::File: FileExt + Lock,
+    ensures answered { IfOk result (λ status. VerifiesInFolders
+        ⟦<FolderShelf<R> as devices::Shelf>⟧ ⟦<FolderBench<R> as devices::Bench>⟧ O.Console handle report
+        places.entry.media.now places.entry.out.now out.old out.new status) }
+    ensures statuses { IfOk result (λ status. status ≤ 1) }
+    ensures nothing { OnErr result (out.new ≡ out.old) }
+{
+    let list = read_list(rt, places.list)?;
+    let _held = ready_output(rt, places, &list, Overwrite::Never, err)?;
+    let mut bench = FolderBench::new(rt.alloc(), rt.clone()?, places.out, Overwrite::Never)?;
+    let mut shelf = open_media(rt, places.media, manner)?;
+    let unlisted = unlisted_reason(rt, places.media);
+    let asides = FolderAsides::new(rt, places.media, manner);
+    let mut lines = HeldLines::new(rt.alloc());
+    let request = Request::Consolidate(places, handle, report);
+    let answered = answer_standard(
+        rt.alloc(),
+        request,
+        &list,
+        &mut shelf,
+        &mut bench,
+        &mut lines,
+        err,
+        meter,
+        &asides,
+    );
+    let Ok(answer) = answered else {
+        return Err(OpenFault::Passes);
+    };
+    let Some(text) = lines.text() else {
+        return Err(OpenFault::Memory);
+    };
+    let status = put_answer(
+        rt, places, answer, &list, text, &mut shelf, manner, out, err, meter,
+    );
+    report_found(&shelf, manner, err);
+    tell_unlisted(places.media, unlisted, err);
+    Ok(status)
+}
+
+/// Prints the lines of a consolidation that was refused; compares a list that was consolidated with the one that was
+/// written for it into the output, and prints what came of it.
+fn put_answer<R, O: Console, E: Console, M: Meter>(
+    rt: &R,
+    places: Places<'_>,
+    answer: u8,
+    list: &[u8],
+    lines: &[u8],
+    shelf: &mut FolderShelf<R>,
+    manner: Manner,
+    out: &mut O,
+    err: &mut E,
+    meter: &mut M,
+) -> u8
+where
+    R: Files + Input + AllocGlobal + Clone + Drop,
+    R::File: FileExt,
+    ensures refused { answer ≡ 1 → (result ≡ 1) × Prints O.contents O.failures out.old out.new lines.now }
+    ensures done { answer ≢ 1
+        → IsListKeptOut O.Console Second (codes "consolidated.adl") out.old out.new result
+        ⊎ ComparesWritten ⟦<FolderShelf<R> as devices::Shelf>⟧ O.Console list.now lines.now places.entry.out.now
+        shelf.old out.old out.new result }
+    ensures statuses { result ≤ 1 }
+{
+    if answer == REFUSED {
+        if manner.tells_all {
+            tell_all_further(rt, list, places.media, manner, err);
+        }
+        put_lines(lines, out);
+        return REFUSED;
+    }
+    match open_written(rt, places.out) {
+        Ok(written) => put_verified(
+            rt, places, list, lines, shelf, written, manner, out, err, meter,
+        ),
+        Err(fault) => keep_list_out(ListOfTwo::Second, fault, LIST, out, err),
+    }
+}
+
+/// Compares a list with the one that was written for it, opened over the output, and prints what came of it.
+fn put_verified<R, O: Console, E: Console, M: Meter>(
+    rt: &R,
+    places: Places<'_>,
+    list: &[u8],
+    lines: &[u8],
+    shelf: &mut FolderShelf<R>,
+    mut written: OpenedList<R>,
+    manner: Manner,
+    out: &mut O,
+    err: &mut E,
+    meter: &mut M,
+) -> u8
+where
+    R: Files + Input + AllocGlobal + Clone + Drop,
+    R::File: FileExt,
+    requires { written.shelf.folder ≡ folder_named places.entry.out.now }
+    ensures compared { ComparesWritten ⟦<FolderShelf<R> as devices::Shelf>⟧ O.Console list.now lines.now
+        places.entry.out.now shelf.old out.old out.new result }
+    ensures statuses { result ≤ 1 }
+{
+    let asides = FolderAsides::new(rt, places.media, manner);
+    let written_asides = FolderAsides::new(rt, places.out, PLAIN);
+    answer_verified(
+        rt.alloc(),
+        list,
+        &written.text,
+        lines,
+        shelf,
+        &mut written.shelf,
+        out,
+        err,
+        meter,
+        &asides,
+        &written_asides,
+    )
+}
+
+/// The list that was written into this folder, over the files of the folder.
+fn open_written<R>(rt: &R, folder: &str) -> Result<OpenedList<R>, OpenFault>
+where
+    R: Files + Input + AllocGlobal + Clone + Drop,
+    R::File: FileExt,
+    ensures { IfOk result (λ opened. opened.shelf.folder ≡ folder_named folder.now) }
+{
+    let parent = listed(folder);
+    let path = format!(in rt.alloc(); "{parent}/{LIST}")?;
+    open_list(rt, &path, folder, PLAIN)
+}

@@ -1,0 +1,64 @@
+// The report of a comparison, for a script.
+ghost use Rattle.comparison.specs.Range.{HasChannels};
+
+use crate::asides::Asides;
+use crate::counts::{count_from, counts_of};
+use crate::difference::{BothLists, events_of, first_in};
+use crate::meter::Meter;
+use adlread::read;
+use console::Console;
+use consolidate::{Compared, Comparison, Selection};
+use explanations::ComparisonReport;
+use std::alloc::Global;
+
+/// Prints what a comparison found as a line of JSON, by the form of `docs/REPORT.md`. Where the lists differ they are read
+/// once more for it, and the samples that differ are counted as `report_counts` does; what no memory is there for is
+/// null, or an empty array.
+pub fn put_comparison_report<O: Console, M: Meter, A: Asides, B: Asides>(
+    alloc: Global,
+    lists: BothLists<'_>,
+    selection: &Selection,
+    compared: &Compared,
+    out: &mut O,
+    meter: &mut M,
+    first_asides: &A,
+    second_asides: &B,
+)
+    requires { HasChannels selection.now }
+{
+    let Comparison::Differs { at, .. } = compared.comparison else {
+        out.print_line(ComparisonReport {
+            compared,
+            events: &[],
+            other_events: &[],
+            from: None,
+            counts: &[],
+            is_part: false,
+        });
+        return;
+    };
+    let counted = count_from(
+        alloc,
+        lists,
+        selection,
+        at,
+        meter,
+        first_asides,
+        second_asides,
+    );
+    let one = read(alloc, lists.first).ok();
+    let other = read(alloc, lists.second).ok();
+    let (events, other_events) = (events_of(&one), events_of(&other));
+    let is_part = match &counted {
+        Some(counted) => counted.is_part,
+        None => false,
+    };
+    out.print_line(ComparisonReport {
+        compared,
+        events,
+        other_events,
+        from: selection.from.or(first_in(events, other_events)),
+        counts: counts_of(&counted),
+        is_part,
+    });
+}

@@ -1,0 +1,119 @@
+// What is reported on standard error of how many samples of two lists differ.
+ghost use Rattle.comparison.specs.Range.{HasChannels};
+
+use crate::asides::Asides;
+use crate::difference::BothLists;
+use crate::meter::Meter;
+use comparison::{DifferingCounts, differing_in};
+use console::Console;
+use consolidate::Selection;
+use explanations::DifferingSamples;
+use opening::open_project;
+use sampletime::SampleTime;
+use sound_terms::Event;
+use std::alloc::Global;
+
+/// So many samples from the first difference on are looked at, at most: an hour.
+const MOST_SAMPLES: u64 = 172_800_000;
+
+/// At how many samples of each channel two lists differ from a time on, and whether there is more than was looked at.
+#[derive(Drop)]
+pub struct CountsFrom {
+    counts: DifferingCounts,
+    pub is_part: bool,
+}
+
+/// The counts of each channel; none where they couldn't be found.
+pub fn counts_of(counted: &Option<CountsFrom>) -> &[u32] {
+    match counted {
+        Some(counted) => counted.counts.as_slice(),
+        None => &[],
+    }
+}
+
+impl CountsFrom {
+    /// The counts as they are reported.
+    pub fn samples(&self) -> DifferingSamples<'_> {
+        DifferingSamples {
+            counts: self.counts.as_slice(),
+            is_part: self.is_part,
+        }
+    }
+}
+
+/// Prints at how many samples of each channel two lists differ, which they do first at this time, in the hour from then
+/// on. Both lists are opened once more for it, over their sources, which are opened once more too.
+pub fn report_counts<E: Console, M: Meter, A: Asides, B: Asides>(
+    alloc: Global,
+    lists: BothLists<'_>,
+    selection: &Selection,
+    at: SampleTime,
+    err: &mut E,
+    meter: &mut M,
+    first_asides: &A,
+    second_asides: &B,
+)
+    requires { HasChannels selection.now }
+{
+    let counted = count_from(
+        alloc,
+        lists,
+        selection,
+        at,
+        meter,
+        first_asides,
+        second_asides,
+    );
+    match counted {
+        Some(counted) => err.print_line(counted.samples()),
+        None => err.print_line("how many samples differ can't be found"),
+    }
+}
+
+/// Counts the samples of each channel at which two lists differ, in the hour from a time on; nothing where a list can't be
+/// opened once more, a source can't be read or no memory is there.
+pub fn count_from<M: Meter, A: Asides, B: Asides>(
+    alloc: Global,
+    lists: BothLists<'_>,
+    selection: &Selection,
+    at: SampleTime,
+    meter: &mut M,
+    first_asides: &A,
+    second_asides: &B,
+) -> Option<CountsFrom>
+    requires { HasChannels selection.now }
+{
+    let mut sources = first_asides.sources(alloc)?;
+    let mut other_sources = second_asides.sources(alloc)?;
+    let one = open_project(alloc, lists.first, &mut sources).ok()?;
+    let other = open_project(alloc, lists.second, &mut other_sources).ok()?;
+    let counts = differing_in(
+        alloc,
+        &one,
+        &other,
+        selection,
+        at,
+        MOST_SAMPLES,
+        &mut sources,
+        &mut other_sources,
+        meter,
+    );
+    meter.clear();
+    let end = match selection.to {
+        Some(end) => end,
+        None => last_out(one.project().events()).max(last_out(other.project().events())),
+    };
+    Some(CountsFrom {
+        counts: counts.ok()?,
+        is_part: end.get() > at.get().saturating_add(MOST_SAMPLES),
+    })
+}
+
+/// The time at which the last of these entries ends.
+fn last_out(events: &[Event]) -> SampleTime {
+    let mut last = SampleTime::ZERO;
+    for event in events {
+        last = last.max(event.dest_out);
+    }
+    last
+}

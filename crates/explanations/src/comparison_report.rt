@@ -1,0 +1,175 @@
+// What a comparison found, as JSON.
+use crate::differing::{SoundingEntries, fmt_time};
+use consolidate::{Compared, Comparison};
+use list_terms::Notice;
+use sampletime::SampleTime;
+use sound_terms::Event;
+use std::fmt;
+
+/// What a comparison of two lists found, as one value of JSON without the end of its line, in the form of
+/// `docs/REPORT.md`.
+#[derive(Clone, Copy)]
+pub struct ComparisonReport<'a> {
+    pub compared: &'a Compared,
+    /// The entries of the first list.
+    pub events: &'a [Event],
+    /// The entries of the second list.
+    pub other_events: &'a [Event],
+    /// The time from which on they were compared, where it is known.
+    pub from: Option<SampleTime>,
+    /// At how many samples of each channel they differ; empty where these couldn't be counted.
+    pub counts: &'a [u32],
+    /// The counts are of a part of what is compared.
+    pub is_part: bool,
+}
+
+impl fmt::Display for ComparisonReport<'_> {
+    fn fmt<W: fmt::Write>(&self, f: &mut fmt::Formatter<W>) -> fmt::Result {
+        match self.compared.comparison {
+            Comparison::Same { frames, channels } => self.fmt_same(frames, channels, f),
+            Comparison::Differs {
+                at,
+                channel,
+                first,
+                second,
+            } => {
+                self.fmt_first(at, channel, f)?;
+                self.fmt_differing(f)?;
+                let notices = self.compared.first_notices.as_slice();
+                f.write_str(",\"first\":{")?;
+                fmt_side(&sounding(self.events, at, channel), notices, first, f)?;
+                f.write_str(",\"same\":false,\"same_before\":")?;
+                self.fmt_same_before(at, f)?;
+                let notices = self.compared.second_notices.as_slice();
+                f.write_str(",\"second\":{")?;
+                fmt_side(
+                    &sounding(self.other_events, at, channel),
+                    notices,
+                    second,
+                    f,
+                )?;
+                f.write_str("}")
+            }
+        }
+    }
+}
+
+impl ComparisonReport<'_> {
+    /// Writes that so many frames of so many channels are the same.
+    fn fmt_same<W: fmt::Write>(
+        &self,
+        frames: u64,
+        channels: u8,
+        f: &mut fmt::Formatter<W>,
+    ) -> fmt::Result {
+        f.write_str("{\"channels\":")?;
+        write!(f, "{channels}")?;
+        f.write_str(",\"first\":{")?;
+        fmt_notices(self.compared.first_notices.as_slice(), f)?;
+        f.write_str("},\"frames\":")?;
+        write!(f, "{frames}")?;
+        f.write_str(",\"same\":true,\"second\":{")?;
+        fmt_notices(self.compared.second_notices.as_slice(), f)?;
+        f.write_str("}}")
+    }
+
+    /// Writes where both differ first, up to the name of the next member.
+    fn fmt_first<W: fmt::Write>(
+        &self,
+        at: SampleTime,
+        channel: u8,
+        f: &mut fmt::Formatter<W>,
+    ) -> fmt::Result {
+        let samples = at.get();
+        f.write_str("{\"difference\":{\"at\":")?;
+        write!(f, "{samples}")?;
+        f.write_str(",\"channel\":")?;
+        write!(f, "{channel}")?;
+        f.write_str(",\"time\":\"")?;
+        fmt_time(at, self.compared.rate, self.compared.separators, f)?;
+        f.write_str("\"},\"differing\":")
+    }
+
+    /// Writes at how many samples of each channel they differ, and whether that is of all that is compared.
+    fn fmt_differing<W: fmt::Write>(&self, f: &mut fmt::Formatter<W>) -> fmt::Result {
+        if self.counts.is_empty() {
+            return f.write_str("null");
+        }
+        f.write_str("{\"samples\":[")?;
+        fmt_counts(self.counts, f)?;
+        f.write_str("],\"complete\":")?;
+        f.write_str(if self.is_part { "false}" } else { "true}" })
+    }
+
+    /// Writes how many samples are the same before this time.
+    fn fmt_same_before<W: fmt::Write>(
+        &self,
+        at: SampleTime,
+        f: &mut fmt::Formatter<W>,
+    ) -> fmt::Result {
+        match self.from {
+            Some(from) => {
+                let samples = at.get().saturating_sub(from.get());
+                write!(f, "{samples}")
+            }
+            None => f.write_str("null"),
+        }
+    }
+}
+
+/// Writes numbers with a comma between any two.
+fn fmt_counts<W: fmt::Write>(counts: &[u32], f: &mut fmt::Formatter<W>) -> fmt::Result {
+    let mut comma = "";
+    for count in counts {
+        write!(f, "{comma}{count}")?;
+        comma = ",";
+    }
+    Ok(())
+}
+
+/// The entries of a list that sound at a time on a channel.
+fn sounding(events: &[Event], at: SampleTime, channel: u8) -> SoundingEntries<'_> {
+    SoundingEntries {
+        events,
+        at,
+        channel,
+    }
+}
+
+/// Writes the entries of a list that sound where both differ first, its notices and its sum there, to the end of the
+/// object.
+fn fmt_side<W: fmt::Write>(
+    entries: &SoundingEntries<'_>,
+    notices: &[Notice],
+    sum: i64,
+    f: &mut fmt::Formatter<W>,
+) -> fmt::Result {
+    f.write_str("\"entries\":[")?;
+    let mut comma = "";
+    for event in entries.events {
+        if entries.has(event) {
+            let number = event.number;
+            write!(f, "{comma}{number}")?;
+            comma = ",";
+        }
+    }
+    f.write_str("],")?;
+    fmt_notices(notices, f)?;
+    f.write_str(",\"sum\":")?;
+    write!(f, "{sum}")?;
+    f.write_str("}")
+}
+
+/// Writes the member of notices.
+fn fmt_notices<W: fmt::Write>(notices: &[Notice], f: &mut fmt::Formatter<W>) -> fmt::Result {
+    f.write_str("\"notices\":[")?;
+    let mut brace = "{";
+    for notice in notices {
+        let Notice { kind, at } = *notice;
+        let of = if kind <= 2 { "line" } else { "index" };
+        write!(f, "{brace}\"{of}\":{at},\"notice\":{kind}")?;
+        f.write_str("}")?;
+        brace = ",{";
+    }
+    f.write_str("]")
+}
