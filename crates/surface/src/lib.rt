@@ -6,6 +6,7 @@ pub mod boards;
 pub mod calls;
 pub mod files;
 pub mod lists;
+pub mod marks;
 pub mod media;
 pub mod numbers;
 pub mod rendering;

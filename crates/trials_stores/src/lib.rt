@@ -1,4 +1,4 @@
-//! Tests of the stores: in memory, of zeros and in folders.
+//! Tests of the stores: in memory, of zeros and in folders; and of marks over those in memory.
 #![tactic(auto)]
 
 #[cfg(test)]
@@ -7,5 +7,7 @@ mod calls;
 mod crashes;
 #[cfg(test)]
 mod folders;
+#[cfg(test)]
+mod marks;
 #[cfg(test)]
 mod memory;
