@@ -13,6 +13,8 @@ mod kernels;
 #[cfg(test)]
 mod long_files;
 #[cfg(test)]
+mod media;
+#[cfg(test)]
 mod pass_lists;
 #[cfg(test)]
 mod programs;

@@ -1,0 +1,154 @@
+// Pieces of media: copied, and what a source or a medium that fails leaves.
+use adlread::read;
+use mediacopy::{CopyFault, CopyJob, copy_piece, is_piece, lay_out, length_of, medium_name};
+use mediaset::Run;
+use shelf::{MemoryBench, MemoryShelf};
+use sourceindex::{Bound, bind};
+use std::alloc::Global;
+use std::process::Abort;
+use std::test::Fail;
+use wavwrite::{Bext, Depth, SoundInfo, fits};
+
+/// A list that plays a file.
+const LIST: &str = "<ADL>
+<SEQUENCE>
+(SEQ_SAMPLE_RATE) S48000
+(SEQ_FRAME_RATE) 25
+</SEQUENCE>
+<SOURCE_INDEX>
+(Index) 1 (F) \"URL:file://localhost/A.wav\" _ 00.00.00.00/0000 _
+</SOURCE_INDEX>
+<EVENT_LIST>
+(Entry) 1 (Cut) I 1 1 1 00.00.00.00/0000 01.00.00.00/0000 01.00.00.00/0010
+</EVENT_LIST>
+</ADL>
+";
+
+/// Its runs, of which the second has five frames from the third on.
+const RUNS: [Run; 2] = [
+    Run {
+        file: 0,
+        first: 0,
+        length: 1,
+    },
+    Run {
+        file: 0,
+        first: 2,
+        length: 5,
+    },
+];
+
+/// The three frames in the middle of the second.
+const MIDDLE: CopyJob = CopyJob {
+    run: 1,
+    from: 1,
+    frames: 3,
+};
+
+/// A mono file of 16 bits with ten frames: the bytes of the samples are 1 to 20.
+fn source(alloc: Global) -> Result<MemoryShelf, Fail> {
+    let mut file = b"RIFF\x38\0\0\0WAVE\
+        fmt \x10\0\0\0\x01\0\x01\0\x80\xbb\0\0\0\x77\x01\0\x02\0\x10\0data\x14\0\0\0"
+        .to_vec(alloc)?;
+    for byte in 1..21 {
+        file.push(byte)?;
+    }
+    Ok(MemoryShelf::new(alloc).with_file("A.wav", &file)?)
+}
+
+/// What the list is bound to.
+fn bound_list(alloc: Global) -> Result<Bound, Fail> {
+    let project = read(alloc, LIST.as_bytes())?;
+    let mut shelf = source(alloc)?;
+    Ok(bind(alloc, &project, &mut shelf)?)
+}
+
+/// The medium of the second run before any piece is copied.
+fn laid_out(rt: &impl Abort, alloc: Global) -> Result<MemoryBench, Fail> {
+    let bext = Bext {
+        text: [0; 338],
+        time_reference: 2,
+    };
+    let info = SoundInfo::new(1, Depth::Sixteen, 5, bext, Vec::new(alloc)).ok_or("no medium")?;
+    assert!(rt; fits(&info));
+    let mut bench = MemoryBench::new(alloc);
+    lay_out(&mut bench, medium_name(2).as_str(), &info)?;
+    Ok(bench)
+}
+
+/// The same, on a bench whose next call fails after so many bytes, if it does.
+fn failing_after(rt: &impl Abort, alloc: Global, part: Option<u64>) -> Result<MemoryBench, Fail> {
+    let bench = laid_out(rt, alloc)?;
+    match part {
+        Some(part) => Ok(bench.stop_at(0, part)),
+        None => Ok(bench),
+    }
+}
+
+/// Copies the piece.
+fn copied(
+    rt: &impl Abort,
+    alloc: Global,
+    bound: &Bound,
+    shelf: &mut MemoryShelf,
+    bench: &mut MemoryBench,
+) -> Result<Result<(), CopyFault>, Fail> {
+    assert!(rt; is_piece(bound, &RUNS, MIDDLE));
+    let mut bytes = Vec::new(alloc);
+    bytes.resize(length_of(bound, &RUNS, MIDDLE), 0)?;
+    Ok(copy_piece(shelf, bench, bound, &RUNS, MIDDLE, &mut bytes))
+}
+
+/// Whether the medium has these samples, and its header is as before.
+fn has_samples(bench: &MemoryBench, before: &MemoryBench, samples: &[u8; 10]) -> bool {
+    let Some(medium) = bench.bytes("M00002.wav") else {
+        return false;
+    };
+    let Some(blank) = before.bytes("M00002.wav") else {
+        return false;
+    };
+    medium.len() == 700
+        && medium.ends_with(samples)
+        && medium.iter().take(690).eq(blank.iter().take(690))
+}
+
+/// How many bytes are written before the medium fails, if it does; whether the source fails; the answer, and the samples
+/// of the medium.
+type Case = (Option<u64>, bool, Result<(), CopyFault>, [u8; 10]);
+
+const CASES: [Case; 4] = [
+    (None, false, Ok(()), [0, 0, 7, 8, 9, 10, 11, 12, 0, 0]),
+    (None, true, Err(CopyFault::Source), [0; 10]),
+    (Some(5), true, Err(CopyFault::Source), [0; 10]),
+    (
+        Some(5),
+        false,
+        Err(CopyFault::Output),
+        [0, 0, 7, 8, 9, 10, 11, 0, 0, 0],
+    ),
+];
+
+/// Whether the piece is copied so.
+fn is_copied_so(
+    rt: &impl Abort,
+    alloc: Global,
+    bound: &Bound,
+    before: &MemoryBench,
+    case: Case,
+) -> Result<bool, Fail> {
+    let (part, fails, answer, samples) = case;
+    let mut shelf = source(alloc)?.failing(0, u64::from(fails));
+    let mut bench = failing_after(rt, alloc, part)?;
+    let answered = copied(rt, alloc, bound, &mut shelf, &mut bench)?;
+    Ok(answered == answer && has_samples(&bench, before, &samples))
+}
+
+#[test]
+fn a_piece_is_copied_or_its_medium_is_torn_within_it_alone(rt: HostRuntime) -> Result<(), Fail> {
+    let bound = bound_list(rt.alloc())?;
+    let before = laid_out(&rt, rt.alloc())?;
+    for case in CASES {
+        assert!(rt; is_copied_so(&rt, rt.alloc(), &bound, &before, case)?);
+    }
+    Ok(())
+}
