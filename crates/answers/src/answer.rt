@@ -197,16 +197,6 @@ fn answer_check<S: Shelf + Reasons, O: Console, E: Console, A: Asides>(
     }
 }
 
-/// What is rendered, in longer jobs: the program renders for speed.
-fn quickly(options: &Options) -> RenderChoice
-    ensures { result ≡ record { options = options.now; jobs = Longer } }
-{
-    RenderChoice {
-        options: *options,
-        jobs: JobLength::Longer,
-    }
-}
-
 /// Renders the list, and prints what came of it.
 fn answer_render<
     S: Shelf + Reasons,
@@ -232,7 +222,12 @@ fn answer_render<
         rendered_lines O.Console out.old out.new result }
     ensures statuses { result ≤ 1 }
 {
-    let outcome = render_watched(alloc, list, &quickly(options), shelf, bench, meter);
+    // for speed
+    let choice = RenderChoice {
+        options: *options,
+        jobs: JobLength::Longer,
+    };
+    let outcome = render_watched(alloc, list, &choice, shelf, bench, meter);
     meter.clear();
     tell_changed(alloc, shelf, err);
     match outcome {
@@ -282,7 +277,12 @@ fn answer_resume<
         resumed_lines O.Console out.old out.new result }
     ensures statuses { result ≤ 1 }
 {
-    let outcome = resume_watched(alloc, list, &quickly(options), shelf, bench, meter);
+    // for speed
+    let choice = RenderChoice {
+        options: *options,
+        jobs: JobLength::Longer,
+    };
+    let outcome = resume_watched(alloc, list, &choice, shelf, bench, meter);
     meter.clear();
     tell_changed(alloc, shelf, err);
     match outcome {
