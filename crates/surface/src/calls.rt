@@ -75,7 +75,7 @@ pub fn scheduled<S: Shelf, B: Bench>(
     shelf: &mut S,
     bench: &mut B,
 ) -> Result<Progress, Fault>
-    requires { (list : _) (options : _) → work.entry ≡ Work.Render list options → HaveChannels options }
+    requires { (list : _) (options : _) → work ≡ Work.Render list options → HaveChannels options }
 {
     run_schedule(alloc, work, events, shelf, bench)
 }

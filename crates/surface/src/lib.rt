@@ -2,6 +2,7 @@
 //! Nothing is run. That it is proved keeps these names, arguments and answers as they are.
 #![tactic(auto)]
 
+pub mod blocks;
 pub mod boards;
 pub mod calls;
 pub mod files;
@@ -9,7 +10,6 @@ pub mod lists;
 pub mod marks;
 pub mod media;
 pub mod numbers;
-pub mod rendering;
 pub mod samples;
 pub mod sounding;
 pub mod stores;

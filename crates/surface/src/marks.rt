@@ -46,11 +46,8 @@ pub fn marked_before<B: Bench>(
     bench: &mut B,
     run: &RunId,
 ) -> Result<Option<Vec<bool>>, MarkFault> {
-    let Some(marks) = open_marks(alloc, bench, run)? else {
-        return Ok(None);
-    };
-    let marks: Marks = marks;
-    Ok(Some(marks.marked))
+    let found: Option<Marks> = open_marks(alloc, bench, run)?;
+    Ok(found.map(|marks| marks.marked))
 }
 
 /// The number of a fault, and the file at which the device failed.
