@@ -1,5 +1,5 @@
 // Lines that are held in memory until it is known whether they are printed.
-ghost use Rattle.std.specs.Prelude.{◌≡◌, ◌×◌, [], Some, IfSome};
+ghost use Rattle.std.specs.Prelude.{◌≡◌, [], Some, IfSome};
 
 use console::Console;
 use std::alloc::Global;

@@ -1,5 +1,5 @@
 // A consolidation over folders that is compared with what it was made from, before its line is printed.
-ghost use Rattle.std.specs.Prelude.{◌≡◌, ◌≢◌, ◌≤◌, ◌⊎◌, ◌×◌, codes, IfOk, OnErr};
+ghost use Rattle.std.specs.Prelude.{◌≡◌, ◌≢◌, ◌≤◌, ◌⊎◌, codes, IfOk, OnErr};
 ghost use Rattle.shelf.specs.Folder.{folder_named};
 ghost use Rattle.console.specs.Printing.{Prints};
 ghost use Rattle.console.specs.declared.lines.ListOfTwo.TheVariants.{Second};
@@ -81,8 +81,9 @@ where
     ensures statuses { IfOk result (λ status. status ≤ 1) }
     ensures nothing { OnErr result (out.new ≡ out.old) }
 {
-    let list = read_list(rt, places.list)?;
-    let _held = ready_output(rt, places, &list, Overwrite::Never, err)?;
+    let text = read_list(rt, places.list)?;
+    let list = text.as_slice();
+    let _lock = ready_output(rt, places, list, Overwrite::Never, err)?;
     let mut bench = FolderBench::new(rt.alloc(), rt.clone()?, places.out, Overwrite::Never)?;
     let mut shelf = open_media(rt, places.media, manner)?;
     let unlisted = unlisted_reason(rt, places.media);
@@ -92,7 +93,7 @@ where
     let answered = answer_standard(
         rt.alloc(),
         request,
-        &list,
+        list,
         &mut shelf,
         &mut bench,
         &mut lines,
@@ -103,11 +104,11 @@ where
     let Ok(answer) = answered else {
         return Err(OpenFault::Passes);
     };
-    let Some(text) = lines.text() else {
+    let Some(held) = lines.text() else {
         return Err(OpenFault::Memory);
     };
     let status = put_answer(
-        rt, places, answer, &list, text, &mut shelf, manner, out, err, meter,
+        rt, places, answer, list, held, &mut shelf, manner, out, err, meter,
     );
     report_found(&shelf, manner, err);
     tell_unlisted(places.media, unlisted, err);
@@ -169,7 +170,7 @@ fn put_verified<R, O: Console, E: Console, M: Meter>(
 where
     R: Files + Input + AllocGlobal + Clone + Drop,
     R::File: FileExt,
-    requires { written.shelf.folder ≡ folder_named places.entry.out.now }
+    requires { written.shelf.folder ≡ folder_named places.out.now }
     ensures compared { ComparesWritten ⟦<FolderShelf<R> as devices::Shelf>⟧ O.Console list.now lines.now
         places.entry.out.now shelf.old out.old out.new result }
     ensures statuses { result ≤ 1 }
