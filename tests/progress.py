@@ -11,8 +11,8 @@ import subprocess
 
 import model
 from harness import (
-    EXPLANATION, LIST, MEDIA, OUT, SAVED, TIMEOUT, Mismatch, Outcome, Scene, Suite, preloaded, same, same_outcome, same_shape,
-    words_of,
+    EXPLANATION, LIST, MEDIA, OUT, SAVED, TIMEOUT, Mismatch, Outcome, Scene, Suite, preloaded, same, same_outcome,
+    same_shape, words_of,
 )
 from tables import wave
 
@@ -33,7 +33,12 @@ SLOW_READS = {"SLOW_READS": "1000000"}
 QUICK = {"SLOW": "25000"}
 LOOKED = rb"\r(\d+) %%: (\d+) of %d frames looked at for silence\x1b\[K"
 LINE = rb"\r(\d+) %%: (\d+) of %d frames\x1b\[K"
+READ = rb"\r(\d+) %%: (\d+) of %d bytes of A\.wav\x1b\[K"
+# A source is read by the head of its form, and then by blocks, longer ones where chunks lie close together.
+FORM, AHEAD, FAR_AHEAD = 12, 4096, 16_384
+FAR = 3
 CLEARED = rb"\r\x1b\[K"
+CLEAR = b"\r\x1b[K"
 
 
 def on_terminal(scene: Scene, words: list, **how) -> Outcome:
@@ -156,10 +161,12 @@ def looking_for_silence(scene: Scene) -> None:
     text = model.list_text(
         [model.source_line(1, "A.wav", nothing)],
         [model.entry_line(1, 1, nothing, nothing, model.time_text(frames))])
-    scene.put(text, {"A.wav": wave([0] * (frames - 1) + [1])})
+    source = wave([0] * (frames - 1) + [1])
+    scene.put(text, {"A.wav": source})
     shown = on_terminal(scene, words_of("consolidate", EXACT), env=preloaded(scene, **SLOW_READS))
     same("the blocks that are looked at", counts_in(shown.error, LOOKED, frames), multiples(BLOCK, SILENT))
-    rest = without_lines(shown._replace(error=re.sub(LOOKED % frames, b"", shown.error)), frames, [PIECE, frames])
+    rest = re.sub(LOOKED % frames, b"", re.sub(READ % len(source), b"", shown.error))
+    rest = without_lines(shown._replace(error=rest), frames, [PIECE, frames])
     same_outcome(rest, 0, "written 1 media 1 entries")
 
 
@@ -168,7 +175,9 @@ def comparing(scene: Scene) -> None:
     frames = put_sound(scene)
     words, environment = ["compare", LIST, MEDIA, LIST, MEDIA], preloaded(scene, **SLOW_READS)
     shown = on_terminal(scene, words, env=environment)
-    same_outcome(without_lines(shown, frames, multiples(BLOCK, BLOCKS)), 0, f"same {frames} frames 1 channels")
+    size = (scene.folder / MEDIA / "A.wav").stat().st_size
+    rest = shown._replace(error=re.sub(READ % size, b"", shown.error))
+    same_outcome(without_lines(rest, frames, multiples(BLOCK, BLOCKS)), 0, f"same {frames} frames 1 channels")
     other = scene.folder / "M2"
     other.mkdir()
     (other / "A.wav").write_bytes(wave([1 + place % 1000 for place in range(frames - 2)] + [0, 0]))
@@ -176,6 +185,22 @@ def comparing(scene: Scene) -> None:
     before, after = shown.error.split(b"list 1 has", 1)
     same("the blocks before the difference", counts_in(before, LINE, frames), multiples(BLOCK, BLOCKS - 1))
     same_shape("what is reported of it", after, r"[^\r]*\r100 %: 2 of 2 frames\x1b\[K\r\x1b\[Ksamples that differ: 2 on channel 1\n")
+
+
+def looking_for_chunks(scene: Scene) -> None:
+    """The bytes of a source up to which its chunks were looked for, before the refusal is explained; and nothing where
+    standard error is no terminal."""
+    put_sound(scene)
+    whole = FORM + AHEAD + FAR * FAR_AHEAD
+    (scene.folder / MEDIA / "A.wav").write_bytes(b"RIFF\0\0\0\0WAVE".ljust(whole, b"\0"))
+    environment = preloaded(scene, **SLOW_READS)
+    shown = on_terminal(scene, words_of("check"), env=environment)
+    same("the bytes", counts_in(shown.error, READ, whole),
+         [FORM, *(FORM + AHEAD + far for far in multiples(FAR_AHEAD, FAR, 0))])
+    rest = re.sub(READ % whole, b"", shown.error)
+    same("the line, which is taken off", rest[:len(CLEAR)], CLEAR)
+    same_outcome(shown._replace(error=rest[len(CLEAR):]), 1, "refused 24 at index 1 file A.wav")
+    same_outcome(scene.run(*words_of("check"), env=environment), 1, "refused 24 at index 1 file A.wav")
 
 
 def refused(scene: Scene) -> None:
@@ -207,5 +232,6 @@ def run(suite: Suite) -> None:
     suite.case("progress within a medium", long_medium)
     suite.case("progress of a search for silence", looking_for_silence)
     suite.case("progress of a comparison", comparing)
+    suite.case("progress of a search for chunks", looking_for_chunks)
     suite.case("progress before a refusal", refused)
     suite.case("progress of short work", short)

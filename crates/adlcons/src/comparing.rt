@@ -8,13 +8,14 @@ use crate::asides::FolderAsides;
 use crate::folders::{
     OpenFault, TIMES, explanation_of, tell_all_further, tell_unlisted, unlisted_reason,
 };
-use crate::media::{Manner, open_media, report_found};
+use crate::media::{Manner, report_found};
+use crate::meter::{Progress, WorkMeter};
 use crate::reading::read_list;
-use answers::{MISTAKE, Meter, REFUSED, answer_compare};
+use crate::sources::ShownShelf;
+use answers::{MISTAKE, REFUSED, answer_compare};
 use commandline::{BothPlaces, Selected};
 use console::{Console, ListOfTwo, put_in_list, put_refusal};
 use explanations::NamedList;
-use shelf::FolderShelf;
 use std::fs::Files;
 use std::io;
 use std::os::unix::fs::FileExt;
@@ -28,37 +29,37 @@ struct Unopened {
 
 /// A list as it was read, over the folder of its media.
 #[derive(Drop)]
-pub struct OpenedList<R: Files + AllocGlobal + Clone + Drop>
+pub struct OpenedList<'a, R: Files + AllocGlobal + Clone + Drop, L: Progress>
 where
     R::File: FileExt,
 {
     pub text: Vec<u8>,
-    pub shelf: FolderShelf<R>,
+    pub shelf: ShownShelf<'a, R, L>,
     /// Why the folder can't be listed, if it can't.
     pub unlisted: Option<io::Error>,
 }
 
 /// Compares these lists over these folders at what the words choose, and answers the status. What kept it from a list is
 /// printed.
-pub fn compare_folders<R, O: Console, E: Console, M: Meter>(
+pub fn compare_folders<R, O: Console, E: Console, L: Progress>(
     rt: &R,
     places: BothPlaces<'_>,
     selected: Selected<'_>,
     manner: Manner,
     out: &mut O,
     err: &mut E,
-    meter: &mut M,
+    line: &L,
 ) -> u8
 where
     R: Files + Input + AllocGlobal + Clone + Drop,
     R::File: FileExt,
     ensures answered { result ≢ 2
         → IsOneKeptOut O.Console places.entry.list.now places.entry.other_list.now out.old out.new result
-        ⊎ ComparesFolders ⟦<FolderShelf<R> as devices::Shelf>⟧ O.Console (selected_of selected.entry)
+        ⊎ ComparesFolders ⟦<ShownShelf<'static, R, L> as devices::Shelf>⟧ O.Console (selected_of selected.entry)
         places.entry.media.now places.entry.other_media.now out.old out.new result }
     ensures statuses { result ≤ 2 }
 {
-    match try_compare(rt, places, selected, manner, out, err, meter) {
+    match try_compare(rt, places, selected, manner, out, err, line) {
         Ok(status) => status,
         Err(unopened) => keep_one_out(unopened, places, out, err),
     }
@@ -108,32 +109,41 @@ fn path_of<'a>(list: ListOfTwo, places: BothPlaces<'a>) -> &'a str
 }
 
 /// Compares these lists, where both can be read: the first one is read first.
-fn try_compare<R, O: Console, E: Console, M: Meter>(
-    rt: &R,
-    places: BothPlaces<'_>,
+fn try_compare<'a, R, O: Console, E: Console, L: Progress>(
+    rt: &'a R,
+    places: BothPlaces<'a>,
     selected: Selected<'_>,
     manner: Manner,
     out: &mut O,
     err: &mut E,
-    meter: &mut M,
+    line: &L,
 ) -> Result<u8, Unopened>
 where
     R: Files + Input + AllocGlobal + Clone + Drop,
     R::File: FileExt,
     ensures answered { IfOk result (λ status. status ≢ 2
-        → ComparesFolders ⟦<FolderShelf<R> as devices::Shelf>⟧ O.Console (selected_of selected.entry)
+        → ComparesFolders ⟦<ShownShelf<'static, R, L> as devices::Shelf>⟧ O.Console (selected_of selected.entry)
         places.entry.media.now places.entry.other_media.now out.old out.new status) }
     ensures statuses { IfOk result (λ status. status ≤ 2) }
     ensures nothing { OnErr result (out.new ≡ out.old) }
 {
-    let mut first = open_one(rt, ListOfTwo::First, places.list, places.media, manner)?;
+    let mut first = open_one(
+        rt,
+        ListOfTwo::First,
+        places.list,
+        places.media,
+        manner,
+        line,
+    )?;
     let mut second = open_one(
         rt,
         ListOfTwo::Second,
         places.other_list,
         places.other_media,
         manner,
+        line,
     )?;
+    let (first, second) = (&mut first, &mut second);
     let asides = FolderAsides::new(rt, places.media, manner);
     let other_asides = FolderAsides::new(rt, places.other_media, manner);
     let status = answer_compare(
@@ -145,7 +155,7 @@ where
         &mut second.shelf,
         out,
         err,
-        meter,
+        &mut WorkMeter(line),
         &asides,
         &other_asides,
     );
@@ -155,8 +165,8 @@ where
         if status == REFUSED && manner.tells_all {
             report_further(rt, places, &first.text, &second.text, manner, err);
         }
-        report_found(&first.shelf, manner, err);
-        report_found(&second.shelf, manner, err);
+        report_found(first.shelf.sources(), manner, err);
+        report_found(second.shelf.sources(), manner, err);
         tell_unlisted(places.media, first.unlisted, err);
         tell_unlisted(places.other_media, second.unlisted, err);
     }
@@ -164,38 +174,40 @@ where
 }
 
 /// Opens one of two lists over this folder.
-fn open_one<R>(
+fn open_one<'a, R, L: Progress>(
     rt: &R,
     list: ListOfTwo,
     path: &str,
     media: &str,
     manner: Manner,
-) -> Result<OpenedList<R>, Unopened>
+    line: &'a L,
+) -> Result<OpenedList<'a, R, L>, Unopened>
 where
     R: Files + Input + AllocGlobal + Clone + Drop,
     R::File: FileExt,
     ensures { IfOk result (λ opened. opened.shelf.folder ≡ folder_named media.now) }
 {
-    match open_list(rt, path, media, manner) {
+    match open_list(rt, path, media, manner, line) {
         Ok(opened) => Ok(opened),
         Err(fault) => Err(Unopened { list, fault }),
     }
 }
 
 /// Opens a list over this folder.
-pub fn open_list<R>(
+pub fn open_list<'a, R, L: Progress>(
     rt: &R,
     path: &str,
     media: &str,
     manner: Manner,
-) -> Result<OpenedList<R>, OpenFault>
+    line: &'a L,
+) -> Result<OpenedList<'a, R, L>, OpenFault>
 where
     R: Files + Input + AllocGlobal + Clone + Drop,
     R::File: FileExt,
     ensures { IfOk result (λ opened. opened.shelf.folder ≡ folder_named media.now) }
 {
     let text = read_list(rt, path)?;
-    let shelf = open_media(rt, media, manner)?;
+    let shelf = ShownShelf::open(rt, media, manner, line)?;
     let unlisted = unlisted_reason(rt, media);
     Ok(OpenedList {
         text,

@@ -16,18 +16,20 @@ use crate::comparing::compare_folders;
 use crate::head::{changed_position, report_change};
 use crate::looks::{report_folder, show_folder};
 use crate::media::{Manner, open_media, report_found};
+use crate::meter::{Progress, WorkMeter};
 use crate::output::{HeldFolder, Lock, hold_folder, require_ready_folder, require_unshared};
 use crate::reading::{ReadFault, read_list};
+use crate::sources::ShownShelf;
 use crate::verifying::verify_in_folders;
 use answers::{
-    MISTAKE, Meter, REFUSED, answer_error, answer_request, answer_standard, explain,
-    explain_notice, tell_further,
+    MISTAKE, REFUSED, answer_error, answer_request, answer_standard, explain, explain_notice,
+    tell_further,
 };
 use commandline::{Places, Request, parse};
 use console::{Console, Place, Refusal, put_refusal};
 use consolidate::{MARKS, check_project};
 use explanations::{Explanation, FoundFolder, PrintedName};
-use shelf::{FolderBench, FolderShelf, MemoryBench, Overwrite};
+use shelf::{FolderBench, MemoryBench, Overwrite};
 use std::alloc::AllocError;
 use std::fs::Files;
 use std::os::unix::fs::FileExt;
@@ -108,12 +110,12 @@ impl From<AllocError> for OpenFault {
 
 /// Answers the words over the list, the media and the output that they name, with a status. Where they ask for no
 /// command, or there is no memory to read them, no file is looked at.
-pub fn answer_words<R, O: Console, E: Console, M: Meter>(
+pub fn answer_words<R, O: Console, E: Console, L: Progress>(
     rt: &R,
     words: &[&str],
     out: &mut O,
     err: &mut E,
-    meter: &mut M,
+    line: &L,
 ) -> u8
 where
     R: Files + Input + AllocGlobal + Clone + Drop,
@@ -121,28 +123,28 @@ where
     // A command was called over a list and folders, and its answer is printed; or what kept it from them is.
     ensures checked { (list media : Text) → request_of (texts words.now) ≡ Some (asked.Check list media) → result ≢ 2
         → IsKeptOut O.Console list (codes "") out.old out.new result
-        ⊎ ChecksFolder ⟦<FolderShelf<R> as devices::Shelf>⟧ O.Console media out.old out.new result }
+        ⊎ ChecksFolder ⟦<ShownShelf<'static, R, L> as devices::Shelf>⟧ O.Console media out.old out.new result }
     ensures reported { (list media : Text) → request_of (texts words.now) ≡ Some (asked.Report list media) → result ≢ 2
         → IsKeptOut O.Console list (codes "") out.old out.new result
-        ⊎ ReportsFolder ⟦<FolderShelf<R> as devices::Shelf>⟧ O.Console media out.old out.new result }
+        ⊎ ReportsFolder ⟦<ShownShelf<'static, R, L> as devices::Shelf>⟧ O.Console media out.old out.new result }
     ensures rendered { (list media target : Text) (chosen : asked.Chosen)
         → request_of (texts words.now) ≡ Some (asked.Render list media target chosen) → result ≢ 2
         → IsKeptOut O.Console list target out.old out.new result
         ⊎ WorksInFolders overwrite.Never
-        (RendersBy ⟦<FolderShelf<R> as devices::Shelf>⟧ ⟦<FolderBench<R> as devices::Bench>⟧ chosen)
+        (RendersBy ⟦<ShownShelf<'static, R, L> as devices::Shelf>⟧ ⟦<FolderBench<R> as devices::Bench>⟧ chosen)
         rendered_lines O.Console media target out.old out.new result }
     ensures resumed { (list media target : Text) (chosen : asked.Chosen)
         → request_of (texts words.now) ≡ Some (asked.Resume list media target chosen) → result ≢ 2
         → IsKeptOut O.Console list target out.old out.new result
         ⊎ WorksInFolders overwrite.Files
-        (ResumesBy ⟦<FolderShelf<R> as devices::Shelf>⟧ ⟦<FolderBench<R> as devices::Bench>⟧ chosen)
+        (ResumesBy ⟦<ShownShelf<'static, R, L> as devices::Shelf>⟧ ⟦<FolderBench<R> as devices::Bench>⟧ chosen)
         resumed_lines O.Console media target out.old out.new result }
     ensures consolidated { (list media target : Text) (handle : ℕ) (report : Bool)
         → request_of (texts words.now) ≡ Some (asked.Consolidate list media target handle report)
         → verifies (texts words.now) ≡ false → result ≢ 2
         → IsKeptOut O.Console list target out.old out.new result
         ⊎ WorksInFolders overwrite.Never
-        (λ list. IsConsolidation ⟦<FolderShelf<R> as devices::Shelf>⟧ ⟦<FolderBench<R> as devices::Bench>⟧ standard_groups
+        (λ list. IsConsolidation ⟦<ShownShelf<'static, R, L> as devices::Shelf>⟧ ⟦<FolderBench<R> as devices::Bench>⟧ standard_groups
         list handle (asking report))
         written_lines O.Console media target out.old out.new result }
     // Such a consolidation is done only where the written list sounds the same. Where no memory remains for its lines that
@@ -151,12 +153,12 @@ where
         → request_of (texts words.now) ≡ Some (asked.Consolidate list media target handle report)
         → verifies (texts words.now) ≡ true → result ≢ 2
         → IsKeptOut O.Console list target out.old out.new result
-        ⊎ VerifiesInFolders ⟦<FolderShelf<R> as devices::Shelf>⟧ ⟦<FolderBench<R> as devices::Bench>⟧ O.Console handle
+        ⊎ VerifiesInFolders ⟦<ShownShelf<'static, R, L> as devices::Shelf>⟧ ⟦<FolderBench<R> as devices::Bench>⟧ O.Console handle
         report media target out.old out.new result }
     ensures compared { (list media other other_media : Text) (selected : asked.Selected)
         → request_of (texts words.now) ≡ Some (asked.Compare list media other other_media selected) → result ≢ 2
         → IsOneKeptOut O.Console list other out.old out.new result
-        ⊎ ComparesFolders ⟦<FolderShelf<R> as devices::Shelf>⟧ O.Console selected media other_media out.old out.new
+        ⊎ ComparesFolders ⟦<ShownShelf<'static, R, L> as devices::Shelf>⟧ O.Console selected media other_media out.old out.new
         result }
     ensures statuses { result ≤ 2 }
     ensures help { asks_for_help (texts words.now) ≡ true → result ≢ 1 }
@@ -173,33 +175,31 @@ where
     match parsed.request {
         Request::Explain(number) => explain(number, out, err),
         Request::ExplainNotice(number) => explain_notice(number, out, err),
-        Request::Check(list, media) => check_folder(rt, list, media, manner, out, err, meter),
-        Request::Report(list, media) => report_folder(rt, list, media, manner, out, err),
+        Request::Check(list, media) => check_folder(rt, list, media, manner, out, err, line),
+        Request::Report(list, media) => report_folder(rt, list, media, manner, out, err, line),
         Request::Compare(places, selected) => {
-            compare_folders(rt, places, selected, manner, out, err, meter)
+            compare_folders(rt, places, selected, manner, out, err, line)
         }
         Request::Show(list, media, handle) => show_folder(
-            rt, list, media, handle, manner, out, err,
+            rt, list, media, handle, manner, out, err, line,
         ),
         Request::Render(places, chosen) => {
             let request = Request::Render(places, chosen);
-            work_in_folders(rt, request, places, manner, out, err, meter)
+            work_in_folders(rt, request, places, manner, out, err, line)
         }
         Request::Resume(places, chosen) => {
             let request = Request::Resume(places, chosen);
-            work_in_folders(rt, request, places, manner, out, err, meter)
+            work_in_folders(rt, request, places, manner, out, err, line)
         }
         Request::Consolidate(places, handle, report) => {
             let verifies = parsed.verifies;
-            consolidate_folders(
-                rt, places, handle, report, verifies, manner, out, err, meter,
-            )
+            consolidate_folders(rt, places, handle, report, verifies, manner, out, err, line)
         }
     }
 }
 
 /// Consolidates a list over these folders, and compares it with what was written where that is asked for.
-fn consolidate_folders<R, O: Console, E: Console, M: Meter>(
+fn consolidate_folders<R, O: Console, E: Console, L: Progress>(
     rt: &R,
     places: Places<'_>,
     handle: u64,
@@ -208,7 +208,7 @@ fn consolidate_folders<R, O: Console, E: Console, M: Meter>(
     manner: Manner,
     out: &mut O,
     err: &mut E,
-    meter: &mut M,
+    line: &L,
 ) -> u8
 where
     R: Files + Input + AllocGlobal + Clone + Drop,
@@ -216,20 +216,20 @@ where
     ensures consolidated { verifies ≡ false
         → IsKeptOut O.Console places.entry.list.now places.entry.out.now out.old out.new result
         ⊎ WorksInFolders overwrite.Never
-        (λ list. IsConsolidation ⟦<FolderShelf<R> as devices::Shelf>⟧ ⟦<FolderBench<R> as devices::Bench>⟧ standard_groups
+        (λ list. IsConsolidation ⟦<ShownShelf<'static, R, L> as devices::Shelf>⟧ ⟦<FolderBench<R> as devices::Bench>⟧ standard_groups
         list handle (asking report))
         written_lines O.Console places.entry.media.now places.entry.out.now out.old out.new result }
     ensures verified { verifies ≡ true
         → IsKeptOut O.Console places.entry.list.now places.entry.out.now out.old out.new result
-        ⊎ VerifiesInFolders ⟦<FolderShelf<R> as devices::Shelf>⟧ ⟦<FolderBench<R> as devices::Bench>⟧ O.Console handle
+        ⊎ VerifiesInFolders ⟦<ShownShelf<'static, R, L> as devices::Shelf>⟧ ⟦<FolderBench<R> as devices::Bench>⟧ O.Console handle
         report places.entry.media.now places.entry.out.now out.old out.new result }
     ensures statuses { result ≤ 2 }
 {
     if verifies {
-        return verify_in_folders(rt, places, handle, report, manner, out, err, meter);
+        return verify_in_folders(rt, places, handle, report, manner, out, err, line);
     }
     let request = Request::Consolidate(places, handle, report);
-    work_in_folders(rt, request, places, manner, out, err, meter)
+    work_in_folders(rt, request, places, manner, out, err, line)
 }
 
 /// The status of a command over this list that writes to this folder and doesn't come to its stores. Why is printed,
@@ -263,49 +263,49 @@ pub fn explanation_of(fault: OpenFault, number: u8, inside: Option<&str>) -> Exp
 }
 
 /// Checks this list over this folder, and answers the status.
-fn check_folder<R, O: Console, E: Console, M: Meter>(
+fn check_folder<R, O: Console, E: Console, L: Progress>(
     rt: &R,
     list: &str,
     media: &str,
     manner: Manner,
     out: &mut O,
     err: &mut E,
-    meter: &mut M,
+    line: &L,
 ) -> u8
 where
     R: Files + Input + AllocGlobal + Clone + Drop,
     R::File: FileExt,
     ensures answered { IsKeptOut O.Console list.now (codes "") out.old out.new result
-        ⊎ ChecksFolder ⟦<FolderShelf<R> as devices::Shelf>⟧ O.Console media.now out.old out.new result }
+        ⊎ ChecksFolder ⟦<ShownShelf<'static, R, L> as devices::Shelf>⟧ O.Console media.now out.old out.new result }
     ensures statuses { result ≤ 1 }
 {
-    match try_check(rt, list, media, manner, out, err, meter) {
+    match try_check(rt, list, media, manner, out, err, line) {
         Ok(status) => status,
         Err(fault) => keep_out(fault, list, "", None, out, err),
     }
 }
 
 /// Checks this list over this folder, where both can be opened.
-fn try_check<R, O: Console, E: Console, M: Meter>(
+fn try_check<R, O: Console, E: Console, L: Progress>(
     rt: &R,
     list: &str,
     media: &str,
     manner: Manner,
     out: &mut O,
     err: &mut E,
-    meter: &mut M,
+    line: &L,
 ) -> Result<u8, OpenFault>
 where
     R: Files + Input + AllocGlobal + Clone + Drop,
     R::File: FileExt,
     ensures answered { IfOk result
-        (λ status. ChecksFolder ⟦<FolderShelf<R> as devices::Shelf>⟧ O.Console media.now out.old out.new status) }
+        (λ status. ChecksFolder ⟦<ShownShelf<'static, R, L> as devices::Shelf>⟧ O.Console media.now out.old out.new status) }
     ensures statuses { IfOk result (λ status. status ≤ 1) }
     ensures nothing { OnErr result (out.new ≡ out.old) }
 {
     let request = Request::Check(list, media);
     let list = read_list(rt, list)?;
-    let mut shelf = open_media(rt, media, manner)?;
+    let mut shelf = ShownShelf::open(rt, media, manner, line)?;
     let mut bench = MemoryBench::new(rt.alloc());
     let unlisted = unlisted_reason(rt, media);
     let asides = FolderAsides::new(rt, media, manner);
@@ -318,23 +318,23 @@ where
         &mut bench,
         out,
         err,
-        meter,
+        &mut WorkMeter(line),
         &asides,
     );
-    report_found(&shelf, manner, err);
+    report_found(shelf.sources(), manner, err);
     tell_unlisted(media, unlisted, err);
     Ok(status)
 }
 
 /// Answers a request for a command that writes, over these places, with a status.
-fn work_in_folders<R, O: Console, E: Console, M: Meter>(
+fn work_in_folders<R, O: Console, E: Console, L: Progress>(
     rt: &R,
     request: Request<'_>,
     places: Places<'_>,
     manner: Manner,
     out: &mut O,
     err: &mut E,
-    meter: &mut M,
+    line: &L,
 ) -> u8
 where
     R: Files + Input + AllocGlobal + Clone + Drop,
@@ -343,24 +343,24 @@ where
         → asked_of request.entry ≡ asked.Render list media target chosen → result ≢ 2
         → IsKeptOut O.Console places.entry.list.now places.entry.out.now out.old out.new result
         ⊎ WorksInFolders overwrite.Never
-        (RendersBy ⟦<FolderShelf<R> as devices::Shelf>⟧ ⟦<FolderBench<R> as devices::Bench>⟧ chosen)
+        (RendersBy ⟦<ShownShelf<'static, R, L> as devices::Shelf>⟧ ⟦<FolderBench<R> as devices::Bench>⟧ chosen)
         rendered_lines O.Console places.entry.media.now places.entry.out.now out.old out.new result }
     ensures resumed { (list media target : Text) (chosen : asked.Chosen)
         → asked_of request.entry ≡ asked.Resume list media target chosen → result ≢ 2
         → IsKeptOut O.Console places.entry.list.now places.entry.out.now out.old out.new result
         ⊎ WorksInFolders overwrite.Files
-        (ResumesBy ⟦<FolderShelf<R> as devices::Shelf>⟧ ⟦<FolderBench<R> as devices::Bench>⟧ chosen)
+        (ResumesBy ⟦<ShownShelf<'static, R, L> as devices::Shelf>⟧ ⟦<FolderBench<R> as devices::Bench>⟧ chosen)
         resumed_lines O.Console places.entry.media.now places.entry.out.now out.old out.new result }
     ensures consolidated { (list media target : Text) (handle : ℕ) (report : Bool)
         → asked_of request.entry ≡ asked.Consolidate list media target handle report
         → IsKeptOut O.Console places.entry.list.now places.entry.out.now out.old out.new result
         ⊎ WorksInFolders overwrite.Never
-        (λ list. IsConsolidation ⟦<FolderShelf<R> as devices::Shelf>⟧ ⟦<FolderBench<R> as devices::Bench>⟧ standard_groups
+        (λ list. IsConsolidation ⟦<ShownShelf<'static, R, L> as devices::Shelf>⟧ ⟦<FolderBench<R> as devices::Bench>⟧ standard_groups
         list handle (asking report))
         written_lines O.Console places.entry.media.now places.entry.out.now out.old out.new result }
     ensures statuses { result ≤ 2 }
 {
-    match try_places(rt, request, places, manner, out, err, meter) {
+    match try_places(rt, request, places, manner, out, err, line) {
         Ok(status) => status,
         Err(fault) => {
             let inside = name_inside(rt, fault, places.out);
@@ -373,14 +373,14 @@ where
 /// Answers such a request where its places can be opened. A list that can't be read is refused first, then an output
 /// at which another command is at work, or that isn't an empty folder, or where a rendering is gone on with, that is the
 /// folder of the media or has a file that is given too.
-fn try_places<R, O: Console, E: Console, M: Meter>(
+fn try_places<R, O: Console, E: Console, L: Progress>(
     rt: &R,
     request: Request<'_>,
     places: Places<'_>,
     manner: Manner,
     out: &mut O,
     err: &mut E,
-    meter: &mut M,
+    line: &L,
 ) -> Result<u8, OpenFault>
 where
     R: Files + Input + AllocGlobal + Clone + Drop,
@@ -388,17 +388,17 @@ where
     ensures rendered { (list media target : Text) (chosen : asked.Chosen)
         → asked_of request.entry ≡ asked.Render list media target chosen
         → IfOk result (λ status. status ≢ 2 → WorksInFolders overwrite.Never
-        (RendersBy ⟦<FolderShelf<R> as devices::Shelf>⟧ ⟦<FolderBench<R> as devices::Bench>⟧ chosen)
+        (RendersBy ⟦<ShownShelf<'static, R, L> as devices::Shelf>⟧ ⟦<FolderBench<R> as devices::Bench>⟧ chosen)
         rendered_lines O.Console places.entry.media.now places.entry.out.now out.old out.new status) }
     ensures resumed { (list media target : Text) (chosen : asked.Chosen)
         → asked_of request.entry ≡ asked.Resume list media target chosen
         → IfOk result (λ status. status ≢ 2 → WorksInFolders overwrite.Files
-        (ResumesBy ⟦<FolderShelf<R> as devices::Shelf>⟧ ⟦<FolderBench<R> as devices::Bench>⟧ chosen)
+        (ResumesBy ⟦<ShownShelf<'static, R, L> as devices::Shelf>⟧ ⟦<FolderBench<R> as devices::Bench>⟧ chosen)
         resumed_lines O.Console places.entry.media.now places.entry.out.now out.old out.new status) }
     ensures consolidated { (list media target : Text) (handle : ℕ) (report : Bool)
         → asked_of request.entry ≡ asked.Consolidate list media target handle report
         → IfOk result (λ status. WorksInFolders overwrite.Never
-        (λ list. IsConsolidation ⟦<FolderShelf<R> as devices::Shelf>⟧ ⟦<FolderBench<R> as devices::Bench>⟧ standard_groups
+        (λ list. IsConsolidation ⟦<ShownShelf<'static, R, L> as devices::Shelf>⟧ ⟦<FolderBench<R> as devices::Bench>⟧ standard_groups
         list handle (asking report))
         written_lines O.Console places.entry.media.now places.entry.out.now out.old out.new status) }
     ensures statuses { IfOk result (λ status. status ≤ 2) }
@@ -409,7 +409,7 @@ where
     let _held = ready_output(rt, places, &list, overwrite, err)?;
     let changed = changed_position(rt, request, &list);
     let mut bench = FolderBench::new(rt.alloc(), rt.clone()?, places.out, overwrite)?;
-    let mut shelf = open_media(rt, places.media, manner)?;
+    let mut shelf = ShownShelf::open(rt, places.media, manner, line)?;
     let unlisted = unlisted_reason(rt, places.media);
     let asides = FolderAsides::new(rt, places.media, manner);
     let answered = answer_standard(
@@ -420,7 +420,7 @@ where
         &mut bench,
         out,
         err,
-        meter,
+        &mut WorkMeter(line),
         &asides,
     );
     let Ok(status) = answered else {
@@ -435,7 +435,7 @@ where
     if status == MISTAKE {
         err.print_line(TIMES);
     } else {
-        report_found(&shelf, manner, err);
+        report_found(shelf.sources(), manner, err);
         tell_unlisted(places.media, unlisted, err);
     }
     Ok(status)

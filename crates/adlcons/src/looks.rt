@@ -4,69 +4,72 @@ ghost use Rattle.adlcons.specs.Openings.{IsKeptOut, ReportsFolder};
 
 use crate::asides::FolderAsides;
 use crate::folders::{OpenFault, keep_out, tell_all_further, tell_unlisted, unlisted_reason};
-use crate::media::{Manner, open_media, report_found};
+use crate::media::{Manner, report_found};
+use crate::meter::Progress;
 use crate::reading::read_list;
+use crate::sources::ShownShelf;
 use answers::{REFUSED, answer_picture, answer_report};
 use console::Console;
-use shelf::FolderShelf;
 use std::fs::Files;
 use std::os::unix::fs::FileExt;
 
 /// Prints the report of this list over this folder, and answers the status. All that is at fault may stand on `err`.
-pub fn report_folder<R, O: Console, E: Console>(
+pub fn report_folder<R, O: Console, E: Console, L: Progress>(
     rt: &R,
     list: &str,
     media: &str,
     manner: Manner,
     out: &mut O,
     err: &mut E,
+    line: &L,
 ) -> u8
 where
     R: Files + Input + AllocGlobal + Clone + Drop,
     R::File: FileExt,
     ensures reported { IsKeptOut O.Console list.now (codes "") out.old out.new result
-        ⊎ ReportsFolder ⟦<FolderShelf<R> as devices::Shelf>⟧ O.Console media.now out.old out.new result }
+        ⊎ ReportsFolder ⟦<ShownShelf<'static, R, L> as devices::Shelf>⟧ O.Console media.now out.old out.new result }
     ensures statuses { result ≤ 1 }
 {
-    match try_report(rt, list, media, manner, out, err) {
+    match try_report(rt, list, media, manner, out, err, line) {
         Ok(status) => status,
         Err(fault) => keep_out(fault, list, "", None, out, err),
     }
 }
 
 /// Prints this report where the list and the folder can be opened.
-fn try_report<R, O: Console, E: Console>(
+fn try_report<R, O: Console, E: Console, L: Progress>(
     rt: &R,
     list: &str,
     media: &str,
     manner: Manner,
     out: &mut O,
     err: &mut E,
+    line: &L,
 ) -> Result<u8, OpenFault>
 where
     R: Files + Input + AllocGlobal + Clone + Drop,
     R::File: FileExt,
     ensures reported { IfOk result
-        (λ status. ReportsFolder ⟦<FolderShelf<R> as devices::Shelf>⟧ O.Console media.now out.old out.new status) }
+        (λ status. ReportsFolder ⟦<ShownShelf<'static, R, L> as devices::Shelf>⟧ O.Console media.now out.old out.new status) }
     ensures statuses { IfOk result (λ status. status ≤ 1) }
     ensures nothing { OnErr result (out.new ≡ out.old) }
 {
     let list = read_list(rt, list)?;
-    let mut shelf = open_media(rt, media, manner)?;
+    let mut shelf = ShownShelf::open(rt, media, manner, line)?;
     let unlisted = unlisted_reason(rt, media);
     let asides = FolderAsides::new(rt, media, manner);
     let status = answer_report(rt.alloc(), &list, &mut shelf, out, err, &asides);
     if status == REFUSED && manner.tells_all {
         tell_all_further(rt, &list, media, manner, err);
     }
-    report_found(&shelf, manner, err);
+    report_found(shelf.sources(), manner, err);
     tell_unlisted(media, unlisted, err);
     Ok(status)
 }
 
 /// Prints the picture of this list over this folder with handles of so many frames, and answers the status. All that
 /// is at fault may stand on `err`.
-pub fn show_folder<R, O: Console, E: Console>(
+pub fn show_folder<R, O: Console, E: Console, L: Progress>(
     rt: &R,
     list: &str,
     media: &str,
@@ -74,20 +77,21 @@ pub fn show_folder<R, O: Console, E: Console>(
     manner: Manner,
     out: &mut O,
     err: &mut E,
+    line: &L,
 ) -> u8
 where
     R: Files + Input + AllocGlobal + Clone + Drop,
     R::File: FileExt,
     ensures { result ≤ 1 }
 {
-    match try_show(rt, list, media, handle, manner, out, err) {
+    match try_show(rt, list, media, handle, manner, out, err, line) {
         Ok(status) => status,
         Err(fault) => keep_out(fault, list, "", None, out, err),
     }
 }
 
 /// Prints this picture where the list and the folder can be opened.
-fn try_show<R, O: Console, E: Console>(
+fn try_show<R, O: Console, E: Console, L: Progress>(
     rt: &R,
     list: &str,
     media: &str,
@@ -95,6 +99,7 @@ fn try_show<R, O: Console, E: Console>(
     manner: Manner,
     out: &mut O,
     err: &mut E,
+    line: &L,
 ) -> Result<u8, OpenFault>
 where
     R: Files + Input + AllocGlobal + Clone + Drop,
@@ -102,7 +107,7 @@ where
     ensures { IfOk result (λ status. status ≤ 1) }
 {
     let text = read_list(rt, list)?;
-    let mut shelf = open_media(rt, media, manner)?;
+    let mut shelf = ShownShelf::open(rt, media, manner, line)?;
     let unlisted = unlisted_reason(rt, media);
     let asides = FolderAsides::new(rt, media, manner);
     let status = answer_picture(
@@ -118,7 +123,7 @@ where
     if status == REFUSED && manner.tells_all {
         tell_all_further(rt, &text, media, manner, err);
     }
-    report_found(&shelf, manner, err);
+    report_found(shelf.sources(), manner, err);
     tell_unlisted(media, unlisted, err);
     Ok(status)
 }

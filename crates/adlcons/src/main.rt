@@ -13,6 +13,7 @@ mod media;
 mod meter;
 mod output;
 mod reading;
+mod sources;
 mod stored;
 mod verifying;
 
@@ -46,8 +47,8 @@ fn run_words(rt: &HostRuntime, words: &[String]) -> io::Result<u8> {
     let mut out = Printer::new(rt.alloc(), rt.stdout())?;
     let mut err = Printer::new(rt.alloc(), rt.stderr())?;
     let console = Printer::new(rt.alloc(), rt.stderr())?;
-    let mut meter = ProgressLine::new(rt, console, rt.stderr().is_terminal());
-    let status = answer_words(rt, words.as_slice(), &mut out, &mut err, &mut meter);
+    let line = ProgressLine::new(rt, console, rt.stderr().is_terminal());
+    let status = answer_words(rt, words.as_slice(), &mut out, &mut err, &line);
     if out.has_failed() {
         let _ = rt.eprintln("error: standard output can't be written");
     }

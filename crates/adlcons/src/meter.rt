@@ -4,17 +4,42 @@ ghost use Rattle.std.specs.Prelude.{◌≤◌};
 use answers::Meter;
 use console::Console;
 use devices::Watch;
+use explanations::Shown;
+use std::cell::{Cell, RefCell};
 use std::fmt::Display;
 use std::time::{Clock, Duration, Instant};
+
+/// How many bytes of a source's name are shown.
+const NAME_BYTES: usize = 40;
+
+/// Shows how far a command has come. It is shared by the sources that the command reads and by its work.
+pub trait Progress {
+    /// Whether reads of sources are shown: on a terminal, until the work has begun or the command has ended.
+    fn shows_reads(&self) -> bool;
+
+    /// A source of so many bytes was read up to this byte.
+    fn read(&self, name: &str, position: u64, whole: u64);
+
+    /// No source is shown from now on, and what is shown is taken off.
+    fn end_reads(&self);
+
+    /// So many frames of so many are there, which `how` may say more of.
+    fn reached(&self, done: u64, whole: u64, how: &str);
+
+    /// Takes off what is shown.
+    fn clear(&self);
+}
 
 /// A line on a terminal, written over again and again: none in the first second, then ten a second at most.
 #[derive(Drop)]
 pub struct ProgressLine<'a, C: Clock, O: Console + Drop> {
     clock: &'a C,
-    console: O,
+    console: RefCell<O>,
     /// When the line may be written; never where there is no time.
-    next: Option<Instant>,
-    is_shown: bool,
+    next: Cell<Option<Instant>>,
+    is_shown: Cell<bool>,
+    /// What is read isn't shown any more.
+    has_read: Cell<bool>,
 }
 
 impl<'a, C: Clock, O: Console + Drop> ProgressLine<'a, C, O> {
@@ -27,15 +52,16 @@ impl<'a, C: Clock, O: Console + Drop> ProgressLine<'a, C, O> {
         };
         ProgressLine {
             clock,
-            console,
-            next,
-            is_shown: false,
+            console: RefCell::new(console),
+            next: Cell::new(next),
+            is_shown: Cell::new(false),
+            has_read: Cell::new(false),
         }
     }
 
     /// Whether the line may be written now.
     fn is_due(&self) -> bool {
-        let Some(next) = self.next else {
+        let Some(next) = self.next.get() else {
             return false;
         };
         match Instant::now(self.clock) {
@@ -44,35 +70,71 @@ impl<'a, C: Clock, O: Console + Drop> ProgressLine<'a, C, O> {
         }
     }
 
-    /// Writes the line where it is due, over all of the last one.
-    fn show(&mut self, done: u64, whole: u64, how: &str) {
-        if !self.is_due() {
-            return;
+    /// Writes so many of so many of what the words say, over all of the last line.
+    fn show<D: Display + Drop>(&self, done: u64, whole: u64, what: D) {
+        if let Ok(mut console) = self.console.try_borrow_mut() {
+            let percent = percent_of(done, whole);
+            console.print(format_args!("\r{percent} %: {done} of {whole} {what}\x1b[K"));
+            self.is_shown.set(true);
         }
-        let percent = percent_of(done, whole);
-        self.console.print(format_args!("\r{percent} %: {done} of {whole} frames{how}\x1b[K"));
-        self.is_shown = true;
-        self.next = time_after(self.clock, Duration::from_millis(100));
+        let next = time_after(self.clock, Duration::from_millis(100));
+        self.next.set(next);
     }
 }
 
-impl<C: Clock, O: Console + Drop> Watch for ProgressLine<'_, C, O> {
+impl<C: Clock, O: Console + Drop> Progress for ProgressLine<'_, C, O> {
+    fn shows_reads(&self) -> bool {
+        !self.has_read.get() && self.next.get().is_some()
+    }
+
+    fn read(&self, name: &str, position: u64, whole: u64) {
+        if self.shows_reads() && self.is_due() {
+            let name = Shown(name.as_bytes(), NAME_BYTES);
+            self.show(position, whole, format_args!("bytes of {name}"));
+        }
+    }
+
+    fn end_reads(&self) {
+        self.has_read.set(true);
+        self.clear();
+    }
+
+    fn reached(&self, done: u64, whole: u64, how: &str) {
+        self.has_read.set(true);
+        if self.is_due() {
+            self.show(done, whole, format_args!("frames{how}"));
+        }
+    }
+
+    /// Empties the line, and leaves the cursor where it begins.
+    fn clear(&self) {
+        if !self.is_shown.get() {
+            return;
+        }
+        if let Ok(mut console) = self.console.try_borrow_mut() {
+            console.print("\r\x1b[K");
+            self.is_shown.set(false);
+        }
+    }
+}
+
+/// What a command's work reports to the line that shows how far it has come.
+#[derive(Drop)]
+pub struct WorkMeter<'a, L: Progress>(pub &'a L);
+
+impl<L: Progress> Watch for WorkMeter<'_, L> {
     fn reached(&mut self, done: u64, whole: u64) {
-        self.show(done, whole, "");
+        self.0.reached(done, whole, "");
     }
 
     fn looked(&mut self, done: u64, whole: u64) {
-        self.show(done, whole, " looked at for silence");
+        self.0.reached(done, whole, " looked at for silence");
     }
 }
 
-impl<C: Clock, O: Console + Drop> Meter for ProgressLine<'_, C, O> {
-    /// Empties the line, and leaves the cursor where it begins.
+impl<L: Progress> Meter for WorkMeter<'_, L> {
     fn clear(&mut self) {
-        if self.is_shown {
-            self.console.print("\r\x1b[K");
-            self.is_shown = false;
-        }
+        self.0.clear();
     }
 }
 

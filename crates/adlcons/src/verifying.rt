@@ -12,14 +12,16 @@ use crate::folders::{
     unlisted_reason,
 };
 use crate::held::HeldLines;
-use crate::media::{Manner, open_media, report_found};
+use crate::media::{Manner, report_found};
+use crate::meter::{Progress, WorkMeter};
 use crate::output::Lock;
 use crate::reading::read_list;
-use answers::{Meter, REFUSED, answer_standard, answer_verified, put_lines};
+use crate::sources::ShownShelf;
+use answers::{REFUSED, answer_standard, answer_verified, put_lines};
 use commandline::{Places, Request};
 use console::{Console, ListOfTwo};
 use consolidate::LIST;
-use shelf::{FolderBench, FolderShelf, Overwrite};
+use shelf::{FolderBench, Overwrite};
 use std::fs::Files;
 use std::os::unix::fs::FileExt;
 
@@ -33,7 +35,7 @@ const PLAIN: Manner = Manner {
 /// line of the consolidation is printed where both sound the same, and else where they differ first, or why they can't
 /// be compared. A refusal of the consolidation is printed as ever. Where no memory remains for its lines nothing is
 /// compared.
-pub fn verify_in_folders<R, O: Console, E: Console, M: Meter>(
+pub fn verify_in_folders<R, O: Console, E: Console, L: Progress>(
     rt: &R,
     places: Places<'_>,
     handle: u64,
@@ -41,17 +43,17 @@ pub fn verify_in_folders<R, O: Console, E: Console, M: Meter>(
     manner: Manner,
     out: &mut O,
     err: &mut E,
-    meter: &mut M,
+    line: &L,
 ) -> u8
 where
     R: Files + Input + AllocGlobal + Clone + Drop,
     R::File: FileExt + Lock,
     ensures answered { IsKeptOut O.Console places.entry.list.now places.entry.out.now out.old out.new result
-        ⊎ VerifiesInFolders ⟦<FolderShelf<R> as devices::Shelf>⟧ ⟦<FolderBench<R> as devices::Bench>⟧ O.Console handle
+        ⊎ VerifiesInFolders ⟦<ShownShelf<'static, R, L> as devices::Shelf>⟧ ⟦<FolderBench<R> as devices::Bench>⟧ O.Console handle
         report places.entry.media.now places.entry.out.now out.old out.new result }
     ensures statuses { result ≤ 1 }
 {
-    match try_verified(rt, places, handle, report, manner, out, err, meter) {
+    match try_verified(rt, places, handle, report, manner, out, err, line) {
         Ok(status) => status,
         Err(fault) => {
             let inside = name_inside(rt, fault, places.out);
@@ -62,7 +64,7 @@ where
 }
 
 /// Does so where the places can be opened, and memory remains for the lines.
-fn try_verified<R, O: Console, E: Console, M: Meter>(
+fn try_verified<R, O: Console, E: Console, L: Progress>(
     rt: &R,
     places: Places<'_>,
     handle: u64,
@@ -70,13 +72,13 @@ fn try_verified<R, O: Console, E: Console, M: Meter>(
     manner: Manner,
     out: &mut O,
     err: &mut E,
-    meter: &mut M,
+    line: &L,
 ) -> Result<u8, OpenFault>
 where
     R: Files + Input + AllocGlobal + Clone + Drop,
     R::File: FileExt + Lock,
     ensures answered { IfOk result (λ status. VerifiesInFolders
-        ⟦<FolderShelf<R> as devices::Shelf>⟧ ⟦<FolderBench<R> as devices::Bench>⟧ O.Console handle report
+        ⟦<ShownShelf<'static, R, L> as devices::Shelf>⟧ ⟦<FolderBench<R> as devices::Bench>⟧ O.Console handle report
         places.entry.media.now places.entry.out.now out.old out.new status) }
     ensures statuses { IfOk result (λ status. status ≤ 1) }
     ensures nothing { OnErr result (out.new ≡ out.old) }
@@ -85,7 +87,7 @@ where
     let list = text.as_slice();
     let _lock = ready_output(rt, places, list, Overwrite::Never, err)?;
     let mut bench = FolderBench::new(rt.alloc(), rt.clone()?, places.out, Overwrite::Never)?;
-    let mut shelf = open_media(rt, places.media, manner)?;
+    let mut shelf = ShownShelf::open(rt, places.media, manner, line)?;
     let unlisted = unlisted_reason(rt, places.media);
     let asides = FolderAsides::new(rt, places.media, manner);
     let mut lines = HeldLines::new(rt.alloc());
@@ -98,7 +100,7 @@ where
         &mut bench,
         &mut lines,
         err,
-        meter,
+        &mut WorkMeter(line),
         &asides,
     );
     let Ok(answer) = answered else {
@@ -108,26 +110,26 @@ where
         return Err(OpenFault::Memory);
     };
     let status = put_answer(
-        rt, places, answer, list, held, &mut shelf, manner, out, err, meter,
+        rt, places, answer, list, held, &mut shelf, manner, out, err, line,
     );
-    report_found(&shelf, manner, err);
+    report_found(shelf.sources(), manner, err);
     tell_unlisted(places.media, unlisted, err);
     Ok(status)
 }
 
 /// Prints the lines of a consolidation that was refused; compares a list that was consolidated with the one that was
 /// written for it into the output, and prints what came of it.
-fn put_answer<R, O: Console, E: Console, M: Meter>(
+fn put_answer<R, O: Console, E: Console, L: Progress>(
     rt: &R,
     places: Places<'_>,
     answer: u8,
     list: &[u8],
     lines: &[u8],
-    shelf: &mut FolderShelf<R>,
+    shelf: &mut ShownShelf<'_, R, L>,
     manner: Manner,
     out: &mut O,
     err: &mut E,
-    meter: &mut M,
+    line: &L,
 ) -> u8
 where
     R: Files + Input + AllocGlobal + Clone + Drop,
@@ -135,7 +137,7 @@ where
     ensures refused { answer ≡ 1 → (result ≡ 1) × Prints O.contents O.failures out.old out.new lines.now }
     ensures done { answer ≢ 1
         → IsListKeptOut O.Console Second (codes "consolidated.adl") out.old out.new result
-        ⊎ ComparesWritten ⟦<FolderShelf<R> as devices::Shelf>⟧ O.Console list.now lines.now places.entry.out.now
+        ⊎ ComparesWritten ⟦<ShownShelf<'static, R, L> as devices::Shelf>⟧ O.Console list.now lines.now places.entry.out.now
         shelf.old out.old out.new result }
     ensures statuses { result ≤ 1 }
 {
@@ -146,35 +148,36 @@ where
         put_lines(lines, out);
         return REFUSED;
     }
-    match open_written(rt, places.out) {
+    match open_written(rt, places.out, line) {
         Ok(written) => put_verified(
-            rt, places, list, lines, shelf, written, manner, out, err, meter,
+            rt, places, list, lines, shelf, written, manner, out, err, line,
         ),
         Err(fault) => keep_list_out(ListOfTwo::Second, fault, LIST, out, err),
     }
 }
 
 /// Compares a list with the one that was written for it, opened over the output, and prints what came of it.
-fn put_verified<R, O: Console, E: Console, M: Meter>(
-    rt: &R,
-    places: Places<'_>,
+fn put_verified<'a, R, O: Console, E: Console, L: Progress>(
+    rt: &'a R,
+    places: Places<'a>,
     list: &[u8],
     lines: &[u8],
-    shelf: &mut FolderShelf<R>,
-    mut written: OpenedList<R>,
+    shelf: &mut ShownShelf<'_, R, L>,
+    mut written: OpenedList<'_, R, L>,
     manner: Manner,
     out: &mut O,
     err: &mut E,
-    meter: &mut M,
+    line: &L,
 ) -> u8
 where
     R: Files + Input + AllocGlobal + Clone + Drop,
     R::File: FileExt,
     requires { written.shelf.folder ≡ folder_named places.out.now }
-    ensures compared { ComparesWritten ⟦<FolderShelf<R> as devices::Shelf>⟧ O.Console list.now lines.now
+    ensures compared { ComparesWritten ⟦<ShownShelf<'static, R, L> as devices::Shelf>⟧ O.Console list.now lines.now
         places.entry.out.now shelf.old out.old out.new result }
     ensures statuses { result ≤ 1 }
 {
+    let written = &mut written;
     let asides = FolderAsides::new(rt, places.media, manner);
     let written_asides = FolderAsides::new(rt, places.out, PLAIN);
     answer_verified(
@@ -186,14 +189,18 @@ where
         &mut written.shelf,
         out,
         err,
-        meter,
+        &mut WorkMeter(line),
         &asides,
         &written_asides,
     )
 }
 
 /// The list that was written into this folder, over the files of the folder.
-fn open_written<R>(rt: &R, folder: &str) -> Result<OpenedList<R>, OpenFault>
+fn open_written<'a, R, L: Progress>(
+    rt: &R,
+    folder: &str,
+    line: &'a L,
+) -> Result<OpenedList<'a, R, L>, OpenFault>
 where
     R: Files + Input + AllocGlobal + Clone + Drop,
     R::File: FileExt,
@@ -201,5 +208,5 @@ where
 {
     let parent = listed(folder);
     let path = format!(in rt.alloc(); "{parent}/{LIST}")?;
-    open_list(rt, &path, folder, PLAIN)
+    open_list(rt, &path, folder, PLAIN, line)
 }
