@@ -36,9 +36,8 @@ AreLongest most stretches = (k : ℕ) (d : Stretch) → k + 1 < length stretches
     → (slice_index_or stretches k d).done ≡ (slice_index_or stretches (k + 1) d).done
     → (slice_index_or stretches k d).behind - (slice_index_or stretches k d).first ≡ most
 
--- how many blocks of so many bytes a job has: one; or, for speed, a sixty-fourth of all, but what makes 1 MiB at least and
--- 16 MiB at most, where there are more than 64
+-- how many blocks of so many bytes a job has: one; or, for speed, what makes 4 MiB, at least one, where there are more
+-- than 64
 abbrev pub blocks_in_job : JobLength → (blocks block_size : ℕ) → ℕ
 blocks_in_job length_of_jobs.OneBlock blocks block_size = 1
-blocks_in_job length_of_jobs.Longer blocks block_size = cond (nat_le blocks 64) 1
-    (max (min (max (blocks / 64) (1048576 / block_size)) (16777216 / block_size)) 1)
+blocks_in_job length_of_jobs.Longer blocks block_size = cond (nat_le blocks 64) 1 (max (4194304 / block_size) 1)

@@ -1,5 +1,5 @@
 // Cuts blocks into stretches.
-ghost use Rattle.std.specs.Prelude.{◌≡◌, ◌≤◌, ◌<◌, ◌-◌, ◌/◌, ◌^◌, true, false, length, max, min, cond, nat_le, IfOk};
+ghost use Rattle.std.specs.Prelude.{◌≡◌, ◌≤◌, ◌<◌, ◌-◌, ◌/◌, ◌^◌, true, false, length, max, cond, nat_le, IfOk};
 ghost use Rattle.std.specs.List.{All};
 ghost use Rattle.rendering.specs.Cut.{AreEven, AreLongest, IsCut, IsFresh, IsShort, IsUniform, blocks_in_job};
 
@@ -11,19 +11,15 @@ use std::alloc::{AllocError, Global};
 pub enum JobLength {
     /// One block, as the rule of the board has it: whatever is lost with a job is lost of one block.
     OneBlock,
-    /// For speed: a sixty-fourth of all blocks, but as many as make 1 MiB at least and 16 MiB at most, where there are more
-    /// than 64; else one.
+    /// For speed: as many blocks as make 4 MiB, one at least, where there are more than 64; else one.
     Longer,
 }
 
-/// The most blocks that are each a job where there are no more; of more, a job has at most the same share.
-const SHARES: u32 = 64;
+/// The most blocks that are each a job where there are no more.
+const FEW: u32 = 64;
 
-/// The fewest bytes of a longer job.
-const LEAST_BYTES: u32 = 1_048_576;
-
-/// The most bytes of a longer job.
-const MOST_BYTES: u32 = 16_777_216;
+/// The bytes of a longer job.
+const LONGER: u32 = 4_194_304;
 
 /// How many blocks of so many bytes a job has.
 pub fn blocks_in_job(jobs: JobLength, blocks: u32, block_size: u32) -> u32
@@ -41,16 +37,14 @@ pub fn blocks_in_job(jobs: JobLength, blocks: u32, block_size: u32) -> u32
 /// How many blocks of so many bytes a longer job has.
 fn blocks_at_once(blocks: u32, block_size: u32) -> u32
     requires { 0 < block_size }
-    ensures value { result ≡ cond (nat_le blocks 64) 1
-        (max (min (max (blocks / 64) (1048576 / block_size)) (16777216 / block_size)) 1) }
+    ensures value { result ≡ cond (nat_le blocks 64) 1 (max (4194304 / block_size) 1) }
     ensures some { 1 ≤ result }
     ensures few { 8192 ≤ block_size → result ≤ 2048 }
 {
-    if blocks <= SHARES {
+    if blocks <= FEW {
         return 1;
     }
-    let share = (blocks / SHARES).max(LEAST_BYTES / block_size);
-    share.min(MOST_BYTES / block_size).max(1)
+    (LONGER / block_size).max(1)
 }
 
 /// All blocks, none of which is done, so many in each stretch but the last.

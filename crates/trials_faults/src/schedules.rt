@@ -37,7 +37,7 @@ fn three_at_once(alloc: Global) -> Result<Vec<BoardEvent>, AllocError> {
     for worker in 1..4 {
         events.push(BoardEvent::Work(worker))?;
     }
-    events.extend_from_slice(rounds(alloc, 65)?.as_slice())?;
+    events.extend_from_slice(rounds(alloc, 200)?.as_slice())?;
     Ok(events)
 }
 
@@ -87,7 +87,7 @@ fn three_blocks_of_many_that_fail_once_are_made_again(rt: HostRuntime) -> Result
             continue;
         };
         // the first three calls that don't fail the opening of the list are those of the three workers
-        assert!(rt; progress.finished & (progress.done == 65), "{from}");
+        assert!(rt; progress.finished & (progress.done == 200), "{from}");
         assert_eq!(rt; shelf.failures(), 3, "{from}");
         assert!(rt; job.is_whole(&bench), "{from}");
         return Ok(());

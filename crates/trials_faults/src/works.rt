@@ -38,8 +38,8 @@ pub(crate) const THREE_BLOCKS: &[u8] = b"<ADL>
 </ADL>
 ";
 
-/// The frames of 65 blocks.
-const MANY_FRAMES: u64 = 266_240;
+/// The frames of 200 blocks.
+const MANY_FRAMES: u64 = 819_200;
 
 /// A list with one entry, which plays as many frames so.
 const MANY_BLOCKS: &[u8] = b"<ADL>
@@ -51,7 +51,7 @@ const MANY_BLOCKS: &[u8] = b"<ADL>
 (Index) 1 (F) \"URL:file://localhost/A.wav\" _ 00.00.00.00/0000 _
 </SOURCE_INDEX>
 <EVENT_LIST>
-(Entry) 1 (Cut) I 1 1 1 00.00.00.00/0000 00.00.00.00/0000 00.00.05.13/1280
+(Entry) 1 (Cut) I 1 1 1 00.00.00.00/0000 00.00.00.00/0000 00.00.17.01/1280
 </EVENT_LIST>
 </ADL>
 ";
@@ -161,12 +161,12 @@ pub(crate) fn three_blocks(alloc: Global) -> Result<Vec<u8>, Fail> {
     Ok(file)
 }
 
-/// The two bytes of a sample of 65 blocks. They come again after a prime number of samples.
+/// The two bytes of a sample of 200 blocks. They come again after a prime number of samples.
 fn sample(place: u64) -> [u8; 2] {
     ((place % 65_521) as u16).to_le_bytes()
 }
 
-/// A file of 65 blocks.
+/// A file of 200 blocks.
 fn many_blocks(alloc: Global) -> Result<Vec<u8>, Fail> {
     let mut file = head_of(alloc, 1, Depth::Sixteen, MANY_FRAMES, 0)?;
     for place in 0..MANY_FRAMES {
@@ -327,7 +327,7 @@ impl Job {
         Ok(job)
     }
 
-    /// The rendering of 65 blocks of two channels of 24 bits, in longer jobs, the first of which has 42 blocks.
+    /// The rendering of 200 blocks of two channels of 24 bits, in longer jobs, the first of which has 170 blocks.
     pub(crate) fn of_many_blocks(alloc: Global) -> Result<Self, Fail> {
         let mut wanted = Vec::new(alloc);
         wanted.push((SOUND, many_rendered(alloc)?))?;
