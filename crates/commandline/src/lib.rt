@@ -3,9 +3,9 @@
 #![tactic(auto)]
 
 mod choice;
-mod command;
 mod request;
+mod words;
 
 pub use choice::{Chosen, Selected};
-pub use command::VERSION;
 pub use request::{BothPlaces, Parsed, Places, Request, parse};
+pub use words::{VERSION, command};

@@ -11,7 +11,7 @@ ghost use Rattle.commandline.specs.Request as spec;
 ghost use Rattle.commandline.specs.Request.{asked_of};
 
 use crate::choice::{Chosen, Selected};
-use crate::command::command;
+use crate::words::command;
 use clap::error::ErrorKind;
 use clap::{ArgMatches, Error};
 use job_terms::Order;

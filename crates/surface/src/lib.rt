@@ -13,3 +13,4 @@ pub mod numbers;
 pub mod samples;
 pub mod sounding;
 pub mod stores;
+pub mod words;

@@ -2,7 +2,7 @@ use Rattle.std.proofs.Common.{◌≡◌, ◌∙◌, codes, refl}
 use Rattle.std.proofs.lemmas.Result.{IfOk-weaker}
 use Rattle.clap.specs.Words.{App, Shape, with_subcommand}
 use Rattle.commandline.specs.CommandLine.{check_shape, compare_shape, consolidate_shape, explain_shape, rendering_shape, show_shape, top_app}
-use Rattle.commandline.proofs.command.command.Goals as goal
+use Rattle.commandline.proofs.words.command.Goals as goal
 
 added : (app other : App) (shape known : Shape) → app ≡ other → shape ≡ known
     → with_subcommand app shape ≡ with_subcommand other known

@@ -2,7 +2,7 @@ use Rattle.std.proofs.Common.{codes}
 use Rattle.std.proofs.lemmas.Result.{IfOk-weaker}
 use Rattle.commandline.specs.CommandLine.{default_rule}
 use Rattle.commandline.proofs.CommandLineLaws.{one_more}
-use Rattle.commandline.proofs.command.with_choice.Goals as goal
+use Rattle.commandline.proofs.words.with_choice.Goals as goal
 
 pub returns-clause-app : goal.returns-clause-app
 returns-clause-app c =

@@ -2,7 +2,7 @@ use Rattle.std.proofs.Common.{◌∙◌, ap}
 use Rattle.std.proofs.lemmas.Result.{IfOk-weaker}
 use Rattle.std.proofs.Math.Bool.{or-false}
 use Rattle.clap.specs.Words.{app_of, with_rule}
-use Rattle.commandline.proofs.command.with_option.Goals as goal
+use Rattle.commandline.proofs.words.with_option.Goals as goal
 
 pub returns-clause-app : goal.returns-clause-app
 returns-clause-app c =

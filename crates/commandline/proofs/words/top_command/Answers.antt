@@ -1,7 +1,7 @@
 use Rattle.std.proofs.Common.{◌∙◌, ap, true}
 use Rattle.std.proofs.lemmas.Result.{IfOk-weaker}
 use Rattle.clap.specs.Simple.{app_of_fields, on_top}
-use Rattle.commandline.proofs.command.top_command.Goals as goal
+use Rattle.commandline.proofs.words.top_command.Goals as goal
 
 pub returns : goal.returns
 returns c =

@@ -2,7 +2,7 @@ use Rattle.std.proofs.Common.{◌≡◌, ◌∙◌, ap, true, false, rules}
 use Rattle.std.proofs.lemmas.Result.{IfOk-weaker}
 use Rattle.std.proofs.Math.Bool.{or-false}
 use Rattle.clap.specs.Words.{Rule, app_of, rule_of, with_rule}
-use Rattle.commandline.proofs.command.with_place.Goals as goal
+use Rattle.commandline.proofs.words.with_place.Goals as goal
 
 pub returns-clause-local : goal.returns-clause-local
 returns-clause-local c =

@@ -1,7 +1,7 @@
 use Rattle.std.proofs.Common.{◌≡◌, false, rules}
 use Rattle.std.proofs.lemmas.Result.{IfOk-weaker}
 use Rattle.std.proofs.Math.Bool.{or-false}
-use Rattle.commandline.proofs.command.with_flag.Goals as goal
+use Rattle.commandline.proofs.words.with_flag.Goals as goal
 
 pub returns-clause-local : goal.returns-clause-local
 returns-clause-local c =

@@ -3,7 +3,7 @@ use Rattle.std.proofs.lemmas.Result.{IfOk-weaker}
 use Rattle.clap.specs.Simple.{app_of_fields}
 use Rattle.commandline.specs.CommandLine.{flag_rule, place_rule}
 use Rattle.commandline.proofs.CommandLineLaws.{one_more}
-use Rattle.commandline.proofs.command.over_media.Goals as goal
+use Rattle.commandline.proofs.words.over_media.Goals as goal
 
 pub returns-clause-app : goal.returns-clause-app
 returns-clause-app c =
