@@ -1,11 +1,12 @@
 // One of two sides of a comparison.
-ghost use Rattle.std.specs.Prelude.{◌≡◌, ◌+◌, ◌*◌, ◌<◌, ◌≤◌, ℕ, pos, IfErr, IfOk, IsTrue, OnOk, length, take};
+ghost use Rattle.std.specs.Prelude.{◌≡◌, ◌+◌, ◌*◌, ◌<◌, ◌≤◌, ℕ, pos, IfErr, IfOk, IsTrue, OnOk, is_some, length, not, take};
 ghost use Rattle.std.specs.List.{All};
 ghost use Rattle.sampletime.specs.TimeCode.{day};
 ghost use Rattle.work_terms.specs.Disk.{Files};
 ghost use Rattle.sound_terms.specs.Blocks.{block_count, block_frames, block_start};
 ghost use Rattle.sound_terms.specs.Media.{IsPieceOf};
 ghost use Rattle.devices.specs.Frame.{OnlyReads};
+ghost use Rattle.renderplan.specs.Sources.{source_of};
 ghost use Rattle.comparison.specs.Fault.{FailsAt, IsSource};
 ghost use Rattle.comparison.specs.Side.{AreBlockSums, HasRoom, IsBlockOf, heard};
 ghost use Rattle.comparison.specs.declared.fault.SideFault.TheVariants.{Memory};
@@ -180,7 +181,8 @@ impl<'a> Side<'a> {
     /// Whether nothing sounds in block k.
     pub fn is_silent(&self, k: u64) -> bool
         requires { k < block_count self.now.planned.range }
-        ensures { IsTrue result → (files : Files) (i channel : ℕ) → i < block_frames self.now.planned.range k
+        ensures found { is_some (source_of self.now.planned.pieces self.now.planned.range k) ≡ not result }
+        ensures zero { IsTrue result → (files : Files) (i channel : ℕ) → i < block_frames self.now.planned.range k
             → channel ≤ self.now.planned.range.channels
             → heard self.now files channel (block_start self.now.planned.range k + i) ≡ pos 0 }
     {

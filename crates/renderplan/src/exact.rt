@@ -1,10 +1,11 @@
 // What the blocks of a plan sum to, before any rounding.
-ghost use Rattle.std.specs.Prelude.{◌≡◌, ◌+◌, ◌<◌, ◌≤◌, ℕ, pos, IsTrue};
+ghost use Rattle.std.specs.Prelude.{◌≡◌, ◌+◌, ◌<◌, ◌≤◌, ℕ, pos, IsTrue, is_some, not};
 ghost use Rattle.std.specs.List.{All};
 ghost use Rattle.sampletime.specs.TimeCode.{day};
 ghost use Rattle.sound_terms.specs.Mix.{Reading};
 ghost use Rattle.sound_terms.specs.Groups.{sum_of};
 ghost use Rattle.sound_terms.specs.Blocks.{BlockState, PlaysFull, block_count, block_frames, block_start, executed_all, program_of};
+ghost use Rattle.renderplan.specs.Sources.{source_of};
 
 use crate::Plan;
 
@@ -18,10 +19,11 @@ impl Plan {
         self.window_of(k).from
     }
 
-    /// Whether none of the plan's pieces sounds in block k: its sums are zero then.
+    /// Whether none of the plan's pieces sounds in block k, so that no file is heard there: its sums are zero then.
     pub fn is_silent(&self, k: u64) -> bool
         requires { k < block_count self.now.range }
-        ensures { IsTrue result → (reading : Reading) (i channel : ℕ) → i < block_frames self.now.range k
+        ensures found { is_some (source_of self.now.pieces self.now.range k) ≡ not result }
+        ensures zero { IsTrue result → (reading : Reading) (i channel : ℕ) → i < block_frames self.now.range k
             → channel ≤ self.now.range.channels
             → sum_of reading self.now.pieces channel (block_start self.now.range k + i) ≡ pos 0 }
     {

@@ -1,11 +1,19 @@
-use Rattle.std.proofs.Common.{◌≡◌, ◌∙◌, sym}
+use Rattle.std.proofs.Common.{◌≡◌, ◌∙◌, ap, sym}
+use Rattle.std.specs.Prelude.{is_some}
 use Rattle.renderplan.proofs.ExactSums.{all_silent, none_there}
 use Rattle.renderplan.specs.Sources.{source_of}
 use Rattle.sound_terms.specs.Blocks.{block_frames, block_start}
 use Rattle.renderplan.proofs.plan.Plan.is_silent.Goals as goal
 
-pub returns : goal.returns
-returns c none reading i channel below inside =
+pub returns-clause-found : goal.returns-clause-found
+returns-clause-found c =
+    let plan = c.args.self.now in
+    let found : c.source_of.result ≡ source_of plan.pieces plan.range c.args.k =
+    c.source_of.ensures.source c.requires in
+    ap is_some (sym found) ∙ c.is_none.ensures
+
+pub returns-clause-zero : goal.returns-clause-zero
+returns-clause-zero c none reading i channel below inside =
     let plan = c.args.self.now in
     let found : c.source_of.result ≡ source_of plan.pieces plan.range c.args.k =
     c.source_of.ensures.source c.requires in
