@@ -1,5 +1,5 @@
 // Copies pieces of runs from their sources into laid out media.
-ghost use Rattle.std.specs.Prelude.{◌≡◌, ◌≢◌, ◌+◌, ◌*◌, ◌%◌, ◌≤◌, ◌^◌, ◌<◌, ◌↔◌, length, IfErr, IsTrue, OnErr, OnOk, ⊤};
+ghost use Rattle.std.specs.Prelude.{◌≡◌, ◌≢◌, ◌+◌, ◌%◌, ◌≤◌, ◌<◌, ◌↔◌, length, IfErr, IsTrue, OnErr, OnOk, ⊤};
 ghost use Rattle.work_terms.specs.Disk.{Changes, IsTorn, IsWritten};
 ghost use Rattle.sound_terms.specs.Media.{frame_length};
 ghost use Rattle.list_terms.specs.Heard.{sounds_of};
