@@ -114,10 +114,10 @@ pub record ComparesWritten {O : Type 0} (shelf : source.Ghosts SourceFolder) (ou
 -- The answer to a consolidation with this outcome: a refusal is printed; else the list was compared with the written one,
 -- or that one can't be read again.
 abbrev pub AnswersVerified : {O : Type 0} → source.Ghosts SourceFolder → console.Ghosts O → (list target : List ℕ)
-    → (is_named : Bool) → (before : SourceFolder) → (old new : O) → (status : ℕ) → Result Written Fault → Type 0
-AnswersVerified shelf out list target is_named before old new status (Err fault) =
-    (status ≡ 1) × Tells out old new (refusal_line is_named (refusal_of fault))
-AnswersVerified shelf out list target is_named before old new status (Ok told) =
+    → (before : SourceFolder) → (old new : O) → (status : ℕ) → Result Written Fault → Type 0
+AnswersVerified shelf out list target before old new status (Err fault) =
+    (status ≡ 1) × Tells out old new (refusal_line (refusal_of fault))
+AnswersVerified shelf out list target before old new status (Ok told) =
     IsListKeptOut out Second (codes "consolidated.adl") old new status
     ⊎ ComparesWritten shelf out list (written_lines told) target before old new status
 
@@ -135,10 +135,9 @@ pub record VerifiesInFolders {O : Type 0} (shelf : source.Ghosts SourceFolder) (
   pub output : empty.folder ≡ folder_named target
   pub careful : empty.overwrite ≡ Never
   pub outcome : Result Written Fault
-  pub is_named : Bool
   pub consolidated : IsConsolidation shelf bench standard_groups list handle (asking report) before after empty full
       outcome
-  pub answered : AnswersVerified shelf out list target is_named after old new status outcome
+  pub answered : AnswersVerified shelf out list target after old new status outcome
 
 -- a rendering that is gone on with may replace files in its folder, no other command may
 abbrev pub overwrite_for : Asked → Overwrite

@@ -1,11 +1,10 @@
 -- Entries whose keys are the numbers of their sources.
 use Rattle.std.proofs.Common.{◌≡◌, ℕ, ◌+◌, ◌<◌, Bool, true, false, List, [], ◌∷◌, ◌++◌, Option, Some, refl, ap, sym, subst, ◌∙◌, cond, arith, length, take, drop, get_or}
-use Rattle.std.specs.Prelude.{if◌then◌else◌, nat_eq, ◌==◌, is_some, slice_get, None, option_map}
+use Rattle.std.specs.Prelude.{if◌then◌else◌, nat_eq, ◌==◌, is_some, None}
 use Rattle.std.specs.List.{list_any}
 use Rattle.std.specs.Map.{keys_of, lookup, values_of}
 use Rattle.std.proofs.lemmas.Bool.Decides.{nat_tests}
 use Rattle.std.proofs.lemmas.List.{drop_more, take-append-drop}
-use Rattle.std.proofs.lemmas.Option.{slice_get-map}
 use Rattle.list_terms.specs.Project.{Source}
 use Rattle.facts.specs.Distinct.{not_taken}
 use Rattle.list_terms.specs.WholeProject.{AreDistinct, index_numbers}
@@ -76,12 +75,6 @@ absent es n h free = none _ (ap is_some (found es n h) ∙ any_of_number (values
   none : (x : Option Source) → is_some x ≡ false → x ≡ None
   none None h = refl
   none (Some s) h = absurd (let no : true ≡ false = h in cc)
-
--- the source of the entry at a place
-pub value_at :
-    (es : List (ℕ × Source)) (place : ℕ) (e : ℕ × Source) → slice_get es place ≡ Some e
-    → slice_get (values_of es) place ≡ Some e.1
-value_at es place e h = slice_get-map (λ x. x.1) es place ∙ ap (option_map (λ x. x.1)) h
 
 -- the next of distinct sources has a number that none before it has
 pub next_free :

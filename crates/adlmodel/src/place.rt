@@ -42,6 +42,13 @@ impl Place {
     {
         self.name.as_str()
     }
+
+    /// Hands out the media name.
+    pub fn into_name(self) -> String
+        ensures { string_bytes result ≡ self.name }
+    {
+        self.name
+    }
 }
 
 /// The place that a URL names: an optional `URL:`, `file://`, an authority, `/` and a path, each `%` with two

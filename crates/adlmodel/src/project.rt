@@ -1,5 +1,5 @@
 // The whole project.
-ghost use Rattle.std.specs.Prelude.{slice_get, ◌≡◌, ◌≤◌, [], IfOk, IsTrue, length};
+ghost use Rattle.std.specs.Prelude.{◌≡◌, ◌≤◌, [], IfOk, IsTrue, length};
 ghost use Rattle.std.specs.List.{list_all};
 ghost use Rattle.sampletime.specs.FrameRate.{frames_per_second, is_rate};
 ghost use Rattle.sampletime.specs.TimeCode.{default_separators};
@@ -9,7 +9,6 @@ ghost use Rattle.list_terms.specs.WholeProject.{AreDistinct, AreEvents, AreSourc
 ghost use Rattle.adlmodel.specs.Header.{header_view, project_of};
 
 use crate::header::Header;
-use crate::source::Source;
 use crate::sources::Sources;
 use list_terms::Notice;
 use sampletime::{Rate, Separators};
@@ -143,13 +142,6 @@ impl Project {
         ensures { result.now ≡ self.now.notices }
     {
         self.notices.as_slice()
-    }
-
-    /// Hands out the source at this place, counted from 0.
-    pub fn into_source(self, place: usize) -> Option<Source>
-        ensures { result ≡ slice_get self.sources place }
-    {
-        self.sources.into_source(place)
     }
 }
 

@@ -1,5 +1,5 @@
 // Sources under their numbers.
-ghost use Rattle.std.specs.Prelude.{◌≡◌, ◌++◌, ◌==◌, ◌∷◌, [], IfOk, OnErr, OnOk, false, option_copied, slice_get};
+ghost use Rattle.std.specs.Prelude.{◌≡◌, ◌++◌, ◌==◌, ◌∷◌, [], IfOk, OnErr, OnOk, false, option_copied};
 ghost use Rattle.std.specs.List.{list_any};
 ghost use Rattle.list_terms.specs.WholeProject.{AreDistinct, index_numbers};
 ghost use Rattle.adlmodel.specs.Numbered.{source_of};
@@ -83,14 +83,5 @@ impl Sources {
     {
         let _ = self.by_number.len();
         self.by_number.values().as_slice()
-    }
-
-    /// Hands out the source at this place, counted from 0.
-    pub fn into_source(self, place: usize) -> Option<Source>
-        ensures { result ≡ slice_get self place }
-    {
-        let mut by_number = self.by_number;
-        let (_, source) = by_number.swap_remove_index(place)?;
-        Some(source)
     }
 }

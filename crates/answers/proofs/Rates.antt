@@ -23,7 +23,6 @@ answered_by shelf bench out chosen values list shelf_old shelf_new bench_old ben
   outcome = is.outcome;
   called = record { values = values; read = read; rendering = is.called };
   status_is = is.status_is;
-  is_named = is.is_named;
   printed = is.printed;
 }
 
@@ -38,6 +37,5 @@ resumed_by shelf bench out chosen values list shelf_old shelf_new bench_old benc
   outcome = is.outcome;
   called = record { values = values; read = read; resuming = is.called };
   status_is = is.status_is;
-  is_named = is.is_named;
   printed = is.printed;
 }

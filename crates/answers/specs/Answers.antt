@@ -1,6 +1,6 @@
 -- What the program prints and answers of a command.
 use Rattle.std.specs.Prelude.{◌≡◌, ℕ, Bool, true, false, IsOk, IsErr, ⊤, List, [], ◌∷◌, ◌++◌, Option, None, Some, Result, Ok, Err, IfErr, codes, if◌then◌else◌}
-use Rattle.work_terms.specs.Refusals.{Refusal, Where, Nowhere, Index, IndexFile}
+use Rattle.work_terms.specs.Refusals.{Refusal, Nowhere}
 use Rattle.opening.specs.declared.checking.Accepted.{Accepted}
 use Rattle.devices.specs.declared.source.Shelf as source
 use Rattle.opening.specs.Further.{WasRead}
@@ -53,20 +53,14 @@ resumed_lines told = (notices_text told.notices.items ++ resumed_text told.frame
 abbrev pub written_lines : Written → List ℕ
 written_lines told = (notices_text told.notices.items ++ written_text told.media told.entries) ++ 10 ∷ []
 
--- the place of a refusal as it is told: without the name of an index's file, where no memory was left for it
-abbrev pub place_told : (is_named : Bool) → Where → Where
-place_told true place = place
-place_told false (IndexFile index name) = Index index
-place_told false place = place
-
 -- the line of a refusal
-abbrev pub refusal_line : (is_named : Bool) → Refusal → List ℕ
-refusal_line is_named refusal = refusal_text refusal.number (place_told is_named refusal.place) ++ 10 ∷ []
+abbrev pub refusal_line : Refusal → List ℕ
+refusal_line refusal = refusal_text refusal.number refusal.place ++ 10 ∷ []
 
 -- the lines of an outcome
-abbrev pub lines_of : {X : Type 0} → (X → List ℕ) → (is_named : Bool) → Result X Fault → List ℕ
-lines_of report_lines is_named (Ok report) = report_lines report
-lines_of report_lines is_named (Err fault) = refusal_line is_named (refusal_of fault)
+abbrev pub lines_of : {X : Type 0} → (X → List ℕ) → Result X Fault → List ℕ
+lines_of report_lines (Ok report) = report_lines report
+lines_of report_lines (Err fault) = refusal_line (refusal_of fault)
 
 -- 0 done, 1 refused
 abbrev pub status_of : {X : Type 0} → Result X Fault → ℕ
@@ -74,15 +68,14 @@ status_of (Ok report) = 0
 status_of (Err fault) = 1
 
 -- the line of a refusal of one of two lists
-abbrev pub list_refusal_line : ListOfTwo → (is_named : Bool) → Refusal → List ℕ
-list_refusal_line list is_named refusal =
-    (refusal_text refusal.number (place_told is_named refusal.place) ++ in_list list) ++ 10 ∷ []
+abbrev pub list_refusal_line : ListOfTwo → Refusal → List ℕ
+list_refusal_line list refusal = (refusal_text refusal.number refusal.place ++ in_list list) ++ 10 ∷ []
 
 -- of a comparison, which is refused by one of them, or since no sample was chosen
-abbrev pub comparison_refusal_line : (is_named : Bool) → CompareFault → List ℕ
-comparison_refusal_line is_named (compare.First fault) = list_refusal_line First is_named (comparing.refusal_of fault)
-comparison_refusal_line is_named (compare.Second fault) = list_refusal_line Second is_named (comparing.refusal_of fault)
-comparison_refusal_line is_named compare.EmptyRange = refusal_text 58 Nowhere ++ 10 ∷ []
+abbrev pub comparison_refusal_line : CompareFault → List ℕ
+comparison_refusal_line (compare.First fault) = list_refusal_line First (comparing.refusal_of fault)
+comparison_refusal_line (compare.Second fault) = list_refusal_line Second (comparing.refusal_of fault)
+comparison_refusal_line compare.EmptyRange = refusal_text 58 Nowhere ++ 10 ∷ []
 
 -- how two lists compare, by times at a rate of frames with these separators
 abbrev pub comparison_text : (rate : ℕ) → (separators : List ℕ) → Comparison → List ℕ
@@ -96,9 +89,9 @@ compared_lines told = ((notices_of_list First told.first_notices.items
     ++ comparison_text (frames_per_second told.rate) told.separators told.comparison) ++ 10 ∷ []
 
 -- the lines of a comparison
-abbrev pub comparison_lines : (is_named : Bool) → Result Compared CompareFault → List ℕ
-comparison_lines is_named (Ok told) = compared_lines told
-comparison_lines is_named (Err fault) = comparison_refusal_line is_named fault
+abbrev pub comparison_lines : Result Compared CompareFault → List ℕ
+comparison_lines (Ok told) = compared_lines told
+comparison_lines (Err fault) = comparison_refusal_line fault
 
 -- 0 where two lists sound the same, 1 where they differ
 abbrev pub status_of_comparison : Comparison → ℕ
@@ -116,12 +109,11 @@ Tells out = Prints out.contents out.failures
 
 -- A command was called, whatever its faults are; its status is the answer, and its lines were printed.
 pub record IsAnsweredBy {X F O : Type 0} (call : Result X F → Type 0) (status_by : Result X F → ℕ)
-    (lines_by : Bool → Result X F → List ℕ) (out : console.Ghosts O) (old new : O) (status : ℕ) : Type 0 where
+    (lines_by : Result X F → List ℕ) (out : console.Ghosts O) (old new : O) (status : ℕ) : Type 0 where
   pub outcome : Result X F
   pub called : call outcome
   pub status_is : status ≡ status_by outcome
-  pub is_named : Bool
-  pub printed : Tells out old new (lines_by is_named outcome)
+  pub printed : Tells out old new (lines_by outcome)
 
 -- a command over one list
 abbrev pub IsAnswered : {X O : Type 0} → (Result X Fault → Type 0) → (X → List ℕ) → console.Ghosts O → (old new : O)
@@ -139,8 +131,7 @@ pub record IsComparisonReported {O : Type 0} (call : Result Compared CompareFaul
   pub outcome : Result Compared CompareFault
   pub called : call outcome
   pub status_is : status ≡ comparison_status outcome
-  pub is_named : Bool
-  pub refused : IfErr outcome (λ fault. Tells out old new (comparison_refusal_line is_named fault))
+  pub refused : IfErr outcome (λ fault. Tells out old new (comparison_refusal_line fault))
 
 -- a comparison, with a report or without
 abbrev pub IsComparedAs : {O : Type 0} → Bool → (Result Compared CompareFault → Type 0) → console.Ghosts O
@@ -162,11 +153,11 @@ abbrev pub verdict_lines : (lines : List ℕ) → Compared → List ℕ
 verdict_lines lines told = verdict_of lines (frames_per_second told.rate) told.separators told.comparison
 
 -- where neither has a sample both are the same
-abbrev pub verified_lines : (lines : List ℕ) → (is_named : Bool) → Result Compared CompareFault → List ℕ
-verified_lines lines is_named (Ok told) = verdict_lines lines told
-verified_lines lines is_named (Err (compare.First fault)) = comparison_refusal_line is_named (compare.First fault)
-verified_lines lines is_named (Err (compare.Second fault)) = comparison_refusal_line is_named (compare.Second fault)
-verified_lines lines is_named (Err compare.EmptyRange) = lines
+abbrev pub verified_lines : (lines : List ℕ) → Result Compared CompareFault → List ℕ
+verified_lines lines (Ok told) = verdict_lines lines told
+verified_lines lines (Err (compare.First fault)) = comparison_refusal_line (compare.First fault)
+verified_lines lines (Err (compare.Second fault)) = comparison_refusal_line (compare.Second fault)
+verified_lines lines (Err compare.EmptyRange) = lines
 
 abbrev pub verified_status : Result Compared CompareFault → ℕ
 verified_status (Ok told) = status_of_comparison told.comparison

@@ -2,10 +2,10 @@
 ghost use Rattle.opening.specs.Further.{WasRead};
 
 use crate::asides::Asides;
-use crate::refusal::put_project_place;
+use crate::refusal::project_place;
 use crate::second_look::SecondLook;
 use adlread::{AdlFault, Faults};
-use console::Console;
+use console::{Console, put_place};
 use consolidate::Fault;
 use devices::Shelf;
 use explanations::{FurtherExplanation, ListLines, Look};
@@ -53,7 +53,7 @@ fn tell_each<E: Console, A: Asides>(
     let mut lines = ListLines::new(list);
     for fault in faults {
         let look = second_look.at(alloc, list, fault, asides);
-        tell_also(alloc, fault, &mut lines, &look, err);
+        tell_also(fault, &mut lines, &look, err);
     }
 }
 
@@ -74,7 +74,7 @@ fn tell_further_lines<E: Console>(
         let Some(fault) = faults.next_fault(alloc) else {
             return;
         };
-        tell_also(alloc, &opening::Fault::List(fault), &mut lines, &look, err);
+        tell_also(&opening::Fault::List(fault), &mut lines, &look, err);
     }
     if faults.next_fault(alloc).is_some() {
         err.print_line("and more");
@@ -83,7 +83,6 @@ fn tell_further_lines<E: Console>(
 
 /// Prints a further fault: its number, its place, what the number means there, and what is found about it.
 fn tell_also<E: Console>(
-    alloc: Global,
     fault: &opening::Fault,
     lines: &mut ListLines<'_>,
     look: &Look,
@@ -91,6 +90,6 @@ fn tell_also<E: Console>(
 ) {
     let number = fault.number();
     err.print(format_args!("also {number:02}"));
-    let _ = put_project_place(alloc, fault, err);
+    put_place(err, project_place(fault));
     err.print_line(FurtherExplanation::of(fault, lines.at(fault), look));
 }

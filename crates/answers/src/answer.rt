@@ -190,7 +190,7 @@ fn answer_check<S: Shelf + Reasons, O: Console, E: Console, A: Asides>(
         }
         Err(fault) => {
             let explanation = Explanation::of(&fault, list, shelf.reason(), None);
-            let _ = refuse(alloc, list, &fault, explanation, asides, out, err);
+            refuse(alloc, list, &fault, explanation, asides, out, err);
             tell_further(alloc, list, shelf, &fault, asides.most(), asides, err);
             REFUSED
         }
@@ -246,7 +246,7 @@ fn answer_render<
         Err(fault) => {
             let explanation = Explanation::of(&fault, list, shelf.reason(), bench.reason());
             let explanation = explanation.of_rendering();
-            let _ = refuse(alloc, list, &fault, explanation, asides, out, err);
+            refuse(alloc, list, &fault, explanation, asides, out, err);
             REFUSED
         }
     }
@@ -301,7 +301,7 @@ fn answer_resume<
         Err(fault) => {
             let explanation = Explanation::of(&fault, list, shelf.reason(), bench.reason());
             let explanation = explanation.of_rendering();
-            let _ = refuse(alloc, list, &fault, explanation, asides, out, err);
+            refuse(alloc, list, &fault, explanation, asides, out, err);
             REFUSED
         }
     }
@@ -366,7 +366,7 @@ fn answer_consolidate<
         }
         Err(fault) => {
             let explanation = Explanation::of(&fault, list, shelf.reason(), bench.reason());
-            let _ = refuse(alloc, list, &fault, explanation, asides, out, err);
+            refuse(alloc, list, &fault, explanation, asides, out, err);
             REFUSED
         }
     }

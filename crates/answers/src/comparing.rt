@@ -149,7 +149,7 @@ fn answer_selection<
         ),
         Err(fault) => {
             let reasons = (first_shelf.reason(), second_shelf.reason());
-            let _ = put_refusal_of_two(alloc, &fault, out);
+            put_refusal_of_two(&fault, out);
             explain_refusal(
                 alloc,
                 lists,
@@ -292,37 +292,29 @@ pub fn put_comparison<O: Console>(
     }
 }
 
-/// Prints the line of the refusal of a comparison. It is false where no memory remained for the name of an index's file,
-/// without which the line is printed then.
-fn put_refusal_of_two<O: Console>(alloc: Global, fault: &CompareFault, out: &mut O) -> bool
-    ensures { Prints O.contents O.failures out.old out.new (comparison_refusal_line result fault.now) }
+/// Prints the line of the refusal of a comparison.
+fn put_refusal_of_two<O: Console>(fault: &CompareFault, out: &mut O)
+    ensures { Prints O.contents O.failures out.old out.new (comparison_refusal_line fault.now) }
 {
     match fault {
-        CompareFault::First(fault) => put_refusal_in(alloc, ListOfTwo::First, fault, out),
-        CompareFault::Second(fault) => put_refusal_in(alloc, ListOfTwo::Second, fault, out),
+        CompareFault::First(fault) => put_refusal_in(ListOfTwo::First, fault, out),
+        CompareFault::Second(fault) => put_refusal_in(ListOfTwo::Second, fault, out),
         CompareFault::EmptyRange => {
             let place = Place::Nowhere;
             put_refusal(out, Refusal { number: 58, place });
             out.end_line();
-            true
         }
     }
 }
 
 /// Prints the line of the refusal of one of two lists.
-pub fn put_refusal_in<O: Console>(
-    alloc: Global,
-    list: ListOfTwo,
-    fault: &ListFault,
-    out: &mut O,
-) -> bool
+pub fn put_refusal_in<O: Console>(list: ListOfTwo, fault: &ListFault, out: &mut O)
     ensures { Prints O.contents O.failures out.old out.new
-        (list_refusal_line list result (comparing.refusal_of fault.now)) }
+        (list_refusal_line list (comparing.refusal_of fault.now)) }
 {
-    let is_named = put_list_fault(alloc, fault, out);
+    put_list_fault(fault, out);
     put_in_list(out, list);
     out.end_line();
-    is_named
 }
 
 /// Prints the explanation of a refusal of two lists, by what either store has of a reason.

@@ -114,10 +114,10 @@ fn add_fault(
 ) -> Result<(), AllocError> {
     let number = fault.number();
     match fault {
-        opening::Fault::Media { source, .. } => {
-            bad_files.insert(source.number(), number)?;
-            if let Ok(Some(place)) = place_of(alloc, source.url()) {
-                names.insert(String::from_str(alloc, place.name())?, number)?;
+        opening::Fault::Media { index, name, .. } => {
+            bad_files.insert(*index, number)?;
+            if let Some(name) = name {
+                names.insert(String::from_str(alloc, name.as_str())?, number)?;
             }
         }
         opening::Fault::SameName { index } => {

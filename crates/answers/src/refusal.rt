@@ -1,21 +1,20 @@
 // The line of a refusal by a fault.
-ghost use Rattle.std.specs.Prelude.{◌≡◌, true};
-ghost use Rattle.work_terms.specs.Refusals.{File, IndexFile};
+ghost use Rattle.std.specs.Prelude.{◌≡◌};
+ghost use Rattle.work_terms.specs.Refusals.{File};
 ghost use Rattle.adlread.specs.Fault as text;
-ghost use Rattle.sourceindex.specs.Fault.{name_of_source};
+ghost use Rattle.sourceindex.specs.Fault.{file_at};
 ghost use Rattle.opening.specs.Faults as project;
 ghost use Rattle.consolidate.specs.CompareFault as comparing;
 ghost use Rattle.consolidate.specs.Fault.{name_of_output, place_of_marks, refusal_of};
-ghost use Rattle.console.specs.Lines.{place_text, refusal_text};
+ghost use Rattle.console.specs.Lines.{refusal_text};
 ghost use Rattle.console.specs.Places.{where_of};
 ghost use Rattle.console.specs.Printing.{Prints};
-ghost use Rattle.answers.specs.Answers.{place_told, refusal_line};
+ghost use Rattle.answers.specs.Answers.{refusal_line};
 
 use crate::asides::Asides;
 use crate::second_look::SecondLook;
-use adlmodel::{Source, place_of};
 use adlread::AdlFault;
-use console::{Console, Place, Refusal, put_place, put_refusal, put_refused};
+use console::{Console, Place, Refusal, put_refusal};
 use consolidate::{
     Fault, LIST, ListFault, MARKS, MarkFault, MarkedFile, OutputFile, REPORT, SOUND, SUMS,
 };
@@ -24,7 +23,7 @@ use list_terms::Location;
 use std::alloc::Global;
 
 /// Prints the line of a refusal of this list on `out` and its explanation on `err`, with what a second look at the media
-/// finds. It is false where no memory was left for the name of an index's file, which the line is without.
+/// finds.
 pub fn refuse<O: Console, E: Console, A: Asides>(
     alloc: Global,
     list: &[u8],
@@ -33,12 +32,11 @@ pub fn refuse<O: Console, E: Console, A: Asides>(
     asides: &A,
     out: &mut O,
     err: &mut E,
-) -> bool
-    ensures { Prints O.contents O.failures out.old out.new (refusal_line result (refusal_of fault.now)) }
+)
+    ensures { Prints O.contents O.failures out.old out.new (refusal_line (refusal_of fault.now)) }
 {
-    let is_named = put_line(alloc, fault, out);
+    put_line(fault, out);
     tell_explanation(alloc, list, fault, explanation, asides, err);
-    is_named
 }
 
 /// Prints both on `err`.
@@ -50,17 +48,16 @@ pub fn refuse_on<E: Console, A: Asides>(
     asides: &A,
     err: &mut E,
 ) {
-    let _ = put_line(alloc, fault, err);
+    put_line(fault, err);
     tell_explanation(alloc, list, fault, explanation, asides, err);
 }
 
 /// Prints the line of a refusal.
-fn put_line<O: Console>(alloc: Global, fault: &Fault, out: &mut O) -> bool
-    ensures { Prints O.contents O.failures out.old out.new (refusal_line result (refusal_of fault.now)) }
+fn put_line<O: Console>(fault: &Fault, out: &mut O)
+    ensures { Prints O.contents O.failures out.old out.new (refusal_line (refusal_of fault.now)) }
 {
-    let is_named = put_fault(alloc, fault, out);
+    put_fault(fault, out);
     out.end_line();
-    is_named
 }
 
 /// Prints the explanation of a refusal, with what a second look at the media finds.
@@ -102,60 +99,46 @@ fn look_at_project<A: Asides>(
     SecondLook::new(asides.sources(alloc)).at(alloc, list, fault, asides)
 }
 
-/// Prints the refusal of one of two lists, without its line's end. It is false where no memory remained for the name of
-/// an index's file, without which the refusal is printed then.
-pub fn put_list_fault<C: Console>(alloc: Global, fault: &ListFault, console: &mut C) -> bool
+/// Prints the refusal of one of two lists, without its line's end.
+pub fn put_list_fault<C: Console>(fault: &ListFault, console: &mut C)
     ensures { Prints C.contents C.failures console.old console.new
-        (refusal_text (comparing.refusal_of fault.now).number
-        (place_told result (comparing.refusal_of fault.now).place)) }
+        (refusal_text (comparing.refusal_of fault.now).number (comparing.refusal_of fault.now).place) }
+{
+    let number = fault.number();
+    let place = list_place(fault);
+    put_refusal(console, Refusal { number, place });
+}
+
+/// The place of a fault of one of two lists.
+fn list_place(fault: &ListFault) -> Place<'_>
+    ensures { where_of result ≡ (comparing.refusal_of fault.now).place }
 {
     match fault {
-        ListFault::Project(of_list) => {
-            put_refused(console, of_list.number());
-            put_project_place(alloc, of_list, console)
-        }
-        ListFault::Intervals | ListFault::Memory => {
-            let number = fault.number();
-            let place = Place::Nowhere;
-            put_refusal(console, Refusal { number, place });
-            true
-        }
-        ListFault::Source { name } => {
-            put_refusal(console, Refusal::of_file(22, name.as_str()));
-            true
-        }
+        ListFault::Project(fault) => project_place(fault),
+        ListFault::Intervals | ListFault::Memory => Place::Nowhere,
+        ListFault::Source { name } => Place::File(name.as_str()),
     }
 }
 
-/// Prints the refusal of a list by a command, without its line's end. It is false where no memory was left for the name
-/// of an index's file, which the refusal is told without.
-pub fn put_fault<C: Console>(alloc: Global, fault: &Fault, console: &mut C) -> bool
+/// Prints the refusal of a list by a command, without its line's end.
+pub fn put_fault<C: Console>(fault: &Fault, console: &mut C)
     ensures { Prints C.contents C.failures console.old console.new
-        (refusal_text (refusal_of fault.now).number (place_told result (refusal_of fault.now).place)) }
+        (refusal_text (refusal_of fault.now).number (refusal_of fault.now).place) }
+{
+    let number = fault.number();
+    let place = fault_place(fault);
+    put_refusal(console, Refusal { number, place });
+}
+
+/// The place of a fault of a command.
+fn fault_place(fault: &Fault) -> Place<'_>
+    ensures { where_of result ≡ (refusal_of fault.now).place }
 {
     match fault {
-        Fault::Project(fault) => {
-            put_refused(console, fault.number());
-            put_project_place(alloc, fault, console)
-        }
-        Fault::GivenUp { job } => {
-            let number = fault.number();
-            let place = Place::Job(*job);
-            put_refusal(console, Refusal { number, place });
-            true
-        }
-        Fault::Output(file) => {
-            let number = fault.number();
-            let place = output_place(*file);
-            put_refusal(console, Refusal { number, place });
-            true
-        }
-        Fault::Marks(fault) => {
-            let number = fault.number();
-            let place = marks_place(*fault);
-            put_refusal(console, Refusal { number, place });
-            true
-        }
+        Fault::Project(fault) => project_place(fault),
+        Fault::GivenUp { job } => Place::Job(*job),
+        Fault::Output(file) => output_place(*file),
+        Fault::Marks(fault) => marks_place(*fault),
         Fault::Intervals
         | Fault::PassMemory
         | Fault::Silence { .. }
@@ -165,12 +148,7 @@ pub fn put_fault<C: Console>(alloc: Global, fault: &Fault, console: &mut C) -> b
         | Fault::BlockMemory
         | Fault::EmptyRange
         | Fault::BoardMemory
-        | Fault::WorkerMemory => {
-            let number = fault.number();
-            let place = Place::Nowhere;
-            put_refusal(console, Refusal { number, place });
-            true
-        }
+        | Fault::WorkerMemory => Place::Nowhere,
     }
 }
 
@@ -203,43 +181,29 @@ fn marks_place(fault: MarkFault) -> Place<'static>
     }
 }
 
-/// Prints the place of a fault of the list, of a file that it names, or of an entry. It is false where no memory was
-/// left for the name of an index's file, which the place is told without.
-pub fn put_project_place<C: Console>(alloc: Global, fault: &opening::Fault, console: &mut C) -> bool
-    ensures { Prints C.contents C.failures console.old console.new
-        (place_text (place_told result (project.refusal_of fault.now).place)) }
+/// The place of a fault of the list, of a file that it names, or of an entry.
+pub fn project_place(fault: &opening::Fault) -> Place<'_>
+    ensures { where_of result ≡ (project.refusal_of fault.now).place }
 {
     match fault {
-        opening::Fault::List(fault) => {
-            put_place(console, text_place(fault));
-            true
-        }
-        opening::Fault::SameName { index } => {
-            put_place(console, Place::Index(*index));
-            true
-        }
-        opening::Fault::Media { source, .. } => put_file_place(alloc, source, console),
-        opening::Fault::Entry(fault) => {
-            put_place(console, Place::Entry(fault.entry));
-            true
-        }
+        opening::Fault::List(fault) => text_place(fault),
+        opening::Fault::SameName { index } => Place::Index(*index),
+        opening::Fault::Media { index, name, .. } => file_place(*index, name),
+        opening::Fault::Entry(fault) => Place::Entry(fault.entry),
     }
 }
 
-/// Prints the index of a source and the name of its file, or false and the index alone where no memory was left for the
-/// name.
-fn put_file_place<C: Console>(alloc: Global, source: &Source, console: &mut C) -> bool
-    ensures { Prints C.contents C.failures console.old console.new
-        (place_text (place_told result (IndexFile source.now.number (name_of_source source.now)))) }
+/// An index, and the name of its file, where there was memory for it.
+fn file_place(index: u32, name: &Option<String>) -> Place<'_>
+    ensures { where_of result ≡ file_at index name.now }
 {
-    let index = source.number();
-    let Ok(Some(place)) = place_of(alloc, source.url()) else {
-        put_place(console, Place::Index(index));
-        return false;
-    };
-    let name = place.name();
-    put_place(console, Place::IndexFile { index, name });
-    true
+    match name {
+        Some(name) => {
+            let name = name.as_str();
+            Place::IndexFile { index, name }
+        }
+        None => Place::Index(index),
+    }
 }
 
 /// The place of a fault of the text.

@@ -1,6 +1,6 @@
 // A second look at the media of a list that is refused, for what its faults are in their own terms.
 use crate::asides::Asides;
-use adlmodel::{Project, place_of};
+use adlmodel::Project;
 use adlread::read;
 use explanations::{FoundSound, Look, Near, Played};
 use opening::Fault;
@@ -65,10 +65,12 @@ impl<S: Shelf + Drop> SecondLook<S> {
     pub fn at<A: Asides>(&mut self, alloc: Global, list: &[u8], fault: &Fault, asides: &A) -> Look {
         match fault {
             Fault::List(_) | Fault::SameName { .. } => Look::nothing(),
-            Fault::Media { source, fault } => match place_of(alloc, source.url()) {
-                Ok(Some(place)) => self.at_file(alloc, place.name(), *fault, asides),
-                _ => Look::nothing(),
-            },
+            Fault::Media {
+                name: Some(name),
+                fault,
+                ..
+            } => self.at_file(alloc, name.as_str(), *fault, asides),
+            Fault::Media { name: None, .. } => Look::nothing(),
             Fault::Entry(fault) => Look {
                 near: None,
                 sound: None,

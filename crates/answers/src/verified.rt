@@ -74,13 +74,13 @@ pub fn answer_verified<
         }
         Err(CompareFault::First(fault)) => {
             let (of, reason) = (ListOfTwo::First, shelf.reason());
-            let _ = refuse_list(alloc, of, list, &fault, reason, asides, out, err);
+            refuse_list(alloc, of, list, &fault, reason, asides, out, err);
             REFUSED
         }
         Err(CompareFault::Second(fault)) => {
             let (of, reason) = (ListOfTwo::Second, written_shelf.reason());
             let asides = written_asides;
-            let _ = refuse_list(alloc, of, written, &fault, reason, asides, out, err);
+            refuse_list(alloc, of, written, &fault, reason, asides, out, err);
             REFUSED
         }
     }
@@ -112,8 +112,7 @@ fn report_verdict<E: Console, M: Meter, A: Asides, B: Asides>(
     );
 }
 
-/// Prints the line of the refusal of one of two lists, and explains it. It is false where no memory remained for the name
-/// of an index's file.
+/// Prints the line of the refusal of one of two lists, and explains it.
 fn refuse_list<'a, O: Console, E: Console, A: Asides>(
     alloc: Global,
     list: ListOfTwo,
@@ -123,13 +122,12 @@ fn refuse_list<'a, O: Console, E: Console, A: Asides>(
     asides: &A,
     out: &mut O,
     err: &mut E,
-) -> bool
+)
     ensures { Prints O.contents O.failures out.old out.new
-        (list_refusal_line list result (comparing.refusal_of fault.now)) }
+        (list_refusal_line list (comparing.refusal_of fault.now)) }
 {
-    let is_named = put_refusal_in(alloc, list, fault, out);
+    put_refusal_in(list, fault, out);
     explain_list(alloc, list, text, fault, reason, asides, err);
-    is_named
 }
 
 /// All of both lists.

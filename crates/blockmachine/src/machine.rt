@@ -10,6 +10,7 @@ ghost use Rattle.sound_terms.specs.Blocks.{BlockState, IsBlockProgram, LiesInFil
 ghost use Rattle.sound_terms.specs.Sounds.{reading_by};
 ghost use Rattle.sound_terms.specs.Waves.{sample_bytes};
 ghost use Rattle.devices.specs.Frame.{OnlyReads};
+ghost use Rattle.list_terms.specs.Heard.{sounds_of};
 ghost use Rattle.blockmachine.specs.Fault.{FailsAt, IsSource};
 ghost use Rattle.blockmachine.specs.Holding.{Holds};
 ghost use Rattle.blockmachine.specs.Lines.{CanAdd};
@@ -24,6 +25,7 @@ use crate::sums::Sums;
 use devices::Shelf;
 use pcm::pack;
 use sound_terms::{Depth, Instruction, Program, Shape};
+use sourceindex::Bound;
 use std::alloc::Global;
 use std::marker::Model;
 use wavread::Sound;
@@ -179,10 +181,38 @@ impl Machine {
         Ok(())
     }
 
-    /// Runs the program of a block over sounds that were opened, and writes the samples that it hands out, frame by
-    /// frame. It takes no memory. `Source` where a read fails; what was written is then unspecified, and the machine as
-    /// ready as before.
+    /// Runs the program of a block over the files that a project is bound to, and writes the samples that it hands out,
+    /// frame by frame. It takes no memory. `Source` where a read fails; what was written is then unspecified, and the
+    /// machine as ready as before.
     pub fn run<S: Shelf>(
+        &mut self,
+        program: &Program,
+        bound: &Bound,
+        shelf: &mut S,
+        out: &mut [i32],
+    ) -> Result<(), MachineFault>
+        requires fits { (frames : ℕ) × (depth : declared.Depth) × (frames ≤ self.old.frames)
+            × IsBlockProgram frames self.old.channels depth program.now.lines
+            × (length out.old ≡ frames * self.old.channels) }
+        requires inside { All (LiesInFiles (sounds_of bound.now)) program.now.lines }
+        ensures ran { IsTrue (S.honest shelf.old) → OnOk result ((start : BlockState)
+            → out.new ≡ (executed_all (reading_by (S.stored shelf.old) (sounds_of bound.now))
+            self.old.channels program.now.lines start).out) }
+        ensures fit { OnOk result ((frames : ℕ) (depth : declared.Depth)
+            → IsBlockProgram frames self.old.channels depth program.now.lines
+            → All (FitsDepth (bits_of depth)) out.new) }
+        ensures full { IsTrue (S.honest shelf.old)
+            → OnOk result (All (PlaysFull (reading_by (S.stored shelf.old) (sounds_of bound.now))) program.now.lines) }
+        ensures ready { self.new ≡ self.old }
+        ensures source { IfErr result IsSource }
+        ensures only_reads { OnlyReads S.Shelf shelf.old shelf.new result (λ fault. IsSource fault)
+            (λ fault failed. FailsAt (sounds_of bound.now) fault failed) }
+    {
+        self.run_over(program, bound.sounds(), shelf, out)
+    }
+
+    /// Runs it over sounds that were opened, be they of a project or not.
+    pub fn run_over<S: Shelf>(
         &mut self,
         program: &Program,
         sounds: &[Sound],
@@ -252,7 +282,7 @@ impl Machine {
         if let Some(stretch) = fills_alone(lines, filled, depth, sounds) {
             return read_stored(&stretch, sounds, shelf, bytes);
         }
-        self.run(program, sounds, shelf, samples)?;
+        self.run_over(program, sounds, shelf, samples)?;
         pack(depth, samples, bytes);
         Ok(())
     }

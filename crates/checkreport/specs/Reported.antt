@@ -38,7 +38,7 @@ status_of Untold = 1
 abbrev pub AreComplete : List ℕ → Files → Fault → List Fault → Type 0
 AreComplete list files (fault.List first) further = ⊤
 AreComplete list files (fault.SameName index) further = AreAll list files (fault.SameName index) further
-AreComplete list files (fault.Media source first) further = AreAll list files (fault.Media source first) further
+AreComplete list files (fault.Media index name first) further = AreAll list files (fault.Media index name first) further
 AreComplete list files (fault.Entry first) further = AreAll list files (fault.Entry first) further
 
 -- the list over these files is as it is told

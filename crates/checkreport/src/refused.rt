@@ -2,7 +2,6 @@
 ghost use Rattle.std.specs.Prelude.{◌≡◌, ◌∷◌, [], IfOk, OnErr, OnOk, IsTrue, List, option_map, string_bytes};
 ghost use Rattle.serde_json.specs.Written.{compact_text};
 ghost use Rattle.opening.specs.Faults.{refusal_of};
-ghost use Rattle.sourceindex.specs.Fault.{name_of_source};
 ghost use Rattle.opening.specs.declared.fault.Fault.{Fault};
 ghost use Rattle.console.specs.Printing.{Prints};
 ghost use Rattle.checkreport.specs.Report as spec;
@@ -10,7 +9,6 @@ ghost use Rattle.checkreport.specs.Report.{entry_in, fault_data, file_in, index_
 ghost use Rattle.checkreport.specs.Parts.{after_commas, fault_text, name_in, ready_data, refused_end, refused_front};
 
 use crate::values::{put_flag, put_found, put_string};
-use adlmodel::{Source, place_of};
 use adlread::{AdlFault, Faults};
 use console::{Console, put_counted};
 use list_terms::Location;
@@ -169,7 +167,7 @@ fn index_of(fault: &Fault) -> Option<u64>
             _ => None,
         },
         Fault::SameName { index } => Some(u64::from(*index)),
-        Fault::Media { source, .. } => Some(u64::from(source.number())),
+        Fault::Media { index, .. } => Some(u64::from(*index)),
         _ => None,
     }
 }
@@ -179,17 +177,10 @@ fn file_of(alloc: Global, fault: &Fault) -> Result<Option<String>, AllocError>
     ensures { IfOk result (λ name. name_in (option_map string_bytes name) ≡ file_in (refusal_of fault.now).place) }
 {
     match fault {
-        Fault::Media { source, .. } => Ok(Some(name_of(alloc, source)?)),
+        Fault::Media {
+            name: Some(name),
+            ..
+        } => Ok(Some(String::from_str(alloc, name.as_str())?)),
         _ => Ok(None),
-    }
-}
-
-/// The name of the file of a source; an empty one where its URL names none.
-fn name_of(alloc: Global, source: &Source) -> Result<String, AllocError>
-    ensures { IfOk result (λ name. string_bytes name ≡ name_of_source source.now) }
-{
-    match place_of(alloc, source.url())? {
-        Some(place) => String::from_str(alloc, place.name()),
-        None => Ok(String::new(alloc)),
     }
 }

@@ -24,7 +24,7 @@ opened_first : (text : bytes.List bytes.ℕ) (files : Files) (told : Fault)
 opened_first text files (opened.List list) own = tt
 opened_first text files (opened.Entry entry) own = tt
 opened_first text files (opened.SameName index) own = tt
-opened_first text files (opened.Media source media) own = absurd (no_project (own []).0 (own []).1)
+opened_first text files (opened.Media index name media) own = absurd (no_project (own []).0 (own []).1)
 
 pub rendered_first : (text : bytes.List bytes.ℕ) (files : Files) (told : consolidate.Fault)
     → ((any : bytes.List bytes.ℕ) → IsOfRendering any told) → IsFirst text files told

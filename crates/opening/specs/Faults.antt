@@ -1,16 +1,16 @@
 -- The number and the place of each fault.
 use Rattle.std.specs.Prelude.{false}
-use Rattle.work_terms.specs.Refusals.{Refusal, IndexFile, Index}
+use Rattle.work_terms.specs.Refusals.{Refusal, Index}
 use Rattle.riff.specs.Fault as media
 use Rattle.adlread.specs.Fault as list
 use Rattle.projectcheck.specs.Fault as entry
-use Rattle.sourceindex.specs.Fault.{name_of_source}
+use Rattle.sourceindex.specs.Fault.{file_at}
 use Rattle.opening.specs.declared.fault.Fault.{Fault}
 use Rattle.opening.specs.declared.fault.Fault.TheVariants as fault
 
 abbrev pub refusal_of : Fault → Refusal
 refusal_of (fault.List fault) = list.refusal fault
 refusal_of (fault.SameName index) = record { number = 30; place = Index index; late = false }
-refusal_of (fault.Media source fault) =
-    record { number = media.number_of fault; place = IndexFile source.number (name_of_source source); late = false }
+refusal_of (fault.Media index name fault) =
+    record { number = media.number_of fault; place = file_at index name; late = false }
 refusal_of (fault.Entry fault) = entry.refusal_of fault

@@ -4,7 +4,7 @@ use Rattle.std.specs.List.{cons_option, filter, filter_map}
 use Rattle.sound_terms.specs.declared.Event.{Event}
 use Rattle.devices.specs.declared.source.Shelf as source
 use Rattle.work_terms.specs.Disk.{Files}
-use Rattle.work_terms.specs.Refusals.{Refusal, is_device}
+use Rattle.work_terms.specs.Refusals.{Refusal, IndexFile, is_device}
 use Rattle.list_terms.specs.Text.{text_value}
 use Rattle.list_terms.specs.Names.{Place, place_of_url}
 use Rattle.list_terms.specs.Project.{ListProject, Source}
@@ -15,6 +15,8 @@ use Rattle.riff.specs.Fault as media
 use Rattle.riff.specs.declared.fault.MediaFault.{MediaFault}
 use Rattle.sound_terms.specs.Sounds.{SoundFacts}
 use Rattle.wavread.specs.Facts.{sound_of_file}
+use Rattle.sourceindex.specs.Fault.{file_at, name_of_source, refusal_of_source}
+use Rattle.sourceindex.specs.declared.fault.SourceFault.TheVariants as of_source
 use Rattle.opening.specs.Faults.{refusal_of}
 use Rattle.opening.specs.Own.{OfText}
 use Rattle.opening.specs.Paths.{naming_of, path_among}
@@ -45,7 +47,7 @@ used_of events sources = filter (λ source. is_used events source.number) source
 -- what is wrong with a file by itself
 abbrev pub fault_of_file : Source → Result SoundFacts MediaFault → Option Refusal
 fault_of_file source (Ok facts) = None
-fault_of_file source (Err of) = Some (refusal_of (fault.Media source of))
+fault_of_file source (Err of) = Some (refusal_of_source source (of_source.Media of))
 
 -- the same where its name is new; 30 where it was named by another path before
 abbrev pub fault_of_name : Files → Source → Place → Naming → Option Refusal
@@ -61,7 +63,8 @@ fault_behind files named source (Some place) =
 
 -- the device of the source failed
 abbrev pub IsDeviceOf : Source → Option Fault → Type 0
-IsDeviceOf source (Some (fault.Media named of)) = (named ≡ source) × IsTrue (is_device (media.number_of of))
+IsDeviceOf source (Some (fault.Media index name of)) =
+    (file_at index name ≡ IndexFile source.number (name_of_source source)) × IsTrue (is_device (media.number_of of))
 IsDeviceOf source _ = ⊥
 
 -- this is told of the file of a source at this place
@@ -108,8 +111,7 @@ IsCut most all further = (further.faults.items ≡ take most all) × (further.mo
 abbrev pub AreAll : List ℕ → Files → Fault → List Fault → Type 0
 AreAll text files (fault.List first) all = all ≡ []
 AreAll text files (fault.SameName index) all = OfText text (λ project. AreOfFiles project files index all)
-AreAll text files (fault.Media source first) all =
-    OfText text (λ project. AreOfFiles project files source.number all)
+AreAll text files (fault.Media index name first) all = OfText text (λ project. AreOfFiles project files index all)
 AreAll text files (fault.Entry first) all = OfText text (λ project. AreOfEntries project files first.entry all)
 
 abbrev pub AreFurther : (most : ℕ) → List ℕ → Files → Fault → Further → Type 0

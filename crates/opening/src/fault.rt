@@ -2,7 +2,6 @@
 ghost use Rattle.std.specs.Prelude.{◌≡◌};
 ghost use Rattle.opening.specs.Faults.{refusal_of};
 
-use adlmodel::Source;
 use adlread::AdlFault;
 use projectcheck::EventFault;
 use thiserror::Error;
@@ -16,10 +15,17 @@ pub enum Fault {
     List(AdlFault),
     /// 30: another path names the file of this index in an earlier one.
     #[error("index {index}: another path names its file")]
-    SameName { index: u32 },
-    /// The file of an index: 21 to 29, and 31 where no memory was left to bind the index.
-    #[error("{fault}")]
-    Media { source: Source, fault: MediaFault },
+    SameName {
+        index: u32,
+    },
+    /// The file of an index, of this media name: 21 to 29, and 31 where no memory was left to bind the index, be it for
+    /// the name, which is `None` then alone.
+    #[error("index {index}: {fault}")]
+    Media {
+        index: u32,
+        name: Option<String>,
+        fault: MediaFault,
+    },
     /// An entry: 41 to 44, or 46.
     #[error("{0}")]
     Entry(EventFault),

@@ -76,7 +76,7 @@ fn all_faults<S: Shelf>(
     match first {
         Fault::List(_) => Ok(Vec::new(alloc)),
         Fault::SameName { index } => behind_file(alloc, list, *index, shelf),
-        Fault::Media { source, .. } => behind_file(alloc, list, source.number(), shelf),
+        Fault::Media { index, .. } => behind_file(alloc, list, *index, shelf),
         Fault::Entry(fault) => beside_entry(alloc, list, fault.entry, shelf),
     }
 }

@@ -4,6 +4,7 @@ ghost use Rattle.work_terms.specs.Disk.{Files};
 ghost use Rattle.work_terms.specs.Refusals.{Answers, is_excused, turn_of};
 ghost use Rattle.list_terms.specs.Bound.{binding_of};
 ghost use Rattle.list_terms.specs.Heard.{IsAccepted, project_fault};
+ghost use Rattle.list_terms.specs.Project.{ListProject};
 ghost use Rattle.list_terms.specs.Text.{text_value};
 ghost use Rattle.adlread.specs.Spells.{Spells};
 ghost use Rattle.sourceindex.specs.Fault as binding;
@@ -38,23 +39,16 @@ fn read_list(alloc: Global, list: &[u8]) -> Result<Project, Fault>
     }
 }
 
-/// The fault of a project that isn't bound, with the source that it is about.
-fn told_of(project: Project, fault: BindFault) -> Fault
-    requires { IsOfProject project fault }
-    ensures refusal { refusal_of result ≡ binding.refusal_of project.sources fault }
-    ensures own { IsOfBinding project result }
-    ensures in_turn { (files : Files) → binding_own.ComesFirst project files fault → ComesFirst project files result }
+/// The fault of a project that isn't bound.
+fn told_of(fault: BindFault) -> Fault
+    ensures refusal { refusal_of result ≡ binding.refusal_of fault }
+    ensures own { (project : ListProject) → IsOfProject project fault → IsOfBinding project result }
+    ensures in_turn { (project : ListProject) → (files : Files) → binding_own.ComesFirst project files fault
+        → ComesFirst project files result }
 {
     match fault {
         BindFault::SameName { index } => Fault::SameName { index },
-        BindFault::Media {
-            index,
-            place,
-            fault,
-        } => match project.into_source(place) {
-            Some(source) => Fault::Media { source, fault },
-            None => Fault::SameName { index },
-        },
+        BindFault::Media { index, name, fault } => Fault::Media { index, name, fault },
     }
 }
 
@@ -77,7 +71,7 @@ fn bind_project<S: Shelf>(
 {
     match bind(alloc, &project, shelf) {
         Ok(bound) => Ok((project, bound)),
-        Err(fault) => Err(told_of(project, fault)),
+        Err(fault) => Err(told_of(fault)),
     }
 }
 

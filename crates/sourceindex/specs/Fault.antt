@@ -1,9 +1,12 @@
 -- The number and the place of each fault of binding.
-use Rattle.std.specs.Prelude.{ℕ, List, [], false, option_map, slice_get, unwrap_or}
-use Rattle.work_terms.specs.Refusals.{Refusal, Index, IndexFile}
+use Rattle.std.specs.Prelude.{ℕ, List, [], false, Option, None, Some, option_map, string_bytes, unwrap_or}
+use Rattle.std.specs.declared.string.String.{String}
+use Rattle.std.specs.Global.{Global}
+use Rattle.work_terms.specs.Refusals.{Refusal, Where, Index, IndexFile}
 use Rattle.list_terms.specs.Project.{Source}
 use Rattle.list_terms.specs.Names.{place_of_url}
 use Rattle.riff.specs.Fault as media
+use Rattle.sourceindex.specs.declared.fault.NamedFault.{NamedFault}
 use Rattle.sourceindex.specs.declared.fault.SourceFault.{SourceFault}
 use Rattle.sourceindex.specs.declared.fault.SourceFault.TheVariants as of_source
 use Rattle.sourceindex.specs.declared.fault.BindFault.{BindFault}
@@ -18,17 +21,19 @@ refusal_of_source source of_source.SameName = record { number = 30; place = Inde
 refusal_of_source source (of_source.Media fault) =
     record { number = media.number_of fault; place = IndexFile source.number (name_of_source source); late = false }
 
--- the fault of the project at this index, whose source stands at this place
-abbrev pub at_index : ℕ → ℕ → SourceFault → BindFault
-at_index index place of_source.SameName = SameName index
-at_index index place (of_source.Media fault) = Media index place fault
+-- the fault of the project at this index
+abbrev pub at_index : ℕ → NamedFault → BindFault
+at_index index named = by_fault named.fault where
+  by_fault : SourceFault → BindFault
+  by_fault of_source.SameName = SameName index
+  by_fault (of_source.Media fault) = Media index named.name fault
 
--- the name of the file of the source at this place
-abbrev pub name_at : List Source → ℕ → List ℕ
-name_at sources place = unwrap_or (option_map name_of_source (slice_get sources place)) []
+-- an index, and the name of its file, where there was memory for it
+abbrev pub file_at : ℕ → Option (String Global) → Where
+file_at index (Some name) = IndexFile index (string_bytes name)
+file_at index None = Index index
 
--- the refusal of a project of these sources
-abbrev pub refusal_of : List Source → BindFault → Refusal
-refusal_of sources (SameName index) = record { number = 30; place = Index index; late = false }
-refusal_of sources (Media index place fault) =
-    record { number = media.number_of fault; place = IndexFile index (name_at sources place); late = false }
+abbrev pub refusal_of : BindFault → Refusal
+refusal_of (SameName index) = record { number = 30; place = Index index; late = false }
+refusal_of (Media index name fault) =
+    record { number = media.number_of fault; place = file_at index name; late = false }

@@ -1,12 +1,16 @@
 -- What the fault of a project tells: its index, the source of that index, and in which turn it comes.
-use Rattle.std.specs.Prelude.{◌≡◌, ℕ, true, List, ◌⊎◌, Some, Ok, IsSome, slice_get, take}
+use Rattle.std.specs.Prelude.{◌≡◌, ℕ, true, List, ◌⊎◌, Option, None, Some, Ok, IsSome, slice_get, string_bytes, take}
+use Rattle.std.specs.declared.string.String.{String}
+use Rattle.std.specs.Global.{Global}
 use Rattle.work_terms.specs.Disk.{Files}
 use Rattle.work_terms.specs.Refusals.{Where, IndexFile}
 use Rattle.list_terms.specs.Project.{ListProject, Source}
 use Rattle.list_terms.specs.Names.{place_of_url}
 use Rattle.list_terms.specs.Binding.{Binding, is_used, nothing_bound}
 use Rattle.list_terms.specs.Bound.{with_sources}
+use Rattle.riff.specs.declared.fault.MediaFault.{MediaFault}
 use Rattle.riff.specs.declared.fault.MediaFault.TheVariants.{Memory}
+use Rattle.sourceindex.specs.Fault.{name_of_source}
 use Rattle.sourceindex.specs.declared.fault.BindFault.{BindFault}
 use Rattle.sourceindex.specs.declared.fault.BindFault.TheVariants.{SameName, Media}
 
@@ -22,17 +26,24 @@ pub record IsUsedAt (project : ListProject) (place number : ℕ) : Type 0 where
   pub at : IsSourceAt project place number
   pub used : is_used project.events number ≡ true
 
+-- the name is that of the source's file; it lacks only where no memory was left
+abbrev pub IsNameOf : Source → Option (String Global) → MediaFault → Type 0
+IsNameOf source (Some name) fault = string_bytes name ≡ name_of_source source
+IsNameOf source None fault = fault ≡ Memory
+
 -- the index that is told is one of the project; an entry names it, but where no memory was left to tell that none does
 abbrev pub IsOfProject : ListProject → BindFault → Type 0
 IsOfProject project (SameName index) = (place : ℕ) × IsUsedAt project place index
-IsOfProject project (Media index place fault) =
-    IsSourceAt project place index × ((is_used project.events index ≡ true) ⊎ (fault ≡ Memory))
+IsOfProject project (Media index name fault) =
+    ((place : ℕ) × (at : IsSourceAt project place index) × IsNameOf at.source name fault)
+    × ((is_used project.events index ≡ true) ⊎ (fault ≡ Memory))
 
 -- no index before the one that is told is at fault
 abbrev pub ComesFirst : ListProject → Files → BindFault → Type 0
 ComesFirst project files (SameName index) = Unit {0}
-ComesFirst project files (Media index place fault) =
-    (binding : Binding) × (with_sources files project.events nothing_bound (take place project.sources) ≡ Ok binding)
+ComesFirst project files (Media index name fault) =
+    (place : ℕ) × IsSourceAt project place index
+    × ((binding : Binding) × (with_sources files project.events nothing_bound (take place project.sources) ≡ Ok binding))
 
 -- the place names a file of which this holds
 abbrev pub HoldsOfFile : (List ℕ → Type 0) → Where → Type 0

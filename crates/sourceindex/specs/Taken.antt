@@ -1,11 +1,16 @@
 -- What it means to take one more source into a binding.
-use Rattle.std.specs.Prelude.{◌≡◌, ◌+◌, ◌-◌, nat_lt, Bool, MatchBool, Result, Ok, Err, option_map, unwrap_or}
+use Rattle.std.specs.Prelude.{◌≡◌, ◌+◌, ◌-◌, nat_lt, Bool, MatchBool, Option, None, Some, Result, Ok, Err, option_map, string_bytes, unwrap_or}
+use Rattle.std.specs.declared.string.String.{String}
+use Rattle.std.specs.Global.{Global}
 use Rattle.sound_terms.specs.Sounds.{SoundFacts}
 use Rattle.work_terms.specs.Refusals.{Refusal, is_excused}
 use Rattle.list_terms.specs.Project.{Source}
 use Rattle.list_terms.specs.Binding.{Binding, base_of}
+use Rattle.riff.specs.declared.fault.MediaFault.TheVariants.{Memory}
+use Rattle.sourceindex.specs.declared.fault.NamedFault.{NamedFault}
 use Rattle.sourceindex.specs.declared.fault.SourceFault.{SourceFault}
-use Rattle.sourceindex.specs.Fault.{refusal_of_source}
+use Rattle.sourceindex.specs.declared.fault.SourceFault.TheVariants.{Media}
+use Rattle.sourceindex.specs.Fault.{name_of_source, refusal_of_source}
 
 -- the binding becomes the one that is due, or the source is refused as it is due; an excused fault may come in place of
 -- either
@@ -14,6 +19,18 @@ Takes source (Ok x) new due = due ≡ Ok new
 Takes source (Err fault) new due =
     MatchBool (is_excused (refusal_of_source source fault).number) (Unit {0})
     (due ≡ Err (refusal_of_source source fault))
+
+-- likewise where the fault comes with the name of the file
+abbrev pub TakesNamed : {X : Type 0} → Source → Result X NamedFault → Binding → Result Binding Refusal → Type 0
+TakesNamed source (Ok x) new due = due ≡ Ok new
+TakesNamed source (Err named) new due = Takes {X = Unit {0}} source (Err named.fault) new due
+
+-- the name is that of the source's file; it lacks only where no memory was left
+abbrev pub IsNamedAs : Source → NamedFault → Type 0
+IsNamedAs source named = by_name named.name where
+  by_name : Option (String Global) → Type 0
+  by_name (Some name) = string_bytes name ≡ name_of_source source
+  by_name None = named.fault ≡ Media Memory
 
 -- the file tells another time of its first frame than its index has
 abbrev pub is_other_base : Source → SoundFacts → Bool

@@ -7,11 +7,11 @@ ghost use Rattle.list_terms.specs.Bound.{bound_source, bound_to_new, with_source
 ghost use Rattle.list_terms.specs.BoundHomes.{IsBinding};
 ghost use Rattle.list_terms.specs.Heard.{sounds_of};
 ghost use Rattle.list_terms.specs.Names.{place_of_url};
-ghost use Rattle.sourceindex.specs.Fault.{name_of_source, refusal_of_source};
-ghost use Rattle.sourceindex.specs.Taken.{Takes};
+ghost use Rattle.sourceindex.specs.Fault.{name_of_source};
+ghost use Rattle.sourceindex.specs.Taken.{IsNamedAs, Takes, TakesNamed};
 
 use crate::bound_indexes::BoundIndexes;
-use crate::fault::SourceFault;
+use crate::fault::{NamedFault, SourceFault};
 use crate::files::Files;
 use crate::told::{index_over, tell, tell_if};
 use crate::used_numbers::UsedNumbers;
@@ -151,26 +151,50 @@ impl Binder {
         Ok(())
     }
 
-    /// Binds the index of this source to the file that its URL names, which is opened where it isn't yet.
+    /// Binds the index of this source to the file of this place, which is opened where it isn't yet.
+    fn add_at<S: Shelf>(
+        &mut self,
+        alloc: Global,
+        source: &Source,
+        place: &Place,
+        shelf: &mut S,
+    ) -> Result<(), SourceFault>
+        requires place { place_of_url source.now.url ≡ Some place.now }
+        ensures added { IsTrue (S.honest shelf.old)
+            → Takes source.now result self.new (bound_source (S.stored shelf.old) self.old source.now
+            (Some place.now)) }
+        ensures sound { IsBinding self.old → OnOk result (IsBinding self.new) }
+        ensures only_reads { OnlyReads S.Shelf shelf.old shelf.new result
+            (λ fault. fault ≡ SourceFault.Media MediaFault.Device) (λ _ failed. failed (name_of_source source.now)) }
+    {
+        match self.files.position(place.name()) {
+            Some(file) => self.add_known(alloc, source, place, file),
+            None => self.add_new(alloc, source, place, shelf),
+        }
+    }
+
+    /// Binds the index of this source to the file that its URL names.
     fn add<S: Shelf>(
         &mut self,
         alloc: Global,
         source: &Source,
         shelf: &mut S,
-    ) -> Result<(), SourceFault>
+    ) -> Result<(), NamedFault>
         ensures added { IsTrue (S.honest shelf.old)
-            → Takes source.now result self.new (bound_source (S.stored shelf.old) self.old source.now
+            → TakesNamed source.now result self.new (bound_source (S.stored shelf.old) self.old source.now
             (place_of_url source.now.url)) }
         ensures sound { IsBinding self.old → OnOk result (IsBinding self.new) }
+        ensures named { IfErr result (IsNamedAs source.now) }
         ensures only_reads { OnlyReads S.Shelf shelf.old shelf.new result
-            (λ fault. fault ≡ SourceFault.Media MediaFault.Device) (λ _ failed. failed (name_of_source source.now)) }
+            (λ named. named.fault ≡ SourceFault.Media MediaFault.Device)
+            (λ _ failed. failed (name_of_source source.now)) }
     {
         let Some(place) = place_of(alloc, source.url())? else {
             return Ok(());
         };
-        match self.files.position(place.name()) {
-            Some(file) => self.add_known(alloc, source, &place, file),
-            None => self.add_new(alloc, source, &place, shelf),
+        match self.add_at(alloc, source, &place, shelf) {
+            Ok(()) => Ok(()),
+            Err(fault) => Err(fault.at(place)),
         }
     }
 
@@ -181,15 +205,17 @@ impl Binder {
         source: &Source,
         used: &UsedNumbers,
         shelf: &mut S,
-    ) -> Result<(), SourceFault>
+    ) -> Result<(), NamedFault>
         ensures taken { IsTrue (S.honest shelf.old)
-            → Takes source.now result self.new (with_source (S.stored shelf.old)
+            → TakesNamed source.now result self.new (with_source (S.stored shelf.old)
             used.now self.old source.now) }
-        ensures used { IfErr result (λ fault. (fault ≡ SourceFault.Media MediaFault.Memory)
+        ensures used { IfErr result (λ named. (named.fault ≡ SourceFault.Media MediaFault.Memory)
             ⊎ (is_used used.now source.now.number ≡ true)) }
         ensures sound { IsBinding self.old → OnOk result (IsBinding self.new) }
+        ensures named { IfErr result (IsNamedAs source.now) }
         ensures only_reads { OnlyReads S.Shelf shelf.old shelf.new result
-            (λ fault. fault ≡ SourceFault.Media MediaFault.Device) (λ _ failed. failed (name_of_source source.now)) }
+            (λ named. named.fault ≡ SourceFault.Media MediaFault.Device)
+            (λ _ failed. failed (name_of_source source.now)) }
     {
         let number = source.number();
         if used.contains(number) {

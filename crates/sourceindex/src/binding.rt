@@ -20,20 +20,20 @@ use std::alloc::Global;
 /// `Device` where a read fails, and `Memory` where no memory was left, also to tell of an index that no entry names.
 pub fn bind<S: Shelf>(alloc: Global, project: &Project, shelf: &mut S) -> Result<Bound, BindFault>
     ensures exact { IsTrue (S.honest shelf.old)
-        → Gives (λ bound. bound) (refusal_of project.now.sources) (λ refusal. refusal.number) result
+        → Gives (λ bound. bound) refusal_of (λ refusal. refusal.number) result
         (binding_of project.now (S.stored shelf.old)) }
     ensures in_turn { IsTrue (S.honest shelf.old) → IfErr result (ComesFirst project.now (S.stored shelf.old)) }
     ensures own { IfErr result (IsOfProject project.now) }
     ensures only_reads { OnlyReads S.Shelf shelf.old shelf.new result
-        (λ fault. (refusal_of project.now.sources fault).number ≡ 22)
-        (λ fault failed. HoldsOfFile failed (refusal_of project.now.sources fault).place) }
+        (λ fault. (refusal_of fault).number ≡ 22)
+        (λ fault failed. HoldsOfFile failed (refusal_of fault).place) }
 {
     let sources = project.sources().as_slice();
     let used = UsedNumbers::new(alloc, project.events());
     let mut binder = Binder::new(alloc);
-    for (place, source) in sources.iter().enumerate() {
+    for source in sources {
         if let Err(fault) = binder.take(alloc, source, &used, shelf) {
-            return Err(fault.of_index(source.number(), place));
+            return Err(fault.of_index(source.number()));
         }
     }
     Ok(Bound::of(binder))

@@ -1,10 +1,10 @@
 // Why a project isn't bound.
-ghost use Rattle.std.specs.Prelude.{◌≡◌, ◌≤◌, List};
-ghost use Rattle.list_terms.specs.Project as list;
+ghost use Rattle.std.specs.Prelude.{◌≡◌, ◌≤◌, None, Some, option_map, string_bytes};
 ghost use Rattle.riff.specs.declared.fault.MediaFault.TheVariants as media;
 ghost use Rattle.sourceindex.specs.declared.fault.SourceFault.TheVariants as of_source;
 ghost use Rattle.sourceindex.specs.Fault.{at_index, refusal_of};
 
+use adlmodel::Place;
 use std::alloc::AllocError;
 use thiserror::Error;
 use wavread::MediaFault;
@@ -37,35 +37,63 @@ impl From<AllocError> for SourceFault {
 }
 
 impl SourceFault {
-    /// The fault of the project at the index of this number, which is the source at this place.
-    pub fn of_index(self, index: u32, place: usize) -> BindFault
-        ensures { result ≡ at_index index place self }
+    /// The fault with the name of the file at this place.
+    pub fn at(self, place: Place) -> NamedFault
+        ensures fault { result.fault ≡ self }
+        ensures name { option_map string_bytes result.name ≡ Some place.name }
     {
-        match self {
-            SourceFault::SameName => BindFault::SameName { index },
-            SourceFault::Media(fault) => BindFault::Media {
-                index,
-                place,
-                fault,
-            },
+        NamedFault {
+            fault: self,
+            name: Some(place.into_name()),
         }
     }
 }
 
-/// Why a project isn't bound, by the first index at fault. It takes no memory: the file of an index is the one that the
-/// URL of its source names, and `place` is the place of that source among the project's, from 0.
-#[derive(Clone, Copy, Debug, PartialEq, Eq, Error)]
+/// Why an index isn't bound, and the name of its file; `None` where no memory was left.
+#[derive(Debug, Drop)]
+pub struct NamedFault {
+    pub fault: SourceFault,
+    pub name: Option<String>,
+}
+
+impl From<AllocError> for NamedFault {
+    ghost from_gives = { λ fault own. own ≡ record { fault = of_source.Media media.Memory; name = None } };
+
+    fn from(_: AllocError) -> NamedFault {
+        NamedFault {
+            fault: SourceFault::Media(MediaFault::Memory),
+            name: None,
+        }
+    }
+}
+
+impl NamedFault {
+    /// The fault of the project at the index of this number.
+    pub fn of_index(self, index: u32) -> BindFault
+        ensures { result ≡ at_index index self }
+    {
+        let NamedFault { fault, name } = self;
+        match fault {
+            SourceFault::SameName => BindFault::SameName { index },
+            SourceFault::Media(fault) => BindFault::Media { index, name, fault },
+        }
+    }
+}
+
+/// Why a project isn't bound, by the first index at fault.
+#[derive(Debug, Drop, Error)]
 pub enum BindFault {
     /// 30: another path names the index's file in an earlier index.
     #[error("index {index}: another path names its file")]
     SameName {
         index: u32,
     },
-    /// 21 to 29: the index's file isn't accepted, or 22 where its device failed; 31 where no memory was left.
+    /// 21 to 29: the index's file, of this media name, isn't accepted, or 22 where its device failed; 31 where no memory
+    /// was left, be it for the name, which is `None` then alone.
     #[error("index {index}: {fault}")]
     Media {
         index: u32,
-        place: usize,
+        name: Option<String>,
         fault: MediaFault,
     },
 }
@@ -73,7 +101,7 @@ pub enum BindFault {
 impl BindFault {
     /// The number of the refusal: 21 to 31.
     pub fn number(&self) -> u8
-        ensures number { (sources : List list.Source) → result ≡ (refusal_of sources self.now).number }
+        ensures number { result ≡ (refusal_of self.now).number }
         ensures within { (21 ≤ result) × (result ≤ 31) }
     {
         match self {

@@ -4,14 +4,15 @@ ghost use Rattle.std.specs.List.{All};
 ghost use Rattle.sound_terms.specs.Blocks.{block_count, block_frames};
 ghost use Rattle.sound_terms.specs.Groups.{IsBounded, pieces_of};
 ghost use Rattle.sound_terms.specs.Media.{IsPieceOf};
+ghost use Rattle.list_terms.specs.Heard.{sounds_of};
 
 use blockmachine::{Machine, MachineFault};
 use interval::Intervals;
 use renderplan::{Depth, Instruction, Plan, PlanFault, Program};
 use sampletime::SampleTime;
 use shelf::Shelf;
+use sourceindex::Bound;
 use std::alloc::Global;
-use wavread::Sound;
 
 /// The plan of a range.
 pub fn plan_of(
@@ -60,16 +61,16 @@ pub fn played<S: Shelf>(
     k: u64,
     machine: &mut Machine,
     program: &mut Program,
-    sounds: &[Sound],
+    bound: &Bound,
     shelf: &mut S,
     out: &mut [i32],
 ) -> Result<(), MachineFault>
     requires here { k < block_count plan.now.range }
-    requires inside { All (IsPieceOf sounds.now) plan.now.pieces }
+    requires inside { All (IsPieceOf (sounds_of bound.now)) plan.now.pieces }
     requires machine { machine.old ≡ record { frames = 4096; channels = plan.now.range.channels } }
     requires program { program.old.room ≡ length plan.now.pieces + 2 }
     requires room { length out.old ≡ block_frames plan.now.range k * plan.now.range.channels }
 {
     plan.fill(k, program);
-    machine.run(program, sounds, shelf, out)
+    machine.run(program, bound, shelf, out)
 }

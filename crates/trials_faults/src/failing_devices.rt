@@ -28,8 +28,13 @@ impl Ended {
             return Ended::Done;
         };
         match fault {
-            Fault::Project(opening::Fault::Media { source, fault })
-                if source.number() == 1 && fault.number() == 22 => { Ended::Unread }
+            Fault::Project(
+                opening::Fault::Media {
+                    index: 1,
+                    fault,
+                    ..
+                },
+            ) if fault.number() == 22 => { Ended::Unread }
             Fault::Silence { name } if name.as_str() == "A.wav" => Ended::Unheard,
             Fault::Output(file) => Ended::Unwritten(*file),
             Fault::Marks(

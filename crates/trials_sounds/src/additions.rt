@@ -88,7 +88,7 @@ fn adds(
 {
     add_twice(program, stretch, shown);
     let mut out = [0; 2 * FRAMES];
-    machine.run(program, sounds, shelf, &mut out)?;
+    machine.run_over(program, sounds, shelf, &mut out)?;
     for (k, sample) in out.iter().enumerate() {
         let channel = if k % 2 == 0 { 1 } else { 2 };
         assert_eq!(rt; *sample, expected(depth, shown, stretch, k / 2, channel));

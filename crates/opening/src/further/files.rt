@@ -31,8 +31,9 @@ fn file_fault<S: Shelf>(
         Ok(_) => Ok(None),
         Err(MediaFault::Memory) => Err(AllocError),
         Err(fault) => {
-            let source = source.try_copy()?;
-            Ok(Some(Fault::Media { source, fault }))
+            let index = source.number();
+            let name = Some(String::from_str(alloc, place.name())?);
+            Ok(Some(Fault::Media { index, name, fault }))
         }
     }
 }

@@ -1,7 +1,6 @@
 // Why the further faults of a list can't be told.
-ghost use Rattle.std.specs.Prelude.{◌≡◌, List, false};
+ghost use Rattle.std.specs.Prelude.{◌≡◌, false};
 ghost use Rattle.work_terms.specs.Refusals.{is_excused};
-ghost use Rattle.list_terms.specs.Project.{Source};
 ghost use Rattle.sourceindex.specs.Fault as binding;
 ghost use Rattle.opening.specs.declared.further.untold.Untold.TheVariants as untold;
 
@@ -29,9 +28,9 @@ impl Untold {
     /// Why nothing is told behind this fault of binding.
     pub fn of(fault: BindFault) -> Untold
         ensures device { result ≡ Untold.Device
-            → (sources : List Source) → (binding.refusal_of sources fault).number ≡ 22 }
+            → (binding.refusal_of fault).number ≡ 22 }
         ensures due { result ≡ Untold.NotFirst
-            → (sources : List Source) → is_excused (binding.refusal_of sources fault).number ≡ false }
+            → is_excused (binding.refusal_of fault).number ≡ false }
     {
         match fault {
             BindFault::Media {

@@ -16,16 +16,16 @@ use Rattle.adlcons.proofs.verifying.try_verified.Goals as goal
 
 -- by what is printed of held lines, which are those of an outcome
 answers_by : {O : Type 0} (shelf : source.Ghosts SourceFolder) (out : console.Ghosts O) (list target held : List ℕ)
-    (is_named : Bool) (before : SourceFolder) (old new : O) (answer status : ℕ) (outcome : Result Written Fault)
-    → held ≡ lines_of written_lines is_named outcome → answer ≡ status_of outcome
+    (before : SourceFolder) (old new : O) (answer status : ℕ) (outcome : Result Written Fault)
+    → held ≡ lines_of written_lines outcome → answer ≡ status_of outcome
     → (answer ≡ 1 → (status ≡ 1) × Tells out old new held)
     → (answer ≢ 1 → IsListKeptOut out Second (codes "consolidated.adl") old new status
     ⊎ ComparesWritten shelf out list held target before old new status)
-    → AnswersVerified shelf out list target is_named before old new status outcome
-answers_by shelf out list target held is_named before old new answer status (Ok told) lines answered refused done =
+    → AnswersVerified shelf out list target before old new status outcome
+answers_by shelf out list target held before old new answer status (Ok told) lines answered refused done =
     subst (λ (text : List ℕ). IsListKeptOut out Second (codes "consolidated.adl") old new status
     ⊎ ComparesWritten shelf out list text target before old new status) lines (done (λ one. cc))
-answers_by shelf out list target held is_named before old new answer status (Err fault) lines answered refused done =
+answers_by shelf out list target held before old new answer status (Err fault) lines answered refused done =
     subst (λ (text : List ℕ). (status ≡ 1) × Tells out old new text) lines (refused answered)
 
 -- what was printed on a console that had nothing is all that it has
@@ -56,9 +56,8 @@ ends shelf bench out hold list media target held handle report before after empt
       output = output;
       careful = careful;
       outcome = answered.outcome;
-      is_named = answered.is_named;
       consolidated = answered.called;
-      answered = answers_by shelf out list target held answered.is_named after old new answer status answered.outcome
+      answered = answers_by shelf out list target held after old new answer status answered.outcome
           (appended (hold.contents begun) (hold.contents ended) held _ nothing all
           (answered.printed.printed (omega (arith, none, none_later), none_later ∙ sym none)))
           answered.status_is refused done;

@@ -6,6 +6,5 @@ returns-in-Ok-clause-answered g c = record {
   outcome = Ok c.in-Ok.resumed;
   called = c.in-Ok.ensures;
   status_is = refl;
-  is_named = true;
   printed = search rules;
 }

@@ -15,14 +15,12 @@ called_so true call other out old new status so was = record {
   outcome = was.outcome;
   called = so was.outcome was.called;
   status_is = was.status_is;
-  is_named = was.is_named;
   refused = was.refused;
 }
 called_so false call other out old new status so was = record {
   outcome = was.outcome;
   called = so was.outcome was.called;
   status_is = was.status_is;
-  is_named = was.is_named;
   printed = was.printed;
 }
 

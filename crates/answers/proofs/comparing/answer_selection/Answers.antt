@@ -8,23 +8,23 @@ use Rattle.answers.proofs.comparing.answer_selection.Goals as goal
 
 -- with a report or without, by what was printed of an outcome
 compared_by : {O : Type 0} (is_report : Bool) (call : Result Compared CompareFault → Type 0) (out : console.Ghosts O)
-    (old new : O) (status : ℕ) (is_named : Bool) (outcome : Result Compared CompareFault) → call outcome
+    (old new : O) (status : ℕ) (outcome : Result Compared CompareFault) → call outcome
     → status ≡ comparison_status outcome
-    → (is_report ≡ false → Tells out old new (comparison_lines is_named outcome))
-    → IfErr outcome (λ fault. Tells out old new (comparison_refusal_line is_named fault))
+    → (is_report ≡ false → Tells out old new (comparison_lines outcome))
+    → IfErr outcome (λ fault. Tells out old new (comparison_refusal_line fault))
     → IsComparedAs is_report call out old new status
-compared_by true call out old new status is_named outcome called ended printed refused =
-    record { outcome = outcome; called = called; status_is = ended; is_named = is_named; refused = refused }
-compared_by false call out old new status is_named outcome called ended printed refused =
-    record { outcome = outcome; called = called; status_is = ended; is_named = is_named; printed = printed refl }
+compared_by true call out old new status outcome called ended printed refused =
+    record { outcome = outcome; called = called; status_is = ended; refused = refused }
+compared_by false call out old new status outcome called ended printed refused =
+    record { outcome = outcome; called = called; status_is = ended; printed = printed refl }
 
 pub returns-in-Ok-clause-compared : goal.returns-in-Ok-clause-compared
 returns-in-Ok-clause-compared g c =
-    compared_by c.args.is_report _ g.O.Console c.args.out.now c.put_done.new.out c.put_done.result true
+    compared_by c.args.is_report _ g.O.Console c.args.out.now c.put_done.new.out c.put_done.result
     (Ok c.in-Ok.compared) c.in-Ok.ensures c.put_done.ensures.status c.put_done.ensures.printed tt
 
 pub returns-in-Err-clause-compared : goal.returns-in-Err-clause-compared
 returns-in-Err-clause-compared g c =
     compared_by c.args.is_report _ g.O.Console c.args.out.now c.put_refusal_of_two.new.out 1
-    c.put_refusal_of_two.result (Err c.in-Err.fault) c.in-Err.ensures refl (λ plain. c.put_refusal_of_two.ensures)
+    (Err c.in-Err.fault) c.in-Err.ensures refl (λ plain. c.put_refusal_of_two.ensures)
     c.put_refusal_of_two.ensures

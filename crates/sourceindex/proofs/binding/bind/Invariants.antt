@@ -6,10 +6,10 @@ use Rattle.list_terms.specs.BoundHomes.{IsBinding}
 use Rattle.sourceindex.proofs.binding.bind.Given as goal
 
 -- the sources so far are bound
-abbrev pub invariant-loop-place : goal.invariant-loop-place
-invariant-loop-place g l = record {
+abbrev pub invariant-loop-source : goal.invariant-loop-source
+invariant-loop-source g l = record {
   so_far : IsTrue (g.S.Shelf.honest l.fn.shelf)
-      → with_sources (g.S.Shelf.stored l.fn.shelf) l.project.events nothing_bound (take l.place l.sources)
+      → with_sources (g.S.Shelf.stored l.fn.shelf) l.project.events nothing_bound (take l.source-index l.sources)
       ≡ Ok l.binder;
   sound : IsBinding l.binder;
   read : IsQuiet g.S.Shelf l.fn.shelf l.shelf;
