@@ -1,6 +1,6 @@
 // What a command tells on standard error beside the refusal and its explanation.
 use crate::media::{Manner, open_media};
-use answers::Asides;
+use answers::{Asides, FEW_FAULTS};
 use explanations::Near;
 use shelf::FolderShelf;
 use std::alloc::Global;
@@ -8,9 +8,6 @@ use std::fs;
 use std::fs::Files;
 use std::os::unix::fs::FileExt;
 use unicode_normalization::to_nfc;
-
-/// How many further faults are told where not all are asked for.
-const FEW: usize = 20;
 
 /// How many names of a folder are looked at.
 const MOST_NAMES: usize = 1_048_576;
@@ -101,7 +98,7 @@ where
         if self.manner.tells_all {
             usize::MAX
         } else {
-            FEW
+            FEW_FAULTS
         }
     }
 

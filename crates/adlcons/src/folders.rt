@@ -7,6 +7,7 @@ ghost use Rattle.commandline.specs.CommandLine.{asks_for_help, request_of, verif
 ghost use Rattle.commandline.specs.Request.{asked_of};
 ghost use Rattle.console.specs.Places.{where_of};
 ghost use Rattle.sound_terms.specs.Passes.{standard_groups};
+ghost use Rattle.rendering.specs.declared.cutting.JobLength.TheVariants.{Longer};
 ghost use Rattle.answers.specs.Answers.{RendersBy, ResumesBy, asking, rendered_lines, resumed_lines, written_lines};
 ghost use Rattle.adlcons.specs.Openings.{ChecksFolder, ComparesFolders, IsKeptOut, IsOneKeptOut, ReportsFolder, VerifiesInFolders, WorksInFolders, overwrite_for, refusal_of_opening};
 ghost use Rattle.shelf.specs.declared.Overwrite.TheVariants as overwrite;
@@ -27,7 +28,7 @@ use answers::{
 };
 use commandline::{Places, Request, parse};
 use console::{Console, Place, Refusal, put_refusal};
-use consolidate::{MARKS, check_project};
+use consolidate::{JobLength, MARKS, check_project};
 use explanations::{Explanation, FoundFolder, PrintedName};
 use shelf::{FolderBench, MemoryBench, Overwrite};
 use std::alloc::AllocError;
@@ -131,13 +132,13 @@ where
         → request_of (texts words.now) ≡ Some (asked.Render list media target chosen) → result ≢ 2
         → IsKeptOut O.Console list target out.old out.new result
         ⊎ WorksInFolders overwrite.Never
-        (RendersBy ⟦<ShownShelf<'static, R, L> as devices::Shelf>⟧ ⟦<FolderBench<R> as devices::Bench>⟧ chosen)
+        (RendersBy ⟦<ShownShelf<'static, R, L> as devices::Shelf>⟧ ⟦<FolderBench<R> as devices::Bench>⟧ Longer chosen)
         rendered_lines O.Console media target out.old out.new result }
     ensures resumed { (list media target : Text) (chosen : asked.Chosen)
         → request_of (texts words.now) ≡ Some (asked.Resume list media target chosen) → result ≢ 2
         → IsKeptOut O.Console list target out.old out.new result
         ⊎ WorksInFolders overwrite.Files
-        (ResumesBy ⟦<ShownShelf<'static, R, L> as devices::Shelf>⟧ ⟦<FolderBench<R> as devices::Bench>⟧ chosen)
+        (ResumesBy ⟦<ShownShelf<'static, R, L> as devices::Shelf>⟧ ⟦<FolderBench<R> as devices::Bench>⟧ Longer chosen)
         resumed_lines O.Console media target out.old out.new result }
     ensures consolidated { (list media target : Text) (handle : ℕ) (report : Bool)
         → request_of (texts words.now) ≡ Some (asked.Consolidate list media target handle report)
@@ -314,6 +315,7 @@ where
         request,
         &list,
         Vec::new(rt.alloc()),
+        JobLength::Longer,
         &mut shelf,
         &mut bench,
         out,
@@ -343,13 +345,13 @@ where
         → asked_of request.entry ≡ asked.Render list media target chosen → result ≢ 2
         → IsKeptOut O.Console places.entry.list.now places.entry.out.now out.old out.new result
         ⊎ WorksInFolders overwrite.Never
-        (RendersBy ⟦<ShownShelf<'static, R, L> as devices::Shelf>⟧ ⟦<FolderBench<R> as devices::Bench>⟧ chosen)
+        (RendersBy ⟦<ShownShelf<'static, R, L> as devices::Shelf>⟧ ⟦<FolderBench<R> as devices::Bench>⟧ Longer chosen)
         rendered_lines O.Console places.entry.media.now places.entry.out.now out.old out.new result }
     ensures resumed { (list media target : Text) (chosen : asked.Chosen)
         → asked_of request.entry ≡ asked.Resume list media target chosen → result ≢ 2
         → IsKeptOut O.Console places.entry.list.now places.entry.out.now out.old out.new result
         ⊎ WorksInFolders overwrite.Files
-        (ResumesBy ⟦<ShownShelf<'static, R, L> as devices::Shelf>⟧ ⟦<FolderBench<R> as devices::Bench>⟧ chosen)
+        (ResumesBy ⟦<ShownShelf<'static, R, L> as devices::Shelf>⟧ ⟦<FolderBench<R> as devices::Bench>⟧ Longer chosen)
         resumed_lines O.Console places.entry.media.now places.entry.out.now out.old out.new result }
     ensures consolidated { (list media target : Text) (handle : ℕ) (report : Bool)
         → asked_of request.entry ≡ asked.Consolidate list media target handle report
@@ -388,12 +390,12 @@ where
     ensures rendered { (list media target : Text) (chosen : asked.Chosen)
         → asked_of request.entry ≡ asked.Render list media target chosen
         → IfOk result (λ status. status ≢ 2 → WorksInFolders overwrite.Never
-        (RendersBy ⟦<ShownShelf<'static, R, L> as devices::Shelf>⟧ ⟦<FolderBench<R> as devices::Bench>⟧ chosen)
+        (RendersBy ⟦<ShownShelf<'static, R, L> as devices::Shelf>⟧ ⟦<FolderBench<R> as devices::Bench>⟧ Longer chosen)
         rendered_lines O.Console places.entry.media.now places.entry.out.now out.old out.new status) }
     ensures resumed { (list media target : Text) (chosen : asked.Chosen)
         → asked_of request.entry ≡ asked.Resume list media target chosen
         → IfOk result (λ status. status ≢ 2 → WorksInFolders overwrite.Files
-        (ResumesBy ⟦<ShownShelf<'static, R, L> as devices::Shelf>⟧ ⟦<FolderBench<R> as devices::Bench>⟧ chosen)
+        (ResumesBy ⟦<ShownShelf<'static, R, L> as devices::Shelf>⟧ ⟦<FolderBench<R> as devices::Bench>⟧ Longer chosen)
         resumed_lines O.Console places.entry.media.now places.entry.out.now out.old out.new status) }
     ensures consolidated { (list media target : Text) (handle : ℕ) (report : Bool)
         → asked_of request.entry ≡ asked.Consolidate list media target handle report

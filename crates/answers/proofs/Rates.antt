@@ -4,7 +4,7 @@ use Rattle.devices.specs.declared.source.Shelf as source
 use Rattle.devices.specs.declared.bench.Bench as output
 use Rattle.list_terms.specs.Accepted.{OptionValues}
 use Rattle.list_terms.specs.Text.{rate_of}
-use Rattle.rendering.specs.declared.cutting.JobLength.TheVariants.{Longer}
+use Rattle.rendering.specs.declared.cutting.JobLength.{JobLength}
 use Rattle.consolidate.specs.Commands.{IsRendering}
 use Rattle.consolidate.specs.Resuming.{IsResuming}
 use Rattle.commandline.specs.CommandLine.{Chosen}
@@ -13,13 +13,13 @@ use Rattle.answers.specs.Answers.{IsAnswered, RendersBy, ResumesBy, rendered_lin
 use Rattle.answers.specs.Times.{values_of}
 
 pub answered_by : {S B O : Type 0} (shelf : source.Ghosts S) (bench : output.Ghosts B) (out : console.Ghosts O)
-    (chosen : Chosen) (values : OptionValues) (list : List ℕ) (shelf_old shelf_new : S) (bench_old bench_new : B)
+    (jobs : JobLength) (chosen : Chosen) (values : OptionValues) (list : List ℕ) (shelf_old shelf_new : S) (bench_old bench_new : B)
     (old new : O) (status : ℕ) → values_of (rate_of list) chosen ≡ Ok values
-    → IsAnswered (IsRendering shelf bench Longer list values shelf_old shelf_new bench_old bench_new) rendered_lines out old new
+    → IsAnswered (IsRendering shelf bench jobs list values shelf_old shelf_new bench_old bench_new) rendered_lines out old new
     status
-    → IsAnswered (RendersBy shelf bench chosen list shelf_old shelf_new bench_old bench_new) rendered_lines out old new
+    → IsAnswered (RendersBy shelf bench jobs chosen list shelf_old shelf_new bench_old bench_new) rendered_lines out old new
     status
-answered_by shelf bench out chosen values list shelf_old shelf_new bench_old bench_new old new status read is = record {
+answered_by shelf bench out jobs chosen values list shelf_old shelf_new bench_old bench_new old new status read is = record {
   outcome = is.outcome;
   called = record { values = values; read = read; rendering = is.called };
   status_is = is.status_is;
@@ -27,13 +27,13 @@ answered_by shelf bench out chosen values list shelf_old shelf_new bench_old ben
 }
 
 pub resumed_by : {S B O : Type 0} (shelf : source.Ghosts S) (bench : output.Ghosts B) (out : console.Ghosts O)
-    (chosen : Chosen) (values : OptionValues) (list : List ℕ) (shelf_old shelf_new : S) (bench_old bench_new : B)
+    (jobs : JobLength) (chosen : Chosen) (values : OptionValues) (list : List ℕ) (shelf_old shelf_new : S) (bench_old bench_new : B)
     (old new : O) (status : ℕ) → values_of (rate_of list) chosen ≡ Ok values
-    → IsAnswered (IsResuming shelf bench Longer list values shelf_old shelf_new bench_old bench_new) resumed_lines out old new
+    → IsAnswered (IsResuming shelf bench jobs list values shelf_old shelf_new bench_old bench_new) resumed_lines out old new
     status
-    → IsAnswered (ResumesBy shelf bench chosen list shelf_old shelf_new bench_old bench_new) resumed_lines out old new
+    → IsAnswered (ResumesBy shelf bench jobs chosen list shelf_old shelf_new bench_old bench_new) resumed_lines out old new
     status
-resumed_by shelf bench out chosen values list shelf_old shelf_new bench_old bench_new old new status read is = record {
+resumed_by shelf bench out jobs chosen values list shelf_old shelf_new bench_old bench_new old new status read is = record {
   outcome = is.outcome;
   called = record { values = values; read = read; resuming = is.called };
   status_is = is.status_is;

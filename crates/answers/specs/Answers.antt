@@ -7,7 +7,7 @@ use Rattle.opening.specs.Further.{WasRead}
 use Rattle.devices.specs.declared.bench.Bench as output
 use Rattle.list_terms.specs.Accepted.{OptionValues}
 use Rattle.list_terms.specs.Text.{rate_of}
-use Rattle.rendering.specs.declared.cutting.JobLength.TheVariants.{Longer}
+use Rattle.rendering.specs.declared.cutting.JobLength.{JobLength}
 use Rattle.consolidate.specs.Commands.{IsChecking, IsRendering}
 use Rattle.consolidate.specs.Resuming.{IsResuming}
 use Rattle.consolidate.specs.Fault.{refusal_of}
@@ -179,18 +179,18 @@ pub record IsChecked {S : Type 0} (shelf : source.Ghosts S) (list : List ℕ) (o
   pub accepted : IsOk result → new ≡ between
 
 -- the list was rendered by what the words choose, whose times are read at its own rate of frames
-pub record RendersBy {S B : Type 0} (shelf : source.Ghosts S) (bench : output.Ghosts B) (chosen : Chosen)
+pub record RendersBy {S B : Type 0} (shelf : source.Ghosts S) (bench : output.Ghosts B) (jobs : JobLength) (chosen : Chosen)
     (list : List ℕ) (shelf_old shelf_new : S) (bench_old bench_new : B) (result : Result Rendered Fault) : Type 0 where
   pub values : OptionValues
   pub read : values_of (rate_of list) chosen ≡ Ok values
-  pub rendering : IsRendering shelf bench Longer list values shelf_old shelf_new bench_old bench_new result
+  pub rendering : IsRendering shelf bench jobs list values shelf_old shelf_new bench_old bench_new result
 
 -- the rendering of the list was gone on with, by what the words choose likewise
-pub record ResumesBy {S B : Type 0} (shelf : source.Ghosts S) (bench : output.Ghosts B) (chosen : Chosen)
+pub record ResumesBy {S B : Type 0} (shelf : source.Ghosts S) (bench : output.Ghosts B) (jobs : JobLength) (chosen : Chosen)
     (list : List ℕ) (shelf_old shelf_new : S) (bench_old bench_new : B) (result : Result Resumed Fault) : Type 0 where
   pub values : OptionValues
   pub read : values_of (rate_of list) chosen ≡ Ok values
-  pub resuming : IsResuming shelf bench Longer list values shelf_old shelf_new bench_old bench_new result
+  pub resuming : IsResuming shelf bench jobs list values shelf_old shelf_new bench_old bench_new result
 
 -- two lists were compared at what the words choose, whose times are read at the first one's rate of frames
 pub record ComparesBy {S T : Type 0} (shelf : source.Ghosts S) (stock : source.Ghosts T) (selected : Selected)

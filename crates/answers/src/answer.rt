@@ -2,7 +2,6 @@
 ghost use Rattle.std.specs.Prelude.{◌≡◌, ◌≢◌, ◌≤◌, ℕ, Bool, Err, IsTrue, Ok, Option, false, option_map};
 ghost use Rattle.clap.specs.Walk.{Text};
 ghost use Rattle.clap.specs.Words.{kind_of};
-ghost use Rattle.rendering.specs.declared.cutting.JobLength.TheVariants.{Longer};
 ghost use Rattle.consolidate.specs.Commands.{IsConsolidation, IsRendering};
 ghost use Rattle.consolidate.specs.Resuming.{IsResuming};
 ghost use Rattle.consolidate.specs.Fault.{refusal_of};
@@ -34,7 +33,7 @@ use clap::Error;
 use commandline::{Request, VERSION};
 use console::{Console, Counts};
 use consolidate::{
-    Fault, JobLength, Options, RenderChoice, check_project, consolidate_watched, render_watched,
+    Fault, JobLength, RenderChoice, check_project, consolidate_watched, render_watched,
     resume_watched,
 };
 use explanations::{Explanation, PrintedLines, Saved, meanings_of, notice_meanings_of};
@@ -52,8 +51,8 @@ pub const REFUSED: u8 = 1;
 pub const MISTAKE: u8 = 2;
 
 /// Runs the command that is asked for over the list, the shelf and the bench, prints the notices and one line, and
-/// answers the status: 0 done, 1 refused, 2 where a time can't be read, which is told on `err`. A consolidation lets the
-/// passes go over the pieces of the entries. A refusal is explained on `err` too, in a line of its own; behind that of a
+/// answers the status: 0 done, 1 refused, 2 where a time can't be read, which is told on `err`. A rendering has jobs of
+/// this length. A consolidation lets the passes go over the pieces of the entries. A refusal is explained on `err` too, in a line of its own; behind that of a
 /// check stand the list's further faults. What numbers mean is printed on `out`, with 0, or with 2 where nothing has the
 /// number. A comparison is a mistake here (2): it is of two lists, and `answer_compare` answers it.
 #[tactic(auto, using(crate::proofs::Rates::answered_by, crate::proofs::Rates::resumed_by))]
@@ -69,6 +68,7 @@ pub fn answer_request<
     request: Request<'_>,
     list: &[u8],
     passes: Vec<Box<dyn Pass>>,
+    jobs: JobLength,
     shelf: &mut S,
     bench: &mut B,
     out: &mut O,
@@ -83,11 +83,11 @@ pub fn answer_request<
         → IsTrue (S.honest shelf.old) → IsReported list.now (S.stored shelf.old) O.Console out.old out.new result }
     ensures rendered { (place media target : Text) (chosen : asked.Chosen)
         → asked_of request.entry ≡ asked.Render place media target chosen → result ≢ 2
-        → IsAnswered (RendersBy S.Shelf B.Bench chosen list.now shelf.old shelf.new bench.old bench.new)
+        → IsAnswered (RendersBy S.Shelf B.Bench jobs chosen list.now shelf.old shelf.new bench.old bench.new)
         rendered_lines O.Console out.old out.new result }
     ensures resumed { (place media target : Text) (chosen : asked.Chosen)
         → asked_of request.entry ≡ asked.Resume place media target chosen → result ≢ 2
-        → IsAnswered (ResumesBy S.Shelf B.Bench chosen list.now shelf.old shelf.new bench.old bench.new)
+        → IsAnswered (ResumesBy S.Shelf B.Bench jobs chosen list.now shelf.old shelf.new bench.old bench.new)
         resumed_lines O.Console out.old out.new result }
     ensures consolidated { (place media target : Text) (handle : ℕ) (report : Bool)
         → asked_of request.entry ≡ asked.Consolidate place media target handle report
@@ -128,15 +128,17 @@ pub fn answer_request<
         Request::Check(_, _) => answer_check(alloc, list, shelf, out, err, asides),
         Request::Report(_, _) => answer_report(alloc, list, shelf, out, err, asides),
         Request::Render(_, chosen) => match options_of(chosen, rate_of(list)) {
-            Ok(options) => answer_render(
-                alloc, list, &options, shelf, bench, out, err, meter, asides,
-            ),
+            Ok(options) => {
+                let choice = RenderChoice { options, jobs };
+                answer_render(alloc, list, &choice, shelf, bench, out, err, meter, asides)
+            }
             Err(bad) => refuse_time(bad, err),
         },
         Request::Resume(_, chosen) => match options_of(chosen, rate_of(list)) {
-            Ok(options) => answer_resume(
-                alloc, list, &options, shelf, bench, out, err, meter, asides,
-            ),
+            Ok(options) => {
+                let choice = RenderChoice { options, jobs };
+                answer_resume(alloc, list, &choice, shelf, bench, out, err, meter, asides)
+            }
             Err(bad) => refuse_time(bad, err),
         },
         Request::Consolidate(_, handle, report) => {
@@ -208,7 +210,7 @@ fn answer_render<
 >(
     alloc: Global,
     list: &[u8],
-    options: &Options,
+    choice: &RenderChoice,
     shelf: &mut S,
     bench: &mut B,
     out: &mut O,
@@ -216,18 +218,13 @@ fn answer_render<
     meter: &mut M,
     asides: &A,
 ) -> u8
-    requires { HaveChannels options.now }
+    requires { HaveChannels choice.now.options }
     ensures answered { IsAnswered
-        (IsRendering S.Shelf B.Bench Longer list.now (rendering.values_of options.now) shelf.old shelf.new bench.old bench.new)
+        (IsRendering S.Shelf B.Bench choice.now.jobs list.now (rendering.values_of choice.now.options) shelf.old shelf.new bench.old bench.new)
         rendered_lines O.Console out.old out.new result }
     ensures statuses { result ≤ 1 }
 {
-    // for speed
-    let choice = RenderChoice {
-        options: *options,
-        jobs: JobLength::Longer,
-    };
-    let outcome = render_watched(alloc, list, &choice, shelf, bench, meter);
+    let outcome = render_watched(alloc, list, choice, shelf, bench, meter);
     meter.clear();
     tell_changed(alloc, shelf, err);
     match outcome {
@@ -263,7 +260,7 @@ fn answer_resume<
 >(
     alloc: Global,
     list: &[u8],
-    options: &Options,
+    choice: &RenderChoice,
     shelf: &mut S,
     bench: &mut B,
     out: &mut O,
@@ -271,18 +268,13 @@ fn answer_resume<
     meter: &mut M,
     asides: &A,
 ) -> u8
-    requires { HaveChannels options.now }
+    requires { HaveChannels choice.now.options }
     ensures answered { IsAnswered
-        (IsResuming S.Shelf B.Bench Longer list.now (rendering.values_of options.now) shelf.old shelf.new bench.old bench.new)
+        (IsResuming S.Shelf B.Bench choice.now.jobs list.now (rendering.values_of choice.now.options) shelf.old shelf.new bench.old bench.new)
         resumed_lines O.Console out.old out.new result }
     ensures statuses { result ≤ 1 }
 {
-    // for speed
-    let choice = RenderChoice {
-        options: *options,
-        jobs: JobLength::Longer,
-    };
-    let outcome = resume_watched(alloc, list, &choice, shelf, bench, meter);
+    let outcome = resume_watched(alloc, list, choice, shelf, bench, meter);
     meter.clear();
     tell_changed(alloc, shelf, err);
     match outcome {
@@ -373,7 +365,7 @@ fn answer_consolidate<
 }
 
 /// Prints that two lists are compared, of which one was given, and answers the status.
-fn refuse_two_lists<E: Console>(err: &mut E) -> u8
+pub fn refuse_two_lists<E: Console>(err: &mut E) -> u8
     ensures { result ≡ 2 }
 {
     err.print_line("two lists are compared, each over its sources");

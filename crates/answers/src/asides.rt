@@ -1,6 +1,6 @@
 // What a command tells on standard error beside the refusal and its explanation.
 use explanations::Near;
-use shelf::Shelf;
+use shelf::{MemoryShelf, Shelf};
 use std::alloc::Global;
 
 /// What is told beside a refusal.
@@ -16,4 +16,33 @@ pub trait Asides {
 
     /// The sources once more; none where no memory was left.
     fn sources(&self, alloc: Global) -> Option<Self::Sources>;
+}
+
+/// How many further faults are told where not all are asked for.
+pub const FEW_FAULTS: usize = 20;
+
+/// Nothing stands beside a refusal but further faults, few or all.
+#[derive(Clone, Copy, Debug, PartialEq, Eq)]
+pub struct NoAsides {
+    pub tells_all: bool,
+}
+
+impl Asides for NoAsides {
+    type Sources = MemoryShelf;
+
+    fn most(&self) -> usize {
+        if self.tells_all {
+            usize::MAX
+        } else {
+            FEW_FAULTS
+        }
+    }
+
+    fn near(&self, _alloc: Global, _name: &str) -> Option<Near> {
+        None
+    }
+
+    fn sources(&self, _alloc: Global) -> Option<MemoryShelf> {
+        None
+    }
 }

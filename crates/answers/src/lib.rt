@@ -17,10 +17,11 @@ mod report;
 mod second_look;
 mod standard;
 mod verified;
+mod words;
 
 pub use also::tell_further;
 pub use answer::{MISTAKE, REFUSED, answer_error, answer_request, explain, explain_notice};
-pub use asides::Asides;
+pub use asides::{Asides, FEW_FAULTS};
 pub use check_report::answer_report;
 pub use chosen::BadTime;
 pub use comparing::answer_compare;
@@ -28,3 +29,4 @@ pub use drawing::answer_picture;
 pub use meter::Meter;
 pub use standard::answer_standard;
 pub use verified::{answer_verified, put_lines};
+pub use words::answer;

@@ -5,6 +5,7 @@ ghost use Rattle.commandline.specs.CommandLine as asked;
 ghost use Rattle.commandline.specs.Request.{asked_of};
 ghost use Rattle.consolidate.specs.Commands.{IsConsolidation};
 ghost use Rattle.sound_terms.specs.Passes.{standard_groups};
+ghost use Rattle.rendering.specs.declared.cutting.JobLength.TheVariants.{Longer};
 ghost use Rattle.answers.specs.Answers.{IsAnswered, RendersBy, ResumesBy, asking, rendered_lines, resumed_lines, written_lines};
 
 use crate::answer::answer_request;
@@ -12,11 +13,12 @@ use crate::asides::Asides;
 use crate::meter::Meter;
 use commandline::Request;
 use console::Console;
+use consolidate::JobLength;
 use passes::{DropSilent, JoinCuts, Pass, Regroup, SplitFades};
 use shelf::{Bench, Reasons, Shelf};
 use std::alloc::{AllocError, Global};
 
-/// Answers a request as `answer_request` does, a consolidation with the standard passes: each fade becomes a piece of its own,
+/// Answers a request as `answer_request` does, a rendering in longer jobs, and a consolidation with the standard passes: each fade becomes a piece of its own,
 /// what is silent is left out, cuts are joined, and pieces that continue one another are groups again.
 pub fn answer_standard<
     S: Shelf + Reasons,
@@ -38,11 +40,11 @@ pub fn answer_standard<
 ) -> Result<u8, AllocError>
     ensures rendered { (place media target : Text) (chosen : asked.Chosen)
         → asked_of request.entry ≡ asked.Render place media target chosen → IfOk result (λ status. status ≢ 2
-        → IsAnswered (RendersBy S.Shelf B.Bench chosen list.now shelf.old shelf.new bench.old bench.new)
+        → IsAnswered (RendersBy S.Shelf B.Bench Longer chosen list.now shelf.old shelf.new bench.old bench.new)
         rendered_lines O.Console out.old out.new status) }
     ensures resumed { (place media target : Text) (chosen : asked.Chosen)
         → asked_of request.entry ≡ asked.Resume place media target chosen → IfOk result (λ status. status ≢ 2
-        → IsAnswered (ResumesBy S.Shelf B.Bench chosen list.now shelf.old shelf.new bench.old bench.new)
+        → IsAnswered (ResumesBy S.Shelf B.Bench Longer chosen list.now shelf.old shelf.new bench.old bench.new)
         resumed_lines O.Console out.old out.new status) }
     ensures consolidated { (place media target : Text) (handle : ℕ) (report : Bool)
         → asked_of request.entry ≡ asked.Consolidate place media target handle report
@@ -52,6 +54,8 @@ pub fn answer_standard<
     ensures statuses { IfOk result (λ status. status ≤ 2) }
     ensures nothing { OnErr result (out.new ≡ out.old) }
 {
+    // for speed
+    let jobs = JobLength::Longer;
     match request {
         Request::Consolidate(_, _, _) => {
             let splitting: Box<dyn Pass> = Box::new(alloc, SplitFades)?;
@@ -60,7 +64,7 @@ pub fn answer_standard<
             let grouping: Box<dyn Pass> = Box::new(alloc, Regroup)?;
             let passes = vec![in alloc; splitting, leaving_out, joining, grouping]?;
             Ok(answer_request(
-                alloc, request, list, passes, shelf, bench, out, err, meter, asides,
+                alloc, request, list, passes, jobs, shelf, bench, out, err, meter, asides,
             ))
         }
         Request::Check(_, _)
@@ -75,6 +79,7 @@ pub fn answer_standard<
             request,
             list,
             Vec::new(alloc),
+            jobs,
             shelf,
             bench,
             out,

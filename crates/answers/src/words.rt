@@ -1,0 +1,83 @@
+// The program as a call: words, a list and stores.
+ghost use Rattle.std.specs.Prelude.{◌≡◌, ◌≢◌, ◌≤◌, ℕ, Bool, None, Some, false};
+ghost use Rattle.clap.specs.Walk.{Text, texts};
+ghost use Rattle.rendering.specs.declared.cutting.JobLength.TheVariants.{OneBlock};
+ghost use Rattle.consolidate.specs.Commands.{IsConsolidation};
+ghost use Rattle.passes.specs.Left.{left_by};
+ghost use Rattle.commandline.specs.CommandLine as asked;
+ghost use Rattle.commandline.specs.CommandLine.{asks_for_help, request_of, verifies};
+ghost use Rattle.answers.specs.Answers.{IsAnswered, IsChecked, RendersBy, ResumesBy, accepted_lines, asking, rendered_lines, resumed_lines, written_lines};
+
+use crate::answer::{answer_error, answer_request, refuse_two_lists};
+use crate::asides::NoAsides;
+use commandline::parse;
+use console::Console;
+use consolidate::JobLength;
+use devices::Unwatched;
+use passes::Pass;
+use shelf::{Bench, Reasons, Shelf};
+use std::alloc::Global;
+
+/// Answers the words behind the program's name as the program does, over a list and stores that are there already: the
+/// places that the words name aren't looked at. Prints what the program prints on standard output on `out`, and what it
+/// explains on standard error on `err`. The status is 0 where the command is done, 1 where it is refused, and 2 where
+/// the words ask for nothing, a time can't be read, or there was no memory to read them; then nothing is printed on
+/// `out`, and nothing is written. A rendering has jobs of one block, and a consolidation lets these passes go over the
+/// pieces of the entries. Two lists can't be had here: `compare`, and `consolidate` with `--verify`, are answered 2.
+pub fn answer<S: Shelf + Reasons, B: Bench + Reasons, O: Console, E: Console>(
+    alloc: Global,
+    words: &[&str],
+    list: &[u8],
+    passes: Vec<Box<dyn Pass>>,
+    shelf: &mut S,
+    bench: &mut B,
+    out: &mut O,
+    err: &mut E,
+) -> u8
+    // A command was called over the list, and its answer is printed.
+    ensures checked { (place media : Text) → request_of (texts words.now) ≡ Some (asked.Check place media)
+        → result ≢ 2
+        → IsAnswered (IsChecked S.Shelf list.now shelf.old shelf.new) accepted_lines O.Console out.old out.new result }
+    ensures rendered { (place media target : Text) (chosen : asked.Chosen)
+        → request_of (texts words.now) ≡ Some (asked.Render place media target chosen) → result ≢ 2
+        → IsAnswered (RendersBy S.Shelf B.Bench OneBlock chosen list.now shelf.old shelf.new bench.old bench.new)
+        rendered_lines O.Console out.old out.new result }
+    ensures resumed { (place media target : Text) (chosen : asked.Chosen)
+        → request_of (texts words.now) ≡ Some (asked.Resume place media target chosen) → result ≢ 2
+        → IsAnswered (ResumesBy S.Shelf B.Bench OneBlock chosen list.now shelf.old shelf.new bench.old bench.new)
+        resumed_lines O.Console out.old out.new result }
+    ensures consolidated { (place media target : Text) (handle : ℕ) (report : Bool)
+        → request_of (texts words.now) ≡ Some (asked.Consolidate place media target handle report) → result ≢ 2
+        → IsAnswered (IsConsolidation S.Shelf B.Bench
+        (left_by (λ pass. looking pass) (λ pass. gives pass) passes.items)
+        list.now handle (asking report) shelf.old shelf.new bench.old bench.new)
+        written_lines O.Console out.old out.new result }
+    ensures statuses { result ≤ 2 }
+    ensures refused_words { request_of (texts words.now) ≡ None → asks_for_help (texts words.now) ≡ false
+        → result ≡ 2 }
+    ensures two { result ≡ 2 → (shelf.new ≡ shelf.old) × (bench.new ≡ bench.old) × (out.new ≡ out.old) }
+{
+    let parsed = match parse(alloc, words) {
+        Ok(parsed) => parsed,
+        Err(error) => return answer_error(alloc, error, out, err),
+    };
+    if parsed.verifies {
+        return refuse_two_lists(err);
+    }
+    let asides = NoAsides {
+        tells_all: parsed.tells_all,
+    };
+    answer_request(
+        alloc,
+        parsed.request,
+        list,
+        passes,
+        JobLength::OneBlock,
+        shelf,
+        bench,
+        out,
+        err,
+        &mut Unwatched,
+        &asides,
+    )
+}
