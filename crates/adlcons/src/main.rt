@@ -7,7 +7,6 @@ mod comparing;
 mod example;
 mod folders;
 mod head;
-mod held;
 mod looks;
 mod media;
 mod meter;

@@ -11,13 +11,12 @@ use crate::folders::{
     OpenFault, keep_out, name_inside, ready_output, tell_all_further, tell_unlisted,
     unlisted_reason,
 };
-use crate::held::HeldLines;
 use crate::media::{Manner, report_found};
 use crate::meter::{Progress, WorkMeter};
 use crate::output::Lock;
 use crate::reading::read_list;
 use crate::sources::ShownShelf;
-use answers::{REFUSED, answer_standard, answer_verified, put_lines};
+use answers::{HeldLines, REFUSED, answer_standard, answer_verified, put_lines};
 use commandline::{Places, Request};
 use console::{Console, ListOfTwo};
 use consolidate::LIST;

@@ -5,12 +5,12 @@ use console::Console;
 use std::alloc::Global;
 use std::fmt::Display;
 
-/// A console in memory: where no memory is found for a text that is a failure.
+/// A console in memory: what was printed on it, and how often no memory was found for a text, which is then a failure.
 #[derive(Drop)]
 pub struct HeldLines {
     alloc: Global,
-    bytes: Vec<u8>,
-    failures: u64,
+    pub bytes: Vec<u8>,
+    pub failures: u64,
 }
 
 impl HeldLines {
