@@ -1,9 +1,11 @@
 -- A work that is laid out, done and finished.
 use Rattle.std.proofs.Common.{◌≡◌, ◌⊎◌, ◌∙◌, ℕ, ◌<◌, Bool, true, false, IsTrue, Option, Some, None, Result, Ok, Err, List, length, take, refl, sym, ap, subst, inl, inr, arith}
-use Rattle.std.specs.Prelude.{IfErr, IsOk, OnErr, OnOk, not}
-use Rattle.work_terms.specs.Disk.{Files, IsDurable}
-use Rattle.devices.specs.Views.{CrashesLeave, OutputView, SourceView, Writes}
-use Rattle.devices.specs.ViewLaws.{crashes_then, crashes_weaker, reads_none, writes_then, writes_wider}
+use Rattle.std.specs.Prelude.{IfErr, IsOk, not, ⊤}
+use Rattle.work_terms.specs.Disk.{Files}
+use Rattle.devices.specs.Views.{CrashesLeave, OutputView, SourceView, Writes, output_view}
+use Rattle.devices.specs.ViewLaws.{crashes_then, crashes_weaker, reads_none, writes_of, writes_then, writes_wider}
+use Rattle.devices.specs.Frame.{OnlyWrites}
+use Rattle.devices.specs.declared.bench.Bench as bench
 use Rattle.job_terms.specs.declared.BoardEvent.{BoardEvent}
 use Rattle.job_terms.specs.declared.Progress.{Progress}
 use Rattle.job_terms.specs.Board.{Board, is_finished}
@@ -12,15 +14,16 @@ use Rattle.execution.specs.Boards.{progress_of}
 use Rattle.execution.specs.Ends.{end_of}
 use Rattle.execution.specs.EventRun.{MarkFails, Performed, Snapshot, listed, snapshot_of}
 use Rattle.execution.specs.Filled.{AreApart, AreFilled, AreParts, IsGood}
-use Rattle.execution.specs.Marking.{AreLeftBy, IsRight, IsRunningBy, LaysBy, LeavesBy, Marking, MarksOn, NoneStartedBy, done_of}
+use Rattle.execution.specs.Marking.{IsRight, IsRunningBy, LaysBy, LeavesBy, Marking, MarksOn, done_of}
 use Rattle.execution.specs.Outcome.{EventsDone, Executed, Finished, HasFailed, HasFinished, NotFinished, NotLaidOut, Outcome, OutputFails, Resumed, SetsBy, Stopped, StopsWith}
-use Rattle.execution.specs.Plan.{AreBlank, AreDurable, HoldJobs, HoldLast, IsForeign, IsLast, IsOwn, JobPlan, SourcesFit, Stays}
+use Rattle.execution.specs.Maker.{Finishes, LaysOut}
+use Rattle.execution.specs.Plan.{AreBlank, IsAt, IsForeign, JobPlan, Stays}
 use Rattle.execution.specs.Worlds.{Leads, state_of}
 use Rattle.execution.specs.declared.fault.ExecutionFault.{ExecutionFault}
 use Rattle.execution.specs.declared.fault.ExecutionFault.TheVariants as fault
 use Rattle.execution.specs.declared.fault.OutputFault.{OutputFault}
 use Rattle.execution.proofs.Fills.{filled-whole}
-use Rattle.execution.proofs.Firsts.{rises-after}
+use Rattle.execution.proofs.Firsts.{raised, rises-after}
 use Rattle.execution.proofs.Laws.{laws-kept}
 use Rattle.execution.proofs.LeadLaws.{leads-good, leads-keeps}
 use Rattle.execution.proofs.Marked.{leaves-wider}
@@ -179,24 +182,27 @@ stopped-early in_rounds events p p2 board board2 s s2 o o2 had has progress h si
 
 -- ---- what comes last
 
--- what `finish` reports
-pub record Finishes (plan : JobPlan) (old new : OutputView) (result : Result (Unit {0}) OutputFault) : Type 0 where
-  pub stays : IsTrue old.honest → (n : List ℕ) → IsOwn plan n → new.files n ≡ old.files n
-  pub last : IsTrue old.honest → (sources : Files) → HoldJobs plan sources old.files
-      → OnOk result (HoldLast plan sources new.files)
-  pub in_order : IsTrue old.honest → IfErr result (λ fault. (i : ℕ) → IsLast plan i → fault.file < i
-      → new.files (plan.output i) ≡ old.files (plan.output i))
-  pub durable : IsTrue old.honest → OnOk result (AreDurable plan new.files new.may_leave)
-  pub marks_durable : IsTrue old.honest → (sources : Files) (m : Marking) → plan.marking sources ≡ Some m
-      → OnOk result (IsDurable m.marks new.files new.may_leave)
-  pub marks : IsTrue old.honest → (sources : Files) (done : ℕ → Bool)
-      → IsRunningBy (plan.marking sources) done old.may_leave → IsRunningBy (plan.marking sources) done new.may_leave
-  pub any_moment : IsTrue old.honest → (sources : Files) (done : ℕ → Bool)
-      → IsRunningBy (plan.marking sources) done old.may_leave
-      → CrashesLeave (LeavesBy (plan.marking sources) done done) old new
-  pub output : Writes (IsForeign plan) old new
+-- what it wrote, and whether it failed
+pub record Wrote (stays : List ℕ → Type 0) (plan : JobPlan) (old new : OutputView)
+    (result : Result (Unit {0}) OutputFault) : Type 0 where
+  pub output : Writes stays old new
   pub quiet : IsOk result → new.failures ≡ old.failures
   pub failed : IfErr result (λ fault. OutputFails plan fault.file old new)
+
+pub wrote : {B : Type 0} (g : bench.Ghosts B) (stays : List ℕ → Type 0) (plan : JobPlan) {old new : B}
+    (result : Result (Unit {0}) OutputFault)
+    → OnlyWrites g stays old new result (λ _. ⊤) (λ fault failed. IsAt plan fault.file failed)
+    → Wrote stays plan (output_view g old) (output_view g new) result
+wrote g stays plan {old = old} {new = new} (Ok done) w = record {
+  output = writes_of g {old = old} {new = new} w;
+  quiet = λ _. w.cause.left tt;
+  failed = tt;
+}
+wrote g stays plan {old = old} {new = new} (Err fault) w = record {
+  output = writes_of g {old = old} {new = new} w;
+  quiet = λ ok. cc;
+  failed = record { rose = raised _ _ _ _ w.cause tt; failed = w.failed_there tt };
+}
 
 module _ (in_rounds : Bool) (events : List BoardEvent) (p p2 p3 : JobPlan) (board board2 : Board) (s s2 : SourceView)
     (o o2 o3 : OutputView) (had has : ℕ → Hand) (progress : Progress)
@@ -236,21 +242,21 @@ module _ (in_rounds : Bool) (events : List BoardEvent) (p p2 p3 : JobPlan) (boar
       (done-stay in_rounds events p p2 board board2 s s2 o o2 had has (Ok progress) h size honest whole) (λ k d. d))
       (fin.any_moment (on whole) s.files (done_of board2) (marked honest whole none running).now))
 
-  pub finished-all : Finishes p2 o2 o3 (Ok tt)
+  pub finished-all : Finishes p2 o2 o3 (Ok tt) → Wrote (IsForeign p2) p2 o2 o3 (Ok tt)
       → Resumed events (snapshot_of p board 0 s o) had (snapshot_of p3 board2 0 s2 o3) (Ok progress)
-  finished-all fin2 = record {
+  finished-all fin2 wrote2 = record {
     bounded = record {
       plan = same ∙ h.ran.kept.plan;
       size = h.ran.kept.size;
       source = h.ran.kept.source;
-      output = writes_then {stays = IsForeign p} {old = o} {mid = o2} {new = o3} written fin.output;
+      output = writes_then {stays = IsForeign p} {old = o} {mid = o2} {new = o3} written wrote_on.output;
       failed = tt;
       order = λ honest i last stays before. absurd (apart (sym before ∙ finished));
       durable = λ whole _. record { outputs = fin.durable (on whole); marks = fin.marks_durable (on whole) };
     };
     outcome = λ honest whole fit separate resting. Finished h.stale h.count o2.files
         (subst (λ (n : ℕ). EventsDone (λ laid. laid ≡ o.files) events (snapshot_of p board 0 s o) had board2 o2.files
-        s2.failures n h.stale h.count None) (sym (fin.quiet refl))
+        s2.failures n h.stale h.count None) (sym (wrote_on.quiet refl))
         (did honest whole fit.parts separate resting.marked.idle resting.filled))
         all-done (ap {B = Result Progress ExecutionFault} (λ (x : Progress). Ok x) h.stops.0)
         (fin.stays (on whole))
@@ -265,19 +271,22 @@ module _ (in_rounds : Bool) (events : List BoardEvent) (p p2 p3 : JobPlan) (boar
       fin : Finishes p o2 o3 (Ok tt)
       fin = subst (λ (q : JobPlan). Finishes q o2 o3 (Ok tt)) h.ran.kept.plan fin2
 
+      wrote_on : Wrote (IsForeign p) p o2 o3 (Ok tt)
+      wrote_on = subst (λ (q : JobPlan). Wrote (IsForeign q) q o2 o3 (Ok tt)) h.ran.kept.plan wrote2
+
   pub finish-failed : (f : OutputFault) (reported : ExecutionFault) → reported ≡ fault.Output f.file
-      → Finishes p2 o2 o3 (Err f)
+      → Finishes p2 o2 o3 (Err f) → Wrote (IsForeign p2) p2 o2 o3 (Err f)
       → Resumed events (snapshot_of p board 0 s o) had (snapshot_of p3 board2 0 s2 o3) (Err reported)
-  finish-failed f reported is fin2 = subst (λ (x : ExecutionFault). Resumed events (snapshot_of p board 0 s o) had
+  finish-failed f reported is fin2 wrote2 = subst (λ (x : ExecutionFault). Resumed events (snapshot_of p board 0 s o) had
       (snapshot_of p3 board2 0 s2 o3) (Err x)) (sym is) (record {
         bounded = record {
           plan = same ∙ h.ran.kept.plan;
           size = h.ran.kept.size;
           source = h.ran.kept.source;
-          output = writes_then {stays = IsForeign p} {old = o} {mid = o2} {new = o3} written fin.output;
+          output = writes_then {stays = IsForeign p} {old = o} {mid = o2} {new = o3} written wrote_on.output;
           failed = record {
-            rose = rises-after o.failures o2.failures o3.failures h.ran.kept.output.later fin.failed.rose;
-            failed = fin.failed.failed;
+            rose = rises-after o.failures o2.failures o3.failures h.ran.kept.output.later wrote_on.failed.rose;
+            failed = wrote_on.failed.failed;
           };
           order = λ whole i last stays before. fin.in_order (on whole) i last before
               ∙ h.ran.kept.output.others whole (p.output i) stays;
@@ -286,7 +295,7 @@ module _ (in_rounds : Bool) (events : List BoardEvent) (p p2 p3 : JobPlan) (boar
         outcome = λ honest whole fit separate resting. NotFinished f.file h.stale h.count o2.failures o2.files
             (did honest whole fit.parts separate resting.marked.idle resting.filled) all-done refl (fin.stays
             (on whole))
-            fin.failed.rose
+            wrote_on.failed.rose
             (fin.marks (on whole) s.files (done_of board2) (marked honest whole resting.marked.idle
             resting.marked.running).now);
         moments = λ honest whole running. moments-on (Err f) fin honest whole running.idle running.running;
@@ -295,21 +304,10 @@ module _ (in_rounds : Bool) (events : List BoardEvent) (p p2 p3 : JobPlan) (boar
       fin : Finishes p o2 o3 (Err f)
       fin = subst (λ (q : JobPlan). Finishes q o2 o3 (Err f)) h.ran.kept.plan fin2
 
--- ---- outputs that are laid out first
+      wrote_on : Wrote (IsForeign p) p o2 o3 (Err f)
+      wrote_on = subst (λ (q : JobPlan). Wrote (IsForeign q) q o2 o3 (Err f)) h.ran.kept.plan wrote2
 
--- what `lay_out` reports
-pub record LaysOut (plan : JobPlan) (old new : OutputView) (result : Result (Unit {0}) OutputFault) : Type 0 where
-  pub laid : IsTrue old.honest → (sources : Files) → SourcesFit plan sources
-      → OnOk result (AreBlank (jobs_over plan.jobs sources) (plan.whole sources) new.files)
-  pub marks : IsTrue old.honest → (sources : Files) → (done : ℕ → Bool) → ((k : ℕ) → k < plan.jobs.count → done k ≡ false)
-      → OnOk result (IsRunningBy (plan.marking sources) done new.may_leave)
-  pub any_moment : IsTrue old.honest → (sources : Files) → NoneStartedBy (plan.marking sources) old.may_leave
-      → CrashesLeave (LaysBy (plan.marking sources)) old new
-  pub left : IsTrue old.honest → (sources : Files) → NoneStartedBy (plan.marking sources) old.may_leave
-      → OnErr result (AreLeftBy (plan.marking sources) new.may_leave)
-  pub output : Writes (Stays plan) old new
-  pub quiet : IsOk result → new.failures ≡ old.failures
-  pub failed : IfErr result (λ fault. OutputFails plan fault.file old new)
+-- ---- outputs that are laid out first
 
 -- what is laid out is filled by no job
 blank-filled : (jobs : Jobs) (whole : List ℕ → List ℕ) (done : ℕ → Bool) (files : Files)
@@ -337,21 +335,21 @@ lays-sets (Some m) after c h = λ started. leaves-wider (Some m) (λ _. false) (
 -- no output was laid out
 pub not-laid : (events : List BoardEvent) (p p1 : JobPlan) (board : Board) (s : SourceView) (o o1 : OutputView)
     (had : ℕ → Hand) (untouched : Type 0) (f : OutputFault) (reported : ExecutionFault) → reported ≡ fault.Output f.file
-    → p1 ≡ p → LaysOut p o o1 (Err f) → untouched
+    → p1 ≡ p → LaysOut p o o1 (Err f) → Wrote (Stays p) p o o1 (Err f) → untouched
     → Executed events (snapshot_of p board 0 s o) had (snapshot_of p1 board 0 s o1) untouched (Err reported)
-not-laid events p p1 board s o o1 had untouched f reported is same lay un =
+not-laid events p p1 board s o o1 had untouched f reported is same lay wrote un =
     subst (λ (x : ExecutionFault). Executed events (snapshot_of p board 0 s o) had (snapshot_of p1 board 0 s o1)
     untouched (Err x)) (sym is) (record {
       bounded = record {
         plan = same;
         size = refl;
         source = reads_none s;
-        output = writes_wider (Stays p) (IsForeign p) {old = o} {new = o1} (λ n f. f.stays) lay.output;
-        failed = lay.failed;
-        order = λ whole i last stays before. lay.output.others whole (p.output i) stays;
+        output = writes_wider (Stays p) (IsForeign p) {old = o} {new = o1} (λ n f. f.stays) wrote.output;
+        failed = wrote.failed;
+        order = λ whole i last stays before. wrote.output.others whole (p.output i) stays;
         durable = λ whole ended. absurd ended;
       };
-      outcome = λ honest whole fit separate fresh. NotLaidOut f.file un refl refl refl lay.output
+      outcome = λ honest whole fit separate fresh. NotLaidOut f.file un refl refl refl wrote.output
           (lay.left whole s.files);
       moments = λ honest whole fresh. crashes_weaker (LaysBy (p.marking s.files))
           (SetsBy (p.marking s.files) (done_of board)) {old = o} {new = o1}
@@ -414,26 +412,26 @@ has-failed-since p o o1 o2 (Err (fault.Output file)) lay h = record {
 pub laid-then : (in_rounds : Bool) (events : List BoardEvent) (p p1 p2 : JobPlan) (board board2 : Board)
     (s s2 : SourceView)
     (o o1 o2 : OutputView) (had : ℕ → Hand) (untouched : Type 0) (result : Result Progress ExecutionFault) → p1 ≡ p
-    → LaysOut p o o1 (Ok tt) → length board.jobs ≡ p.jobs.count
+    → LaysOut p o o1 (Ok tt) → Wrote (Stays p) p o o1 (Ok tt) → length board.jobs ≡ p.jobs.count
     → Resumed (listed in_rounds p1.jobs.count events) (snapshot_of p1 board 0 s o1) had (snapshot_of p2 board2 0 s2 o2)
     result
     → Executed (listed in_rounds p.jobs.count events) (snapshot_of p board 0 s o) had (snapshot_of p2 board2 0 s2 o2)
     untouched result
-laid-then in_rounds events p p1 p2 board board2 s s2 o o1 o2 had untouched result same lay size rest1 = record {
+laid-then in_rounds events p p1 p2 board board2 s s2 o o1 o2 had untouched result same lay wrote size rest1 = record {
   bounded = record {
     plan = rest.bounded.plan;
     size = rest.bounded.size;
     source = rest.bounded.source;
     output = writes_then {stays = IsForeign p} {old = o} {mid = o1} {new = o2}
-        (writes_wider (Stays p) (IsForeign p) {old = o} {new = o1} (λ n f. f.stays) lay.output) rest.bounded.output;
-    failed = has-failed-since p o o1 o2 result lay.output rest.bounded.failed;
+        (writes_wider (Stays p) (IsForeign p) {old = o} {new = o1} (λ n f. f.stays) wrote.output) rest.bounded.output;
+    failed = has-failed-since p o o1 o2 result wrote.output rest.bounded.failed;
     order = λ whole i last stays before. rest.bounded.order (on whole) i last stays before
-        ∙ lay.output.others whole (p.output i) stays;
+        ∙ wrote.output.others whole (p.output i) stays;
     durable = λ whole ended. rest.bounded.durable (on whole) ended;
   };
   outcome = λ honest whole fit separate fresh.
       outcome-since (listed in_rounds p.jobs.count events) p board s o o1 had (lay.laid whole s.files fit)
-      (lay.quiet refl) (snapshot_of p2 board2 0 s2 o2) untouched result lay.output
+      (wrote.quiet refl) (snapshot_of p2 board2 0 s2 o2) untouched result wrote.output
       (rest.outcome honest (on whole) fit separate (record {
         filled = blank-filled (jobs_over p.jobs s.files) (p.whole s.files) (done_of board) o1.files
             (none fresh.none) (lay.laid whole s.files fit);
@@ -461,7 +459,7 @@ laid-then in_rounds events p p1 p2 board board2 s s2 o o1 o2 had untouched resul
         (snapshot_of p2 board2 0 s2 o2) result) same rest1
 
     on : IsTrue o.honest → IsTrue o1.honest
-    on whole = subst IsTrue (sym lay.output.same_honest) whole
+    on whole = subst IsTrue (sym wrote.output.same_honest) whole
 
     none : ((k : ℕ) → k < length board.jobs → done_of board k ≡ false) → (k : ℕ) → k < p.jobs.count
         → done_of board k ≡ false

@@ -14,6 +14,11 @@ hands_in hands w = cond (w == 1) hands.first.hand (held (get nat_cmp hands.other
 abbrev pub has_place : Hands → ℕ → Bool
 has_place hands w = (w == 1) || is_some (get nat_cmp hands.others w)
 
+-- a board of these jobs, and a worker that holds nothing but one of its tickets
+pub record IsAtWork (jobs : JobsBy) (board : Board) (hand : Hand) : Type 0 where
+  pub whole : length board.jobs ≡ jobs.count
+  pub fits : FitsHand jobs hand
+
 -- a board of these jobs, and workers that hold nothing but their tickets; the worker 1 has room for each job
 pub record IsReady (jobs : JobsBy) (board : Board) (hands : Hands) : Type 0 where
   pub whole : length board.jobs ≡ jobs.count

@@ -7,6 +7,7 @@ pub mod EventRun
 pub mod Filled
 pub mod Held
 pub mod Laws
+pub mod Maker
 pub mod Marking
 pub mod MarkingLaws
 pub mod Outcome

@@ -10,13 +10,13 @@ ghost use Rattle.execution.specs.View.{hands_at};
 ghost use Rattle.execution.specs.Outcome.{Executed, Resumed};
 ghost use Rattle.execution.specs.EventRun.{snapshot_of};
 ghost use Rattle.execution.specs.Desks.{HasRoom};
+ghost use Rattle.execution.specs.Held.{hands_in};
 ghost use Rattle.devices.specs.Views.{output_view, source_view};
 ghost use Rattle.execution.specs.declared.fault.ExecutionFault.TheVariants as execution_fault;
 ghost use Rattle.workboard.specs.Indexed.{IsOrder};
 
 use crate::course::{execute, resume};
 use crate::hands::Hands;
-use crate::worker::Worker;
 use crate::workshop::Workshop;
 use crate::{ExecutionFault, JobMaker};
 use devices::{Bench, Shelf, Watch};
@@ -58,14 +58,14 @@ fn most_bytes<W: JobMaker>(work: &W) -> usize
     most
 }
 
-/// The worker 1, with room for the bytes of any job.
-fn first_worker<W: JobMaker>(alloc: Global, work: &W) -> Result<Worker, ExecutionFault>
-    ensures hand { IfOk result (λ worker. worker.hand ≡ Nothing) }
-    ensures room { IfOk result (λ worker. HasRoom (W.plan work.now).jobs worker.room) }
+/// Workers that hold nothing, the first with room for the bytes of any job.
+fn hands_for<W: JobMaker>(alloc: Global, work: &W) -> Result<Hands, ExecutionFault>
+    ensures hands { IfOk result (λ hands. (w : ℕ) → hands_in hands w ≡ Nothing) }
+    ensures room { IfOk result (λ hands. HasRoom (W.plan work.now).jobs hands.first.room) }
     ensures only_memory { IfErr result IsMemory }
 {
-    match Worker::with_room(alloc, most_bytes(work)) {
-        Ok(worker) => Ok(worker),
+    match Hands::with_room(alloc, most_bytes(work)) {
+        Ok(hands) => Ok(hands),
         Err(_) => Err(ExecutionFault::JobMemory),
     }
 }
@@ -85,8 +85,7 @@ impl<W: JobMaker + Drop> Execution<W> {
             Ok(board) => board,
             Err(_) => return Err(ExecutionFault::Memory),
         };
-        let first = first_worker(alloc, &work)?;
-        let hands = Hands::new(alloc, first);
+        let hands = hands_for(alloc, &work)?;
         Ok(Execution {
             shop: Workshop {
                 alloc,
@@ -118,8 +117,7 @@ impl<W: JobMaker + Drop> Execution<W> {
             Ok(board) => board,
             Err(_) => return Err(ExecutionFault::Memory),
         };
-        let first = first_worker(alloc, &work)?;
-        let hands = Hands::new(alloc, first);
+        let hands = hands_for(alloc, &work)?;
         Ok(Execution {
             shop: Workshop {
                 alloc,

@@ -2,7 +2,7 @@
 ghost use Rattle.std.specs.Prelude.{◌≡◌, ◌≢◌, ◌<◌, ◌≤◌, ◌+◌, ◌^◌, ◌∷◌, [], ℕ, IsErr, IsErrOf, IsOk, None, OnOk, length};
 ghost use Rattle.job_terms.specs.Workers.{jobs_over};
 ghost use Rattle.execution.specs.Ends.{NeedsPlace, NeedsRoom, end_of, ended_of, events_of};
-ghost use Rattle.execution.specs.Held.{IsReady, hands_in};
+ghost use Rattle.execution.specs.Held.{IsAtWork, IsReady, hands_in};
 ghost use Rattle.execution.specs.EventRun.{ActionStep, EventRun, WorkerStep, event_of, snapshot_of};
 ghost use Rattle.execution.specs.Desks.{FitsHand, FitsRoom};
 ghost use Rattle.execution.specs.Turns.{ActionTurn};
@@ -32,8 +32,7 @@ fn turn<W: JobMaker, S: Shelf, B: Bench>(
     shelf: &mut S,
     bench: &mut B,
 ) -> Result<(), JobFault>
-    requires whole { length board.old.jobs ≡ (W.plan maker.old).jobs.count }
-    requires fits { FitsHand (W.plan maker.old).jobs worker.old.hand }
+    requires ready { IsAtWork (W.plan maker.old).jobs board.old worker.old.hand }
     requires room { action ≡ action_kind.Work → FitsRoom (W.plan maker.old).jobs worker.old }
     requires few { stale.old + 1 < 2 ^ 64 }
     ensures went { WorkerStep (ActionStep (W.plan maker.old).marks (jobs_over (W.plan maker.old).jobs (S.stored shelf.old)) action)

@@ -1,5 +1,5 @@
 // What all workers hold.
-ghost use Rattle.std.specs.Prelude.{◌≡◌, ◌≢◌, ℕ, OnOk, IsErr, true};
+ghost use Rattle.std.specs.Prelude.{◌≡◌, ◌≢◌, ℕ, IfOk, OnOk, IsErr, true};
 ghost use Rattle.job_terms.specs.Workers.{Nothing, with_hand};
 ghost use Rattle.execution.specs.Held.{hands_in, has_place};
 
@@ -17,16 +17,16 @@ pub struct Hands {
 }
 
 impl Hands {
-    /// Worker 1 alone, and any other holds nothing.
-    pub fn new(alloc: Global, first: Worker) -> Self
-        requires { first.hand ≡ Nothing }
-        ensures hands { (w : ℕ) → hands_in result w ≡ Nothing }
-        ensures room { result.first.room ≡ first.room }
+    /// Worker 1 alone, with room for the bytes of any job of at most so many. No worker holds anything.
+    pub fn with_room(alloc: Global, most: usize) -> Result<Self, AllocError>
+        ensures hands { IfOk result (λ hands. (w : ℕ) → hands_in hands w ≡ Nothing) }
+        ensures room { IfOk result (λ hands. hands.first.room ≡ most) }
     {
-        Hands {
+        let first = Worker::with_room(alloc, most)?;
+        Ok(Hands {
             first,
             others: BTreeMap::new(alloc),
-        }
+        })
     }
 
     /// Makes a place for the worker. Only this takes memory.

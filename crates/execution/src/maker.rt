@@ -1,11 +1,11 @@
 // What a work is, to a board.
-ghost use Rattle.std.specs.Prelude.{◌≡◌, ◌<◌, ℕ, ⊤, Bool, false, IfErr, List, length, IsTrue, IsErrOf, OnErr, OnOk, Some};
-ghost use Rattle.work_terms.specs.Disk.{Files, IsDurable};
-ghost use Rattle.job_terms.specs.Workers.{jobs_over};
+ghost use Rattle.std.specs.Prelude.{◌≡◌, ◌<◌, ℕ, ⊤, Bool, false, length, IsTrue, IsErrOf, OnOk, Some};
+ghost use Rattle.work_terms.specs.Disk.{Files};
 ghost use Rattle.devices.specs.Frame.{OnlyReads, OnlyWrites};
-ghost use Rattle.devices.specs.Views.{CrashesLeave, output_view};
-ghost use Rattle.execution.specs.Marking.{AreLeftBy, IsRunningBy, LaysBy, LeavesBy, Marking, Marks, NoneStartedBy};
-ghost use Rattle.execution.specs.Plan.{AreBlank, AreDurable, HoldJobs, HoldLast, IsAt, IsForeign, IsLast, IsOwn, JobPlan, SourcesFit, Stays};
+ghost use Rattle.devices.specs.Views.{output_view};
+ghost use Rattle.execution.specs.Maker.{Finishes, LaysOut};
+ghost use Rattle.execution.specs.Marking.{IsRunningBy, Marking, Marks};
+ghost use Rattle.execution.specs.Plan.{IsAt, IsForeign, JobPlan, Stays};
 ghost use Rattle.execution.specs.Worlds.{IsPlaced};
 
 use crate::{OutputFault, PlaceFault};
@@ -63,46 +63,16 @@ pub trait JobMaker {
     /// Lays out every output of a job at full length, zero in the jobs' places, with fresh marks where the work has
     /// some. What comes last stays as it is.
     fn lay_out<B: Bench>(&mut self, bench: &mut B) -> Result<(), OutputFault>
-        ensures laid { IsTrue (B.honest bench.old) → (sources : Files) → SourcesFit (plan self.old) sources
-            → OnOk result (AreBlank (jobs_over (plan self.old).jobs sources) ((plan self.old).whole sources)
-            (B.stored bench.new)) }
+        ensures lays_out { LaysOut (plan self.old) (output_view B.Bench bench.old) (output_view B.Bench bench.new) result }
         ensures same { plan self.new ≡ plan self.old }
-        ensures marks { IsTrue (B.honest bench.old) → (sources : Files) → (done : ℕ → Bool)
-            → ((k : ℕ) → k < (plan self.old).jobs.count → done k ≡ false)
-            → OnOk result (IsRunningBy ((plan self.old).marking sources) done (B.may_leave bench.new)) }
-        ensures any_moment { IsTrue (B.honest bench.old) → (sources : Files)
-            → NoneStartedBy ((plan self.old).marking sources) (B.may_leave bench.old)
-            → CrashesLeave (LaysBy ((plan self.old).marking sources)) (output_view B.Bench bench.old)
-            (output_view B.Bench bench.new) }
-        ensures left { IsTrue (B.honest bench.old) → (sources : Files)
-            → NoneStartedBy ((plan self.old).marking sources) (B.may_leave bench.old)
-            → OnErr result (AreLeftBy ((plan self.old).marking sources) (B.may_leave bench.new)) }
         ensures only_writes { OnlyWrites B.Bench (Stays (plan self.old)) bench.old bench.new result (λ _. ⊤)
             (λ fault failed. IsAt (plan self.old) fault.file failed) };
 
     /// Makes all outputs durable, once every job is done, and writes those that come last, in their order: where it
     /// fails at an output, those after it stay as they are.
     fn finish<B: Bench>(&mut self, bench: &mut B) -> Result<(), OutputFault>
-        ensures stays { IsTrue (B.honest bench.old) → (n : List ℕ) → IsOwn (plan self.old) n
-            → B.stored bench.new n ≡ B.stored bench.old n }
-        ensures last { IsTrue (B.honest bench.old) → (sources : Files)
-            → HoldJobs (plan self.old) sources (B.stored bench.old)
-            → OnOk result (HoldLast (plan self.old) sources (B.stored bench.new)) }
-        ensures in_order { IsTrue (B.honest bench.old) → IfErr result (λ fault. (i : ℕ) → IsLast (plan self.old) i
-            → fault.file < i → B.stored bench.new ((plan self.old).output i) ≡ B.stored bench.old ((plan self.old).output i)) }
-        ensures durable { IsTrue (B.honest bench.old)
-            → OnOk result (AreDurable (plan self.old) (B.stored bench.new) (B.may_leave bench.new)) }
-        ensures marks_durable { IsTrue (B.honest bench.old) → (sources : Files) (m : Marking)
-            → (plan self.old).marking sources ≡ Some m
-            → OnOk result (IsDurable m.marks (B.stored bench.new) (B.may_leave bench.new)) }
+        ensures finishes { Finishes (plan self.old) (output_view B.Bench bench.old) (output_view B.Bench bench.new) result }
         ensures same { plan self.new ≡ plan self.old }
-        ensures marks { IsTrue (B.honest bench.old) → (sources : Files) (done : ℕ → Bool)
-            → IsRunningBy ((plan self.old).marking sources) done (B.may_leave bench.old)
-            → IsRunningBy ((plan self.old).marking sources) done (B.may_leave bench.new) }
-        ensures any_moment { IsTrue (B.honest bench.old) → (sources : Files) (done : ℕ → Bool)
-            → IsRunningBy ((plan self.old).marking sources) done (B.may_leave bench.old)
-            → CrashesLeave (LeavesBy ((plan self.old).marking sources) done done) (output_view B.Bench bench.old)
-            (output_view B.Bench bench.new) }
         ensures only_writes { OnlyWrites B.Bench (IsForeign (plan self.old)) bench.old bench.new result (λ _. ⊤)
             (λ fault failed. IsAt (plan self.old) fault.file failed) };
 }

@@ -1,5 +1,5 @@
 // The steps of one worker.
-ghost use Rattle.std.specs.Prelude.{◌≡◌, ◌<◌, ◌+◌, ◌^◌, ◌≤◌, ℕ, IsTrue, true, None, length, OnOk, IfErr, IsErrOf, take, ⊤};
+ghost use Rattle.std.specs.Prelude.{◌≡◌, ◌<◌, ◌+◌, ◌^◌, ◌≤◌, ℕ, IsTrue, true, None, length, IfErr, IfOk, IsErrOf, take, ⊤};
 ghost use Rattle.work_terms.specs.Disk.{Files};
 ghost use Rattle.devices.specs.Frame.{OnlyReads};
 ghost use Rattle.execution.specs.Marking.{IsRight, IsRunningBy, MarksOn, done_of};
@@ -57,26 +57,26 @@ fn failed(board: &mut Board, ticket: Ticket) -> Result<(), JobFault>
     }
 }
 
-/// Makes the bytes of a job at the front of a buffer.
+/// Makes the bytes of a job at the front of a buffer, and gives how many they are.
 #[tactic(auto, using(crate::proofs::Firsts::front_made))]
 fn make_in_front<W: JobMaker, S: Shelf>(
     maker: &mut W,
     job: u32,
-    size: usize,
     shelf: &mut S,
     bytes: &mut [u8],
-) -> Result<(), DeviceFault>
+) -> Result<usize, DeviceFault>
     requires there { job < (W.plan maker.old).jobs.count }
-    requires size { size ≡ (W.plan maker.old).jobs.size job }
-    requires room { size ≤ length bytes.old }
-    ensures made { IsTrue (S.honest shelf.old)
-        → OnOk result (take size bytes.new ≡ (W.plan maker.old).jobs.bytes (S.stored shelf.old) job) }
+    requires room { (W.plan maker.old).jobs.size job ≤ length bytes.old }
+    ensures made { IsTrue (S.honest shelf.old) → IfOk result (λ size.
+        take size bytes.new ≡ (W.plan maker.old).jobs.bytes (S.stored shelf.old) job) }
+    ensures size { IfOk result (λ size. size ≡ (W.plan maker.old).jobs.size job) }
     ensures length { length bytes.new ≡ length bytes.old }
     ensures same { W.plan maker.new ≡ W.plan maker.old }
     ensures only_reads { OnlyReads S.Shelf shelf.old shelf.new result (λ _. ⊤) (λ _ failed. ⊤) }
 {
+    let size = maker.size(job);
     match maker.make(job, shelf, &mut bytes[..size]) {
-        Ok(()) => return Ok(()),
+        Ok(()) => return Ok(size),
         Err(fault) => return Err(fault),
     }
 }
@@ -108,9 +108,8 @@ pub fn make<W: JobMaker, S: Shelf>(
     if worker.made {
         return Ok(());
     }
-    let size = maker.size(ticket.job);
-    match make_in_front(maker, ticket.job, size, shelf, &mut worker.bytes) {
-        Ok(()) => {
+    match make_in_front(maker, ticket.job, shelf, &mut worker.bytes) {
+        Ok(size) => {
             worker.size = size;
             worker.made = true;
             return Ok(());

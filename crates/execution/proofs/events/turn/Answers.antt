@@ -18,8 +18,8 @@ returns-in-Give-clause-went g c = step-as c.args.action Give _ _ _ _ _ _ _ c.in-
     (give-done _ _ _ _) (λ none. given-turn _ _ _ _ (c.hand_out.ensures.step (λ _. None) 0 0 0)))
 
 pub returns-in-Give-clause-fits : goal.returns-in-Give-clause-fits
-returns-in-Give-clause-fits g c = c.hand_out.ensures.fits (g.W.JobMaker.plan c.args.maker.now).jobs c.requires.whole
-    c.requires.fits
+returns-in-Give-clause-fits g c = c.hand_out.ensures.fits (g.W.JobMaker.plan c.args.maker.now).jobs c.requires.ready.whole
+    c.requires.ready.fits
 
 pub returns-in-Work-clause-went : goal.returns-in-Work-clause-went
 returns-in-Work-clause-went g c = step-as c.args.action Work _ _ _ _ _ _ _ c.in-Work.is (

@@ -16,7 +16,7 @@ returns-in-Ok-clause-step g c honest files stale bench =
     (ap {B = State} (λ (n : ℕ). state_of c.args.board.now files stale n bench None)
     (c.in-Ok.ensures.only_reads.cause.left tt))
     (hand-is c.worker.inside.ticket c.in-Some.ticket true true _ c.in-Some.is refl
-    ∙ ap {B = Hand} (λ (b : List ℕ). Made c.in-Some.ticket b) (ap (λ (x : List ℕ). take c.size-size.result x) whole ∙
+    ∙ ap {B = Hand} (λ (b : List ℕ). Made c.in-Some.ticket b) (ap (λ (x : List ℕ). take c.in-Ok.size x) whole ∙
     c.in-Ok.ensures.made honest))
 
 pub returns-in-Ok-clause-turned : goal.returns-in-Ok-clause-turned

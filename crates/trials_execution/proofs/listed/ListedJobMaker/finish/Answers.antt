@@ -1,4 +1,4 @@
-use Rattle.std.proofs.Common.{◌≢◌, ◌∙◌, ℕ, List, IsTrue, codes, sym, ap, subst, arith}
+use Rattle.std.proofs.Common.{◌≢◌, ◌∙◌, ℕ, List, IsTrue, codes, sym, ap, subst, arith, rules}
 use Rattle.work_terms.specs.Disk.{Files}
 use Rattle.execution.specs.Plan.{IsForeign}
 use Rattle.trials_execution.specs.Listed.{plan_of}
@@ -22,31 +22,37 @@ returns-in-Err-write_list-clause-only_writes g c = both g.B.Bench (IsForeign pla
     (λ _. (omega arith, c.in-Err-write_list.ensures.only_writes.failed_there tt))
     c.in-Err-write_list.ensures.only_writes)
 
-pub returns-in-Ok-write_list-clause-stays : goal.returns-in-Ok-write_list-clause-stays
-returns-in-Ok-write_list-clause-stays g c honest n own = c.in-Ok-write_list.ensures.only_writes.others
-    (subst IsTrue (sym c.in-Ok.ensures.only_reads.honest_same) honest) n
-    (subst (λ (name : List ℕ). name ≢ codes "list") (sym (own-out n own)) out-list)
-    ∙ ap (λ (files : Files). files n) c.in-Ok.ensures.only_reads.same
+pub returns-in-Ok-write_list-clause-finishes : goal.returns-in-Ok-write_list-clause-finishes
+returns-in-Ok-write_list-clause-finishes g c = record {
+  stays = λ honest n own. c.in-Ok-write_list.ensures.only_writes.others
+      (subst IsTrue (sym c.in-Ok.ensures.only_reads.honest_same) honest) n
+      (subst (λ (name : List ℕ). name ≢ codes "list") (sym (own-out n own)) out-list)
+      ∙ ap (λ (files : Files). files n) c.in-Ok.ensures.only_reads.same;
+  last = λ honest sources hold i last. list-there (g.B.Bench.stored c.write_list.new.bench) sources i last
+      (c.in-Ok-write_list.ensures.written (subst IsTrue (sym c.in-Ok.ensures.only_reads.honest_same) honest));
+  in_order = search rules;
+  durable = λ honest.
+      let still = subst IsTrue (sym c.in-Ok.ensures.only_reads.honest_same) honest in record {
+        jobs = λ k lt. c.in-Ok-write_list.ensures.only_writes.durable still (codes "out") out-list
+            (c.in-Ok.ensures.durable honest);
+        last = λ i last. list-durable (g.B.Bench.stored c.write_list.new.bench)
+            (g.B.Bench.may_leave c.write_list.new.bench) i last (c.in-Ok-write_list.ensures.durable still);
+      };
+  marks_durable = search rules;
+  marks = search rules;
+  any_moment = search rules;
+}
 
-pub returns-in-Err-write_list-clause-stays : goal.returns-in-Err-write_list-clause-stays
-returns-in-Err-write_list-clause-stays g c honest n own = c.in-Err-write_list.ensures.only_writes.others
-    (subst IsTrue (sym c.in-Ok.ensures.only_reads.honest_same) honest) n
-    (subst (λ (name : List ℕ). name ≢ codes "list") (sym (own-out n own)) out-list)
-    ∙ ap (λ (files : Files). files n) c.in-Ok.ensures.only_reads.same
-
-pub returns-in-Ok-write_list-clause-last : goal.returns-in-Ok-write_list-clause-last
-returns-in-Ok-write_list-clause-last g c honest sources hold i last = list-there (g.B.Bench.stored c.write_list.new.bench)
-    sources i last (c.in-Ok-write_list.ensures.written
-    (subst IsTrue (sym c.in-Ok.ensures.only_reads.honest_same) honest))
-
-pub returns-in-Ok-write_list-clause-durable : goal.returns-in-Ok-write_list-clause-durable
-returns-in-Ok-write_list-clause-durable g c honest = let still = subst IsTrue (sym
-    c.in-Ok.ensures.only_reads.honest_same) honest in record {
-      jobs = λ k lt. c.in-Ok-write_list.ensures.only_writes.durable still (codes "out") out-list
-          (c.in-Ok.ensures.durable honest);
-      last = λ i last. list-durable (g.B.Bench.stored c.write_list.new.bench) (g.B.Bench.may_leave
-          c.write_list.new.bench) i last (c.in-Ok-write_list.ensures.durable still);
-    }
-
-pub returns-in-Err-write_list-clause-in_order : goal.returns-in-Err-write_list-clause-in_order
-returns-in-Err-write_list-clause-in_order g c honest i last after = absurd (no-more i last after)
+pub returns-in-Err-write_list-clause-finishes : goal.returns-in-Err-write_list-clause-finishes
+returns-in-Err-write_list-clause-finishes g c = record {
+  stays = λ honest n own. c.in-Err-write_list.ensures.only_writes.others
+      (subst IsTrue (sym c.in-Ok.ensures.only_reads.honest_same) honest) n
+      (subst (λ (name : List ℕ). name ≢ codes "list") (sym (own-out n own)) out-list)
+      ∙ ap (λ (files : Files). files n) c.in-Ok.ensures.only_reads.same;
+  last = search rules;
+  in_order = λ honest i last after. absurd (no-more i last after);
+  durable = search rules;
+  marks_durable = search rules;
+  marks = search rules;
+  any_moment = search rules;
+}

@@ -1,4 +1,4 @@
-use Rattle.std.proofs.Common.{◌≢◌, IsTrue, codes, sym, subst, arith}
+use Rattle.std.proofs.Common.{◌≢◌, IsTrue, codes, sym, subst, arith, rules}
 use Rattle.execution.specs.Plan.{Stays}
 use Rattle.trials_execution.specs.Listed.{plan_of}
 use Rattle.trials_execution.proofs.Outs.{blank-out, both, no-out, wider}
@@ -20,7 +20,12 @@ returns-in-Err-append-clause-only_writes g c = both g.B.Bench (Stays plan_of)
     (wider g.B.Bench (λ n. n ≢ codes "out") (Stays plan_of) no-out (λ x. x) (λ x. x)
     (λ _. (omega arith, c.in-Err-append.ensures.only_writes.failed_there tt)) c.in-Err-append.ensures.only_writes)
 
-pub returns-in-Ok-append-clause-laid : goal.returns-in-Ok-append-clause-laid
-returns-in-Ok-append-clause-laid g c honest sources parts = blank-out (g.B.Bench.stored c.args.bench.now)
-    (g.B.Bench.stored c.create.new.self) (g.B.Bench.stored c.append.new.self) sources (c.in-Ok.ensures.created honest)
-    (c.in-Ok-append.ensures.appended (subst IsTrue (sym c.in-Ok.ensures.only_writes.honest_same) honest))
+pub returns-in-Ok-append-clause-lays_out : goal.returns-in-Ok-append-clause-lays_out
+returns-in-Ok-append-clause-lays_out g c = record {
+  laid = λ honest sources parts. blank-out (g.B.Bench.stored c.args.bench.now) (g.B.Bench.stored c.create.new.self)
+      (g.B.Bench.stored c.append.new.self) sources (c.in-Ok.ensures.created honest)
+      (c.in-Ok-append.ensures.appended (subst IsTrue (sym c.in-Ok.ensures.only_writes.honest_same) honest));
+  marks = search rules;
+  any_moment = search rules;
+  left = search rules;
+}
