@@ -1,12 +1,12 @@
 -- Stretches, one more behind the others.
-use Rattle.std.proofs.Common.{◌≡◌, ◌+◌, ◌-◌, ◌*◌, ◌<◌, ◌++◌, ℕ, Bool, false, List, [], ◌∷◌, inl, inr, length, get_or, refl, sym, ap, subst, ◌∙◌, arith, length-append}
+use Rattle.std.proofs.Common.{◌≡◌, ◌+◌, ◌-◌, ◌*◌, ◌<◌, ◌≤◌, ◌++◌, ℕ, Bool, false, List, [], ◌∷◌, inl, inr, length, get_or, refl, sym, ap, subst, ◌∙◌, arith, length-append}
 use Rattle.std.specs.List.{All}
 use Rattle.std.specs.Prelude.{min}
 use Rattle.std.proofs.Math.Seq.{get_or-append_seam}
 use Rattle.std.proofs.lemmas.Bool.{cases_lt}
 use Rattle.std.proofs.lemmas.List.{get_or_append_left}
 use Rattle.rendering.specs.declared.stretch.Stretch.{Stretch}
-use Rattle.rendering.specs.Cut.{AreEven, AreLongest, IsCut, even_stretch}
+use Rattle.rendering.specs.Cut.{AreEven, AreLongest, IsCut, IsShort, IsUniform, even_stretch}
 
 pub cut-push : (stretches : List Stretch) (from mid : ℕ) (s : Stretch) → IsCut from stretches mid → s.first ≡ mid
     → s.first < s.behind → IsCut from (stretches ++ s ∷ []) s.behind
@@ -83,3 +83,59 @@ place-push most to stretches s first behind place some ends =
     let more : length (stretches ++ s ∷ []) * most ≡ n * most + most =
     ap (λ (x : ℕ). x * most) longer ∙ omega arith in
     ends ∙ ap (λ (x : ℕ). min (x + most) to) begins ∙ ap (λ (x : ℕ). min x to) (sym more)
+
+-- ---- cut by marks
+
+-- the stretches of the blocks before `first`; those from there up to, and without, `here` are all marked so
+pub record IsCutSoFar (marked : List Bool) (most first here : ℕ) (done : Bool) (stretches : List Stretch) : Type 0 where
+  pub within : first ≤ here
+  pub cut : IsCut 0 stretches first
+  pub uniform : All (IsUniform marked) stretches
+  pub short : All (IsShort most) stretches
+  pub same : (b : ℕ) → first ≤ b → b < here → get_or marked b false ≡ done
+  pub room : here - first ≤ most
+  pub longest : AreLongest most stretches
+  pub begun : 1 ≤ length stretches → first < here
+  pub ends : CannotGoOn most stretches done
+
+module _ (marked : List Bool) (most first here : ℕ) (done : Bool) (stretches : List Stretch)
+    (is : IsCutSoFar marked most first here done stretches) where
+  abbrev last_one : Stretch
+  last_one = record { first = first; behind = here; done = done }
+
+  -- they end where the next block is
+  pub cut-here : 1 ≤ most → first < here → (get_or marked here false ≡ done → most ≤ here - first)
+      → IsCutSoFar marked most here (here + 1) (get_or marked here false) (stretches ++ last_one ∷ [])
+  cut-here some begun full = record {
+    within = omega arith;
+    cut = cut-push stretches 0 first last_one is.cut refl begun;
+    uniform = all-push (IsUniform marked) stretches last_one is.uniform is.same;
+    short = all-push (IsShort most) stretches last_one is.short is.room;
+    same = λ b from to. let at : b ≡ here = omega (arith, from, to) in ap (λ (k : ℕ). get_or marked k false) at;
+    room = omega (arith, some);
+    longest = longest-push most stretches last_one is.longest is.ends;
+    begun = λ more. omega arith;
+    ends = ends-push most stretches last_one (get_or marked here false)
+        (λ alike. omega (arith, is.room, full (sym alike)));
+  }
+
+  -- or go on with it
+  pub cut-on : 1 ≤ most → (first < here → (get_or marked here false ≡ done) × (here - first < most))
+      → IsCutSoFar marked most first (here + 1) (get_or marked here false) stretches
+  cut-on some goes = record {
+    within = omega (arith, is.within);
+    cut = is.cut;
+    uniform = is.uniform;
+    short = is.short;
+    same = λ b from to. elim (cases_lt b here) [
+      | inl less ↦ is.same b from less ∙ sym (goes (omega (arith, from, less))).0
+      | inr past ↦ let at : b ≡ here = omega (arith, past, to) in ap (λ (k : ℕ). get_or marked k false) at
+    ];
+    room = elim (cases_lt first here) [
+      | inl less ↦ omega (arith, (goes less).1)
+      | inr past ↦ omega (arith, past, some)
+    ];
+    longest = is.longest;
+    begun = λ more. omega (arith, is.begun more);
+    ends = λ k d last alike. is.ends k d last (alike ∙ (goes (is.begun (omega (arith, last)))).0);
+  }

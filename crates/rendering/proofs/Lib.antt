@@ -2,6 +2,7 @@ mod Asked
 mod Beside
 mod Calls
 mod BlockMarks
+mod Both
 mod Resuming
 mod Chosen
 mod Cuts

@@ -14,7 +14,7 @@ use Rattle.job_terms.specs.Workers.{jobs_over}
 use Rattle.execution.specs.Filled.{AreApart, AreFilled, AreParts, IsFixedIn}
 use Rattle.rendering.specs.declared.stretch.Stretch.{Stretch}
 use Rattle.rendering.specs.CutLaws.{cut-apart, cut-covers, cut-few, cut-inside}
-use Rattle.rendering.specs.Work.{IsRenderWork, RenderWork, bytes_for, heard, no_stretch, place_of, stretch_at, whole_of, work_of}
+use Rattle.rendering.specs.Work.{IsInRange, IsRenderWork, RenderWork, bytes_for, heard, no_stretch, place_of, stretch_at, whole_of, work_of}
 use Rattle.rendering.specs.Written.{bytes_of_blocks, frames_before}
 use Rattle.rendering.proofs.Frames.{frames_behind, length-frames_of}
 
@@ -261,11 +261,10 @@ laid_filled work sources files n is size there =
 
 -- a stretch that is taken out of them
 pub taken_inside : (work : RenderWork) (k : ℕ) (s : Stretch) → IsRenderWork work → k < length work.stretches
-    → s ≡ get_or work.stretches k s → (s.first < s.behind) × (s.behind ≤ block_count work.planned.range)
+    → s ≡ get_or work.stretches k s → IsInRange work.planned.range s
 taken_inside work k s is below same =
     let inside = cut-inside work.stretches 0 (block_count work.planned.range) k s is.cut below in
-    subst (λ (t : Stretch). (t.first < t.behind) × (t.behind ≤ block_count work.planned.range)) (sym same)
-    (inside.1, inside.2)
+    rw same (record { some = inside.1; there = inside.2 })
 
 -- there are few of them
 pub few_stretches : (work : RenderWork) → IsRenderWork work → length work.stretches ≤ 1012500

@@ -18,9 +18,10 @@ use Rattle.markfile.specs.Format.{head_of, marks_name, run_bytes, sound_name}
 use Rattle.markfile.specs.Opened.{AreFound, AreSettled, IsSettledAs}
 use Rattle.markfile.specs.Started.{is_started}
 use Rattle.execution.specs.Filled.{AreFilled, IsFixedIn}
-use Rattle.execution.specs.Marking.{HoldsIn, IsRunning, Marking, is_marked}
+use Rattle.execution.specs.Marking.{AreLeftBy, HoldsIn, IsRunning, Marking, is_marked}
 use Rattle.rendering.specs.Maker.{marks_of}
-use Rattle.rendering.specs.Marked.{IsLeftByRun, IsRunOf, MarkedWork, block_end, block_place, file_length, run_of}
+use Rattle.rendering.specs.MakerLaws.{left_by_run}
+use Rattle.rendering.specs.Marked.{IsRunOf, MarkedWork, block_end, block_place, file_length, run_of}
 use Rattle.rendering.specs.Work.{IsRenderWork, RenderWork, done_before, no_stretch, whole_of, work_of}
 use Rattle.rendering.proofs.BlockMarks.{job_block, job_own}
 use Rattle.rendering.proofs.Parts.{stretch_inside}
@@ -97,21 +98,18 @@ module _ (marked : MarkedWork) (sources : Files) (is : IsRenderWork marked.work)
             runs.tell inside.place b inside.there inside.behind_first inside.before_end
             ∙ fixed inside.place inside.there refl (omega (arith, own.0, from)) (omega (arith, own.1, to))
 
--- ---- one board for another: the same jobs are done
-pub running_as : (m : Marking) (done now : ℕ → Bool) (o : Files → Type 0) → ((k : ℕ) → k < m.jobs → now k ≡ done k)
-    → IsRunning m done o → IsRunning m now o
-running_as m done now o same runs = record {
-  marks = runs.marks;
-  ours = runs.ours;
-  tell = λ job b lt from to. runs.tell job b lt from to ∙ sym (same job lt);
-  kept = runs.kept;
-  wave = runs.wave;
+-- the run is that of the same plan
+pub same_run : (was is : RenderWork) (marks_run : RunId) → is.planned ≡ was.planned → IsRunOf was marks_run
+    → IsRunOf is marks_run
+same_run was is marks_run same run = record {
+  blocks = run.blocks ∙ ap (λ (p : Planned). block_count p.range) (sym same);
+  size = run.size ∙ ap (λ (p : Planned). file_length p.range) (sym same);
 }
 
 -- ---- marks that are found
 
-module _ (was is : RenderWork) (marks_run : RunId) (sources : Files) (whole : IsRenderWork is) (run : IsRunOf is marks_run)
-    (same_plan : is.planned ≡ was.planned) (same_sounds : is.sounds ≡ was.sounds) where
+module _ (was is : RenderWork) (marks_run : RunId) (sources : Files) (whole : IsRenderWork is)
+    (run_before : IsRunOf was marks_run) (same_plan : is.planned ≡ was.planned) (same_sounds : is.sounds ≡ was.sounds) where
   abbrev before : Marking
   before = marks_of (record { work = was; run = marks_run }) sources
 
@@ -135,18 +133,24 @@ module _ (was is : RenderWork) (marks_run : RunId) (sources : Files) (whole : Is
         holds = record { size = h.holds.size; same = h.holds.same };
       }
 
+  run : IsRunOf is marks_run
+  run = same_run was is marks_run same_plan run_before
+
+  -- the jobs whose blocks are marked are done
   pub goes_on_running : (old new : Files → Type 0) (files : Files) (told : List Bool) → AreFound marks_run files told
-      → IsLeftByRun before old → ((c : Files) → new c → old c) → ((c : Files) → new c → AreSettled files c)
-      → All (IsUniform told) is.stretches → IsRunning now (done_before is) new
-  goes_on_running old new files told found left back settled uniform = record {
+      → AreLeftBy (Some before) old → ((c : Files) → new c → old c) → ((c : Files) → new c → AreSettled files c)
+      → All (IsUniform told) is.stretches → (done : ℕ → Bool)
+      → ((k : ℕ) → k < length is.stretches → done k ≡ done_before is k) → IsRunning now done new
+  goes_on_running old new files told found left back settled uniform done agrees = record {
     marks = found.marks;
     ours = record { front = found.ours.front; size = found.ours.size };
     tell = λ job b lt from to.
         let inside = stretch_inside is job whole lt in
-        sym (found.each b (omega (arith, to, inside.1, run.blocks))) ∙ uniform job no_stretch lt b from to;
+        sym (found.each b (omega (arith, to, inside.1, run.blocks))) ∙ uniform job no_stretch lt b from to
+        ∙ sym (agrees job lt);
     kept = kept;
     wave = λ c at.
-        let true_marks = left c c (back c at) (back c at) (ap is_started (kept c at)
+        let true_marks = left_by_run before old left c c (back c at) (back c at) (ap is_started (kept c at)
         ∙ started_by found.marks (head_of marks_run) found.ours.front (omega (arith, found.ours.size))) in
         holds_now (is_marked found.marks) (c sound_name) (subst (λ x. HoldsIn before (is_marked x) (c sound_name))
         (some_same true_marks.marks found.marks (sym true_marks.there ∙ kept c at)) true_marks.sound);
@@ -154,14 +158,6 @@ module _ (was is : RenderWork) (marks_run : RunId) (sources : Files) (whole : Is
     where
       kept : (c : Files) → new c → c marks_name ≡ Some found.marks
       kept c at = subst (λ (file : Option (List ℕ)). IsSettledAs file (c marks_name)) found.there (settled c at).marks
-
--- the run is that of the same plan
-pub same_run : (was is : RenderWork) (marks_run : RunId) → is.planned ≡ was.planned → IsRunOf was marks_run
-    → IsRunOf is marks_run
-same_run was is marks_run same run = record {
-  blocks = run.blocks ∙ ap (λ (p : Planned). block_count p.range) (sym same);
-  size = run.size ∙ ap (λ (p : Planned). file_length p.range) (sym same);
-}
 
 -- ---- the run of a list
 

@@ -3,11 +3,15 @@ use Rattle.std.proofs.Common.{◌≡◌, ◌≢◌, ◌∙◌, ℕ, ◌+◌, ◌
 use Rattle.std.proofs.lemmas.Bool.{cases_lt}
 use Rattle.std.proofs.lemmas.Bool.Decides.{eqb_tells}
 use Rattle.std.proofs.lemmas.List.{append_assoc, drop_at, get_or-append_right, get_or_append_left, get_or-take, get_or-drop, length-take-le, take_at}
-use Rattle.work_terms.specs.Disk.{Files, Changes, HasTornRange, IsTorn, IsWritten}
+use Rattle.std.specs.Prelude.{⊤, Ok, Err}
+use Rattle.work_terms.specs.Disk.{Files, Changes, HasTornRange, IsDurable, IsTorn, IsWritten, LeavesOnly}
+use Rattle.devices.specs.ViewLaws.{crashes_of, crashes_then, crashes_weaker}
+use Rattle.devices.specs.Views.{CrashesLeave, output_view}
 use Rattle.devices.specs.declared.bench.Bench.{Ghosts}
 use Rattle.markfile.specs.Format.{marks_name, sound_name}
 use Rattle.markfile.specs.Started.{AreSet, Lasts, LeavesMarks}
-use Rattle.execution.specs.Marking.{AreTrueOfAll, HoldsIn, IsBroken, IsFixed, IsRunning, Leaves, Marking, is_marked, with_done}
+use Rattle.execution.specs.Marking.{AreTrueOfAll, HoldsIn, IsBroken, IsFixed, IsRunning, Leaves, Marking, Marks, is_marked, with_done}
+use Rattle.execution.specs.declared.fault.PlaceFault.TheVariants.{Mark, Write}
 use Rattle.rendering.specs.Maker.{marks_of}
 use Rattle.rendering.specs.Marked.{MarkedWork}
 use Rattle.rendering.specs.Placed.{IsStretchOf, IsTornFrom}
@@ -306,3 +310,67 @@ module _ (marked : MarkedWork) (sources : Files) (done : ℕ → Bool) (job at f
       where
         set-one : (b : ℕ) → m.from job ≤ b → b < m.end job → is_marked now b ≡ true
         set-one b from to = set.set b (omega (arith, from, s.begins)) (omega (arith, to, s.ends))
+
+-- ---- both calls of a store
+
+module _ {B : Type 0} (g : Ghosts B) (marked : MarkedWork) (sources : Files) (done : ℕ → Bool) (job at first end : ℕ)
+    (bytes : List ℕ) (s : IsStretchOf (marks_of marked sources) job at bytes first end) (open_job : done job ≡ false)
+    {old mid : B} (run : IsRunning (marks_of marked sources) done (g.may_leave old))
+    (torn : (c : Files) → g.may_leave mid c → IsTornFrom (g.may_leave old) sound_name at (length bytes) c)
+    (writes : LeavesOnly g.moment g.left_since old mid (IsTornFrom (g.may_leave old) sound_name at (length bytes))) where
+  -- the bytes couldn't be written
+  pub placed-unwritten : Marks {X = ⊤} (Some (marks_of marked sources)) done job (output_view g old) (output_view g mid)
+      (Err Write)
+  placed-unwritten = record {
+    goes_on = sound-runs marked sources done job at first end bytes s open_job (g.may_leave old) run (g.may_leave mid) torn;
+    moments = crashes_weaker (IsTornFrom (g.may_leave old) sound_name at (length bytes))
+        (Leaves (marks_of marked sources) done done) {old = output_view g old} {new = output_view g mid}
+        (sound-leaves marked sources done job at first end bytes s open_job (g.may_leave old) run)
+        (crashes_of g _ {old = old} {new = mid} writes);
+  }
+
+  module _ (new : B) (wrote : Changes (IsWritten at bytes) sound_name (g.stored old) (g.stored mid))
+      (durable : IsDurable sound_name (g.stored mid) (g.may_leave mid))
+      (marks : Lasts g marked.run run.marks mid
+      → LeavesOnly g.moment g.left_since mid new (LeavesMarks marked.run first end run.marks (g.may_leave mid)))
+      (crash : Lasts g marked.run run.marks mid → (c : Files) → g.may_leave new c
+      → LeavesMarks marked.run first end run.marks (g.may_leave mid) c) where
+    lasts : Lasts g marked.run run.marks mid
+    lasts = marks-last marked sources done job at first end bytes s open_job (g.may_leave old) run g mid torn
+
+    placed-moments : CrashesLeave (Leaves (marks_of marked sources) done (with_done done job)) (output_view g old)
+        (output_view g new)
+    placed-moments = crashes_then {P = Leaves (marks_of marked sources) done (with_done done job)}
+        {old = output_view g old} {mid = output_view g mid} {new = output_view g new}
+        (crashes_weaker (IsTornFrom (g.may_leave old) sound_name at (length bytes))
+        (Leaves (marks_of marked sources) done (with_done done job)) {old = output_view g old} {new = output_view g mid}
+        (sound-leaves-more marked sources done job at first end bytes s open_job (g.may_leave old) run)
+        (crashes_of g _ {old = old} {new = mid} writes))
+        (crashes_weaker (LeavesMarks marked.run first end run.marks (g.may_leave mid))
+        (Leaves (marks_of marked sources) done (with_done done job)) {old = output_view g mid} {new = output_view g new}
+        (marks-leaves marked sources done job at first end bytes s open_job (g.may_leave old) run (g.stored old)
+        (g.stored mid) wrote (g.may_leave mid) torn durable)
+        (crashes_of g _ {old = mid} {new = new} (marks lasts)))
+
+    -- its blocks are marked
+    pub placed-marked : (Lasts g marked.run run.marks mid → end ≤ marked.run.blocks
+        → (now : List ℕ) × AreSet marked.run first end run.marks now × Lasts g marked.run now new)
+        → Marks {X = ⊤} (Some (marks_of marked sources)) done job (output_view g old) (output_view g new) (Ok tt)
+    placed-marked set = record { goes_on = runs_on (set lasts fit); moments = placed-moments }
+      where
+        fit : end ≤ marked.run.blocks
+        fit = marks-fit marked sources done job at first end bytes s open_job (g.may_leave old) run
+
+        runs_on : (now : List ℕ) × AreSet marked.run first end run.marks now × Lasts g marked.run now new
+            → IsRunning (marks_of marked sources) (with_done done job) (g.may_leave new)
+        runs_on is = marks-run marked sources done job at first end bytes s open_job (g.may_leave old) run (g.stored old)
+            (g.stored mid) wrote (g.may_leave mid) torn durable is.0 (g.may_leave new) is.1 is.2.kept (crash lasts)
+
+    -- or they couldn't be
+    pub placed-broken : Marks {X = ⊤} (Some (marks_of marked sources)) done job (output_view g old) (output_view g new)
+        (Err Mark)
+    placed-broken = record {
+      goes_on = marks-broken marked sources done job at first end bytes s open_job (g.may_leave old) run (g.stored old)
+          (g.stored mid) wrote (g.may_leave mid) torn durable (g.may_leave new) (crash lasts);
+      moments = placed-moments;
+    }

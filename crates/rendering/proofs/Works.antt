@@ -1,16 +1,15 @@
 -- A marked rendering as an execution sees it: its jobs, the file as it is laid out, and its marks.
-use Rattle.std.proofs.Common.{◌≡◌, ◌≢◌, ◌∙◌, ℕ, ◌-◌, ◌/◌, ◌<◌, ◌≤◌, Bool, true, false, Option, Some, List, length, get_or, refl, sym, ap, subst, inl, inr, arith}
+use Rattle.std.proofs.Common.{◌≡◌, ◌≢◌, ◌∙◌, ℕ, ◌-◌, ◌/◌, ◌<◌, ◌≤◌, Bool, true, false, Option, Some, List, length, get_or, refl, sym, ap, subst, arith}
 use Rattle.std.specs.Prelude.{⊤, Result, Ok, Err, map}
 use Rattle.std.proofs.lemmas.List.{get_or-append_right, get_or-map, length-map}
 use Rattle.sound_terms.specs.Blocks.{block_start}
 use Rattle.sound_terms.specs.Depth.{bits_of}
 use Rattle.sound_terms.specs.Render.{render_info}
 use Rattle.sound_terms.specs.Waves.{header_of, zeros}
-use Rattle.work_terms.specs.Disk.{Elapses, Files, HasRead, HasWritten, IsBeside, IsDurable}
+use Rattle.work_terms.specs.Disk.{Files, HasRead, HasWritten, IsBeside, IsDurable}
 use Rattle.job_terms.specs.Workers.{jobs_over}
 use Rattle.rendering.specs.declared.stretch.Stretch.{Stretch}
 use Rattle.devices.specs.Frame.{OnlyWrites}
-use Rattle.devices.specs.Views.{CrashesLeave, output_view}
 use Rattle.devices.specs.declared.bench.Bench as bench
 use Rattle.markfile.specs.Format.{AreFresh, fresh_marks, marks_name, sound_name}
 use Rattle.markfile.specs.Started.{LeavesStart}
@@ -20,7 +19,8 @@ use Rattle.execution.specs.Plan.{AreBlank, IsLast, Stays}
 use Rattle.execution.specs.Worlds.{IsPlaced}
 use Rattle.execution.specs.declared.fault.PlaceFault.{PlaceFault}
 use Rattle.execution.specs.declared.fault.PlaceFault.TheVariants.{Mark, Write}
-use Rattle.rendering.specs.Maker.{HasSoundJobs, marks_of, plan_of}
+use Rattle.markfile.specs.declared.run.RunId.{RunId}
+use Rattle.rendering.specs.Maker.{HasSoundJobs, IsReopened, marks_of, plan_of}
 use Rattle.rendering.specs.MakerLaws.{some_job, started_as}
 use Rattle.rendering.specs.Marked.{IsRunOf, MarkedWork, laid_file, padded}
 use Rattle.rendering.specs.Placed.{HasPlaced}
@@ -29,7 +29,7 @@ use Rattle.rendering.specs.Written.{frames_before}
 use Rattle.rendering.proofs.BlockMarks.{names_apart}
 use Rattle.rendering.proofs.Frames.{length-frames_of}
 use Rattle.rendering.proofs.Parts.{are_apart, are_parts, bytes_product, laid_filled, zero_at}
-use Rattle.rendering.proofs.Resuming.{apart, laid_holds, stays_beside}
+use Rattle.rendering.proofs.Resuming.{apart, laid_holds, same_run, stays_beside}
 
 -- ---- its jobs
 
@@ -50,6 +50,18 @@ sound_jobs marked is = record {
         record { inside = part.inside; part = part.part };
   };
   apart = λ sources. are_apart marked.work sources is;
+}
+
+-- its blocks are cut anew
+pub reopened_as : (was is : RenderWork) (run : RunId) → IsRunOf was run → is.planned ≡ was.planned
+    → is.sounds ≡ was.sounds → IsRenderWork is
+    → IsReopened (record { work = was; run = run }) (record { work = is; run = run })
+reopened_as was is run of planned sounds whole = record {
+  planned = planned;
+  sounds = sounds;
+  run = refl;
+  whole = record { work = whole; run = same_run was is run planned of };
+  jobs = sound_jobs (record { work = is; run = run }) whole;
 }
 
 -- ---- its files
@@ -238,30 +250,12 @@ pub done_at : (stretches : List Stretch) (k : ℕ) → k < length (map (λ (s : 
 done_at stretches k below = get_or-map (λ (s : Stretch). s.done) stretches k no_stretch false
     (omega (arith, below, length-map stretches (λ (s : Stretch). s.done)))
 
--- ---- the two files are synced
+-- ---- a job is placed
 
 pub same_marking : (a b : Marking) → Some a ≡ Some b → a ≡ b
 same_marking a b e = cc
 
 module _ {B : Type 0} (g : bench.Ghosts B) where
-  -- a call that lets fewer outcomes be
-  pub crashes_fewer : (P : Files → Type 0) (old new : B)
-      → ((c : Files) → g.left_since old (g.moment old) c → g.may_leave old c)
-      → Elapses (g.moment old) (g.moment new) (g.left_since old) (g.left_since new) (g.may_leave new)
-      → ((c : Files) → g.may_leave old c → P c) → ((c : Files) → g.may_leave new c → g.may_leave old c)
-      → CrashesLeave P (output_view g old) (output_view g new)
-  crashes_fewer P old new only time holds back = record {
-    later = time.later;
-    each = λ c l. elim (time.nothing_else (g.moment old) c (omega arith) l) [
-      | inl past ↦ holds c (only c past)
-      | inr left ↦ holds c (back c left)
-    ];
-    before = λ t c early l. elim (time.nothing_else t c early l) [
-      | inl past ↦ inl past
-      | inr left ↦ inr (holds c (back c left))
-    ];
-  }
-
   -- a job is placed
   pub places_as : (marked : MarkedWork) (result : Result ⊤ PlaceFault) {old new : B} → IsRenderWork marked.work
       → OnlyWrites g (λ n. (n ≢ sound_name) × (n ≢ marks_name)) old new result (λ _. ⊤)

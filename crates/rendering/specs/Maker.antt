@@ -1,5 +1,5 @@
 -- A marked rendering as a work of an execution.
-use Rattle.std.specs.Prelude.{◌==◌, true, cond, Some, length}
+use Rattle.std.specs.Prelude.{◌≡◌, ◌==◌, true, cond, Some, length}
 use Rattle.work_terms.specs.Disk.{Files}
 use Rattle.job_terms.specs.Workers.{jobs_over}
 use Rattle.markfile.specs.Format.{head_of, marks_name, sound_name}
@@ -46,3 +46,11 @@ pub record IsMarkedWork (marked : MarkedWork) : Type 0 where
 pub record HasSoundJobs (marked : MarkedWork) : Type 0 where
   pub fit : (sources : Files) → SourcesFit (plan_of marked) sources
   pub apart : (sources : Files) → AreApart (jobs_over (plan_of marked).jobs sources)
+
+-- marks were opened: the same plan, files and run, whole, with sound jobs, however its blocks are cut now
+pub record IsReopened (old new : MarkedWork) : Type 0 where
+  pub planned : new.work.planned ≡ old.work.planned
+  pub sounds : new.work.sounds ≡ old.work.sounds
+  pub run : new.run ≡ old.run
+  pub whole : IsMarkedWork new
+  pub jobs : HasSoundJobs new

@@ -17,6 +17,11 @@ pub record IsStretchOf (m : Marking) (job at : ℕ) (bytes : List ℕ) (first en
       → (b : ℕ) × (b < m.count) × (m.from job ≤ b) × (b < m.end job) × (m.first b ≤ i) × (i < m.last b)
   pub others : (j : ℕ) → j < m.jobs → j ≢ job → (m.end j ≤ m.from job) ⊎ (m.end job ≤ m.from j)
 
+-- the blocks from one on up to, and without, another, not too many of them
+pub record AreFewBlocks (first end : ℕ) : Type 0 where
+  pub order : first ≤ end
+  pub few : end ≤ first + 2048
+
 -- an outcome of before with one file torn
 abbrev pub IsTornFrom : (Files → Type 0) → List ℕ → (at n : ℕ) → Files → Type 0
 IsTornFrom outcomes name at n c = (d : Files) × outcomes d × Changes (IsTorn at n) name d c

@@ -1,5 +1,5 @@
 -- What is rendered of a project by what was chosen, and which refusal is due.
-use Rattle.std.specs.Prelude.{◌≡◌, ℕ, ◌-◌, ◌≤◌, nat_le, false, List, Option, None, Some, if◌then◌else◌}
+use Rattle.std.specs.Prelude.{◌≡◌, ℕ, ◌-◌, ◌<◌, ◌≤◌, nat_le, false, List, Option, None, Some, if◌then◌else◌}
 use Rattle.std.specs.Option.{ForSome}
 use Rattle.sound_terms.specs.Render.{Range, ReadsBack, rendering_of}
 use Rattle.work_terms.specs.Disk.{Files}
@@ -8,6 +8,7 @@ use Rattle.list_terms.specs.Project.{ListProject}
 use Rattle.list_terms.specs.Binding.{Binding}
 use Rattle.list_terms.specs.Accepted.{OptionValues, range_of}
 use Rattle.list_terms.specs.Heard.{project_mix}
+use Rattle.markfile.specs.declared.run.RunRange.{RunRange}
 use Rattle.rendering.specs.declared.options.Options.{Options}
 use Rattle.rendering.specs.declared.work.Rendered.{Rendered}
 
@@ -23,6 +24,11 @@ values_of options = record {
 -- a number of channels that was chosen is 1 to 64
 abbrev pub HaveChannels : Options → Type 0
 HaveChannels options = ForSome options.channels (λ channels. (1 ≤ channels) × (channels ≤ 64))
+
+-- it has a frame, and 1 to 64 channels
+pub record IsSpan (span : RunRange) : Type 0 where
+  pub some : span.from < span.to
+  pub channels : (1 ≤ span.channels) × (span.channels ≤ 64)
 
 -- so many frames and channels are those of a range
 pub record HasRange (rendered : Rendered) (range : Range) : Type 0 where

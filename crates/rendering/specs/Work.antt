@@ -1,7 +1,7 @@
 -- A rendering as jobs: stretches of its blocks, each a place of the rendered file.
-use Rattle.std.specs.Prelude.{ℕ, ◌+◌, ◌-◌, ◌*◌, ◌/◌, ℤ, Bool, List, length, slice_index_or, codes, false}
+use Rattle.std.specs.Prelude.{◌≡◌, ℕ, ◌+◌, ◌-◌, ◌*◌, ◌/◌, ◌<◌, ◌≤◌, ℤ, Bool, List, length, slice_index_or, codes, false}
 use Rattle.std.specs.List.{All}
-use Rattle.sound_terms.specs.Blocks.{block_count, block_length}
+use Rattle.sound_terms.specs.Blocks.{block_count, block_frames, block_length}
 use Rattle.sound_terms.specs.Depth.{bits_of}
 use Rattle.sound_terms.specs.Groups.{sum_of}
 use Rattle.sound_terms.specs.Media.{IsPieceOf}
@@ -9,6 +9,7 @@ use Rattle.sound_terms.specs.Render.{Range, render_info, rendering_of}
 use Rattle.sound_terms.specs.Sounds.{SoundFacts, reading_by}
 use Rattle.sound_terms.specs.Waves.{header_of}
 use Rattle.work_terms.specs.Disk.{Files}
+use Rattle.blockmachine.specs.Sums.{Extent}
 use Rattle.renderplan.specs.Planned.{IsPlan, Planned}
 use Rattle.wavwrite.specs.Info.{Fits}
 use Rattle.job_terms.specs.Workers.{JobsBy}
@@ -26,6 +27,13 @@ pub record BlockWork : Type 0 where
 pub record IsBlockWork (work : BlockWork) : Type 0 where
   pub planned : IsPlan work.planned
   pub inside : All (IsPieceOf work.sounds) work.planned.pieces
+
+-- this machine can sum any of its blocks, with this room for a program and for samples
+pub record CanPlay (work : BlockWork) (extent : Extent) (room count : ℕ) : Type 0 where
+  pub inside : All (IsPieceOf work.sounds) work.planned.pieces
+  pub machine : extent ≡ record { frames = 4096; channels = work.planned.range.channels }
+  pub program : room ≡ length work.planned.pieces + 2
+  pub samples : count ≡ 4096 * work.planned.range.channels
 
 -- and the stretches into which its blocks are cut
 pub record RenderWork : Type 0 where
@@ -52,9 +60,19 @@ whole_of work sources = rendering_of work.planned.range (heard work.planned work
 abbrev pub bytes_for : Range → ℕ → ℕ
 bytes_for range n = n * range.channels * (bits_of range.depth / 8)
 
+-- there is such a block, and just room for its bytes
+pub record HasRoom (range : Range) (k room : ℕ) : Type 0 where
+  pub there : k < block_count range
+  pub exact : room ≡ bytes_for range (block_frames range k)
+
 -- what stands behind the last stretch
 abbrev pub no_stretch : Stretch
 no_stretch = record { first = 0; behind = 0; done = false }
+
+-- it has a block, and lies among those of a range
+pub record IsInRange (range : Range) (s : Stretch) : Type 0 where
+  pub some : s.first < s.behind
+  pub there : s.behind ≤ block_count range
 
 abbrev pub stretch_at : List Stretch → ℕ → Stretch
 stretch_at stretches k = slice_index_or stretches k no_stretch

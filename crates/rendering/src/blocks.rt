@@ -5,7 +5,7 @@ ghost use Rattle.sampletime.specs.TimeCode.{day};
 ghost use Rattle.sound_terms.specs.Blocks.{block_count, block_frames};
 ghost use Rattle.sound_terms.specs.Media.{IsPieceOf};
 ghost use Rattle.devices.specs.Frame.{OnlyReads};
-ghost use Rattle.rendering.specs.Work.{bytes_for, heard, stretch_frames};
+ghost use Rattle.rendering.specs.Work.{CanPlay, HasRoom, IsInRange, bytes_for, heard, stretch_frames};
 ghost use Rattle.rendering.specs.Written.{block_bytes, bytes_of_blocks};
 ghost use Rattle.rendering.specs.declared.fault.RenderFault.TheVariants.{Memory};
 
@@ -58,12 +58,9 @@ fn play_block<S: Shelf>(
     samples: &mut [i32],
     bytes: &mut [u8],
 ) -> Result<(), DeviceFault>
-    requires there { k < block_count plan.now.range }
-    requires inside { All (IsPieceOf sounds.now) plan.now.pieces }
-    requires machine { machine.old ≡ record { frames = 4096; channels = plan.now.range.channels } }
-    requires program { program.old.room ≡ length plan.now.pieces + 2 }
-    requires samples { length samples.old ≡ 4096 * plan.now.range.channels }
-    requires room { length bytes.old ≡ bytes_for plan.now.range (block_frames plan.now.range k) }
+    requires ready { CanPlay (record { planned = plan.now; sounds = sounds.now }) machine.old program.old.room
+        (length samples.old) }
+    requires room { HasRoom plan.now.range k (length bytes.old) }
     ensures played { IsTrue (S.honest shelf.old) → OnOk result
         (bytes.new ≡ block_bytes plan.now.range (heard plan.now sounds.now (S.stored shelf.old)) k) }
     ensures ready { machine.new ≡ machine.old }
@@ -127,8 +124,7 @@ impl<'a> Blocks<'a> {
 
     /// How many frames a stretch of them has.
     pub fn frames_in(&self, stretch: &Stretch) -> usize
-        requires some { stretch.now.first < stretch.now.behind }
-        requires there { stretch.now.behind ≤ block_count self.now.planned.range }
+        requires { IsInRange self.now.planned.range stretch.now }
         ensures frames { result ≡ stretch_frames self.now.planned.range stretch.now }
         ensures few { result ≤ 4147200000 }
     {
@@ -154,8 +150,7 @@ impl<'a> Blocks<'a> {
     /// Sums block k and writes its samples over `bytes`, which has room for just these. A file that can't be read
     /// fails it.
     fn play<S: Shelf>(&mut self, k: u64, shelf: &mut S, bytes: &mut [u8]) -> Result<(), DeviceFault>
-        requires there { k < block_count self.old.planned.range }
-        requires room { length bytes.old ≡ bytes_for self.old.planned.range (block_frames self.old.planned.range k) }
+        requires { HasRoom self.old.planned.range k (length bytes.old) }
         ensures played { IsTrue (S.honest shelf.old) → OnOk result
             (bytes.new ≡ block_bytes self.old.planned.range
             (heard self.old.planned self.old.sounds (S.stored shelf.old)) k) }
@@ -211,8 +206,7 @@ impl<'a> Blocks<'a> {
         shelf: &mut S,
         bytes: &mut [u8],
     ) -> Result<(), DeviceFault>
-        requires some { stretch.now.first < stretch.now.behind }
-        requires there { stretch.now.behind ≤ block_count self.old.planned.range }
+        requires inside { IsInRange self.old.planned.range stretch.now }
         requires room { length bytes.old
             ≡ bytes_for self.old.planned.range (stretch_frames self.old.planned.range stretch.now) }
         ensures played { IsTrue (S.honest shelf.old) → OnOk result (bytes.new

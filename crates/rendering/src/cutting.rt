@@ -1,5 +1,5 @@
 // Cuts blocks into stretches.
-ghost use Rattle.std.specs.Prelude.{◌≡◌, ◌≤◌, ◌<◌, ◌-◌, ◌/◌, ◌^◌, true, false, length, max, cond, nat_le, IfOk};
+ghost use Rattle.std.specs.Prelude.{◌≡◌, ◌≤◌, ◌<◌, ◌-◌, ◌^◌, true, false, length, IfOk};
 ghost use Rattle.std.specs.List.{All};
 ghost use Rattle.rendering.specs.Cut.{AreEven, AreLongest, IsCut, IsFresh, IsShort, IsUniform, blocks_in_job};
 
@@ -30,21 +30,9 @@ pub fn blocks_in_job(jobs: JobLength, blocks: u32, block_size: u32) -> u32
 {
     match jobs {
         JobLength::OneBlock => 1,
-        JobLength::Longer => blocks_at_once(blocks, block_size),
+        JobLength::Longer if blocks <= FEW => 1,
+        JobLength::Longer => (LONGER / block_size).max(1),
     }
-}
-
-/// How many blocks of so many bytes a longer job has.
-fn blocks_at_once(blocks: u32, block_size: u32) -> u32
-    requires { 0 < block_size }
-    ensures value { result ≡ cond (nat_le blocks 64) 1 (max (4194304 / block_size) 1) }
-    ensures some { 1 ≤ result }
-    ensures few { 8192 ≤ block_size → result ≤ 2048 }
-{
-    if blocks <= FEW {
-        return 1;
-    }
-    (LONGER / block_size).max(1)
 }
 
 /// All blocks, none of which is done, so many in each stretch but the last.

@@ -25,10 +25,7 @@ fn begin<B: Bench>(bench: &mut B, head: &[u8], count: u64) -> Result<(), DeviceF
         Ok(()) => {}
         Err(fault) => return Err(fault),
     }
-    match bench.append_zeros(SOUND, count) {
-        Ok(()) => return Ok(()),
-        Err(fault) => return Err(fault),
-    }
+    bench.append_zeros(SOUND, count)
 }
 
 impl<'a> Rendering<'a> {

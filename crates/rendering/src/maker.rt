@@ -1,24 +1,25 @@
 // A marked rendering as a work of an execution.
-ghost use Rattle.std.specs.Prelude.{◌≡◌, ◌<◌, ◌≤◌, ℕ, Bool, IfOk, IfSome, IsErrOf, IsTrue, List, None, Ok, OnErr, OnOk, Some, false, length, slice_index_or, ⊤};
+ghost use Rattle.std.specs.Prelude.{◌≡◌, ◌<◌, ℕ, Bool, IfOk, IfSome, IsTrue, List, None, Ok, Some, false, length, slice_index_or, ⊤};
 ghost use Rattle.std.specs.List.{range_with_len};
 ghost use Rattle.work_terms.specs.Disk.{Files, IsUntouched};
 ghost use Rattle.work_terms.specs.Refusals.{Answers};
 ghost use Rattle.devices.specs.Frame.{OnlyWrites};
-ghost use Rattle.devices.specs.Views.{CrashesLeave, output_view};
+ghost use Rattle.devices.specs.Views.{output_view};
 ghost use Rattle.job_terms.specs.declared.Order.TheVariants.{ByTime};
 ghost use Rattle.job_terms.specs.Workers.{jobs_over};
 ghost use Rattle.workboard.specs.Indexed.{IsOrder};
 ghost use Rattle.markfile.specs.Fault.{ReadsMarks};
 ghost use Rattle.markfile.specs.Opened.{opened_of};
 ghost use Rattle.execution.specs.Filled.{AreFilled};
-ghost use Rattle.execution.specs.Marking.{AreLeftBy, IsRunningBy, LaysBy, NoneStartedBy};
-ghost use Rattle.execution.specs.Plan.{AreBlank, IsAt, Stays};
+ghost use Rattle.execution.specs.Maker.{LaysOut};
+ghost use Rattle.execution.specs.Marking.{AreLeftBy, IsRunningBy, NoneStartedBy};
+ghost use Rattle.execution.specs.Plan.{IsAt, Stays};
 ghost use Rattle.rendering.specs.Fault.{refusal_of};
-ghost use Rattle.rendering.specs.Maker.{HasSoundJobs, IsMarkedWork, plan_of};
-ghost use Rattle.rendering.specs.Marked.{IsFoundAs, IsRunOf, run_of};
+ghost use Rattle.rendering.specs.Maker.{HasSoundJobs, IsMarkedWork, IsReopened, plan_of};
+ghost use Rattle.rendering.specs.Marked.{IsFoundAs, run_of};
 ghost use Rattle.rendering.specs.Planned.{IsRenderingOf};
 ghost use Rattle.rendering.specs.Rendering.{HasRange, HaveChannels, render_fault, values_of};
-ghost use Rattle.rendering.specs.Work.{AreCutBy, IsRenderWork, done_before, work_of};
+ghost use Rattle.rendering.specs.Work.{AreCutBy, done_before, work_of};
 
 use crate::cutting::JobLength;
 use crate::marked::count_of;
@@ -73,7 +74,7 @@ impl<'a> Rendering<'a> {
         requires { job < (work_of self.now).count }
         ensures { result ≡ (work_of self.now).size job }
     {
-        let stretch = self.stretches[job as usize];
+        let stretch = self.stretch(job);
         let frames = self.blocks.frames_in(&stretch);
         self.blocks.length_of(frames)
     }
@@ -82,7 +83,7 @@ impl<'a> Rendering<'a> {
     fn job_frames(&self, job: u32) -> u64
         requires { job < (work_of self.now).count }
     {
-        let stretch = self.stretches[job as usize];
+        let stretch = self.stretch(job);
         self.blocks.frames_in(&stretch) as u64
     }
 }
@@ -93,25 +94,9 @@ fn lay_out_marked<B: Bench>(
     fresh: &FreshMarks,
     bench: &mut B,
 ) -> Result<(), OutputFault>
-    requires whole { IsRenderWork rendering.now }
-    requires run { IsRunOf rendering.now fresh.now }
-    ensures laid { IsTrue (B.honest bench.old) → (sources : Files) → OnOk result (AreBlank
-        (jobs_over (work_of rendering.now) sources)
-        ((plan_of (record { work = rendering.now; run = fresh.now })).whole sources) (B.stored bench.new)) }
-    ensures marks { IsTrue (B.honest bench.old) → (sources : Files) → (done : ℕ → Bool)
-        → ((k : ℕ) → k < (work_of rendering.now).count → done k ≡ false)
-        → OnOk result (IsRunningBy ((plan_of (record { work = rendering.now; run = fresh.now })).marking sources) done
-        (B.may_leave bench.new)) }
-    ensures any_moment { IsTrue (B.honest bench.old) → (sources : Files)
-        → NoneStartedBy ((plan_of (record { work = rendering.now; run = fresh.now })).marking sources)
-        (B.may_leave bench.old)
-        → CrashesLeave (LaysBy ((plan_of (record { work = rendering.now; run = fresh.now })).marking sources))
-        (output_view B.Bench bench.old) (output_view B.Bench bench.new) }
-    ensures left { IsTrue (B.honest bench.old) → (sources : Files)
-        → NoneStartedBy ((plan_of (record { work = rendering.now; run = fresh.now })).marking sources)
-        (B.may_leave bench.old)
-        → OnErr result (AreLeftBy ((plan_of (record { work = rendering.now; run = fresh.now })).marking sources)
-        (B.may_leave bench.new)) }
+    requires { IsMarkedWork (record { work = rendering.now; run = fresh.now }) }
+    ensures lays_out { LaysOut (plan_of (record { work = rendering.now; run = fresh.now }))
+        (output_view B.Bench bench.old) (output_view B.Bench bench.new) result }
     ensures only_writes { OnlyWrites B.Bench (Stays (plan_of (record { work = rendering.now; run = fresh.now })))
         bench.old bench.new result (λ _. ⊤)
         (λ fault failed. IsAt (plan_of (record { work = rendering.now; run = fresh.now })) fault.file failed) }
@@ -238,11 +223,7 @@ impl<'a> RenderingWork<'a> {
         ensures cut { IsTrue (B.honest bench.old) → IfOk result (λ found. IfSome found (λ _. (marked : List Bool)
             × (opened_of self.old.run (B.stored bench.old) ≡ Ok (Some marked)) × AreCutBy jobs marked self.new.work)) }
         ensures unchanged { IfOk result (λ found. found ≡ None → self.new ≡ self.old) }
-        ensures planned { self.new.work.planned ≡ self.old.work.planned }
-        ensures sounds { self.new.work.sounds ≡ self.old.work.sounds }
-        ensures run { self.new.run ≡ self.old.run }
-        ensures whole { IsMarkedWork self.new }
-        ensures jobs { HasSoundJobs self.new }
+        ensures reopened { IsReopened self.old self.new }
         ensures untouched { IsUntouched B.stored B.may_leave B.moment B.left_since bench.old bench.new }
         ensures only_reads { ReadsMarks B.Bench bench.old bench.new result }
     {

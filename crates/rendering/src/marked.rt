@@ -7,7 +7,7 @@ ghost use Rattle.work_terms.specs.Disk.{IsDurable, LeavesOthers};
 ghost use Rattle.devices.specs.Frame.{OnlyReads};
 ghost use Rattle.markfile.specs.Format.{run_bytes, sound_name};
 ghost use Rattle.rendering.specs.Marked.{file_length, laid_file};
-ghost use Rattle.rendering.specs.Work.{AreCutBy, IsRenderWork, place_of, stretch_at, work_of};
+ghost use Rattle.rendering.specs.Work.{AreCutBy, IsInRange, IsRenderWork, place_of, stretch_at, work_of};
 ghost use Rattle.rendering.specs.Written.{WritesRendering};
 
 use crate::Rendering;
@@ -23,8 +23,7 @@ impl<'a> Rendering<'a> {
     pub(crate) fn stretch(&self, job: u32) -> Stretch
         requires { job < (work_of self.now).count }
         ensures stretch { result ≡ stretch_at self.now.stretches job }
-        ensures some { result.first < result.behind }
-        ensures there { result.behind ≤ block_count self.now.planned.range }
+        ensures inside { IsInRange self.now.planned.range result }
         ensures few { result.behind ≤ result.first + 2048 }
     {
         self.stretches[job as usize]
@@ -44,7 +43,7 @@ impl<'a> Rendering<'a> {
         ensures same { self.new ≡ self.old }
         ensures only_reads { OnlyReads S.Shelf shelf.old shelf.new result (λ _. ⊤) (λ _ failed. ⊤) }
     {
-        let stretch = self.stretches[job as usize];
+        let stretch = self.stretch(job);
         self.blocks.play_stretch(&stretch, shelf, bytes)
     }
 

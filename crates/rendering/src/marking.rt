@@ -7,7 +7,7 @@ ghost use Rattle.markfile.specs.Format.{marks_name, sound_name};
 ghost use Rattle.execution.specs.Marking.{IsRunning, Marks};
 ghost use Rattle.rendering.specs.Maker.{marks_of};
 ghost use Rattle.rendering.specs.Marked.{MarkedWork};
-ghost use Rattle.rendering.specs.Placed.{HasPlaced, IsStretchOf, IsTornFrom};
+ghost use Rattle.rendering.specs.Placed.{AreFewBlocks, HasPlaced, IsStretchOf, IsTornFrom};
 
 use devices::{Bench, DeviceFault};
 use execution::PlaceFault;
@@ -47,8 +47,7 @@ pub(crate) fn place_marked<B: Bench>(
     first: u32,
     end: u32,
 ) -> Result<(), PlaceFault>
-    requires order { first ≤ end }
-    requires few { end ≤ first + 2048 }
+    requires { AreFewBlocks first end }
     ensures marks { IsTrue (B.honest bench.old)
         → (marked : MarkedWork) (sources : Files) (done : ℕ → Bool) (job : ℕ)
         → IsStretchOf (marks_of marked sources) job at bytes.now first end → done job ≡ false

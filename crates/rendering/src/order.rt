@@ -1,7 +1,6 @@
 // In which order the jobs of a rendering are handed out.
-ghost use Rattle.std.specs.Prelude.{◌≡◌, ◌<◌, IfErr, IfOk, IfSome, length};
+ghost use Rattle.std.specs.Prelude.{◌≡◌, ◌<◌, IfErr, IfOk, length};
 ghost use Rattle.std.specs.List.{range_with_len};
-ghost use Rattle.sampletime.specs.TimeCode.{day};
 ghost use Rattle.job_terms.specs.declared.Order.TheVariants.{ByTime};
 ghost use Rattle.workboard.specs.Indexed.{IsOrder};
 ghost use Rattle.sound_terms.specs.Blocks.{block_count};
@@ -18,14 +17,12 @@ use sound_terms::Home;
 use std::alloc::{AllocError, Global};
 
 /// Files go by the place of their home index, and in a file by the frame. What begins nowhere comes last.
-fn key_of(source: Option<(u32, u64)>, homes: &[Home]) -> u64
-    requires { IfSome source (λ source. source.1 < day) }
-{
+fn key_of(source: Option<(u32, u64)>, homes: &[Home]) -> u64 {
     let Some((file, frame)) = source else {
         return u64::MAX;
     };
     match homes.get(file as usize) {
-        Some(home) => (u64::from(home.place) << 32) + frame,
+        Some(home) => (u64::from(home.place) << 32).saturating_add(frame),
         None => u64::MAX,
     }
 }

@@ -13,7 +13,7 @@ ghost use Rattle.wavwrite.specs.Info.{Fits};
 ghost use Rattle.rendering.specs.Cut.{AreEven, IsCut, IsShort};
 ghost use Rattle.rendering.specs.Fault.{ComesFirst, refusal_of};
 ghost use Rattle.rendering.specs.Planned.{IsPlanFor, IsRenderingOf, MixAs};
-ghost use Rattle.rendering.specs.Rendering.{HasRange, HaveChannels, render_fault, values_of};
+ghost use Rattle.rendering.specs.Rendering.{HasRange, HaveChannels, IsSpan, render_fault, values_of};
 ghost use Rattle.rendering.specs.Work.{IsRenderWork, job_blocks};
 ghost use Rattle.rendering.specs.declared.fault.RenderFault.TheVariants.{Memory};
 
@@ -115,8 +115,7 @@ fn bext_at(time: SampleTime) -> Bext
 
 /// What the file of a span tells of itself.
 fn info_of(span: &RunRange) -> SoundInfoRef<'static>
-    requires channels { (1 ≤ span.now.channels) × (span.now.channels ≤ 64) }
-    requires some { span.now.from < span.now.to }
+    requires { IsSpan span.now }
     ensures info { result ≡ render_info (marks.range_of span.now) }
     ensures short { result.frames < 2 ^ 48 }
 {

@@ -1,8 +1,7 @@
-use Rattle.std.proofs.Common.{◌≡◌, ◌+◌, ◌*◌, ◌<◌, List, length, false, refl, sym, subst, arith}
-use Rattle.std.specs.List.{All}
+use Rattle.std.proofs.Common.{◌≡◌, ◌+◌, ◌<◌, length, false, refl, arith}
 use Rattle.std.specs.Prelude.{min}
 use Rattle.rendering.specs.declared.stretch.Stretch.{Stretch}
-use Rattle.rendering.specs.Cut.{AreEven, IsCut, IsFresh, IsShort}
+use Rattle.rendering.specs.Cut.{IsFresh, IsShort}
 use Rattle.rendering.proofs.Cuts.{all-push, cut-push, even-next, even-push, place-push}
 use Rattle.rendering.proofs.cutting.fresh_stretches.Goals as goal
 
@@ -15,19 +14,14 @@ loop-first-preserved c =
     let ends = c.min-behind.ensures in
     let far = c.saturating_add.ensures in
     let some : c.loop-first.first < behind = omega (arith, ends, far, c.loop-first-test.true, c.requires) in
-    let items = c.in_ok-push.ensures.items in
     let goes : behind ≡ min (c.loop-first.first + c.args.most) c.args.blocks = omega (arith, ends, far) in
-    record {
+    let next = even-next c.args.most c.args.blocks (length before) c.loop-first.first behind is.place
+    c.loop-first-test.true goes in
+    rw c.in_ok-push.ensures.items (record {
       within = omega (arith, ends);
-      cut = subst (λ (ss : List Stretch). IsCut 0 ss behind) (sym items)
-          (cut-push before 0 c.loop-first.first s is.cut refl some);
-      place = subst (λ (ss : List Stretch). behind ≡ min (length ss * c.args.most) c.args.blocks) (sym items)
-          (place-push c.args.most c.args.blocks before s c.loop-first.first behind is.place c.loop-first-test.true goes);
-      even = subst (λ (ss : List Stretch). AreEven c.args.most c.args.blocks ss) (sym items)
-          (even-push c.args.most c.args.blocks before s is.even
-          (even-next c.args.most c.args.blocks (length before) c.loop-first.first behind is.place
-          c.loop-first-test.true goes));
-      fresh = subst (λ (ss : List Stretch). All IsFresh ss) (sym items) (all-push IsFresh before s is.fresh refl);
-      short = subst (λ (ss : List Stretch). All (IsShort c.args.most) ss) (sym items)
-          (all-push (IsShort c.args.most) before s is.short (omega (arith, ends, far)));
-    }
+      cut = cut-push before 0 c.loop-first.first s is.cut refl some;
+      place = place-push c.args.most c.args.blocks before s c.loop-first.first behind is.place c.loop-first-test.true goes;
+      even = even-push c.args.most c.args.blocks before s is.even next;
+      fresh = all-push IsFresh before s is.fresh refl;
+      short = all-push (IsShort c.args.most) before s is.short (omega (arith, ends, far));
+    })

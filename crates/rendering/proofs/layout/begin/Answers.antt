@@ -1,6 +1,5 @@
-use Rattle.std.proofs.Common.{◌≡◌, ◌∙◌, ◌++◌, ℕ, codes, IsTrue, List, [], Ok, Option, Some, ap, sym}
-use Rattle.std.specs.Prelude.{⊤, unwrap_or}
-use Rattle.devices.specs.declared.fault.DeviceFault.{DeviceFault}
+use Rattle.std.proofs.Common.{◌≡◌, ◌∙◌, ◌++◌, ℕ, codes, IsTrue, List, [], Option, Some, ap, sym}
+use Rattle.std.specs.Prelude.{unwrap_or}
 use Rattle.work_terms.specs.Disk.{IsAppended}
 use Rattle.sound_terms.specs.Waves.{zeros}
 use Rattle.devices.specs.AppendLaws.{added_to, leaves_others}
@@ -15,52 +14,28 @@ headed old new bytes is there =
 
 pub returns-in-Err-clause-beside : goal.returns-in-Err-clause-beside
 returns-in-Err-clause-beside g c =
-    one_call g.B.Bench.may_leave g.B.Bench.moment g.B.Bench.left_since (codes "render.wav") _ c.args.bench.now
-    c.create.new.self (g.met.B.Bench.only_now c.args.bench.now) c.in-Err.ensures.time c.in-Err.ensures.crash
+    one_call g.B.Bench _ (g.met.B.Bench.only_now c.args.bench.now) c.in-Err.ensures.time c.in-Err.ensures.crash
 
 pub returns-in-Err-append-clause-beside : goal.returns-in-Err-append-clause-beside
-returns-in-Err-append-clause-beside g c =
-    and_then g.B.Bench.may_leave g.B.Bench.moment g.B.Bench.left_since (codes "render.wav") c.args.bench.now
-    c.create.new.self c.append.new.self
-    (one_call g.B.Bench.may_leave g.B.Bench.moment g.B.Bench.left_since (codes "render.wav") _ c.args.bench.now
-    c.create.new.self (g.met.B.Bench.only_now c.args.bench.now) c.in-Ok.ensures.time c.in-Ok.ensures.crash)
-    (one_call g.B.Bench.may_leave g.B.Bench.moment g.B.Bench.left_since (codes "render.wav") _ c.create.new.self
-    c.append.new.self (g.met.B.Bench.only_now c.create.new.self) c.in-Err-append.ensures.time
+returns-in-Err-append-clause-beside g c = and_then g.B.Bench _
+    (one_call g.B.Bench _ (g.met.B.Bench.only_now c.args.bench.now) c.in-Ok.ensures.time c.in-Ok.ensures.crash)
+    (one_call g.B.Bench _ (g.met.B.Bench.only_now c.create.new.self) c.in-Err-append.ensures.time
     c.in-Err-append.ensures.crash)
 
-pub returns-in-Ok-append_zeros-clause-beside : goal.returns-in-Ok-append_zeros-clause-beside
-returns-in-Ok-append_zeros-clause-beside g c =
-    and_then g.B.Bench.may_leave g.B.Bench.moment g.B.Bench.left_since (codes "render.wav") c.args.bench.now
-    c.append.new.self c.append_zeros.new.self
-    (and_then g.B.Bench.may_leave g.B.Bench.moment g.B.Bench.left_since (codes "render.wav") c.args.bench.now
-    c.create.new.self c.append.new.self
-    (one_call g.B.Bench.may_leave g.B.Bench.moment g.B.Bench.left_since (codes "render.wav") _ c.args.bench.now
-    c.create.new.self (g.met.B.Bench.only_now c.args.bench.now) c.in-Ok.ensures.time c.in-Ok.ensures.crash)
-    (one_call g.B.Bench.may_leave g.B.Bench.moment g.B.Bench.left_since (codes "render.wav") _ c.create.new.self
-    c.append.new.self (g.met.B.Bench.only_now c.create.new.self) c.in-Ok-append.ensures.time
-    c.in-Ok-append.ensures.crash)) (leaves_others g.B.Bench
-    (codes "render.wav") _ c.append.new.self c.append_zeros.new.self _ c.in-Ok-append_zeros.ensures.appends)
+pub returns-clause-beside : goal.returns-clause-beside
+returns-clause-beside g c = and_then g.B.Bench _ (and_then g.B.Bench _
+    (one_call g.B.Bench _ (g.met.B.Bench.only_now c.args.bench.now) c.in-Ok.ensures.time c.in-Ok.ensures.crash)
+    (one_call g.B.Bench _ (g.met.B.Bench.only_now c.create.new.self) c.in-Ok-append.ensures.time
+    c.in-Ok-append.ensures.crash))
+    (leaves_others g.B.Bench (codes "render.wav") _ c.append.new.self c.append_zeros.new.self _ c.append_zeros.ensures.appends)
 
-pub returns-in-Err-append_zeros-clause-beside : goal.returns-in-Err-append_zeros-clause-beside
-returns-in-Err-append_zeros-clause-beside g c =
-    and_then g.B.Bench.may_leave g.B.Bench.moment g.B.Bench.left_since (codes "render.wav") c.args.bench.now
-    c.append.new.self c.append_zeros.new.self
-    (and_then g.B.Bench.may_leave g.B.Bench.moment g.B.Bench.left_since (codes "render.wav") c.args.bench.now
-    c.create.new.self c.append.new.self
-    (one_call g.B.Bench.may_leave g.B.Bench.moment g.B.Bench.left_since (codes "render.wav") _ c.args.bench.now
-    c.create.new.self (g.met.B.Bench.only_now c.args.bench.now) c.in-Ok.ensures.time c.in-Ok.ensures.crash)
-    (one_call g.B.Bench.may_leave g.B.Bench.moment g.B.Bench.left_since (codes "render.wav") _ c.create.new.self
-    c.append.new.self (g.met.B.Bench.only_now c.create.new.self) c.in-Ok-append.ensures.time
-    c.in-Ok-append.ensures.crash)) (leaves_others g.B.Bench
-    (codes "render.wav") _ c.append.new.self c.append_zeros.new.self _ c.in-Err-append_zeros.ensures.appends)
-
-pub returns-in-Ok-append_zeros-clause-begun : goal.returns-in-Ok-append_zeros-clause-begun
+pub returns-clause-begun : goal.returns-clause-begun
 unfolding zeros
-returns-in-Ok-append_zeros-clause-begun g c = λ honest.
+returns-clause-begun g c = λ honest.
     let created_honest : IsTrue (g.B.Bench.honest c.create.new.self) =
-    rw c.create.ensures.only_writes.honest_same honest in
+    rw c.in-Ok.ensures.only_writes.honest_same honest in
     let headed_honest : IsTrue (g.B.Bench.honest c.append.new.self) =
-    rw c.append.ensures.only_writes.honest_same created_honest in
-    let created = (c.in-Ok.ensures.created honest).here in
-    let there = headed _ _ c.args.head.now (c.in-Ok-append.ensures.appended created_honest).here created in
-    added_to {X = ⊤} {E = DeviceFault} (Ok tt) _ _ c.args.head.now _ there (c.in-Ok-append_zeros.ensures.appends.appended headed_honest)
+    rw c.in-Ok-append.ensures.only_writes.honest_same created_honest in
+    let there = headed _ _ c.args.head.now (c.in-Ok-append.ensures.appended created_honest).here
+    (c.in-Ok.ensures.created honest).here in
+    added_to c.append_zeros.result _ _ c.args.head.now _ there (c.append_zeros.ensures.appends.appended headed_honest)

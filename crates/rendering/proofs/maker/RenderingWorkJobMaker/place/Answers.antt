@@ -1,13 +1,3 @@
-use Rattle.std.proofs.Common.{◌≡◌, ◌∙◌, Some, ap, subst}
-use Rattle.std.specs.Prelude.{⊤}
-use Rattle.work_terms.specs.Disk.{Files}
-use Rattle.devices.specs.Frame.{OnlyWrites}
-use Rattle.execution.specs.Marking.{Marking}
-use Rattle.execution.specs.Plan.{Stays}
-use Rattle.execution.specs.declared.fault.PlaceFault.TheVariants.{Mark}
-use Rattle.rendering.specs.Maker.{plan_of}
-use Rattle.rendering.specs.Marked.{MarkedWork}
-use Rattle.rendering.specs.Work.{place_of, stretch_at}
 use Rattle.rendering.proofs.BlockMarks.{placed_stretch}
 use Rattle.rendering.proofs.Works.{placed_as, places_as}
 use Rattle.rendering.proofs.maker.RenderingWorkJobMaker.place.Goals as goal
@@ -23,13 +13,9 @@ pub returns-clause-placed : goal.returns-clause-placed
 returns-clause-placed g c honest =
     placed_as c.args.self.now c.args.job c.place_at-at.result c.args.bytes.now (g.B.Bench.stored c.args.bench.now)
     (g.B.Bench.stored c.place_marked.new.bench) c.place_marked.result
-    (c.place_at-at.ensures ∙ ap (place_of c.self.inside.rendering.planned.range) c.stretch-stretch.ensures.stretch
-    ∙ ap (λ (x : MarkedWork). place_of x.work.planned.range (stretch_at x.work.stretches c.args.job)) c.self.view_is)
-    (c.place_marked.ensures.placed honest)
+    (rw (← c.self.view_is, ← c.stretch-stretch.ensures.stretch) c.place_at-at.ensures) (c.place_marked.ensures.placed honest)
 
 pub returns-clause-only_writes : goal.returns-clause-only_writes
-returns-clause-only_writes g c = subst (λ (x : MarkedWork). OnlyWrites g.B.Bench (Stays (plan_of x)) c.args.bench.now
-    c.place_marked.new.bench c.place_marked.result (λ _. ⊤) (λ fault failed. fault ≡ Mark → (sources : Files)
-    (m : Marking) → (plan_of x).marking sources ≡ Some m → failed m.marks)) c.self.view_is
-    (places_as g.B.Bench (record { work = c.self.inside.rendering; run = c.self.inside.run }) c.place_marked.result
-    c.self.invariant.0 c.place_marked.ensures.only_writes)
+returns-clause-only_writes g c = rw (← c.self.view_is) (places_as g.B.Bench
+    (record { work = c.self.inside.rendering; run = c.self.inside.run }) c.place_marked.result c.self.invariant.0
+    c.place_marked.ensures.only_writes)
