@@ -1,5 +1,5 @@
 -- Which piece a job copies.
-use Rattle.std.proofs.Common.{◌≡◌, ◌∙◌, ◌⊎◌, inl, inr, ℕ, zero, suc, ◌+◌, ◌-◌, ◌<◌, ◌≤◌, true, false, List, [], ◌∷◌, ◌++◌, length, Some, refl, ap, arith, get_or}
+use Rattle.std.proofs.Common.{◌≡◌, ◌∙◌, ◌⊎◌, inl, inr, ℕ, zero, suc, ◌+◌, ◌-◌, ◌<◌, ◌≤◌, true, false, List, [], ◌∷◌, ◌++◌, length, Some, refl, sym, ap, arith, get_or, ◌*◌, length-append}
 use Rattle.std.specs.Prelude.{nat_le, nat_lt}
 use Rattle.std.specs.List.{slice_get}
 use Rattle.std.specs.List.Sorted.{IsNonDecreasingBy, IsPartitionPoint}
@@ -7,6 +7,7 @@ use Rattle.std.proofs.lemmas.Bool.{cases_lt}
 use Rattle.std.proofs.lemmas.Bool.Decides.{nat_tests}
 use Rattle.std.proofs.lemmas.List.{get_or-append_right, get_or_append_left}
 use Rattle.std.proofs.lemmas.List.Sorted.{IsNonDecreasingBy-from_default}
+use Rattle.sampletime.specs.TimeCode.{day}
 use Rattle.sound_terms.specs.declared.piece.Run.{Run}
 use Rattle.consolidation.specs.Ends.{AreEnds}
 use Rattle.consolidation.specs.Pieces.{job_count, job_from, job_of, jobs_before, piece_from, pieces_in}
@@ -106,6 +107,12 @@ job_at runs place job run there begun unended =
     let split : job ≡ jobs_before runs place + (job - jobs_before runs place) = omega (arith, begun) in
     (below, ap (job_of runs) split ∙ piece_there runs place run (job - jobs_before runs place) there below)
 
+-- the same of a job with so many others before it in its run
+pub job_number : (runs : List Run) (place job before : ℕ) (run : Run) → slice_get runs place ≡ Some run
+    → jobs_before runs place ≤ job → job < jobs_before runs (place + 1) → before ≡ jobs_before runs place
+    → (job - before < pieces_in run) × (job_of runs job ≡ piece_from place run (job - before))
+job_number runs place job before run there begun unended is = rw is (job_at runs place job run there begun unended)
+
 pub none_before : (runs : List Run) → jobs_before runs 0 ≡ 0
 none_before [] = refl
 none_before (r ∷ rs) = refl
@@ -122,6 +129,35 @@ ends_more runs ends i end long before now k below = by_place (cases_lt k i) wher
       let none : k - i ≡ 0 = omega (arith, own) in
       get_or-append_right ends (end ∷ []) i k 0 long last
       ∙ ap (λ (n : ℕ). get_or (end ∷ []) n 0) none ∙ now ∙ ap (λ (n : ℕ). jobs_before runs (n + 1)) own
+
+-- the ends of the runs before one; a run has at most as many pieces as a day
+pub record AreEndsSoFar (runs : List Run) (i end : ℕ) (ends : List ℕ) : Type 0 where
+  pub count : length ends ≡ i
+  pub last : end ≡ jobs_before runs i
+  pub few : end ≤ i * 63282
+  pub each : (k : ℕ) → k < i → get_or ends k 0 ≡ jobs_before runs (k + 1)
+
+pub ends_none : (runs : List Run) → AreEndsSoFar runs 0 0 []
+ends_none runs = record {
+  count = refl;
+  last = sym (none_before runs);
+  few = omega arith;
+  each = λ k below. absurd (omega (arith, below));
+}
+
+pub ends_next : (runs : List Run) (i end : ℕ) (ends : List ℕ) (run : Run) → AreEndsSoFar runs i end ends
+    → slice_get runs i ≡ Some run → run.length ≤ day
+    → AreEndsSoFar runs (i + 1) (end + pieces_in run) (ends ++ (end + pieces_in run) ∷ [])
+ends_next runs i end ends run are there in_day =
+    let counted : i + 1 ≡ suc i = omega arith in
+    let more : jobs_before runs (i + 1) ≡ jobs_before runs i + pieces_in run =
+    ap (jobs_before runs) counted ∙ before_more runs i run there in
+    let last : end + pieces_in run ≡ jobs_before runs (i + 1) = omega (arith, are.last, more) in record {
+      count = length-append ends ((end + pieces_in run) ∷ []) ∙ omega (arith, are.count);
+      last = last;
+      few = omega (arith, in_day, are.few);
+      each = ends_more runs ends i (end + pieces_in run) are.count are.each last;
+    }
 
 module _ (runs : List Run) (ends : List ℕ) (are : AreEnds runs ends) where
   pub ends_rise : IsNonDecreasingBy (λ (n : ℕ). n) ends

@@ -212,6 +212,19 @@ module _ (plan : MediaPlan) (is : IsMediaPlan plan) where
         beside (codes "consolidated.adl") (λ number few. media_name-no_list number few),
       )
 
+  -- what keeps them as durable keeps the outputs of jobs so
+  pub media_durable : (stored now : Files) (may_leave leaves : Files → Type 0)
+      → ((n : List ℕ) → IsBehind (is_some plan.report) n → IsDurable n stored may_leave → IsDurable n now leaves)
+      → ((k : ℕ) → k < length plan.runs → IsDurable (media_name (k + 1)) stored may_leave)
+      → (k : ℕ) → k < (job_plan plan).jobs.count → IsDurable ((job_plan plan).jobs.name k) now leaves
+  media_durable stored now may_leave leaves keeps durable k below =
+      let known = job_named plan is k below in
+      let i = (job_of plan.runs k).run in
+      let few = is.few in
+      let next : i + 1 ≡ suc i = omega arith in
+      keeps (media_name (suc i)) (medium_behind (suc i) (omega (arith, few, known)))
+      (subst (λ (n : ℕ). IsDurable (media_name n) stored may_leave) next (durable i known))
+
   pub own_behind : (n : List ℕ) → IsOwn (job_plan plan) n → IsBehind (is_some plan.report) n
   own_behind n (OfJob k below same) =
       let few = is.few in

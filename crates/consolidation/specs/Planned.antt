@@ -23,6 +23,7 @@ use Rattle.list_terms.specs.WrittenText.{text_of_project}
 use Rattle.interval.specs.AtHome.{IsAtHome}
 use Rattle.wavwrite.specs.Info.{Fits}
 use Rattle.mediacopy.specs.Copied.{HasFrames, IsMedium}
+use Rattle.mediaset.specs.Runs.{HomedRuns}
 use Rattle.provenance.specs.declared.report.Report.{Report}
 use Rattle.consolidation.specs.Reported.{HasReport, told_of}
 use Rattle.consolidation.specs.Work.{IsLinked, run_info}
@@ -62,6 +63,17 @@ pub record IsMediumRun (sounds : List SoundFacts) (homes : List Home) (run : Run
   pub head : length (header_of (run_info sounds homes run)) ≡ data_place (run_info sounds homes run)
   pub medium : (source : List ℕ) → HasFrames (sound_at sounds run.file) source
       → IsMedium (sound_at sounds run.file) source (base_by homes run.file) run
+
+-- the runs of kept frames round groups that are left, and no others, with the homes of their files: as few as a list
+-- has indexes, each of an opened file
+pub record AreKeptRuns (binding : Binding) (handle : ℕ) (groups : List (List Piece)) (found : HomedRuns) : Type 0 where
+  pub left : AreLeft binding groups
+  pub homes : found.homes ≡ homes_of binding
+  pub few : length found.runs ≤ 32767
+  pub kept : AreRuns (kept_of groups (homes_of binding) handle) (place_by (homes_of binding)) found.runs
+  pub one : (runs : List Run) → AreRuns (kept_of groups (homes_of binding) handle) (place_by (homes_of binding)) runs
+      → runs ≡ found.runs
+  pub addressed : All (IsAddressed (sounds_of binding) (homes_of binding)) found.runs
 
 -- what a consolidation is to write: the runs of opened files that become media, with the home of each file, and the text
 -- of the list over these media, which has so many entries; and the report, where one is asked for

@@ -14,7 +14,6 @@ use crate::Consolidation;
 use crate::media::PIECE;
 use devices::{Bench, Shelf};
 use mediacopy::{CopyFault, CopyJob, fetch_piece, length_of, place_piece};
-use mediaset::Runs;
 use sound_terms::Run;
 
 /// The place of the run that has this job, where the runs' jobs end so: those before it have ended.
@@ -40,30 +39,17 @@ fn before(ends: &[u32], place: usize) -> u32
 }
 
 /// The piece of a run that begins behind so many others.
-fn piece_of(run: &Run, place: usize, number: u32) -> CopyJob
-    requires few { place < 32768 }
-    requires there { number < spec.pieces_in run.now }
+fn piece_of(run: &Run, place: u32, number: u32) -> CopyJob
+    requires { number < spec.pieces_in run.now }
     ensures { result ≡ spec.piece_from place run.now number }
 {
     let from = u64::from(number) * PIECE;
     let left = run.length - from;
     CopyJob {
-        run: place as u32,
+        run: place,
         from,
         frames: left.min(PIECE) as u32,
     }
-}
-
-/// The piece that this job copies, where the runs' jobs end so.
-fn job_of(runs: &Runs, ends: &[u32], job: u32) -> CopyJob
-    requires ends { AreEnds runs.now.runs ends.now }
-    requires there { job < job_count runs.now.runs }
-    ensures { result ≡ spec.job_of runs.now.runs job }
-{
-    let list = runs.as_slice();
-    let place = run_of(list, ends, job);
-    let number = job - before(ends, place);
-    piece_of(&list[place], place, number)
 }
 
 impl<'a> Consolidation<'a> {
@@ -81,7 +67,11 @@ impl<'a> Consolidation<'a> {
         ensures piece { result ≡ spec.job_of self.now.runs job }
         ensures within { IsPieceOf self.now.sounds self.now.runs result }
     {
-        job_of(&self.runs, &self.ends, job)
+        let runs = self.runs.as_slice();
+        let ends = self.ends.as_slice();
+        let place = run_of(runs, ends, job);
+        let number = job - before(ends, place);
+        piece_of(&runs[place], place as u32, number)
     }
 
     /// How many bytes a piece has.

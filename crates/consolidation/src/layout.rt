@@ -6,18 +6,17 @@ ghost use Rattle.consolidation.specs.Media.{IsLaidOut};
 
 use crate::Consolidation;
 use devices::{Bench, DeviceFault};
-use mediacopy::{info_of, lay_out_in, medium_name};
+use mediacopy::{LONGEST_HEADER, info_of, lay_out_in, medium_name};
 
 impl<'a> Consolidation<'a> {
     /// Makes the medium of the run at this place at its full length, all samples zero. Its header is made in `room`.
     pub(crate) fn blank_medium<B: Bench>(
         &self,
         place: usize,
-        room: &mut [u8],
+        room: &mut [u8; LONGEST_HEADER],
         bench: &mut B,
     ) -> Result<(), DeviceFault>
-        requires there { place < length self.now.runs }
-        requires room { length room.old ≡ 66226 }
+        requires { place < length self.now.runs }
         ensures laid { IsTrue (B.honest bench.old) → OnOk result (IsLaidOut self.now (B.stored bench.new) place) }
         ensures only_writes { OnlyWrites B.Bench (λ n. n ≢ media_name (place + 1)) bench.old bench.new result (λ _. ⊤)
             (λ _ failed. failed (media_name (place + 1))) }

@@ -18,5 +18,5 @@ mod written;
 
 pub use fault::ConsolidationFault;
 pub use list::{LIST, REPORT, SUMS};
-pub use plan::Consolidation;
+pub use plan::{Consolidation, MediaChoice};
 pub use written::{Sizes, Written};

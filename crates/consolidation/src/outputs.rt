@@ -17,11 +17,10 @@ impl<'a> Consolidation<'a> {
     fn lay_out_output<B: Bench>(
         &self,
         position: u32,
-        room: &mut [u8],
+        room: &mut [u8; LONGEST_HEADER],
         bench: &mut B,
     ) -> Result<(), OutputFault>
-        requires among { position < length self.now.runs }
-        requires room { length room.old ≡ 66226 }
+        requires { position < length self.now.runs }
         ensures laid { IsTrue (B.honest bench.old) → OnOk result (IsLaidOut self.now (B.stored bench.new) position) }
         ensures only_writes { OnlyWrites B.Bench (λ n. n ≢ media_name (position + 1)) bench.old bench.new result (λ _. ⊤)
             (FailsAtMedium (length self.now.runs)) }

@@ -25,6 +25,14 @@ use sourceindex::Bound;
 use std::alloc::Global;
 use std::marker::Model;
 
+/// What may be chosen of a consolidation beside its passes: how many frames are kept on either side of what is played,
+/// and which version of a program asks for the report, if any does.
+#[derive(Clone, Copy, Debug)]
+pub struct MediaChoice<'v> {
+    pub handle: u64,
+    pub version: Option<&'v str>,
+}
+
 /// A consolidation before its first write: the runs of bound files that become media, with the home of each file; how
 /// many jobs the runs up to and with each have; the text of the list over the media, with so many entries; and the
 /// report, where one is asked for.
@@ -68,10 +76,10 @@ impl<'a> Model for Consolidation<'a> {
 impl<'a> Consolidation<'a> {
     /// Plans the consolidation of a project without a fault over the sources of a shelf. The passes go over the pieces
     /// of its entries, one after the other. Kept are the frames that the pieces play that they leave, and those at most
-    /// `handle` frames away that can be addressed. Each run of kept frames becomes a medium of its own (`M00001.wav` and
-    /// so on, Broadcast Wave, EBU Tech 3285), with the channels, the depth, the texts and the CodingHistory of its source
-    /// and the time of its first frame as TimeReference; `consolidated.adl` is the list over these media. Whatever the
-    /// passes, it sounds as the given project does, sample for sample.
+    /// the chosen number of frames away that can be addressed. Each run of kept frames becomes a medium of its own
+    /// (`M00001.wav` and so on, Broadcast Wave, EBU Tech 3285), with the channels, the depth, the texts and the
+    /// CodingHistory of its source and the time of its first frame as TimeReference; `consolidated.adl` is the list over
+    /// these media. Whatever the passes, it sounds as the given project does, sample for sample.
     ///
     /// Where a program of a version asks for it, the report of all this and the checksums of all files are made here
     /// too, by one more reading of the frames that are kept.
@@ -83,18 +91,18 @@ impl<'a> Consolidation<'a> {
     pub fn plan<S: Shelf, W: Watch>(
         alloc: Global,
         checked: &'a Checked,
-        handle: u64,
+        choice: MediaChoice,
         passes: Vec<Box<dyn Pass>>,
-        asked: Option<&str>,
         shelf: &mut S,
         watch: &mut W,
     ) -> Result<Self, ConsolidationFault>
         ensures planned { IfOk result (IsPlanOf (left_by (λ pass. looking pass) (λ pass. gives pass) passes.items)
-            checked.now.project checked.now.bound handle (option_map (λ version. version.now) asked.entry)
+            checked.now.project checked.now.bound choice.entry.handle
+            (option_map (λ version. version.now) choice.entry.version)
             (S.honest shelf.old) (S.stored shelf.old)) }
         ensures refusals { IsTrue (S.honest shelf.old) → (work : Work)
             → IsWorkOf (left_by (λ pass. looking pass) (λ pass. gives pass) passes.items)
-            checked.now.project checked.now.bound handle (S.stored shelf.old) work
+            checked.now.project checked.now.bound choice.entry.handle (S.stored shelf.old) work
             → Answers refusal_of result (work_fault work) }
         ensures there { (sources : Files) → binding_of checked.now.project sources ≡ Ok checked.now.bound
             → AreThere sources (sounds_of checked.now.bound) }
@@ -104,6 +112,6 @@ impl<'a> Consolidation<'a> {
     {
         let intervals = from_checked(alloc, checked)?;
         let left = groups_left(alloc, intervals, checked, passes, shelf, watch)?;
-        plan_of(alloc, checked, handle, left, asked, shelf)
+        plan_of(alloc, checked, choice, left, shelf)
     }
 }

@@ -1,5 +1,6 @@
 // Plans a consolidation.
-ghost use Rattle.std.specs.Prelude.{◌≡◌, ◌≤◌, ℕ, All, IfErr, IfOk, IsTrue, Ok, OnOk, is_some, length, option_map};
+ghost use Rattle.std.specs.Prelude.{◌≡◌, ◌<◌, ◌≤◌, ℕ, All, IfErr, IfOk, IsErrOf, IsTrue, List, Ok, OnOk, is_some, length, option_map};
+ghost use Rattle.sound_terms.specs.declared.piece.Run as run;
 ghost use Rattle.sound_terms.specs.Homes.{kept_of, place_by};
 ghost use Rattle.sound_terms.specs.Kept.{AreRuns};
 ghost use Rattle.sound_terms.specs.Media.{IsRunOf};
@@ -12,12 +13,12 @@ ghost use Rattle.list_terms.specs.WrittenText.{text_of_project};
 ghost use Rattle.consolidation.specs.Consolidated.{Work, work_fault};
 ghost use Rattle.consolidation.specs.Fault.{FailsAt, IsSource, refusal_of};
 ghost use Rattle.consolidation.specs.Own.{IsOfLinking, IsOfReport};
-ghost use Rattle.consolidation.specs.Planned.{AreLeft, IsAddressed, IsMediumRun, IsPlanned};
+ghost use Rattle.consolidation.specs.Planned.{AreKeptRuns, AreLeft, IsAddressed, IsMediumRun, IsPlanned};
 ghost use Rattle.consolidation.specs.Reported.{HasReport, told_of};
 ghost use Rattle.consolidation.specs.Work.{IsLinked};
 
 use crate::media::ends_of;
-use crate::{Consolidation, ConsolidationFault};
+use crate::{Consolidation, ConsolidationFault, MediaChoice};
 use adlmodel::Project;
 use adlwrite::text_of;
 use devices::Shelf;
@@ -53,6 +54,31 @@ fn all_read_back(sounds: &[Sound], runs: &Runs)
     }
 }
 
+/// The runs of kept frames round these groups. `TooManyRuns` or `Memory` where there are none.
+fn kept_runs(
+    alloc: Global,
+    checked: &Checked,
+    handle: u64,
+    intervals: &Intervals,
+) -> Result<Runs, RunFault>
+    requires { AreLeft checked.now.bound intervals.now }
+    ensures kept { IfOk result (AreKeptRuns checked.now.bound handle intervals.now) }
+    ensures too_many { IsErrOf result RunFault.TooManyRuns → (runs : List run.Run)
+        → AreRuns (kept_of intervals.now (homes_of checked.now.bound) handle) (place_by (homes_of checked.now.bound)) runs
+        → 32767 < length runs }
+{
+    let bound = checked.bound();
+    // The binding is known to be one from here on.
+    let _ = bound.sounds();
+    let Ok(homes) = bound.homes(alloc) else {
+        return Err(RunFault::Memory);
+    };
+    match Runs::kept(alloc, intervals, homes, handle) {
+        Ok(runs) => return Ok(runs),
+        Err(fault) => return Err(fault),
+    }
+}
+
 /// The list over the media of runs, and its text.
 #[derive(Drop)]
 struct Listed {
@@ -67,10 +93,7 @@ fn text_over(
     intervals: Intervals,
     runs: &Runs,
 ) -> Result<Listed, ConsolidationFault>
-    requires left { AreLeft checked.now.bound intervals }
-    requires homes { runs.now.homes ≡ homes_of checked.now.bound }
-    requires kept { (handle : ℕ)
-        × AreRuns (kept_of intervals runs.now.homes handle) (place_by runs.now.homes) runs.now.runs }
+    requires { (handle : ℕ) × AreKeptRuns checked.now.bound handle intervals runs.now }
     ensures text { IfOk result (λ list. list.text.items
         ≡ text_of_project (consolidated_project checked.now.project runs.now.homes intervals runs.now.runs)) }
     ensures project { IfOk result (λ list. list.project
@@ -97,28 +120,27 @@ fn report_for<S: Shelf>(
     checked: &Checked,
     runs: &Runs,
     list: &Listed,
-    handle: u64,
-    asked: Option<&str>,
+    choice: MediaChoice,
     shelf: &mut S,
 ) -> Result<Option<Report>, ConsolidationFault>
     requires { All (IsRunOf (sounds_of checked.now.bound)) runs.now.runs }
     ensures report { IsTrue (S.honest shelf.old)
-        → IfOk result (HasReport (option_map (λ version. version.now) asked.entry) (S.stored shelf.old) (λ version.
+        → IfOk result (HasReport (option_map (λ version. version.now) choice.entry.version) (S.stored shelf.old) (λ version.
         record {
           project = checked.now.project;
           binding = checked.now.bound;
           kept = runs.now;
           events = list.now.project.events;
           text = list.now.text.items;
-          handle = handle;
+          handle = choice.entry.handle;
           version = version;
         })) }
     ensures is_asked { IfOk result
-        (λ report. is_some report ≡ is_some (option_map (λ version. version.now) asked.entry)) }
+        (λ report. is_some report ≡ is_some (option_map (λ version. version.now) choice.entry.version)) }
     ensures own { IfErr result IsOfReport }
     ensures only_reads { OnlyReads S.Shelf shelf.old shelf.new result IsSource (FailsAt (sounds_of checked.now.bound)) }
 {
-    let Some(version) = asked else {
+    let Some(version) = choice.version else {
         return Ok(None);
     };
     match report_of(
@@ -128,7 +150,7 @@ fn report_for<S: Shelf>(
         runs,
         list.project.events(),
         &list.text,
-        handle,
+        choice.handle,
         version,
         shelf,
     ) {
@@ -145,36 +167,34 @@ fn report_for<S: Shelf>(
 pub fn plan_of<'a, S: Shelf>(
     alloc: Global,
     checked: &'a Checked,
-    handle: u64,
+    choice: MediaChoice,
     intervals: Intervals,
-    asked: Option<&str>,
     shelf: &mut S,
 ) -> Result<Consolidation<'a>, ConsolidationFault>
     requires left { AreLeft checked.now.bound intervals }
-    ensures planned { IfOk result (IsPlanned checked.now.project checked.now.bound handle intervals) }
+    ensures planned { IfOk result (IsPlanned checked.now.project checked.now.bound choice.entry.handle
+        intervals) }
     ensures refusals { (work : Work) → work.groups ≡ intervals
-        → AreRuns (kept_of work.groups (homes_of checked.now.bound) handle) (place_by (homes_of checked.now.bound))
+        → AreRuns (kept_of work.groups (homes_of checked.now.bound) choice.entry.handle)
+        (place_by (homes_of checked.now.bound))
         work.runs
         → Answers refusal_of result (work_fault work) }
     ensures report { IsTrue (S.honest shelf.old)
-        → IfOk result (λ plan. HasReport (option_map (λ version. version.now) asked.entry) (S.stored shelf.old)
-        (told_of checked.now.project checked.now.bound handle intervals plan.runs) plan.report) }
+        → IfOk result (λ plan. HasReport (option_map (λ version. version.now) choice.entry.version) (S.stored shelf.old)
+        (told_of checked.now.project checked.now.bound choice.entry.handle intervals plan.runs) plan.report) }
     ensures is_asked { IfOk result
-        (λ plan. is_some plan.report ≡ is_some (option_map (λ version. version.now) asked.entry)) }
+        (λ plan. is_some plan.report ≡ is_some (option_map (λ version. version.now) choice.entry.version)) }
     ensures only_reads { OnlyReads S.Shelf shelf.old shelf.new result IsSource (FailsAt (sounds_of checked.now.bound)) }
 {
-    let bound = checked.bound();
-    let Ok(homes) = bound.homes(alloc) else {
-        return Err(ConsolidationFault::Runs(RunFault::Memory));
-    };
-    let runs = Runs::kept(alloc, &intervals, homes, handle)?;
+    let runs = kept_runs(alloc, checked, choice.handle, &intervals)?;
     let entries = intervals.groups().len() as u64;
     let list = text_over(alloc, checked, intervals, &runs)?;
+    let bound = checked.bound();
     all_read_back(bound.sounds(), &runs);
     let Ok(ends) = ends_of(alloc, bound.sounds(), &runs) else {
         return Err(ConsolidationFault::Runs(RunFault::Memory));
     };
-    let report = report_for(alloc, checked, &runs, &list, handle, asked, shelf)?;
+    let report = report_for(alloc, checked, &runs, &list, choice, shelf)?;
     Ok(Consolidation {
         bound,
         runs,

@@ -6,9 +6,6 @@ use Rattle.consolidation.proofs.planning.all_read_back.Goals as goal
 
 pub loop-run-preserved : goal.loop-run-preserved
 loop-run-preserved c =
-    let list = c.as_slice-list.result.now in
-    AllWithin-more (IsMediumRun c.args.sounds.now c.homes-homes.result.now) list 0 c.loop-run.run-index
-    c.loop-run.invariant
-    (λ d. subst (IsMediumRun c.args.sounds.now c.homes-homes.result.now)
-    (get_or_default list c.loop-run.run-index _ d c.loop-run-test.true)
-    c.reads_back_at.ensures)
+    AllWithin-more (IsMediumRun c.args.sounds.now c.homes-homes.result.now) c.as_slice-list.result.now 0
+    c.loop-run.run-index c.loop-run.invariant (λ d. subst (IsMediumRun c.args.sounds.now c.homes-homes.result.now)
+    (get_or_default c.as_slice-list.result.now c.loop-run.run-index _ d c.loop-run-test.true) c.reads_back_at.ensures)

@@ -1,23 +1,19 @@
-use Rattle.std.proofs.Common.{◌∙◌, ◌<◌, IsTrue, arith, length, rules, subst}
+use Rattle.std.proofs.Common.{IsTrue, arith, rules}
 use Rattle.consolidation.specs.Planned.{IsMediaPlan}
 use Rattle.consolidation.proofs.Ended.{one_more_laid}
 use Rattle.consolidation.proofs.plan.Consolidation.lay_out_outputs.Goals as goal
 
 pub loop-position-preserved : goal.loop-position-preserved
 loop-position-preserved g c =
-    let plan = c.args.self.now in
-    let i = c.loop-position.position in
-    let is : IsMediaPlan plan = subst IsMediaPlan c.self.view_is c.self.invariant.0 in (
+    let is : IsMediaPlan c.args.self.now = rw (← c.self.view_is) c.self.invariant.0 in (
       search rules,
-      c.lay_out_output.auto.room ∙ c.loop-position.invariant.1,
       λ honest.
           let now : IsTrue (g.B.Bench.honest c.loop-position.bench) = rw c.loop-position.invariant.0.honest_same honest in
-          let inside : c.loop-position.position < length c.args.self.now.runs = search rules in
-          one_more_laid plan is i (g.B.Bench.stored c.loop-position.bench) (g.B.Bench.stored c.lay_out_output.new.bench) inside
-          (c.in_ok-lay_out_output.ensures.only_writes.others now) (c.loop-position.invariant.2 honest)
+          one_more_laid _ is _ (g.B.Bench.stored c.loop-position.bench) (g.B.Bench.stored c.lay_out_output.new.bench)
+          (search rules) (c.in_ok-lay_out_output.ensures.only_writes.others now) (c.loop-position.invariant.1 honest)
           (c.in_ok-lay_out_output.ensures.laid now),
-      omega (arith, c.loop-position.invariant.3, c.lay_out_output.ensures.later),
+      omega (arith, c.loop-position.invariant.2, c.lay_out_output.ensures.later),
     )
 
 pub returns-clause-planned : goal.returns-clause-planned
-returns-clause-planned g c = subst IsMediaPlan c.self.view_is c.self.invariant.0
+returns-clause-planned g c = rw (← c.self.view_is) c.self.invariant.0

@@ -1,4 +1,4 @@
-use Rattle.std.proofs.Common.{◌≡◌, ◌<◌, ◌≤◌, ℕ, length, IsTrue}
+use Rattle.std.proofs.Common.{◌<◌, ◌≤◌, ℕ, length, IsTrue}
 use Rattle.devices.specs.Frame.{IsBuilding}
 use Rattle.consolidation.specs.Media.{IsLaidOut, IsNoMedium}
 use Rattle.consolidation.proofs.plan.Consolidation.lay_out_outputs.Given as goal
@@ -7,7 +7,6 @@ use Rattle.consolidation.proofs.plan.Consolidation.lay_out_outputs.Given as goal
 abbrev pub invariant-loop-position : goal.invariant-loop-position
 invariant-loop-position g l =
     IsBuilding g.B.Bench (IsNoMedium (length l.self.runs)) l.initial.bench l.bench
-    × (length l.room ≡ 66226)
     × (IsTrue (g.B.Bench.honest l.initial.bench)
     → (k : ℕ) → k < l.position → IsLaidOut l.self (g.B.Bench.stored l.bench) k)
     × (g.B.Bench.moment l.initial.bench ≤ g.B.Bench.moment l.bench)
