@@ -8,12 +8,10 @@ returns c =
     let of_file = c.requires.of_file in
     let same : c.index-sounds-run.result ≡ sound_at c.args.sounds.now c.args.run.now.file =
     c.index-sounds-run.is ∙ sound_read c.args.sounds.now c.args.run.now.file of_file.facts _ of_file.there in
-    let base = c.base.ensures in
-    let known : of_file.facts ≡ sound_at c.args.sounds.now c.args.run.now.file =
-    same_facts c.args.sounds.now c.args.run.now.file of_file.facts of_file.there in
+    let known = same_facts c.args.sounds.now c.args.run.now.file of_file.facts of_file.there in
     record {
       addressed = c.requires;
       fits = rw same at c.reads_back.ensures.fits;
-      head = rw (same, base) at c.reads_back.ensures.head;
-      medium = (rw (same, base) at c.reads_back.ensures.medium) (rw known at of_file.inside);
+      head = rw (same, c.base.ensures) at c.reads_back.ensures.head;
+      medium = (rw (same, c.base.ensures) at c.reads_back.ensures.medium) (rw known at of_file.inside);
     }

@@ -1,4 +1,3 @@
-use Rattle.std.specs.Prelude.{is_some}
 use Rattle.consolidation.proofs.AllWhole.{foreign_elsewhere, holds_last, holds_media, named_outputs}
 use Rattle.consolidation.proofs.Ended.{consolidated, same_sound}
 use Rattle.consolidation.proofs.plan.Consolidation.outcome.Goals as goal
@@ -17,7 +16,7 @@ returns-clause-consolidated c = λ leave project binding handle asked sources ol
     let held = holds_last plan is sources written last in
     rw c.written.ensures (consolidated plan is leave project binding handle asked sources written of are_there
     (holds_media plan is sources written holds) held.0 old
-    (λ n elsewhere. others n (foreign_elsewhere plan is (is_some asked) of.is_asked n elsewhere)) held.1)
+    (λ n elsewhere. others n (foreign_elsewhere plan is _ of.is_asked n elsewhere)) held.1)
 
 pub returns-clause-names : goal.returns-clause-names
 returns-clause-names c = named_outputs c.args.self.now c.count.ensures.planned
