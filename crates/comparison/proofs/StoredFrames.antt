@@ -1,5 +1,5 @@
--- Frames of two files that are stored alike play alike, and programs that add alike sum alike.
-use Rattle.std.proofs.Common.{◌≡◌, ℕ, suc, ◌+◌, ◌-◌, ◌*◌, ◌/◌, ◌^◌, ◌<◌, ◌≤◌, true, List, [], ◌∷◌, Some, length, take, drop, get_or, refl, sym, ap, ◌∙◌, subst, arith}
+-- Samples of two files that are the same as they are stored play alike, and programs that add alike sum alike.
+use Rattle.std.proofs.Common.{◌≡◌, ℕ, zero, suc, ◌+◌, ◌-◌, ◌*◌, ◌/◌, ◌^◌, ◌<◌, ◌≤◌, true, List, [], ◌∷◌, Some, length, map, take, drop, get_or, refl, sym, ap, ◌∙◌, subst, arith}
 use Rattle.std.specs.Prelude.{ℤ, pos, negsuc, neg_ℤ, ◌≤ℤ◌, nat_le, nat_lt, slice_get}
 use Rattle.std.specs.List.{All}
 use Rattle.std.proofs.lemmas.Bool.Decides.{nat_tests}
@@ -24,7 +24,8 @@ use Rattle.pcm.specs.Samples.{FitsDepth, samples_in}
 use Rattle.pcm.specs.Laws.{AreBytes, all_fit, get_or-samples_in_file, length-samples_in}
 use Rattle.blockmachine.specs.Playing.{Plays}
 use Rattle.comparison.specs.Alike.{AreAlike}
-use Rattle.comparison.specs.Stored.{AddAlike, AreStoredAlike, PlayAlike, SumAlike}
+use Rattle.comparison.specs.declared.stored.Counterparts.{Counterparts}
+use Rattle.comparison.specs.Stored.{AddAlike, AreCounterparts, PlayAlike, SumAlike, full_samples}
 
 pub device_of : (fault : ShelfFault) → (fault ≡ shelf.NotFound → ⊥) → fault ≡ shelf.Device
 device_of shelf.NotFound other = absurd (other refl)
@@ -113,46 +114,76 @@ module _ (files : Files) (sounds : List SoundFacts) (facts : SoundFacts) (part :
 
 -- ---- what is played
 
--- two stretches that play the same frames play alike
-pub plays_alike : (reading other : Reading) (stretch part : Stretch) (channels depth : ℕ) (frames : List ℤ)
-    → part ≡ record stretch { file = part.file; frame = part.frame } → Plays reading stretch channels depth frames
-    → Plays other part channels depth frames → IsFull reading stretch → IsFull other part
-    → PlayAlike reading other stretch part
-plays_alike reading other stretch part channels depth frames layout mine theirs full other_full = record {
-  layout = layout;
-  samples = λ j i on below.
-      let first : part.first ≡ stretch.first = ap (λ (s : Stretch). s.first) layout in
-      let width : part.width ≡ stretch.width = ap (λ (s : Stretch). s.width) layout in
-      let long : part.length ≡ stretch.length = ap (λ (s : Stretch). s.length) layout in
-      sym (mine i j below on)
-      ∙ ap (λ (f : ℕ). full_scale depth (get_or frames (i * channels + (f - 1 + j)) (pos 0))) (sym first)
-      ∙ theirs i j (omega (arith, below, long)) (omega (arith, on, width));
-  full = full;
-  other_full = other_full;
-}
+-- what is read at a place of samples at full scale
+full_at : (depth : ℕ) (frames : List ℤ) (k : ℕ) (d : ℤ)
+    → get_or (map (full_scale depth) frames) k (full_scale depth d) ≡ full_scale depth (get_or frames k d)
+full_at depth [] k d = refl
+full_at depth (sample ∷ more) zero d = refl
+full_at depth (sample ∷ more) (suc k) d = full_at depth more k d
 
--- so do those whose frames are stored alike
-pub stored_play : (reading other : Reading) (sounds others : List SoundFacts) (stretch part : Stretch) (count : ℕ)
-    (bytes other_bytes : List ℕ) (alike : AreStoredAlike sounds others stretch part count) → bytes ≡ other_bytes
+zero_full : (depth : ℕ) → full_scale depth (pos 0) ≡ pos 0
+zero_full depth =
+    let none : 0 * 2 ^ (48 - depth) ≡ 0 = omega arith in pos-*ℤ-pos 0 (2 ^ (48 - depth)) ∙ ap pos none
+
+same_full : (depth other : ℕ) (frames others : List ℤ) (k : ℕ)
+    → map (full_scale depth) frames ≡ map (full_scale other) others
+    → full_scale depth (get_or frames k (pos 0)) ≡ full_scale other (get_or others k (pos 0))
+same_full depth other frames others k same =
+    sym (full_at depth frames k (pos 0))
+    ∙ ap (λ (l : List ℤ). get_or l k (full_scale depth (pos 0))) same
+    ∙ ap (λ (d : ℤ). get_or (map (full_scale other) others) k d) (zero_full depth ∙ sym (zero_full other))
+    ∙ full_at other others k (pos 0)
+
+-- two stretches that play the same samples play alike
+pub plays_alike : (reading other : Reading) (stretch part : Stretch) (channels depth other_depth : ℕ)
+    (frames counterparts : List ℤ) → part ≡ record stretch { file = part.file; frame = part.frame }
+    → map (full_scale depth) frames ≡ map (full_scale other_depth) counterparts
+    → Plays reading stretch channels depth frames → Plays other part channels other_depth counterparts
+    → IsFull reading stretch → IsFull other part → PlayAlike reading other stretch part
+plays_alike reading other stretch part channels depth other_depth frames counterparts layout same mine theirs full
+    other_full = record {
+      layout = layout;
+      samples = λ j i on below.
+          let first : part.first ≡ stretch.first = ap (λ (s : Stretch). s.first) layout in
+          let width : part.width ≡ stretch.width = ap (λ (s : Stretch). s.width) layout in
+          let long : part.length ≡ stretch.length = ap (λ (s : Stretch). s.length) layout in
+          sym (mine i j below on)
+          ∙ same_full depth other_depth frames counterparts (i * channels + (stretch.first - 1 + j)) same
+          ∙ ap (λ (f : ℕ). full_scale other_depth (get_or counterparts (i * channels + (f - 1 + j)) (pos 0))) (sym first)
+          ∙ theirs i j (omega (arith, below, long)) (omega (arith, on, width));
+      full = full;
+      other_full = other_full;
+    }
+
+-- so do those whose samples are the same as they are stored
+pub stored_play : (reading other : Reading) (sounds others : List SoundFacts) (stretch part : Stretch)
+    (found : Counterparts) (bytes other_bytes : List ℕ) (alike : AreCounterparts sounds others stretch part found)
+    → full_samples (bits_of found.depth) found.samples bytes
+    ≡ full_samples (bits_of found.other_depth) found.samples other_bytes
     → Plays reading stretch alike.facts.channels (bits_of alike.facts.depth)
     (samples_in (bits_of alike.facts.depth) (stretch.length * alike.facts.channels) bytes)
     → Plays other part alike.other_facts.channels (bits_of alike.other_facts.depth)
     (samples_in (bits_of alike.other_facts.depth) (part.length * alike.other_facts.channels) other_bytes)
     → IsFull reading stretch → IsFull other part → PlayAlike reading other stretch part
-stored_play reading other sounds others stretch part count bytes other_bytes alike same mine theirs full other_full =
+stored_play reading other sounds others stretch part found bytes other_bytes alike same mine theirs full other_full =
     let channels = alike.facts.channels in
     let bits = bits_of alike.facts.depth in
+    let other_bits = bits_of alike.other_facts.depth in
+    let n = stretch.length * channels in
     let long : part.length ≡ stretch.length = ap (λ (s : Stretch). s.length) alike.layout in
-    let of_channels = subst (λ (n : ℕ). Plays other part n (bits_of alike.other_facts.depth)
-    (samples_in (bits_of alike.other_facts.depth) (part.length * n) other_bytes)) alike.channels_alike theirs in
-    let of_depth = subst (λ (d : Depth). Plays other part channels (bits_of d)
-    (samples_in (bits_of d) (part.length * channels) other_bytes)) alike.depth_alike of_channels in
-    let of_length = subst (λ (n : ℕ). Plays other part channels bits (samples_in bits (n * channels) other_bytes)) long
-    of_depth in
-    let of_bytes = subst (λ (b : List ℕ). Plays other part channels bits (samples_in bits (stretch.length * channels) b))
-    (sym same) of_length in
-    plays_alike reading other stretch part channels bits (samples_in bits (stretch.length * channels) bytes)
-    alike.layout mine of_bytes full other_full
+    let of_channels = subst (λ (m : ℕ). Plays other part m other_bits (samples_in other_bits (part.length * m) other_bytes))
+    alike.channels_alike theirs in
+    let of_length = subst (λ (m : ℕ). Plays other part channels other_bits (samples_in other_bits (m * channels) other_bytes))
+    long of_channels in
+    let mine_full : full_samples (bits_of found.depth) found.samples bytes ≡ full_samples bits n bytes =
+    ap (λ (d : Depth). full_samples (bits_of d) found.samples bytes) alike.depth
+    ∙ ap (λ m. full_samples bits m bytes) alike.samples in
+    let theirs_full : full_samples (bits_of found.other_depth) found.samples other_bytes
+    ≡ full_samples other_bits n other_bytes =
+    ap (λ (d : Depth). full_samples (bits_of d) found.samples other_bytes) alike.other_depth
+    ∙ ap (λ m. full_samples other_bits m other_bytes) alike.samples in
+    plays_alike reading other stretch part channels bits other_bits (samples_in bits n bytes)
+    (samples_in other_bits n other_bytes) alike.layout (sym mine_full ∙ same ∙ theirs_full) mine of_length full other_full
 
 -- ---- programs
 

@@ -1,15 +1,21 @@
--- What two blocks add to their sums from the same stored bytes.
-use Rattle.std.specs.Prelude.{◌≡◌, ℕ, ◌+◌, ◌*◌, ◌/◌, ◌<◌, ◌≤◌, List, Some, length, slice_get, slice_index_or}
+-- What two blocks add to their sums from samples that are the same as they are stored.
+use Rattle.std.specs.Prelude.{◌≡◌, ℕ, ◌+◌, ◌*◌, ◌^◌, ◌<◌, ◌≤◌, ℤ, List, Some, length, map, slice_get, slice_index_or}
 use Rattle.sound_terms.specs.declared.block.Stretch.{Stretch}
 use Rattle.sound_terms.specs.declared.block.Instruction.{Instruction}
 use Rattle.sound_terms.specs.Blocks.{BlockState, IsFull, PlaysFull, executed}
-use Rattle.sound_terms.specs.Depth.{bits_of}
-use Rattle.sound_terms.specs.Mix.{Reading}
+use Rattle.sound_terms.specs.Mix.{Reading, full_scale}
 use Rattle.sound_terms.specs.Sounds.{SoundFacts}
+use Rattle.pcm.specs.Samples.{samples_in}
+use Rattle.comparison.specs.declared.stored.Counterparts.{Counterparts}
 
--- two stretches of the same samples and channels of a block, which play files of the same channels and depth: so many
--- bytes of each
-pub record AreStoredAlike (sounds others : List SoundFacts) (stretch part : Stretch) (count : ℕ) : Type 0 where
+-- the first n samples of bytes of this depth, at full scale
+abbrev pub full_samples : (depth n : ℕ) → List ℕ → List ℤ
+full_samples depth n bytes = map (full_scale depth) (samples_in depth n bytes)
+
+-- two stretches of the same samples and channels of a block, which play files of as many channels: so many samples of
+-- either file, at its depth
+pub record AreCounterparts (sounds others : List SoundFacts) (stretch part : Stretch) (found : Counterparts)
+    : Type 0 where
   pub layout : part ≡ record stretch { file = part.file; frame = part.frame }
   pub from_one : 1 ≤ stretch.first
   pub facts : SoundFacts
@@ -17,8 +23,10 @@ pub record AreStoredAlike (sounds others : List SoundFacts) (stretch part : Stre
   pub other_facts : SoundFacts
   pub other_there : slice_get others part.file ≡ Some other_facts
   pub channels_alike : other_facts.channels ≡ facts.channels
-  pub depth_alike : other_facts.depth ≡ facts.depth
-  pub long : count ≡ stretch.length * facts.channels * (bits_of facts.depth / 8)
+  pub depth : found.depth ≡ facts.depth
+  pub other_depth : found.other_depth ≡ other_facts.depth
+  pub samples : found.samples ≡ stretch.length * facts.channels
+  pub few : found.samples < 2 ^ 40
 
 -- two stretches of the same samples and channels of a block play the same, and no sample outside full scale
 pub record PlayAlike (reading other : Reading) (stretch part : Stretch) : Type 0 where

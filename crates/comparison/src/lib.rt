@@ -2,7 +2,7 @@
 //! first.
 //!
 //! `compare_projects` compares the exact sums of both, block by block; where neither plays nothing is read, and where
-//! both add the same stored frames nothing is summed. It answers `Same` exactly where the sums are equal on every chosen
+//! both add the same samples, at whatever depths they are stored, nothing is summed. It answers `Same` exactly where the sums are equal on every chosen
 //! channel at every chosen time, and else the first time at which they differ, with the lowest channel that differs
 //! there and both sums (`compared`). Files are only read (`first_read`, `second_read`).
 //!
@@ -10,6 +10,7 @@
 #![tactic(auto)]
 
 mod counting;
+mod depths;
 mod differing;
 mod fault;
 mod projects;

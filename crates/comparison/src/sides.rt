@@ -148,7 +148,7 @@ fn compare_sums<S: Shelf, T: Shelf>(
     Ok(first_difference(sums, others, first.channels(), first.start_of(k)))
 }
 
-/// Whether both sides add the same stored frames in block k.
+/// Whether both sides add the same samples in block k, by how they are stored.
 fn is_stored_alike<S: Shelf, T: Shelf>(
     k: u64,
     first: &Side,
@@ -191,7 +191,7 @@ fn is_stored_alike<S: Shelf, T: Shelf>(
 }
 
 /// Whether two sides sum alike in block k, as far as that shows before anything is summed: neither plays, or both add the
-/// same stored frames.
+/// same samples.
 pub fn is_alike<S: Shelf, T: Shelf>(
     k: u64,
     first: &Side,

@@ -10,11 +10,12 @@ ghost use Rattle.pcm.specs.Samples.{samples_in};
 ghost use Rattle.devices.specs.Frame.{OnlyReads};
 ghost use Rattle.blockmachine.specs.Playing.{Plays};
 ghost use Rattle.comparison.specs.Fault.{FailsAt, IsSource, OfEither, OfFirst, OfSecond};
-ghost use Rattle.comparison.specs.Stored.{AddAlike, AreStoredAlike, PlayAlike, SumAlike};
+ghost use Rattle.comparison.specs.Stored.{AddAlike, AreCounterparts, PlayAlike, SumAlike, full_samples};
 
+use crate::depths::are_same_at;
 use crate::{CompareFault, SideFault};
 use devices::Shelf;
-use sound_terms::{Instruction, Shape, Stretch};
+use sound_terms::{Depth, Instruction, Shape, Stretch};
 use wavread::Sound;
 
 /// Whether no two of these bytes differ. A loop that never ends early is made wide.
@@ -130,34 +131,67 @@ fn are_laid_alike(stretch: &Stretch, part: &Stretch) -> bool
     stretch.first >= 1 && *part == moved
 }
 
-/// How many bytes the frames of two stretches have that lie alike, and play files of the same channels and depth;
-/// `None` where they don't.
-fn stored_length(
+/// What is compared of the files of two stretches: so many samples, of all channels, at the depth of either file.
+#[derive(Clone, Copy)]
+pub struct Counterparts {
+    pub samples: usize,
+    pub depth: Depth,
+    pub other_depth: Depth,
+}
+
+/// The samples of two stretches that lie alike and play files of as many channels; `None` where they don't.
+fn counterparts_of(
     stretch: &Stretch,
     part: &Stretch,
     sounds: &[Sound],
     others: &[Sound],
-) -> Option<usize>
+) -> Option<Counterparts>
     requires lies { LiesInFile sounds.now stretch.now.file stretch.now.first stretch.now.width stretch.now.frame
         stretch.now.length }
     requires others_lie { LiesInFile others.now part.now.file part.now.first part.now.width part.now.frame
         part.now.length }
-    ensures { IfSome result (AreStoredAlike sounds.now others.now stretch.now part.now) }
+    ensures { IfSome result (AreCounterparts sounds.now others.now stretch.now part.now) }
 {
     let sound = &sounds[stretch.file as usize];
     let other = &others[part.file as usize];
     if !are_laid_alike(stretch, part) {
         return None;
     }
-    if sound.channels() != other.channels() || sound.depth() != other.depth() {
+    if sound.channels() != other.channels() {
         return None;
     }
-    let frame = usize::from(sound.channels()) * usize::from(sound.depth().bits() / 8);
-    Some(stretch.length as usize * frame)
+    Some(Counterparts {
+        samples: stretch.length as usize * usize::from(sound.channels()),
+        depth: sound.depth(),
+        other_depth: other.depth(),
+    })
 }
 
-/// Whether two stretches play the same: they lie alike, and their frames are stored alike. Where these don't fit into the
-/// bytes the answer is no.
+/// How many bytes a sample has.
+fn width_of(depth: Depth) -> usize
+    ensures { result ≡ bits_of depth / 8 }
+{
+    usize::from(depth.bits() / 8)
+}
+
+/// Whether the samples of either file, as they are stored, are the same at full scale.
+fn are_counterparts(found: &Counterparts, bytes: &[u8], others: &[u8]) -> bool
+    requires bytes { length bytes.now ≡ found.now.samples * (bits_of found.now.depth / 8) }
+    requires others { length others.now ≡ found.now.samples * (bits_of found.now.other_depth / 8) }
+    ensures { IsTrue result → full_samples (bits_of found.now.depth) found.now.samples bytes.now
+        ≡ full_samples (bits_of found.now.other_depth) found.now.samples others.now }
+{
+    let depth = found.depth;
+    let other_depth = found.other_depth;
+    if depth == other_depth {
+        are_same(bytes, others)
+    } else {
+        are_same_at(depth, bytes, other_depth, others, found.samples)
+    }
+}
+
+/// Whether two stretches play the same: they lie alike, and their samples are the same as they are stored. Where these
+/// don't fit into the bytes the answer is no.
 fn play_alike<S: Shelf, T: Shelf>(
     stretch: &Stretch,
     part: &Stretch,
@@ -181,17 +215,19 @@ fn play_alike<S: Shelf, T: Shelf>(
     ensures second_read { OnlyReads T.Shelf second_shelf.old second_shelf.new result (λ fault. OfSecond IsSource fault)
         (λ fault failed. OfSecond (λ of. FailsAt others.now of failed) fault) }
 {
-    let Some(count) = stored_length(stretch, part, sounds, others) else {
+    let Some(found) = counterparts_of(stretch, part, sounds, others) else {
         return Ok(false);
     };
-    if count > first_bytes.len() || count > second_bytes.len() {
+    let count = found.samples * width_of(found.depth);
+    let other_count = found.samples * width_of(found.other_depth);
+    if count > first_bytes.len() || other_count > second_bytes.len() {
         return Ok(false);
     }
     let bytes = &mut first_bytes[..count];
-    let other_bytes = &mut second_bytes[..count];
+    let other_bytes = &mut second_bytes[..other_count];
     read_first(stretch, sounds, first_shelf, bytes)?;
     read_second(part, others, second_shelf, other_bytes)?;
-    Ok(are_same(bytes, other_bytes))
+    Ok(are_counterparts(&found, bytes, other_bytes))
 }
 
 /// The stretch that an instruction adds, and its shape.
@@ -225,7 +261,7 @@ fn are_ends(line: &Instruction, counterpart: &Instruction) -> bool
     }
 }
 
-/// Whether an instruction does the same to sums as its counterpart: it adds the same stored frames, under one shape.
+/// Whether an instruction does the same to sums as its counterpart: it adds the same samples, under one shape.
 fn add_alike<S: Shelf, T: Shelf>(
     line: &Instruction,
     counterpart: &Instruction,
@@ -268,8 +304,7 @@ fn add_alike<S: Shelf, T: Shelf>(
     )
 }
 
-/// Whether two programs sum alike since they add the same stored frames, instruction by instruction: nothing is unpacked
-/// or summed. Programs of which it says no may sum alike still.
+/// Whether two programs sum alike since they add the same samples, instruction by instruction: nothing is summed. Programs of which it says no may sum alike still.
 pub fn sum_alike<S: Shelf, T: Shelf>(
     lines: &[Instruction],
     counterparts: &[Instruction],

@@ -1,0 +1,8 @@
+use Rattle.std.proofs.Common.{◌≡◌}
+use Rattle.sound_terms.specs.Depth.{bits_of}
+use Rattle.comparison.specs.Stored.{full_samples}
+use Rattle.comparison.proofs.depths.are_same_in.Given as goal
+
+-- the samples so far are the same
+abbrev pub invariant-loop-i : goal.invariant-loop-i
+invariant-loop-i l = full_samples (bits_of l.depth) l.i l.bytes ≡ full_samples (bits_of l.other) l.i l.others

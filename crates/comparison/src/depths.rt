@@ -1,0 +1,146 @@
+// Samples of two depths, compared as they are stored.
+ghost use Rattle.std.specs.Prelude.{◌≡◌, ◌+◌, ◌*◌, ◌/◌, ◌≤◌, IsTrue, drop, length};
+ghost use Rattle.sound_terms.specs.Depth.{bits_of};
+ghost use Rattle.sound_terms.specs.Mix.{full_scale};
+ghost use Rattle.sound_terms.specs.Waves.{sample_of};
+ghost use Rattle.comparison.specs.Stored.{full_samples};
+
+use pcm::unpack;
+use sound_terms::Depth;
+use std::simd::prelude::*;
+
+/// Where the bytes of four samples of 16 bits go: to the upper ends of those of 32 bits, with zeros (128) below them.
+const SIXTEEN: [u8; 16] = [
+    128, 128, 0, 1, 128, 128, 2, 3, 128, 128, 4, 5, 128, 128, 6, 7,
+];
+
+/// The same at 24 bits.
+const TWENTY_FOUR: [u8; 16] = [128, 0, 1, 2, 128, 3, 4, 5, 128, 6, 7, 8, 128, 9, 10, 11];
+
+/// The four samples of 16 bits that sixteen bytes begin with, as they are stored at 32 bits.
+#[inline(always)]
+fn four_sixteen(bytes: u8x16) -> u8x16
+    ensures { full_samples 32 4 result ≡ full_samples 16 4 bytes }
+{
+    bytes.swizzle_dyn(u8x16::from_array(SIXTEEN))
+}
+
+/// The same at 24 bits.
+#[inline(always)]
+fn four_twenty_four(bytes: u8x16) -> u8x16
+    ensures { full_samples 32 4 result ≡ full_samples 24 4 bytes }
+{
+    bytes.swizzle_dyn(u8x16::from_array(TWENTY_FOUR))
+}
+
+/// The same at any depth.
+#[inline(always)]
+fn four_samples(depth: Depth, bytes: u8x16) -> u8x16
+    ensures { full_samples 32 4 result ≡ full_samples (bits_of depth) 4 bytes }
+{
+    match depth {
+        Depth::Sixteen => four_sixteen(bytes),
+        Depth::TwentyFour => four_twenty_four(bytes),
+        Depth::ThirtyTwo => bytes,
+    }
+}
+
+/// Whether sixteen bytes are the same as others.
+#[inline(always)]
+fn are_equal(bytes: u8x16, others: u8x16) -> bool
+    ensures { IsTrue result → bytes ≡ others }
+{
+    bytes.simd_ne(others).to_bitmask() == 0
+}
+
+/// How many samples from the front on are the same at full scale, four at a time, as long as eight are left.
+#[inline(always)]
+fn same_lanes(depth: Depth, bytes: &[u8], other: Depth, others: &[u8], count: usize) -> usize
+    requires bytes { length bytes.now ≡ count * (bits_of depth / 8) }
+    requires others { length others.now ≡ count * (bits_of other / 8) }
+    ensures some { result ≤ count }
+    ensures same { full_samples (bits_of depth) result bytes.now ≡ full_samples (bits_of other) result others.now }
+{
+    let width = usize::from(depth.bits() / 8);
+    let other_width = usize::from(other.bits() / 8);
+    let mut done = 0;
+    while count - done >= 8 {
+        let four = four_samples(depth, u8x16::from_slice(&bytes[done * width..]));
+        let counterpart = four_samples(other, u8x16::from_slice(&others[done * other_width..]));
+        if !are_equal(four, counterpart) {
+            break;
+        }
+        done += 4;
+    }
+    done
+}
+
+/// Sample i of these, as it is at 32 bits.
+fn sample_at(depth: Depth, bytes: &[u8], i: usize) -> i32
+    requires { (i + 1) * (bits_of depth / 8) ≤ length bytes.now }
+    ensures { full_scale 32 result
+        ≡ full_scale (bits_of depth) (sample_of (bits_of depth) (drop (i * (bits_of depth / 8)) bytes.now)) }
+{
+    let width = usize::from(depth.bits() / 8);
+    let mut sample = [0; 1];
+    unpack(depth, &bytes[i * width..(i + 1) * width], &mut sample);
+    match depth {
+        Depth::Sixteen => sample[0] * 65_536,
+        Depth::TwentyFour => sample[0] * 256,
+        Depth::ThirtyTwo => sample[0],
+    }
+}
+
+/// Whether as many samples of two depths are the same at full scale: four at a time as far as that goes, and then one by
+/// one.
+#[inline(always)]
+fn are_same_in(depth: Depth, bytes: &[u8], other: Depth, others: &[u8], count: usize) -> bool
+    requires bytes { length bytes.now ≡ count * (bits_of depth / 8) }
+    requires others { length others.now ≡ count * (bits_of other / 8) }
+    ensures { IsTrue result
+        → full_samples (bits_of depth) count bytes.now ≡ full_samples (bits_of other) count others.now }
+{
+    let done = same_lanes(depth, bytes, other, others, count);
+    for i in done..count {
+        if sample_at(depth, bytes, i) != sample_at(other, others, i) {
+            return false;
+        }
+    }
+    true
+}
+
+/// The same of a depth and a deeper one. Each pair of them has a loop of its own.
+fn are_same_deeper(depth: Depth, bytes: &[u8], deeper: Depth, others: &[u8], count: usize) -> bool
+    requires bytes { length bytes.now ≡ count * (bits_of depth / 8) }
+    requires others { length others.now ≡ count * (bits_of deeper / 8) }
+    ensures { IsTrue result
+        → full_samples (bits_of depth) count bytes.now ≡ full_samples (bits_of deeper) count others.now }
+{
+    match (depth, deeper) {
+        (Depth::Sixteen, Depth::TwentyFour) => {
+            are_same_in(Depth::Sixteen, bytes, Depth::TwentyFour, others, count)
+        }
+        (Depth::Sixteen, Depth::ThirtyTwo) => {
+            are_same_in(Depth::Sixteen, bytes, Depth::ThirtyTwo, others, count)
+        }
+        (Depth::TwentyFour, Depth::ThirtyTwo) => {
+            are_same_in(Depth::TwentyFour, bytes, Depth::ThirtyTwo, others, count)
+        }
+        _ => are_same_in(depth, bytes, deeper, others, count),
+    }
+}
+
+/// Whether as many samples of two depths are the same at full scale. Nothing is unpacked: the bytes of a sample are the
+/// upper ones of the deeper, above zeros.
+pub fn are_same_at(depth: Depth, bytes: &[u8], other: Depth, others: &[u8], count: usize) -> bool
+    requires bytes { length bytes.now ≡ count * (bits_of depth / 8) }
+    requires others { length others.now ≡ count * (bits_of other / 8) }
+    ensures { IsTrue result
+        → full_samples (bits_of depth) count bytes.now ≡ full_samples (bits_of other) count others.now }
+{
+    if depth.bits() <= other.bits() {
+        are_same_deeper(depth, bytes, other, others, count)
+    } else {
+        are_same_deeper(other, others, depth, bytes, count)
+    }
+}
