@@ -1,6 +1,7 @@
 pub mod Counts
 pub mod Events
 pub mod Heard
+pub mod Joined
 pub mod Lanes
 pub mod Outside
 pub mod Places

@@ -1,11 +1,12 @@
 -- What two blocks add to their sums from samples that are the same as they are stored.
-use Rattle.std.specs.Prelude.{◌≡◌, ℕ, ◌+◌, ◌*◌, ◌^◌, ◌<◌, ◌≤◌, ℤ, List, Some, length, map, slice_get, slice_index_or}
+use Rattle.std.specs.Prelude.{◌≡◌, ℕ, ◌+◌, ◌*◌, ◌^◌, ◌<◌, ◌≤◌, min, ◌-◌, ℤ, List, Some, length, map, slice_get, slice_index_or}
 use Rattle.sound_terms.specs.declared.block.Stretch.{Stretch}
 use Rattle.sound_terms.specs.declared.block.Instruction.{Instruction}
 use Rattle.sound_terms.specs.Blocks.{BlockState, IsFull, PlaysFull, executed}
 use Rattle.sound_terms.specs.Mix.{Reading, full_scale}
 use Rattle.sound_terms.specs.Sounds.{SoundFacts}
 use Rattle.pcm.specs.Samples.{samples_in}
+use Rattle.comparison.specs.declared.matches.Match.{Match}
 use Rattle.comparison.specs.declared.stored.Counterparts.{Counterparts}
 
 -- the first n samples of bytes of this depth, at full scale
@@ -27,6 +28,15 @@ pub record AreCounterparts (sounds others : List SoundFacts) (stretch part : Str
   pub other_depth : found.other_depth ≡ other_facts.depth
   pub samples : found.samples ≡ stretch.length * facts.channels
   pub few : found.samples < 2 ^ 40
+
+-- these are frames of two stretches, on the channels of the first
+pub record IsMatchOf (found : Match) (stretch part : Stretch) : Type 0 where
+  pub file : found.file ≡ stretch.file
+  pub frame : found.frame ≡ stretch.frame
+  pub end : found.end ≡ min (stretch.frame + stretch.length) (2 ^ 64 - 1)
+  pub other_file : found.other_file ≡ part.file
+  pub other_frame : found.other_frame ≡ part.frame
+  pub channels : found.channels ≡ stretch.width
 
 -- two stretches of the same samples and channels of a block play the same, and no sample outside full scale
 pub record PlayAlike (reading other : Reading) (stretch part : Stretch) : Type 0 where

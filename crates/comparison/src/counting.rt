@@ -4,9 +4,11 @@ ghost use Rattle.sound_terms.specs.Blocks.{block_count, block_frames, block_star
 ghost use Rattle.devices.specs.Frame.{OnlyReads};
 ghost use Rattle.comparison.specs.Counted.{AreCounts, HasCounted, differing, of_channel};
 ghost use Rattle.comparison.specs.Fault.{FailsAt, IsSource, OfEither, OfFirst, OfSecond};
+ghost use Rattle.comparison.specs.Matched.{AreMatches};
 ghost use Rattle.comparison.specs.Side.{HasRoom, heard};
 
 use crate::CompareFault;
+use crate::matches::Matches;
 use crate::room::Room;
 use crate::side::Side;
 use crate::sides::{is_alike, show_progress, sum_both};
@@ -112,6 +114,7 @@ fn count_block<S: Shelf, T: Shelf>(
     second_shelf: &mut T,
     first_room: &mut Room,
     second_room: &mut Room,
+    matches: &mut Matches,
     counts: &mut [u32],
 ) -> Result<(), CompareFault>
     requires there { k < block_count first.old.planned.range }
@@ -120,6 +123,8 @@ fn count_block<S: Shelf, T: Shelf>(
     requires second_room { HasRoom second.old second_room.old }
     requires wide { length counts.old ≡ first.old.planned.range.channels }
     requires in_day { (c : ℕ) → slice_index_or counts.old c 0 ≤ 4147200000 }
+    requires matches { AreMatches S.Shelf T.Shelf first_shelf.old second_shelf.old first.old.sounds second.old.sounds
+        matches.old }
     ensures counted { IsTrue (S.honest first_shelf.old) → IsTrue (T.honest second_shelf.old) → OnOk result (HasCounted
         (heard first.old (S.stored first_shelf.old)) (heard second.old (T.stored second_shelf.old))
         (block_start first.old.planned.range k) (block_frames first.old.planned.range k) counts.old counts.new) }
@@ -129,6 +134,8 @@ fn count_block<S: Shelf, T: Shelf>(
     ensures second_ready { second.new ≡ second.old }
     ensures first_room { HasRoom first.old first_room.new }
     ensures second_room { HasRoom second.old second_room.new }
+    ensures matches { OnOk result (AreMatches S.Shelf T.Shelf first_shelf.new second_shelf.new first.old.sounds second.old.sounds
+        matches.new) }
     ensures source { IfErr result (OfEither IsSource) }
     ensures first_read { OnlyReads S.Shelf first_shelf.old first_shelf.new result (λ fault. OfFirst IsSource fault)
         (λ fault failed. OfFirst (λ of. FailsAt first.old.sounds of failed) fault) }
@@ -143,6 +150,7 @@ fn count_block<S: Shelf, T: Shelf>(
         second_shelf,
         first_room,
         second_room,
+        matches,
     )?;
     if alike {
         return Ok(());
@@ -168,6 +176,7 @@ pub fn count_sides<S: Shelf, T: Shelf, W: Watch>(
     second_shelf: &mut T,
     first_room: &mut Room,
     second_room: &mut Room,
+    matches: &mut Matches,
     counts: &mut [u32],
     watch: &mut W,
 ) -> Result<(), CompareFault>
@@ -176,6 +185,8 @@ pub fn count_sides<S: Shelf, T: Shelf, W: Watch>(
     requires second_room { HasRoom second.old second_room.old }
     requires wide { length counts.old ≡ first.old.planned.range.channels }
     requires zero { (c : ℕ) → slice_index_or counts.old c 0 ≡ 0 }
+    requires matches { AreMatches S.Shelf T.Shelf first_shelf.old second_shelf.old first.old.sounds second.old.sounds
+        matches.old }
     ensures counted { IsTrue (S.honest first_shelf.old) → IsTrue (T.honest second_shelf.old) → OnOk result (AreCounts
         (heard first.old (S.stored first_shelf.old)) (heard second.old (T.stored second_shelf.old))
         first.old.planned.range.from (first.old.planned.range.to - first.old.planned.range.from) counts.new) }
@@ -194,6 +205,7 @@ pub fn count_sides<S: Shelf, T: Shelf, W: Watch>(
             second_shelf,
             first_room,
             second_room,
+            matches,
             counts,
         )?;
         show_progress(k, first, watch);

@@ -2,9 +2,10 @@
 //! first.
 //!
 //! `compare_projects` compares the exact sums of both, block by block; where neither plays nothing is read, and where
-//! both add the same samples, at whatever depths they are stored, nothing is summed. It answers `Same` exactly where the sums are equal on every chosen
-//! channel at every chosen time, and else the first time at which they differ, with the lowest channel that differs
-//! there and both sums (`compared`). Files are only read (`first_read`, `second_read`).
+//! both add the same samples, at whatever depths they are stored, nothing is summed. Frames of two files that were found
+//! to be the same are mostly not read again. It answers `Same` exactly where the sums are equal on every chosen channel
+//! at every chosen time, and else the first time at which they differ, with the lowest channel that differs there and
+//! both sums (`compared`). Files are only read (`first_read`, `second_read`).
 //!
 //! `differing_in` counts, channel by channel, at how many samples of a stretch they differ (`counted`).
 #![tactic(auto)]
@@ -13,6 +14,7 @@ mod counting;
 mod depths;
 mod differing;
 mod fault;
+mod matches;
 mod projects;
 mod range;
 mod room;

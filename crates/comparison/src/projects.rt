@@ -16,6 +16,7 @@ ghost use Rattle.comparison.specs.Range.{HasChannels};
 ghost use Rattle.comparison.specs.Whole.{HasCompared, IsComparison};
 
 use crate::differing::Difference;
+use crate::matches::Matches;
 use crate::range::{Extent, Selection, compared_in};
 use crate::room::Room;
 use crate::side::Side;
@@ -174,6 +175,7 @@ fn compare_in<S: Shelf, T: Shelf, W: Watch>(
     let sides = sides_of(alloc, first, second, extent)?;
     let (mut one, mut two) = (sides.first, sides.second);
     let (mut first_room, mut second_room) = (sides.first_room, sides.second_room);
+    let mut matches = Matches::new();
     compare_sides(
         &mut one,
         &mut two,
@@ -181,6 +183,7 @@ fn compare_in<S: Shelf, T: Shelf, W: Watch>(
         second_shelf,
         &mut first_room,
         &mut second_room,
+        &mut matches,
         watch,
     )
 }

@@ -4,10 +4,12 @@ ghost use Rattle.sound_terms.specs.Blocks.{block_count, block_frames, block_star
 ghost use Rattle.devices.specs.Frame.{OnlyReads};
 ghost use Rattle.comparison.specs.Alike.{AreAlike, IsCompared};
 ghost use Rattle.comparison.specs.Fault.{FailsAt, IsSource, OfEither, OfFirst, OfSecond};
+ghost use Rattle.comparison.specs.Matched.{AreMatches};
 ghost use Rattle.comparison.specs.Side.{AreBlockSums, HasRoom, heard};
 
 use crate::CompareFault;
 use crate::differing::{Difference, first_difference};
+use crate::matches::Matches;
 use crate::room::Room;
 use crate::side::Side;
 use crate::stored::sum_alike;
@@ -157,11 +159,14 @@ fn is_stored_alike<S: Shelf, T: Shelf>(
     second_shelf: &mut T,
     first_room: &mut Room,
     second_room: &mut Room,
+    matches: &mut Matches,
 ) -> Result<bool, CompareFault>
     requires there { k < block_count first.now.planned.range }
     requires same { second.now.planned.range ≡ first.now.planned.range }
     requires first_room { HasRoom first.now first_room.old }
     requires second_room { HasRoom second.now second_room.old }
+    requires matches { AreMatches S.Shelf T.Shelf first_shelf.old second_shelf.old first.now.sounds second.now.sounds
+        matches.old }
     ensures alike { IsTrue (S.honest first_shelf.old) → IsTrue (T.honest second_shelf.old)
         → IfOk result (λ alike. IsTrue alike → AreAlike
         (block_start first.now.planned.range k)
@@ -170,6 +175,8 @@ fn is_stored_alike<S: Shelf, T: Shelf>(
         (heard second.now (T.stored second_shelf.old))) }
     ensures first_room { HasRoom first.now first_room.new }
     ensures second_room { HasRoom second.now second_room.new }
+    ensures matches { OnOk result (AreMatches S.Shelf T.Shelf first_shelf.new second_shelf.new first.now.sounds second.now.sounds
+        matches.new) }
     ensures source { IfErr result (OfEither IsSource) }
     ensures first_read { OnlyReads S.Shelf first_shelf.old first_shelf.new result (λ fault. OfFirst IsSource fault)
         (λ fault failed. OfFirst (λ of. FailsAt first.now.sounds of failed) fault) }
@@ -187,6 +194,7 @@ fn is_stored_alike<S: Shelf, T: Shelf>(
         second_shelf,
         first_room.bytes.as_mut_slice(),
         second_room.bytes.as_mut_slice(),
+        matches,
     )
 }
 
@@ -200,11 +208,14 @@ pub fn is_alike<S: Shelf, T: Shelf>(
     second_shelf: &mut T,
     first_room: &mut Room,
     second_room: &mut Room,
+    matches: &mut Matches,
 ) -> Result<bool, CompareFault>
     requires there { k < block_count first.now.planned.range }
     requires same { second.now.planned.range ≡ first.now.planned.range }
     requires first_room { HasRoom first.now first_room.old }
     requires second_room { HasRoom second.now second_room.old }
+    requires matches { AreMatches S.Shelf T.Shelf first_shelf.old second_shelf.old first.now.sounds second.now.sounds
+        matches.old }
     ensures alike { IsTrue (S.honest first_shelf.old) → IsTrue (T.honest second_shelf.old)
         → IfOk result (λ alike. IsTrue alike → AreAlike
         (block_start first.now.planned.range k)
@@ -213,6 +224,8 @@ pub fn is_alike<S: Shelf, T: Shelf>(
         (heard second.now (T.stored second_shelf.old))) }
     ensures first_room { HasRoom first.now first_room.new }
     ensures second_room { HasRoom second.now second_room.new }
+    ensures matches { OnOk result (AreMatches S.Shelf T.Shelf first_shelf.new second_shelf.new first.now.sounds second.now.sounds
+        matches.new) }
     ensures source { IfErr result (OfEither IsSource) }
     ensures first_read { OnlyReads S.Shelf first_shelf.old first_shelf.new result (λ fault. OfFirst IsSource fault)
         (λ fault failed. OfFirst (λ of. FailsAt first.now.sounds of failed) fault) }
@@ -230,6 +243,7 @@ pub fn is_alike<S: Shelf, T: Shelf>(
         second_shelf,
         first_room,
         second_room,
+        matches,
     )
 }
 
@@ -242,11 +256,14 @@ fn compare_block<S: Shelf, T: Shelf>(
     second_shelf: &mut T,
     first_room: &mut Room,
     second_room: &mut Room,
+    matches: &mut Matches,
 ) -> Result<Option<Difference>, CompareFault>
     requires there { k < block_count first.old.planned.range }
     requires same { second.old.planned.range ≡ first.old.planned.range }
     requires first_room { HasRoom first.old first_room.old }
     requires second_room { HasRoom second.old second_room.old }
+    requires matches { AreMatches S.Shelf T.Shelf first_shelf.old second_shelf.old first.old.sounds second.old.sounds
+        matches.old }
     ensures compared { IsTrue (S.honest first_shelf.old) → IsTrue (T.honest second_shelf.old)
         → IfOk result (IsCompared
         (block_start first.old.planned.range k)
@@ -257,6 +274,8 @@ fn compare_block<S: Shelf, T: Shelf>(
     ensures second_ready { second.new ≡ second.old }
     ensures first_room { HasRoom first.old first_room.new }
     ensures second_room { HasRoom second.old second_room.new }
+    ensures matches { OnOk result (AreMatches S.Shelf T.Shelf first_shelf.new second_shelf.new first.old.sounds second.old.sounds
+        matches.new) }
     ensures source { IfErr result (OfEither IsSource) }
     ensures first_read { OnlyReads S.Shelf first_shelf.old first_shelf.new result (λ fault. OfFirst IsSource fault)
         (λ fault failed. OfFirst (λ of. FailsAt first.old.sounds of failed) fault) }
@@ -271,6 +290,7 @@ fn compare_block<S: Shelf, T: Shelf>(
         second_shelf,
         first_room,
         second_room,
+        matches,
     )?;
     if alike {
         return Ok(None);
@@ -302,11 +322,14 @@ pub fn compare_sides<S: Shelf, T: Shelf, W: Watch>(
     second_shelf: &mut T,
     first_room: &mut Room,
     second_room: &mut Room,
+    matches: &mut Matches,
     watch: &mut W,
 ) -> Result<Option<Difference>, CompareFault>
     requires same { second.old.planned.range ≡ first.old.planned.range }
     requires first_room { HasRoom first.old first_room.old }
     requires second_room { HasRoom second.old second_room.old }
+    requires matches { AreMatches S.Shelf T.Shelf first_shelf.old second_shelf.old first.old.sounds second.old.sounds
+        matches.old }
     ensures compared { IsTrue (S.honest first_shelf.old) → IsTrue (T.honest second_shelf.old)
         → IfOk result (IsCompared
         first.old.planned.range.from first.old.planned.range.to first.old.planned.range.channels
@@ -326,6 +349,7 @@ pub fn compare_sides<S: Shelf, T: Shelf, W: Watch>(
             second_shelf,
             first_room,
             second_room,
+            matches,
         )?;
         if found.is_some() {
             return Ok(found);

@@ -1,5 +1,5 @@
 // What two blocks play of their files, compared as it is stored.
-ghost use Rattle.std.specs.Prelude.{◌≡◌, ◌*◌, ◌/◌, ◌≤◌, IfErr, IfOk, IfSome, IsTrue, OnOk, Some, length, slice_get};
+ghost use Rattle.std.specs.Prelude.{◌≡◌, ◌+◌, ◌*◌, ◌/◌, ◌^◌, ◌<◌, ◌≤◌, IfErr, IfOk, IfSome, IsTrue, OnOk, Some, length, slice_get};
 ghost use Rattle.std.specs.List.{All};
 ghost use Rattle.sound_terms.specs.Blocks.{IsFull, LiesInFiles, addition_of};
 ghost use Rattle.sound_terms.specs.Depth.{bits_of};
@@ -10,9 +10,11 @@ ghost use Rattle.pcm.specs.Samples.{samples_in};
 ghost use Rattle.devices.specs.Frame.{OnlyReads};
 ghost use Rattle.blockmachine.specs.Playing.{Plays};
 ghost use Rattle.comparison.specs.Fault.{FailsAt, IsSource, OfEither, OfFirst, OfSecond};
-ghost use Rattle.comparison.specs.Stored.{AddAlike, AreCounterparts, PlayAlike, SumAlike, full_samples};
+ghost use Rattle.comparison.specs.Matched.{AreMatches};
+ghost use Rattle.comparison.specs.Stored.{AddAlike, AreCounterparts, IsMatchOf, PlayAlike, SumAlike, full_samples};
 
 use crate::depths::are_same_at;
+use crate::matches::{Match, Matches};
 use crate::{CompareFault, SideFault};
 use devices::Shelf;
 use sound_terms::{Depth, Instruction, Shape, Stretch};
@@ -190,9 +192,9 @@ fn are_counterparts(found: &Counterparts, bytes: &[u8], others: &[u8]) -> bool
     }
 }
 
-/// Whether two stretches play the same: they lie alike, and their samples are the same as they are stored. Where these
-/// don't fit into the bytes the answer is no.
-fn play_alike<S: Shelf, T: Shelf>(
+/// Reads two stretches, and says whether they play the same: they lie alike, and their samples are the same as they are
+/// stored. Where these don't fit into the bytes the answer is no.
+fn read_alike<S: Shelf, T: Shelf>(
     stretch: &Stretch,
     part: &Stretch,
     sounds: &[Sound],
@@ -228,6 +230,92 @@ fn play_alike<S: Shelf, T: Shelf>(
     read_first(stretch, sounds, first_shelf, bytes)?;
     read_second(part, others, second_shelf, other_bytes)?;
     Ok(are_counterparts(&found, bytes, other_bytes))
+}
+
+/// A stretch with all channels of its file.
+fn with_channels(stretch: &Stretch, sounds: &[Sound]) -> Stretch
+    requires { LiesInFile sounds.now stretch.now.file stretch.now.first stretch.now.width stretch.now.frame
+        stretch.now.length }
+    ensures stretch { result ≡ record stretch.now { first = 1; width = result.width } }
+    ensures lies { LiesInFile sounds.now result.file result.first result.width result.frame result.length }
+    ensures wide { stretch.now.first + stretch.now.width ≤ result.width + 1 }
+    ensures ends { result.frame + result.length < 2 ^ 64 }
+{
+    let sound = &sounds[stretch.file as usize];
+    let _frames = sound.frames();
+    Stretch {
+        first: 1,
+        width: sound.channels(),
+        ..*stretch
+    }
+}
+
+/// The frames of two stretches, with the channels of the first from the first one on.
+fn match_of(stretch: &Stretch, part: &Stretch) -> Match
+    ensures { IsMatchOf result stretch.now part.now }
+{
+    Match {
+        file: stretch.file,
+        frame: stretch.frame,
+        end: stretch.frame.saturating_add(stretch.length as u64),
+        other_file: part.file,
+        other_frame: part.frame,
+        channels: stretch.width,
+    }
+}
+
+/// Whether two stretches play the same, as `read_alike` says. What was found to be the same isn't read again.
+fn play_alike<S: Shelf, T: Shelf>(
+    stretch: &Stretch,
+    part: &Stretch,
+    sounds: &[Sound],
+    others: &[Sound],
+    first_shelf: &mut S,
+    second_shelf: &mut T,
+    first_bytes: &mut [u8],
+    second_bytes: &mut [u8],
+    matches: &mut Matches,
+) -> Result<bool, CompareFault>
+    requires lies { LiesInFile sounds.now stretch.now.file stretch.now.first stretch.now.width stretch.now.frame
+        stretch.now.length }
+    requires others_lie { LiesInFile others.now part.now.file part.now.first part.now.width part.now.frame
+        part.now.length }
+    requires matches { AreMatches S.Shelf T.Shelf first_shelf.old second_shelf.old sounds.now others.now matches.old }
+    ensures alike { IsTrue (S.honest first_shelf.old) → IsTrue (T.honest second_shelf.old)
+        → IfOk result (λ same. IsTrue same → PlayAlike (reading_by (S.stored first_shelf.old) sounds.now)
+        (reading_by (T.stored second_shelf.old) others.now) stretch.now part.now) }
+    ensures matches { OnOk result (AreMatches S.Shelf T.Shelf first_shelf.new second_shelf.new sounds.now others.now
+        matches.new) }
+    ensures source { IfErr result (OfEither IsSource) }
+    ensures first_read { OnlyReads S.Shelf first_shelf.old first_shelf.new result (λ fault. OfFirst IsSource fault)
+        (λ fault failed. OfFirst (λ of. FailsAt sounds.now of failed) fault) }
+    ensures second_read { OnlyReads T.Shelf second_shelf.old second_shelf.new result (λ fault. OfSecond IsSource fault)
+        (λ fault failed. OfSecond (λ of. FailsAt others.now of failed) fault) }
+{
+    if !are_laid_alike(stretch, part) {
+        return Ok(false);
+    }
+    let whole = with_channels(stretch, sounds);
+    let counterpart = with_channels(part, others);
+    let wanted = match_of(&whole, &counterpart);
+    if matches.cover(&wanted) {
+        return Ok(true);
+    }
+    let same = read_alike(
+        &whole,
+        &counterpart,
+        sounds,
+        others,
+        first_shelf,
+        second_shelf,
+        first_bytes,
+        second_bytes,
+    )?;
+    if !same {
+        return Ok(false);
+    }
+    matches.add(wanted);
+    Ok(true)
 }
 
 /// The stretch that an instruction adds, and its shape.
@@ -271,12 +359,17 @@ fn add_alike<S: Shelf, T: Shelf>(
     second_shelf: &mut T,
     first_bytes: &mut [u8],
     second_bytes: &mut [u8],
+    matches: &mut Matches,
 ) -> Result<bool, CompareFault>
     requires lies { LiesInFiles sounds.now line.now }
     requires others_lie { LiesInFiles others.now counterpart.now }
+    requires matches { AreMatches S.Shelf T.Shelf first_shelf.old second_shelf.old sounds.now others.now
+        matches.old }
     ensures alike { IsTrue (S.honest first_shelf.old) → IsTrue (T.honest second_shelf.old)
         → IfOk result (λ same. IsTrue same → AddAlike (reading_by (S.stored first_shelf.old) sounds.now)
         (reading_by (T.stored second_shelf.old) others.now) line.now counterpart.now) }
+    ensures matches { OnOk result (AreMatches S.Shelf T.Shelf first_shelf.new second_shelf.new sounds.now others.now
+        matches.new) }
     ensures source { IfErr result (OfEither IsSource) }
     ensures first_read { OnlyReads S.Shelf first_shelf.old first_shelf.new result (λ fault. OfFirst IsSource fault)
         (λ fault failed. OfFirst (λ of. FailsAt sounds.now of failed) fault) }
@@ -301,6 +394,7 @@ fn add_alike<S: Shelf, T: Shelf>(
         second_shelf,
         first_bytes,
         second_bytes,
+        matches,
     )
 }
 
@@ -314,12 +408,17 @@ pub fn sum_alike<S: Shelf, T: Shelf>(
     second_shelf: &mut T,
     first_bytes: &mut [u8],
     second_bytes: &mut [u8],
+    matches: &mut Matches,
 ) -> Result<bool, CompareFault>
     requires lie { All (LiesInFiles sounds.now) lines.now }
     requires others_lie { All (LiesInFiles others.now) counterparts.now }
+    requires matches { AreMatches S.Shelf T.Shelf first_shelf.old second_shelf.old sounds.now others.now
+        matches.old }
     ensures alike { IsTrue (S.honest first_shelf.old) → IsTrue (T.honest second_shelf.old)
         → IfOk result (λ same. IsTrue same → SumAlike (reading_by (S.stored first_shelf.old) sounds.now)
         (reading_by (T.stored second_shelf.old) others.now) lines.now counterparts.now) }
+    ensures matches { OnOk result (AreMatches S.Shelf T.Shelf first_shelf.new second_shelf.new sounds.now others.now
+        matches.new) }
     ensures source { IfErr result (OfEither IsSource) }
     ensures first_read { OnlyReads S.Shelf first_shelf.old first_shelf.new result (λ fault. OfFirst IsSource fault)
         (λ fault failed. OfFirst (λ of. FailsAt sounds.now of failed) fault) }
@@ -339,6 +438,7 @@ pub fn sum_alike<S: Shelf, T: Shelf>(
             second_shelf,
             first_bytes,
             second_bytes,
+            matches,
         )?;
         if !alike {
             return Ok(false);

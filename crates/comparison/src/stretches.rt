@@ -10,6 +10,7 @@ ghost use Rattle.comparison.specs.Range as range;
 ghost use Rattle.comparison.specs.Range.{HasChannels};
 
 use crate::counting::count_sides;
+use crate::matches::Matches;
 use crate::projects::{sides_of, time_of};
 use crate::range::{Extent, Selection, compared_in};
 use crate::{CompareFault, SideFault};
@@ -98,6 +99,7 @@ fn count_in<S: Shelf, T: Shelf, W: Watch>(
     let sides = sides_of(alloc, first, second, extent)?;
     let (mut one, mut two) = (sides.first, sides.second);
     let (mut first_room, mut second_room) = (sides.first_room, sides.second_room);
+    let mut matches = Matches::new();
     count_sides(
         &mut one,
         &mut two,
@@ -105,6 +107,7 @@ fn count_in<S: Shelf, T: Shelf, W: Watch>(
         second_shelf,
         &mut first_room,
         &mut second_room,
+        &mut matches,
         counts,
         watch,
     )

@@ -47,6 +47,7 @@ loop-k-preserved g c =
       second_quiet = search rules;
       first_room = search rules;
       second_room = search rules;
+      matches = search rules;
       few = λ j. omega (arith, c.loop-k.invariant.few j, few j, more);
       counted = λ honest sure.
           let files : Files = g.S.Shelf.stored c.args.first_shelf.now in

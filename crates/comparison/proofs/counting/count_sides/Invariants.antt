@@ -1,6 +1,7 @@
 use Rattle.std.proofs.Common.{◌≡◌, ◌-◌, ◌≤◌, ℕ, IsTrue, get_or}
 use Rattle.devices.specs.Frame.{IsQuiet}
 use Rattle.comparison.specs.Counted.{AreCounts}
+use Rattle.comparison.specs.Matched.{AreMatches}
 use Rattle.comparison.specs.Side.{HasRoom, heard, reached}
 use Rattle.comparison.proofs.counting.count_sides.Given as goal
 
@@ -13,6 +14,7 @@ invariant-loop-k g l = record {
   second_quiet : IsQuiet g.T.Shelf l.fn.second_shelf l.second_shelf;
   first_room : HasRoom l.fn.first l.first_room;
   second_room : HasRoom l.fn.second l.second_room;
+  matches : AreMatches g.S.Shelf g.T.Shelf l.first_shelf l.second_shelf l.fn.first.sounds l.fn.second.sounds l.matches;
   few : (c : ℕ) → get_or l.counts c 0 ≤ reached l.fn.first.planned.range l.k - l.fn.first.planned.range.from;
   counted : IsTrue (g.S.Shelf.honest l.fn.first_shelf) → IsTrue (g.T.Shelf.honest l.fn.second_shelf)
       → AreCounts (heard l.fn.first (g.S.Shelf.stored l.fn.first_shelf))

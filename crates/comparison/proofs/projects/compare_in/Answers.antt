@@ -3,12 +3,17 @@ use Rattle.std.specs.Prelude.{IfOk}
 use Rattle.list_terms.specs.Heard.{project_mix}
 use Rattle.devices.specs.Frame.{OnlyReads}
 use Rattle.sound_terms.specs.Render.{Range}
-use Rattle.sound_terms.specs.Sounds.{SoundFacts}
+use Rattle.sound_terms.specs.Sounds.{SoundFacts, reading_by}
 use Rattle.comparison.specs.Alike.{IsCompared}
 use Rattle.comparison.specs.Fault.{FailsAt, IsSource, OfFirst, OfSecond}
 use Rattle.comparison.specs.Side.{heard}
 use Rattle.comparison.proofs.Heard.{result_as}
 use Rattle.comparison.proofs.projects.compare_in.Goals as goal
+
+pub compare_sides-requires-clause-matches : goal.compare_sides-requires-clause-matches
+compare_sides-requires-clause-matches g c = λ honest sure.
+    c.new-matches.ensures (reading_by (g.S.Shelf.stored c.args.first_shelf.now) c.in_ok-sides.sides.first.sounds)
+    (reading_by (g.T.Shelf.stored c.args.second_shelf.now) c.in_ok-sides.sides.second.sounds)
 
 pub returns-clause-compared : goal.returns-clause-compared
 returns-clause-compared g c = λ honest sure.

@@ -1,6 +1,7 @@
 use Rattle.std.proofs.Common.{◌≡◌, IsTrue}
 use Rattle.devices.specs.Frame.{IsQuiet}
 use Rattle.comparison.specs.Alike.{AreAlike}
+use Rattle.comparison.specs.Matched.{AreMatches}
 use Rattle.comparison.specs.Side.{HasRoom, heard, reached}
 use Rattle.comparison.proofs.sides.compare_sides.Given as goal
 
@@ -13,6 +14,7 @@ invariant-loop-k g l = record {
   second_quiet : IsQuiet g.T.Shelf l.fn.second_shelf l.second_shelf;
   first_room : HasRoom l.fn.first l.first_room;
   second_room : HasRoom l.fn.second l.second_room;
+  matches : AreMatches g.S.Shelf g.T.Shelf l.first_shelf l.second_shelf l.fn.first.sounds l.fn.second.sounds l.matches;
   alike : IsTrue (g.S.Shelf.honest l.fn.first_shelf) → IsTrue (g.T.Shelf.honest l.fn.second_shelf)
       → AreAlike l.fn.first.planned.range.from (reached l.fn.first.planned.range l.k) l.fn.first.planned.range.channels
       (heard l.fn.first (g.S.Shelf.stored l.fn.first_shelf)) (heard l.fn.second (g.T.Shelf.stored l.fn.second_shelf));

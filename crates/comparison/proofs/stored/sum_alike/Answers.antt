@@ -13,6 +13,7 @@ pub loop-k-preserved : goal.loop-k-preserved
 loop-k-preserved g c = record {
   first_quiet = search rules;
   second_quiet = search rules;
+  matches = c.in_ok-alike.ensures.matches;
   alike = λ honest sure n d below.
       let k = c.loop-k.k in
       let lines = c.args.lines.now in

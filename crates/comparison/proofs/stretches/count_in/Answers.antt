@@ -3,7 +3,7 @@ use Rattle.std.specs.Prelude.{ℤ, ⊤, Result, Ok, Err, OnOk}
 use Rattle.list_terms.specs.Heard.{project_mix}
 use Rattle.devices.specs.Frame.{OnlyReads}
 use Rattle.sound_terms.specs.Render.{Range}
-use Rattle.sound_terms.specs.Sounds.{SoundFacts}
+use Rattle.sound_terms.specs.Sounds.{SoundFacts, reading_by}
 use Rattle.comparison.specs.declared.fault.CompareFault.{CompareFault}
 use Rattle.comparison.specs.Counted.{AreCounts}
 use Rattle.comparison.specs.Fault.{FailsAt, IsSource, OfFirst, OfSecond}
@@ -15,6 +15,11 @@ use Rattle.comparison.proofs.stretches.count_in.Goals as goal
 well_gives : (P Q : Type 0) → (P → Q) → (result : Result ⊤ CompareFault) → OnOk result P → OnOk result Q
 well_gives P Q gives (Ok done) said = gives said
 well_gives P Q gives (Err fault) said = tt
+
+pub count_sides-requires-clause-matches : goal.count_sides-requires-clause-matches
+count_sides-requires-clause-matches g c = λ honest sure.
+    c.new-matches.ensures (reading_by (g.S.Shelf.stored c.args.first_shelf.now) c.in_ok-sides.sides.first.sounds)
+    (reading_by (g.T.Shelf.stored c.args.second_shelf.now) c.in_ok-sides.sides.second.sounds)
 
 pub returns-clause-counted : goal.returns-clause-counted
 returns-clause-counted g c = λ honest sure.
