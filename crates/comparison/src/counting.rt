@@ -42,8 +42,8 @@ fn count_channel(
     count
 }
 
-/// Adds to the count of each channel at how many of so many frames its sums differ.
-fn count_apart(sums: &[i64], others: &[i64], frames: usize, counts: &mut [u32])
+/// Adds to the count of each channel at how many of so many frames its sums differ, and says whether any do.
+fn count_apart(sums: &[i64], others: &[i64], frames: usize, counts: &mut [u32]) -> bool
     requires same { length sums.now ≡ length others.now }
     requires whole { length sums.now ≡ frames * length counts.old }
     requires few { frames ≤ 4096 }
@@ -52,12 +52,17 @@ fn count_apart(sums: &[i64], others: &[i64], frames: usize, counts: &mut [u32])
         + differing (of_channel (length counts.new) k sums.now) (of_channel (length counts.new) k others.now) frames }
 {
     let channels = counts.len();
+    let mut apart = false;
     for k in 0..channels {
-        counts[k] += count_channel(sums, others, frames, channels, k);
+        let count = count_channel(sums, others, frames, channels, k);
+        counts[k] += count;
+        apart |= count > 0;
     }
+    apart
 }
 
-/// Adds to the count of each channel at how many samples of block k the sums of two sides differ, by these sums.
+/// Adds to the count of each channel at how many samples of block k the sums of two sides differ, by these sums, and says
+/// whether any do.
 fn count_sums<S: Shelf, T: Shelf>(
     k: u64,
     first: &mut Side,
@@ -67,7 +72,7 @@ fn count_sums<S: Shelf, T: Shelf>(
     first_room: &mut Room,
     second_room: &mut Room,
     counts: &mut [u32],
-) -> Result<(), CompareFault>
+) -> Result<bool, CompareFault>
     requires there { k < block_count first.old.planned.range }
     requires same { second.old.planned.range ≡ first.old.planned.range }
     requires first_room { HasRoom first.old first_room.old }
@@ -101,11 +106,10 @@ fn count_sums<S: Shelf, T: Shelf>(
     let count = first.sums_of(k);
     let sums = &first_room.sums.as_slice()[..count];
     let others = &second_room.sums.as_slice()[..count];
-    count_apart(sums, others, first.frames_of(k), counts);
-    Ok(())
+    Ok(count_apart(sums, others, first.frames_of(k), counts))
 }
 
-/// Adds to the count of each channel at how many samples of block k the sums of two sides differ.
+/// The same, where nothing is summed of a block that is seen to be alike before.
 fn count_block<S: Shelf, T: Shelf>(
     k: u64,
     first: &mut Side,
@@ -116,7 +120,7 @@ fn count_block<S: Shelf, T: Shelf>(
     second_room: &mut Room,
     matches: &mut Matches,
     counts: &mut [u32],
-) -> Result<(), CompareFault>
+) -> Result<bool, CompareFault>
     requires there { k < block_count first.old.planned.range }
     requires same { second.old.planned.range ≡ first.old.planned.range }
     requires first_room { HasRoom first.old first_room.old }
@@ -153,7 +157,7 @@ fn count_block<S: Shelf, T: Shelf>(
         matches,
     )?;
     if alike {
-        return Ok(());
+        return Ok(false);
     }
     count_sums(
         k,
@@ -163,6 +167,69 @@ fn count_block<S: Shelf, T: Shelf>(
         second_shelf,
         first_room,
         second_room,
+        counts,
+    )
+}
+
+/// The same: a block behind one in which sums differ is summed at once, since it hardly is alike.
+fn count_next<S: Shelf, T: Shelf>(
+    k: u64,
+    was_apart: bool,
+    first: &mut Side,
+    second: &mut Side,
+    first_shelf: &mut S,
+    second_shelf: &mut T,
+    first_room: &mut Room,
+    second_room: &mut Room,
+    matches: &mut Matches,
+    counts: &mut [u32],
+) -> Result<bool, CompareFault>
+    requires there { k < block_count first.old.planned.range }
+    requires same { second.old.planned.range ≡ first.old.planned.range }
+    requires first_room { HasRoom first.old first_room.old }
+    requires second_room { HasRoom second.old second_room.old }
+    requires wide { length counts.old ≡ first.old.planned.range.channels }
+    requires in_day { (c : ℕ) → slice_index_or counts.old c 0 ≤ 4147200000 }
+    requires matches { AreMatches S.Shelf T.Shelf first_shelf.old second_shelf.old first.old.sounds second.old.sounds
+        matches.old }
+    ensures counted { IsTrue (S.honest first_shelf.old) → IsTrue (T.honest second_shelf.old) → OnOk result (HasCounted
+        (heard first.old (S.stored first_shelf.old)) (heard second.old (T.stored second_shelf.old))
+        (block_start first.old.planned.range k) (block_frames first.old.planned.range k) counts.old counts.new) }
+    ensures few { OnOk result ((c : ℕ) → slice_index_or counts.new c 0
+        ≤ slice_index_or counts.old c 0 + block_frames first.old.planned.range k) }
+    ensures first_ready { first.new ≡ first.old }
+    ensures second_ready { second.new ≡ second.old }
+    ensures first_room { HasRoom first.old first_room.new }
+    ensures second_room { HasRoom second.old second_room.new }
+    ensures matches { OnOk result (AreMatches S.Shelf T.Shelf first_shelf.new second_shelf.new first.old.sounds second.old.sounds
+        matches.new) }
+    ensures source { IfErr result (OfEither IsSource) }
+    ensures first_read { OnlyReads S.Shelf first_shelf.old first_shelf.new result (λ fault. OfFirst IsSource fault)
+        (λ fault failed. OfFirst (λ of. FailsAt first.old.sounds of failed) fault) }
+    ensures second_read { OnlyReads T.Shelf second_shelf.old second_shelf.new result (λ fault. OfSecond IsSource fault)
+        (λ fault failed. OfSecond (λ of. FailsAt second.old.sounds of failed) fault) }
+{
+    if was_apart {
+        return count_sums(
+            k,
+            first,
+            second,
+            first_shelf,
+            second_shelf,
+            first_room,
+            second_room,
+            counts,
+        );
+    }
+    count_block(
+        k,
+        first,
+        second,
+        first_shelf,
+        second_shelf,
+        first_room,
+        second_room,
+        matches,
         counts,
     )
 }
@@ -196,9 +263,11 @@ pub fn count_sides<S: Shelf, T: Shelf, W: Watch>(
     ensures second_read { OnlyReads T.Shelf second_shelf.old second_shelf.new result (λ fault. OfSecond IsSource fault)
         (λ fault failed. OfSecond (λ of. FailsAt second.old.sounds of failed) fault) }
 {
+    let mut apart = false;
     for k in 0..first.blocks() {
-        count_block(
+        apart = count_next(
             k,
+            apart,
             first,
             second,
             first_shelf,

@@ -19,8 +19,8 @@ reached_more range k below = omega (arith, below)
 reached_few : (range : Range) (k : ℕ) → range.to ≤ 4147200000 → reached range k - range.from ≤ 4147200000
 reached_few range k in_day = omega (arith, in_day)
 
-pub count_block-requires-clause-in_day : goal.count_block-requires-clause-in_day
-count_block-requires-clause-in_day g c = λ j.
+pub count_next-requires-clause-in_day : goal.count_next-requires-clause-in_day
+count_next-requires-clause-in_day g c = λ j.
     let few = c.loop-k.invariant.few j in
     let most = reached_few c.args.first.now.planned.range c.loop-k.k c.blocks-k-end.ensures.in_day in
     omega (arith, few, most)
@@ -32,14 +32,14 @@ loop-k-preserved g c =
     let range = one.planned.range in
     let k = c.loop-k.k in
     let old = c.loop-k.counts in
-    let new = c.count_block.new.counts in
+    let new = c.count_next.new.counts in
     let quiet = c.loop-k.invariant.first_quiet in
     let others_quiet = c.loop-k.invariant.second_quiet in
     let below : k < block_count range = omega (arith, c.loop-k-test.true, c.blocks-k-end.ensures.count) in
     let more = reached_more range k below in
     let few : (j : ℕ) → get_or new j 0 ≤ get_or old j 0 + block_frames range k =
     subst (λ (w : SideWork). (j : ℕ) → get_or new j 0 ≤ get_or old j 0 + block_frames w.planned.range k)
-    c.loop-k.invariant.first_ready c.in_ok-count_block.ensures.few in
+    c.loop-k.invariant.first_ready c.in_ok-apart.ensures.few in
     record {
       first_ready = search rules;
       second_ready = search rules;
@@ -52,7 +52,7 @@ loop-k-preserved g c =
       counted = λ honest sure.
           let files : Files = g.S.Shelf.stored c.args.first_shelf.now in
           let others : Files = g.T.Shelf.stored c.args.second_shelf.now in
-          let said = c.in_ok-count_block.ensures.counted (subst IsTrue (sym quiet.honest_same) honest)
+          let said = c.in_ok-apart.ensures.counted (subst IsTrue (sym quiet.honest_same) honest)
           (subst IsTrue (sym others_quiet.honest_same) sure) in
           let of_one = subst (λ (w : SideWork). HasCounted (heard w (g.S.Shelf.stored c.loop-k.first_shelf))
           (heard c.loop-k.second (g.T.Shelf.stored c.loop-k.second_shelf)) (block_start w.planned.range k)
@@ -68,6 +68,6 @@ loop-k-preserved g c =
           (block_frames range k) old new) others_quiet.same of_files in
           subst (λ (n : ℕ). AreCounts (heard one files) (heard two others) range.from n new) more
           (counted_more (heard one files) (heard two others) range.from (reached range k - range.from)
-          (block_start range k) (block_frames range k) old new (reached_start range k below) c.count_block.auto.counts
+          (block_start range k) (block_frames range k) old new (reached_start range k below) c.count_next.auto.counts
           (c.loop-k.invariant.counted honest sure) had);
     }
