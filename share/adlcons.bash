@@ -4,7 +4,7 @@ _adlcons() {
     case ${COMP_WORDS[1]} in
         check) options='--all --search --report --help' ;;
         consolidate) options='--all --search --handle --report --verify --help' ;;
-        show) options='--all --search --handle --help' ;;
+        show) options='--all --search --handle --from --to --help' ;;
         compare) options='--all --search --report --from --to --channels --help' ;;
         render | resume) options='--all --search --from --to --channels --depth --order --help' ;;
     esac

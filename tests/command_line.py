@@ -112,7 +112,7 @@ Options:
   -h, --help     Print help
   -V, --version  Print version
 
-Status: 0 done, 1 refused, 2 the words can't be read.
+Status: 0 done, 1 refused, 2 the words are wrong.
 A refusal is one line with its number and its place.
 'adlcons explain 46' tells what 46 means and what to do.
 Example: adlcons render session.adl sources rendered
@@ -142,7 +142,7 @@ Usage: adlcons consolidate [OPTIONS] <LIST> <MEDIA> <OUT>
 Arguments:
   <LIST>   The list, a file; - is standard input
   <MEDIA>  The folder of the list's WAVE files
-  <OUT>    The folder to write to, which is there and empty
+  <OUT>    The folder to write to: an existing, empty one
 
 Options:
       --all         List every fault of a refused list

@@ -251,6 +251,108 @@ def refused_files(scene: Scene) -> None:
         same(f"the edges from {time} on", abs(begin - times.place(time)) + abs(width - 4 * WIDTH / 34) < 0.3, True)
 
 
+# A part of the timeline
+
+
+def parted(scene: Scene) -> None:
+    """A list of three entries that go on from one another, of which the first one rises and the last one falls."""
+    def entry(number: int, begin: int, end: int) -> bytes:
+        return model.entry_line(number, 1, *(model.time_text(each) for each in (begin, begin, end)))
+
+    fades = (b"(Infade) 00.00.00.01/0000 LIN _ _ _", b"(Outfade) 00.00.00.01/0000 LIN _ _ _")
+    lines = [entry(1, 0, 4800), fades[0], entry(2, 4800, 7200), entry(3, 7200, 9600), fades[1]]
+    scene.put(model.list_text([model.source_line(1, "a.wav", b"_")], lines), {"a.wav": wave([1] * 9600)})
+
+
+def times_of(begin: int, end: int) -> list:
+    return ["--from", model.time_text(begin).decode(), "--to", model.time_text(end).decode()]
+
+
+def shapes_in(root: ElementTree.Element) -> list:
+    """The corners of each entry's shape."""
+    return [
+        [tuple(map(float, corner.split(","))) for corner in each.get("points").split()]
+        for each in root.iter(f"{SVG}polygon")]
+
+
+def titles_in(root: ElementTree.Element) -> list:
+    return [each.text.split(":")[0] for each in root.iter(f"{SVG}title")][1:]
+
+
+def part_cut(scene: Scene) -> None:
+    """What reaches into the part is cut at its edges, as high as its fade is there."""
+    parted(scene)
+    root = ElementTree.fromstring(shown(scene, *times_of(960, 8640)))
+    same("the entries", titles_in(root), ["entry 1", "entry 2", "entry 3"])
+    first, second, third = shapes_in(root)
+    times, (top, low) = Times(960, 8640), (58, 102)
+    half, end = (top + low) / 2, LEFT + WIDTH
+    wanted = [
+        [(LEFT, low), (LEFT, half), (times.place(1920), top), (times.place(4800), top), (times.place(4800), top),
+         (times.place(4800), low)],
+        [(times.place(4800), low), (times.place(4800), top), (times.place(7200), top), (times.place(7200), low)],
+        [(times.place(7200), low), (times.place(7200), top), (times.place(7200), top), (times.place(7680), top),
+         (end, half), (end, low)]]
+    for got, corners in zip((first, second, third), wanted, strict=True):
+        for one, other in zip(got, corners, strict=True):
+            same(f"a corner near {other}", max(abs(one[0] - other[0]), abs(one[1] - other[1])) < 0.2, True)
+    ruler = [each for each in root.iter(f"{SVG}text") if (each.text or "").count(".") == 3 and each.get("y") == "46"]
+    for mark in ruler:
+        hours, minutes, seconds, frames = map(int, mark.text.split("."))
+        time = ((hours * 60 + minutes) * 60 + seconds) * 48_000 + frames * 1920
+        same(f"the mark {mark.text}", abs(float(mark.get("x")) - times.place(time)) < 0.2, True)
+    same("how many marks", len(ruler), 4)
+
+
+def part_left_out(scene: Scene) -> None:
+    """Entries outside of the part aren't drawn, nor those that only meet its edge; one time may be chosen alone."""
+    parted(scene)
+    for words, drawn_entries in (
+        (times_of(4800, 7200), ["entry 2"]), (times_of(4799, 7200), ["entry 1", "entry 2"]),
+        (times_of(4800, 7201), ["entry 2", "entry 3"]), (times_of(7200, 0)[:2], ["entry 3"]),
+        (times_of(0, 4800)[2:], ["entry 1"]), (times_of(9600, 20_000), []),
+    ):
+        root = ElementTree.fromstring(shown(scene, *words))
+        same(f"the entries from and to {words}", titles_in(root), drawn_entries)
+        words_of_picture = next(each.text for each in root if each.get("id") == "words")
+        same("the description", words_of_picture.split(" entries")[0], f"{len(drawn_entries)} of 3")
+        for corner in sum(shapes_in(root), []):
+            same(f"whether {corner} lies in the picture", LEFT <= corner[0] <= LEFT + WIDTH, True)
+
+
+def part_refused(scene: Scene) -> None:
+    """An empty part is 58 and a bad time a mistake, in the words of a rendering, and neither has a picture."""
+    parted(scene)
+    for words in (times_of(4800, 4800), times_of(4801, 4800), times_of(9600, 0)[:2]):
+        got, rendered = (scene.run(*command, *words) for command in (
+            ("show", LIST, MEDIA), ("render", LIST, MEDIA, "OUT")))
+        same("status and standard output", (got.status, got.output), (1, b""))
+        same("the refusal", got.error, b"refused 58\n" + rendered.error)
+    for words in (["--from", "x"], ["--to", "00.00.00.25/0000"], ["--to", "x", "--from", "y"]):
+        got, rendered = (scene.run(*command, *words) for command in (
+            ("show", LIST, MEDIA), ("render", LIST, MEDIA, "OUT")))
+        same("the mistake", got, rendered)
+        same("status and words", (got.status, got.error.splitlines()[0]), (2, f"bad time: {words[-2]}".encode()))
+
+
+def part_at_fault(scene: Scene) -> None:
+    """What is missing of an entry at fault is hatched as far as it lies in the part."""
+    source = model.source_line(1, "a.wav", model.time_text(100))
+    lines = [
+        model.entry_line(number, 1, *(model.time_text(each) for each in times))
+        for number, times in ((1, (100, 0, 8)), (2, (104, 10, 20)))]
+    scene.put(model.list_text([source], lines), {"a.wav": wave(range(8))})
+    for (begin, end), wanted in (((16, 18), [(16, 18)]), ((12, 16), [(14, 16)]), ((0, 9), []), ((10, 14), [])):
+        got = scene.run("show", LIST, MEDIA, *times_of(begin, end))
+        same("status and refusal", (got.status, got.error.splitlines()[0]), (1, b"refused 46 at entry 2"))
+        hatched, times = hatched_in(ElementTree.fromstring(got.output)), Times(begin, end)
+        for (edge, width, _), (first, last) in zip(hatched, wanted, strict=True):
+            same("its left edge", abs(edge - times.place(first)) < 0.2, True)
+            same("its right edge", abs(edge + width - times.place(last)) < 0.3, True)
+    got = scene.run("show", LIST, MEDIA, *times_of(9, 9))
+    same("status and standard output of an empty part", (got.status, got.output), (1, b""))
+
+
 def kept_picture(all_media: dict):
     """README's picture is what the program prints of the example."""
     def body(scene: Scene) -> None:
@@ -276,4 +378,8 @@ def run(suite: Suite) -> None:
     suite.case("a list whose text is refused has no picture", refused_text)
     suite.case("the picture of entries at fault", refused_entries)
     suite.case("the picture of files at fault", refused_files)
+    suite.case("a part of a picture, cut at its edges", part_cut)
+    suite.case("what lies outside a part of a picture", part_left_out)
+    suite.case("a part of a picture that is empty, or of bad times", part_refused)
+    suite.case("a part of a picture of entries at fault", part_at_fault)
     suite.case("README's picture", kept_picture(all_media))

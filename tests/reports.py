@@ -18,6 +18,11 @@ from tables import FIRST_LIST, bext_chunk, data_chunk, format_chunk, riff_file, 
 
 SCHEMA = Path(__file__).resolve().parent.parent / "docs/report.schema.json"
 PARTS = ("line", "entry", "index", "file")
+MEMBERS = (
+    "after", "before", "bits", "cause", "channels", "column", "file", "frames", "index", "meaning", "near", "rate",
+    "remedy", "tag", "text", "word")
+FORM = 4
+MOST_EXPLAINED = 1000
 MOST_MEMORY = 200_000_000
 
 
@@ -70,7 +75,8 @@ def accepted_report(text: bytes, media: dict) -> dict:
         }
         for index in bound.indexes.values()]
     return {
-        "accepted": True, "rate": project.rate, "entries": len(project.entries), "indexes": indexes,
+        "accepted": True, "rate": project.rate, "entry_count": len(project.entries), "form": FORM, "indexes": indexes,
+        "media_error": None, "not_honoured": [],
         "notices": [notice_told(notice) for notice in (*project.notices, *bound.notices)],
     }
 
@@ -82,6 +88,12 @@ def fault_told(refusal: Refused) -> dict:
     told = {part: places.get(part) for part in PARTS}
     numbers = {part: int(told[part]) for part in PARTS[:3] if told[part] is not None}
     return {**told, **numbers, "refused": refusal.number}
+
+
+def unexplained(report: dict) -> dict:
+    """The report of a list that is refused without what explains its faults."""
+    faults = [{name: value for name, value in fault.items() if name != "explained"} for fault in report["faults"]]
+    return {**report, "faults": faults}
 
 
 def accepted(text: bytes, media: dict):
@@ -100,7 +112,16 @@ def refused(text: bytes, media: dict, faults, is_complete: bool = True):
         except Refused as refusal:
             first = refusal
         wanted = [fault_told(fault) for fault in (first, *faults(text, media, first))]
-        same("the report", reported(scene, 1), {"accepted": False, "complete": is_complete, "faults": wanted})
+        report = reported(scene, 1)
+        same("the report", unexplained(report), {
+            "accepted": False, "complete": is_complete, "faults": wanted, "form": FORM, "media_error": None})
+        error = scene.run("check", LIST, MEDIA).error.decode().splitlines()
+        for fault, line in zip(report["faults"], error):
+            told = fault["explained"]
+            for name in ("meaning", "cause", "near"):
+                if told[name] is not None and f"{told[name]}" not in line:
+                    raise Mismatch(f"{name} of {fault} isn't said by {line!r}")
+        same("whether the remedy is said", f"; {report['faults'][0]['explained']['remedy']} (" in error[0], True)
     return body
 
 
@@ -114,9 +135,81 @@ def entries_at_fault(text: bytes, media: dict, first: Refused) -> list:
 
 
 def unread(scene: Scene) -> None:
-    """A list that isn't there is refused in a line, as ever."""
-    got = scene.run("check", "no.adl", MEDIA, "--report")
-    same("output and status", (got.output, got.status), (b"refused 21 at file no.adl\n", 1))
+    """A list that isn't there, or is none, has a report of just that."""
+    for path, remedy in (("no.adl", "check the path"), (MEDIA, "name the list itself, not its folder")):
+        got = scene.run("check", path, MEDIA, "--report")
+        same("the status", got.status, 1)
+        same("standard error", got.error.decode().startswith("the list can't be read: "), True)
+        report = allowed(got.output.decode())
+        same("the report", unexplained(report), {
+            "accepted": False, "complete": False, "form": FORM, "media_error": None,
+            "faults": [{"entry": None, "file": path, "index": None, "line": None, "refused": 21}]})
+        told = report["faults"][0]["explained"]
+        same("the remedy", (told["meaning"], told["remedy"]), ("the list can't be read", remedy))
+
+
+def no_media(scene: Scene) -> None:
+    """That the folder of the media can't be listed stands in the report, of a list that is refused and of one that names
+    no file."""
+    scene.put(FIRST_LIST)
+    empty = b"".join(line for line in FIRST_LIST.splitlines(keepends=True) if b"(Entry)" not in line)
+    (scene.folder / "E.adl").write_bytes(empty)
+    for words, status in ((LIST, 1), ("E.adl", 0)):
+        got = scene.run("check", words, "none", "--report")
+        same("the status", got.status, status)
+        report = allowed(got.output.decode())
+        same("the folder", report["media_error"], "No such file or directory (os error 2)")
+    (scene.folder / MEDIA / "A.wav").write_bytes(wave())
+    same("the folder that is there", reported(scene, 0)["media_error"], None)
+
+
+def not_honoured(scene: Scene) -> None:
+    """What may be meant to be heard and is passed over stands in the report of a list that is accepted, line by line."""
+    tracks = b"".join(each + b"\n" for each in (
+        b"<TRACKLIST>", b"(Track) 1 (Mute) (Gain) -6.0", b"</TRACKLIST>", b"<SYSTEM>",
+        b"(SYS_XFADE_LENGTH) 00.00.00.10/0000", b"</SYSTEM>"))
+    text = FIRST_LIST.replace(b"<SEQUENCE>", tracks + b"<SEQUENCE>", 1)
+    lines = text.splitlines(keepends=True)
+    place = next(place for place, line in enumerate(lines) if line.startswith(b"(Entry)"))
+    lines[place] = lines[place].rstrip(b"\n") + b' "x" (Mute)\n'
+    scene.put(b"".join(lines), {"A.wav": wave()})
+    same("what isn't honoured", reported(scene, 0)["not_honoured"], [
+        {"line": 3, "words": "(Mute) (Gain) -6.0"}, {"line": 6, "words": "(SYS_XFADE_LENGTH) 00.00.00.10/0000"},
+        {"line": place + 1, "words": '"x" (Mute)'}])
+    said = scene.run("check", LIST, MEDIA).error.decode()
+    for each in reported(scene, 0)["not_honoured"]:
+        same("what standard error says", f"not honoured at line {each['line']}: {each['words']}\n" in said, True)
+
+
+def explained(scene: Scene) -> None:
+    """Each fault has its column, word, line, cause and remedy; of a file what it is, or where it may be; of an entry its
+    file and by how much that is passed."""
+    lines = FIRST_LIST.splitlines(keepends=True)
+    entry_line = lines[9]
+    text = b"".join((
+        *lines[:9], entry_line + b"(Gain) _ _ -3.00\n",
+        entry_line.replace(b"0001 (Cut)", b"0002 (Cut)").replace(b"01.00.00.00/0004", b"01.00.00.25/0000"), *lines[10:]))
+    scene.put(text, {"A.wav": wave()})
+    one, other = (fault["explained"] for fault in reported(scene, 1)["faults"])
+    same("the members", sorted(one), sorted(MEMBERS))
+    same("a gain", [one[name] for name in ("meaning", "cause", "column", "word", "text")], [
+        "unsupported line", "of gains only zero is read", 12, "-3.00", "(Gain) _ _ -3.00"])
+    same("a time", [other[name] for name in ("meaning", "cause", "column", "word")], [
+        "bad time", "the list has 25 frames a second", 65, "01.00.00.25/0000"])
+    float_file = riff_file(format_chunk(tag=3, bits=32), data_chunk((1, 2)))
+    text = model.list_text(
+        [model.source_line(number, name, b"_") for number, name in ((1, "a.wav"), (2, "F.wav"))],
+        [entry(number, number, 0, 2) for number in (1, 2)])
+    scene.put(text, {"A.wav": wave(), "F.wav": float_file})
+    one, other = (fault["explained"] for fault in reported(scene, 1)["faults"])
+    same("a missing file", one["near"], "the folder has A.wav, in other capitals or another form of Unicode (NFC, NFD)")
+    same("what is to be done", one["remedy"], "rename that file, or write its name in the list as it is in the folder")
+    same("a file that isn't read", [other[name] for name in ("tag", "bits", "channels", "rate")], [3, 32, 1, 48000])
+    scene.put(entries_of(entry(1, 1, 0, 5)), {"A.wav": wave()})
+    (one,) = (fault["explained"] for fault in reported(scene, 1)["faults"])
+    same("an entry", {name: one[name] for name in ("after", "before", "channels", "file", "frames", "index")}, {
+        "after": 1, "before": None, "channels": 1, "file": "A.wav", "frames": 4, "index": 1})
+    same("its cause", one["cause"], "entry 1 plays A.wav up to frame 5; the file has 4 (1 too many)")
 
 
 def entries_of(*lines: bytes) -> bytes:
@@ -181,14 +274,16 @@ def long_lists() -> dict:
     """Ten megabytes with a notice or a fault in each line: the text, the status, and how many objects the report has."""
     sources = FIRST_LIST.index(b"</SOURCE_INDEX>")
     entries = FIRST_LIST.index(b"</EVENT_LIST>")
+    tracks = FIRST_LIST.index(b"<SEQUENCE>")
 
     def with_lines(place: int, line: bytes, count: int) -> bytes:
         return FIRST_LIST[:place] + line * count + FIRST_LIST[place:]
 
     return {
         "notices": (with_lines(sources, b"x\n", 5_000_000), 0, 5_000_002),
-        "brackets": (with_lines(entries, b"(\n", 5_000_000), 1, 5_000_001),
-        "gains": (with_lines(entries, b"(Gain) 1\n", 1_100_000), 1, 1_100_001),
+        "brackets": (with_lines(entries, b"(\n", 5_000_000), 1, 5_000_001 + MOST_EXPLAINED),
+        "gains": (with_lines(entries, b"(Gain) 1\n", 1_100_000), 1, 1_100_001 + MOST_EXPLAINED),
+        "mutes": (with_lines(tracks, b"<TRACKLIST>\n" + b"(Mute)\n" * 1_400_000 + b"</TRACKLIST>\n", 1), 0, 1_400_002),
     }
 
 
@@ -237,4 +332,7 @@ def run(suite: Suite) -> None:
     suite.case("the report of a name that JSON escapes", unprintable_names)
     for name, (text, status, objects) in long_lists().items():
         suite.case(f"the report of ten megabytes of {name}", long_report(text, status, objects))
-    suite.case("no report of a list that isn't there", unread)
+    suite.case("the report of a list that isn't there", unread)
+    suite.case("the report over a folder that isn't there", no_media)
+    suite.case("the report of what isn't honoured", not_honoured)
+    suite.case("the report of what explains faults", explained)

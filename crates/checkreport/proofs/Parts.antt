@@ -1,21 +1,23 @@
 -- The parts that are printed are the texts of values.
-use Rattle.std.proofs.Common.{◌≡◌, ◌∙◌, ◌+◌, ◌<◌, ◌++◌, ◌∷◌, [], ◌||◌, Bool, true, false, List, Option, ℕ, zero, suc, add-one, ap, arith, append_assoc, get_or, if◌then◌else◌, length, map, refl, sym, take}
-use Rattle.std.proofs.lemmas.List.{append-nil}
+use Rattle.std.proofs.Common.{◌≡◌, ◌∙◌, ◌+◌, ◌<◌, ◌++◌, ◌∷◌, [], ◌||◌, Bool, true, false, List, None, Option, ℕ, zero, suc, add-one, ap, arith, append_assoc, get_or, if◌then◌else◌, length, map, refl, sym, take}
+use Rattle.std.proofs.lemmas.List.{append-nil, map-append, take_more}
 use Rattle.std.specs.Prelude.{codes, decimal}
 use Rattle.std.specs.List.{list_any}
 use Rattle.json.specs.Print.{escape_byte, quoted}
-use Rattle.serde_json.specs.Data.{Data, boolean}
+use Rattle.serde_json.specs.Data.{Data, boolean, null}
 use Rattle.serde_json.specs.View.{items_of}
-use Rattle.serde_json.specs.Written.{comma_if, compact_text, items_text}
+use Rattle.serde_json.specs.Written.{comma_if, compact_text, items_text, members_text}
 use Rattle.sound_terms.specs.declared.BoundIndex.{BoundIndex}
 use Rattle.sound_terms.specs.Depth.{bits_of}
 use Rattle.sound_terms.specs.Sounds.{SoundFacts}
 use Rattle.list_terms.specs.declared.Notice.{Notice}
-use Rattle.opening.specs.Faults.{refusal_of}
 use Rattle.opening.specs.declared.fault.Fault.{Fault}
 use Rattle.console.specs.Lines.{counted}
-use Rattle.checkreport.specs.Parts.{after_commas, fault_text, index_text, listed, notice_text, refused_end, refused_front}
-use Rattle.checkreport.specs.Report.{accepted_of, count, count_in, fault_data, fault_of, index_data, index_of_file, is_of_index, kind_at, kinds_of, notice_data, refused_data}
+use Rattle.checkreport.specs.Explained.{members_of, value_data}
+use Rattle.checkreport.specs.Parts.{after_commas, beside_text, fault_text, index_text, listed, member_text, notice_text, passed_text, refused_end, refused_front}
+use Rattle.checkreport.specs.Report.{Beside, ExplainedFault, accepted_of, count, count_in, explained_fault, fault_of, faults_of, form, index_data, index_of_file, is_of_index, kind_at, kinds_of, notice_data, passed_data, refused_data, refused_of, text_in}
+use Rattle.checkreport.specs.declared.explained.Member.{Member}
+use Rattle.checkreport.specs.declared.explained.PassedLine.{PassedLine}
 
 pub empty : {X : Type 0} (xs : List X) → length xs ≡ 0 → xs ≡ []
 empty [] none = refl
@@ -93,13 +95,36 @@ index_parts notices index facts =
     ++ (codes ",\"notices\":[" ++ text)))))))) text
 
 -- a list that is accepted
-pub accepted_parts : (rate entries : ℕ) (indexes notices : List Data)
-    → counted (codes "{\"accepted\":true,\"entries\":") entries ++ (codes ",\"indexes\":["
-    ++ (items_text false (items_of indexes) ++ (codes ",\"notices\":["
-    ++ (items_text false (items_of notices) ++ (counted (codes ",\"rate\":") rate ++ codes "}")))))
-    ≡ compact_text (accepted_of rate entries indexes notices)
-unfolding escape_byte
-accepted_parts rate entries indexes notices = refl
+pub accepted_parts : (rate entries : ℕ) (indexes notices : List Data) (beside : Beside)
+    → counted (codes "{\"accepted\":true,\"entry_count\":") entries ++ (counted (codes ",\"form\":") form
+    ++ (codes ",\"indexes\":["
+    ++ (items_text false (items_of indexes) ++ (beside_text beside ++ (codes ",\"notices\":["
+    ++ (items_text false (items_of notices) ++ (counted (codes ",\"rate\":") rate ++ codes "}")))))))
+    ≡ compact_text (accepted_of rate entries indexes (text_in beside.media_error) (map passed_data beside.passed) notices)
+unfolding escape_byte beside_text
+accepted_parts rate entries indexes notices beside =
+    let end = codes ",\"notices\":["
+    ++ (items_text false (items_of notices) ++ (counted (codes ",\"rate\":") rate ++ codes "}")) in
+    let passed = items_text false (items_of (map passed_data beside.passed)) in
+    let media = compact_text (text_in beside.media_error) in
+    ap (λ (text : List ℕ). counted (codes "{\"accepted\":true,\"entry_count\":") entries
+    ++ (counted (codes ",\"form\":") form ++ (codes ",\"indexes\":["
+    ++ (items_text false (items_of indexes) ++ (codes ",\"media_error\":" ++ text)))))
+    (append_assoc media (codes ",\"not_honoured\":[" ++ passed) end)
+
+-- the lines of which something isn't honoured
+pub passed_text_of : (passed : PassedLine) (more : List PassedLine)
+    → passed_text passed ++ (after_commas passed_text more ++ 93 ∷ [])
+    ≡ items_text false (items_of (map passed_data (passed ∷ more)))
+unfolding passed_text
+passed_text_of = array_of passed_data
+
+pub one_more_passed : (lines : List PassedLine) (passed : PassedLine)
+    → after_commas passed_text lines ++ 44 ∷ passed_text passed ≡ after_commas passed_text (lines ++ passed ∷ [])
+one_more_passed [] passed = sym (append-nil (44 ∷ passed_text passed))
+one_more_passed (first ∷ lines) passed =
+    append_assoc (44 ∷ passed_text first) (after_commas passed_text lines) (44 ∷ passed_text passed)
+    ∙ ap (λ (text : List ℕ). 44 ∷ (passed_text first ++ text)) (one_more_passed lines passed)
 
 kind_more : (is later any : Bool) (kind : ℕ) (rest whole last : List Data)
     → ((later : Bool) → listed later rest ++ listed (later || any) last ≡ listed later whole)
@@ -158,28 +183,53 @@ any_step index k notices d below =
           ∙ ap (λ (any : Bool). is_of_index index notice || any) (any_more index k notices (omega arith))
 
 -- a fault, by the parts of its place
-pub fault_parts : (entry : Option ℕ) (file : Data) (index line : Option ℕ) (refusal : ℕ)
-    → (codes "{\"entry\":" ++ compact_text (count_in entry)) ++ (codes ",\"file\":" ++ (compact_text file
+pub fault_parts : (entry : Option ℕ) (explained file : Data) (index line : Option ℕ) (refusal : ℕ)
+    → (codes "{\"entry\":" ++ compact_text (count_in entry)) ++ (codes ",\"explained\":" ++ (compact_text explained
+    ++ (codes ",\"file\":" ++ (compact_text file
     ++ ((codes ",\"index\":" ++ compact_text (count_in index)) ++ ((codes ",\"line\":" ++ compact_text (count_in line))
-    ++ (counted (codes ",\"refused\":") refusal ++ codes "}")))))
-    ≡ compact_text (fault_of entry file index line refusal)
+    ++ (counted (codes ",\"refused\":") refusal ++ codes "}")))))))
+    ≡ compact_text (fault_of entry explained file index line refusal)
 unfolding escape_byte
-fault_parts entry file index line refusal = refl
+fault_parts entry explained file index line refusal = refl
+
+-- members, each after a comma, and the end of their object
+members_further : (members : List Member)
+    → after_commas member_text members ++ 125 ∷ [] ≡ members_text true (members_of members)
+unfolding member_text
+members_further [] = refl
+members_further (one ∷ more) =
+    ap (λ (text : List ℕ). 44 ∷ text)
+    (append_assoc (quoted one.name.now ++ 58 ∷ compact_text (value_data one.value)) (after_commas member_text more)
+    (125 ∷ [])
+    ∙ append_assoc (quoted one.name.now) (58 ∷ compact_text (value_data one.value))
+    (after_commas member_text more ++ 125 ∷ [])
+    ∙ ap (λ (text : List ℕ). quoted one.name.now ++ 58 ∷ (compact_text (value_data one.value) ++ text))
+    (members_further more))
+
+-- the members of an object
+pub members_text_of : (one : Member) (more : List Member)
+    → member_text one ++ (after_commas member_text more ++ 125 ∷ []) ≡ members_text false (members_of (one ∷ more))
+unfolding member_text
+members_text_of one more =
+    append_assoc (quoted one.name.now) (58 ∷ compact_text (value_data one.value))
+    (after_commas member_text more ++ 125 ∷ [])
+    ∙ ap (λ (text : List ℕ). quoted one.name.now ++ 58 ∷ (compact_text (value_data one.value) ++ text))
+    (members_further more)
 
 -- the first fault, and a further one
-pub front_first : (first : Fault) (value : Data) → value ≡ fault_data (refusal_of first)
+pub front_first : (first : ExplainedFault) (value : Data) → value ≡ explained_fault first
     → codes "{\"accepted\":false,\"faults\":[" ++ compact_text value ≡ refused_front first []
 unfolding refused_front fault_text
 front_first first value same =
     ap (λ (text : List ℕ). codes "{\"accepted\":false,\"faults\":[" ++ text)
-    (ap compact_text same ∙ sym (append-nil (compact_text (fault_data (refusal_of first)))))
+    (ap compact_text same ∙ sym (append-nil (compact_text (explained_fault first))))
 
-pub next_text : (fault : Fault) (value : Data) → value ≡ fault_data (refusal_of fault)
+pub next_text : (fault : ExplainedFault) (value : Data) → value ≡ explained_fault fault
     → 44 ∷ compact_text value ≡ 44 ∷ fault_text fault
 unfolding fault_text
 next_text fault value same = ap (λ (value : Data). 44 ∷ compact_text value) same
 
-pub one_more : (faults : List Fault) (fault : Fault)
+pub one_more : (faults : List ExplainedFault) (fault : ExplainedFault)
     → after_commas fault_text faults ++ 44 ∷ fault_text fault ≡ after_commas fault_text (faults ++ fault ∷ [])
 one_more [] fault = sym (append-nil (44 ∷ fault_text fault))
 one_more (first ∷ faults) fault =
@@ -194,13 +244,34 @@ joined first more items end is =
     ∙ ap (λ (text : List ℕ). text ++ end) is) ∙ sym (append_assoc first items end)
 
 -- a list that is refused
-pub refused_text : (first : Fault) (faults : List Fault) (are_all : Bool)
-    → refused_front first [] ++ (after_commas fault_text faults ++ refused_end are_all)
-    ≡ compact_text (refused_data first faults are_all)
+pub refused_text : (first : ExplainedFault) (faults : List ExplainedFault) (media_error : Option (List ℕ))
+    (are_all : Bool)
+    → refused_front first [] ++ (after_commas fault_text faults ++ refused_end media_error are_all)
+    ≡ compact_text (refused_data first faults media_error are_all)
 unfolding refused_front refused_end fault_text escape_byte
-refused_text first faults are_all =
+refused_text first faults media_error are_all =
     ap (λ (text : List ℕ). codes "{\"accepted\":false,\"faults\":[" ++ text)
-    (joined (compact_text (fault_data (refusal_of first))) (after_commas fault_text faults)
-    (items_text true (items_of (map (λ fault. fault_data (refusal_of fault)) faults)))
-    (codes ",\"complete\":" ++ (compact_text (boolean are_all) ++ codes "}"))
-    (further (λ fault. fault_data (refusal_of fault)) faults))
+    (joined (compact_text (explained_fault first)) (after_commas fault_text faults)
+    (items_text true (items_of (map explained_fault faults)))
+    (counted (codes ",\"form\":") form ++ (codes ",\"media_error\":" ++ (compact_text (text_in media_error)
+    ++ (codes ",\"complete\":" ++ (compact_text (boolean are_all) ++ codes "}")))))
+    (further explained_fault faults))
+
+-- a list that isn't read
+pub unread_text : (fault : Data)
+    → codes "{\"accepted\":false,\"faults\":[" ++ (compact_text fault ++ refused_end None false)
+    ≡ compact_text (refused_of (fault ∷ []) null false)
+unfolding refused_end escape_byte
+unread_text fault =
+    ap (λ (text : List ℕ). codes "{\"accepted\":false,\"faults\":[" ++ text)
+    (sym (append_assoc (compact_text fault) (93 ∷ []) (counted (codes ",\"form\":") form ++ (codes ",\"media_error\":"
+    ++ (codes "null" ++ (codes ",\"complete\":" ++ (codes "false" ++ codes "}")))))))
+
+-- one more fault is reported
+pub faults_step : (reported : List ExplainedFault) (one : ExplainedFault) (k : ℕ) (faults : List Fault) (d : Fault)
+    → k < length faults → faults_of reported ≡ take k faults → one.fault ≡ get_or faults k d
+    → faults_of (reported ++ one ∷ []) ≡ take (k + 1) faults
+faults_step reported one k faults d below so_far is =
+    map-append (λ (each : ExplainedFault). each.fault) reported (one ∷ [])
+    ∙ ap (λ (front : List Fault). front ++ one.fault ∷ []) so_far
+    ∙ ap (λ (last : Fault). take k faults ++ last ∷ []) is ∙ sym (take_more faults k d below)

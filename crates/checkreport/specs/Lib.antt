@@ -1,3 +1,4 @@
+pub mod Explained
 pub mod Parts
 pub mod Report
 pub mod Reported

@@ -1,14 +1,18 @@
 -- The parts in which a report is printed.
-use Rattle.std.specs.Prelude.{ℕ, List, [], ◌∷◌, ◌++◌, Bool, true, Option, option_map, unwrap_or, string_bytes, codes}
+use Rattle.std.specs.Prelude.{ℕ, List, [], ◌∷◌, ◌++◌, Bool, false, true, Option, map, option_map, string_bytes, codes}
 use Rattle.std.specs.List.{flat_map}
-use Rattle.serde_json.specs.Data.{Data, boolean, null, string}
-use Rattle.serde_json.specs.Written.{comma_if, compact_text}
+use Rattle.serde_json.specs.Data.{Data, boolean}
+use Rattle.serde_json.specs.View.{items_of}
+use Rattle.serde_json.specs.Written.{comma_if, compact_text, items_text}
 use Rattle.sound_terms.specs.declared.BoundIndex.{BoundIndex}
 use Rattle.sound_terms.specs.Sounds.{SoundFacts}
 use Rattle.list_terms.specs.declared.Notice.{Notice}
-use Rattle.opening.specs.Faults.{refusal_of}
-use Rattle.opening.specs.declared.fault.Fault.{Fault}
-use Rattle.checkreport.specs.Report.{fault_data, fault_of, index_data, notice_data}
+use Rattle.console.specs.Lines.{counted}
+use Rattle.json.specs.Print.{quoted}
+use Rattle.checkreport.specs.Explained.{explained_data, value_data}
+use Rattle.checkreport.specs.Report.{Beside, ExplainedFault, explained_fault, fault_of, form, index_data, notice_data, passed_data, text_in}
+use Rattle.checkreport.specs.declared.explained.Member.{Member}
+use Rattle.checkreport.specs.declared.explained.PassedLine.{PassedLine}
 use Rattle.checkreport.specs.declared.refused.ReportedFault.{ReportedFault}
 
 -- texts of values, each after a comma
@@ -27,23 +31,34 @@ notice_text notice = compact_text (notice_data notice)
 unfoldable pub index_text : List SoundFacts → List Notice → BoundIndex → List ℕ
 index_text sounds notices index = compact_text (index_data sounds notices index)
 
-unfoldable pub fault_text : Fault → List ℕ
-fault_text fault = compact_text (fault_data (refusal_of fault))
+unfoldable pub fault_text : ExplainedFault → List ℕ
+fault_text fault = compact_text (explained_fault fault)
 
--- a name, where there is one
-abbrev pub name_in : Option (List ℕ) → Data
-name_in name = unwrap_or (option_map string name) null
+-- a member of an object
+unfoldable pub member_text : Member → List ℕ
+member_text member = quoted member.name.now ++ 58 ∷ compact_text (value_data member.value)
+
+-- what of a line isn't honoured
+unfoldable pub passed_text : PassedLine → List ℕ
+passed_text passed = compact_text (passed_data passed)
+
+-- what is reported beside a project, up to the end of the array
+unfoldable pub beside_text : Beside → List ℕ
+beside_text beside = codes ",\"media_error\":" ++ (compact_text (text_in beside.media_error)
+    ++ (codes ",\"not_honoured\":[" ++ items_text false (items_of (map passed_data beside.passed))))
 
 -- a fault that is ready to be printed
 abbrev pub ready_data : ReportedFault → Data
 ready_data fault =
-    fault_of fault.entry (name_in (option_map string_bytes fault.file)) fault.index
+    fault_of fault.entry (explained_data fault.explained) (text_in (option_map string_bytes fault.file)) fault.index
     fault.line fault.number
 
 -- the report of a list that is refused up to the last of these faults, and from there on
-unfoldable pub refused_front : Fault → List Fault → List ℕ
+unfoldable pub refused_front : ExplainedFault → List ExplainedFault → List ℕ
 refused_front first further =
     codes "{\"accepted\":false,\"faults\":[" ++ (fault_text first ++ after_commas fault_text further)
 
-unfoldable pub refused_end : Bool → List ℕ
-refused_end are_all = codes "],\"complete\":" ++ (compact_text (boolean are_all) ++ codes "}")
+unfoldable pub refused_end : Option (List ℕ) → Bool → List ℕ
+refused_end media_error are_all =
+    counted (codes "],\"form\":") form ++ (codes ",\"media_error\":" ++ (compact_text (text_in media_error)
+    ++ (codes ",\"complete\":" ++ (compact_text (boolean are_all) ++ codes "}"))))

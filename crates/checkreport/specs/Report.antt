@@ -1,5 +1,5 @@
 -- What a check tells a script, as a value of JSON (RFC 8259).
-use Rattle.std.specs.Prelude.{ℕ, ◌==◌, ◌&&◌, nat_le, nat_lt, Bool, true, false, List, [], ◌∷◌, ◌++◌, map, length, Option, None, Some, slice_get, unwrap_or, option_map, if◌then◌else◌, codes}
+use Rattle.std.specs.Prelude.{ℕ, ◌==◌, ◌&&◌, nat_le, nat_lt, Bool, true, false, List, [], ◌∷◌, ◌++◌, map, length, Option, None, Some, slice_get, unwrap_or, option_map, string_bytes, if◌then◌else◌, codes}
 use Rattle.std.specs.List.{flat_map}
 use Rattle.serde_json.specs.Data.{Data, null, boolean, number, unsigned, string, array, object, member, no_members}
 use Rattle.serde_json.specs.View.{items_of}
@@ -14,6 +14,7 @@ use Rattle.work_terms.specs.Refusals as refused
 use Rattle.work_terms.specs.Refusals.{Refusal, Where}
 use Rattle.opening.specs.Faults.{refusal_of}
 use Rattle.opening.specs.declared.fault.Fault.{Fault}
+use Rattle.checkreport.specs.declared.explained.PassedLine.{PassedLine}
 
 abbrev pub count : ℕ → Data
 count n = number (unsigned n)
@@ -51,19 +52,44 @@ abbrev pub index_data : List SoundFacts → List Notice → BoundIndex → Data
 index_data sounds notices index =
     unwrap_or (option_map (index_of_file notices index) (slice_get sounds index.file)) null
 
+-- a text, where there is one
+abbrev pub text_in : Option (List ℕ) → Data
+text_in text = unwrap_or (option_map string text) null
+
+-- the version of the form of reports
+abbrev pub form : ℕ
+form = 4
+
+-- what of a line isn't honoured
+abbrev pub passed_data : PassedLine → Data
+passed_data passed =
+    object (member (codes "line") (count passed.line)
+    (member (codes "words") (text_in (option_map string_bytes passed.words)) no_members))
+
+-- what is reported beside a project that is accepted: why the folder of its media can't be listed, if it can't, and
+-- what of its list isn't honoured
+pub record Beside : Type 0 where
+  pub media_error : Option (List ℕ)
+  pub passed : List PassedLine
+
 -- an accepted list of this rate, with so many entries, these indexes and these notices
-abbrev pub accepted_of : ℕ → ℕ → List Data → List Data → Data
-accepted_of rate entries indexes notices =
+abbrev pub accepted_of : (rate entries : ℕ) (indexes : List Data) (media_error : Data) (passed notices : List Data)
+    → Data
+accepted_of rate entries indexes media_error passed notices =
     object (member (codes "accepted") (boolean true)
-    (member (codes "entries") (count entries)
+    (member (codes "entry_count") (count entries)
+    (member (codes "form") (count form)
     (member (codes "indexes") (array (items_of indexes))
+    (member (codes "media_error") media_error
+    (member (codes "not_honoured") (array (items_of passed))
     (member (codes "notices") (array (items_of notices))
-    (member (codes "rate") (count rate) no_members)))))
+    (member (codes "rate") (count rate) no_members))))))))
 
 -- a project that is accepted, by what it is bound to
-abbrev pub accepted_data : ListProject → Binding → Data
-accepted_data project binding = accepted_of project.rate (length project.events)
+abbrev pub accepted_data : ListProject → Binding → Beside → Data
+accepted_data project binding beside = accepted_of project.rate (length project.events)
     (map (index_data (sounds_of binding) binding.notices) binding.indexes)
+    (text_in beside.media_error) (map passed_data beside.passed)
     (map notice_data (project.notices ++ binding.notices))
 
 -- a number, where there is one
@@ -90,25 +116,52 @@ index_in place = None
 
 abbrev pub file_in : Where → Data
 file_in (refused.IndexFile index name) = string name
+file_in (refused.File name) = string name
 file_in place = null
 
--- a fault of this number, by the parts of its place
-abbrev pub fault_of : (entry : Option ℕ) (file : Data) (index line : Option ℕ) (refusal : ℕ) → Data
-fault_of entry file index line refusal =
+-- a fault of this number, by the parts of its place and by what explains it
+abbrev pub fault_of : (entry : Option ℕ) (explained file : Data) (index line : Option ℕ) (refusal : ℕ) → Data
+fault_of entry explained file index line refusal =
     object (member (codes "entry") (count_in entry)
+    (member (codes "explained") explained
     (member (codes "file") file
     (member (codes "index") (count_in index)
     (member (codes "line") (count_in line)
-    (member (codes "refused") (count refusal) no_members)))))
+    (member (codes "refused") (count refusal) no_members))))))
 
-abbrev pub fault_data : Refusal → Data
-fault_data refusal =
-    fault_of (entry_in refusal.place) (file_in refusal.place) (index_in refusal.place) (line_in refusal.place)
+abbrev pub fault_data : Refusal → Data → Data
+fault_data refusal explained =
+    fault_of (entry_in refusal.place) explained (file_in refusal.place) (index_in refusal.place) (line_in refusal.place)
     refusal.number
 
--- a list that is refused, by its first fault and further ones; whether these are all, which is known last
-abbrev pub refused_data : Fault → List Fault → Bool → Data
-refused_data first further are_all =
+-- a fault of a list, and what explains it
+pub record ExplainedFault : Type 0 where
+  pub fault : Fault
+  pub explained : Data
+
+abbrev pub explained_fault : ExplainedFault → Data
+explained_fault told = fault_data (refusal_of told.fault) told.explained
+
+-- the faults that are reported
+abbrev pub faults_of : List ExplainedFault → List Fault
+faults_of reported = map (λ one. one.fault) reported
+
+-- a list that is refused, by its faults; why the folder of its media can't be listed, if it can't; whether these are
+-- all, which is known last
+abbrev pub refused_of : (faults : List Data) (media_error : Data) (are_all : Bool) → Data
+refused_of faults media_error are_all =
     object (member (codes "accepted") (boolean false)
-    (member (codes "faults") (array (items_of (map (λ fault. fault_data (refusal_of fault)) (first ∷ further))))
-    (member (codes "complete") (boolean are_all) no_members)))
+    (member (codes "faults") (array (items_of faults))
+    (member (codes "form") (count form)
+    (member (codes "media_error") media_error
+    (member (codes "complete") (boolean are_all) no_members)))))
+
+-- a list that is refused, by its first fault and further ones
+abbrev pub refused_data : ExplainedFault → List ExplainedFault → Option (List ℕ) → Bool → Data
+refused_data first further media_error are_all =
+    refused_of (map explained_fault (first ∷ further)) (text_in media_error) are_all
+
+-- a list that isn't read, or a report for which there is no memory: nothing more is looked for
+abbrev pub unread_data : ℕ → (place : Where) (explained : Data) → Data
+unread_data which place explained =
+    refused_of (fault_data (record { number = which; place = place; late = false }) explained ∷ []) null false

@@ -5,35 +5,55 @@ ghost use Rattle.serde_json.specs.Written as written;
 ghost use Rattle.serde_json.specs.Written.{compact_text, items_text};
 ghost use Rattle.console.specs.Printing.{Prints};
 ghost use Rattle.checkreport.specs.Report as spec;
-ghost use Rattle.checkreport.specs.Report.{accepted_data, index_of_file, notice_data};
-ghost use Rattle.checkreport.specs.Parts.{after_commas, index_text, listed, notice_text};
+ghost use Rattle.checkreport.specs.Report.{Beside, accepted_data, index_of_file, notice_data};
+ghost use Rattle.checkreport.specs.Parts.{after_commas, beside_text, index_text, listed, notice_text};
 
-use crate::values::put_string;
+use crate::explained::{Explains, put_all_passed};
+use crate::values::{FORM, put_string, put_text};
 use console::{Console, put_counted};
 use list_terms::Notice;
 use projectcheck::Checked;
 use sound_terms::BoundIndex;
+use std::alloc::Global;
 use wavread::Sound;
 
-/// Prints the report of a list without a fault.
-pub fn put_report<O: Console>(checked: &Checked, out: &mut O)
-    ensures { Prints O.contents O.failures out.old out.new
-        (compact_text (accepted_data checked.now.project checked.now.bound)) }
+/// Prints the report of a list without a fault, and what else is reported of it.
+pub fn put_report<X: Explains, O: Console>(
+    alloc: Global,
+    checked: &Checked,
+    explains: &mut X,
+    out: &mut O,
+)
+    ensures { (beside : Beside) × Prints O.contents O.failures out.old out.new
+        (compact_text (accepted_data checked.now.project checked.now.bound beside)) }
 {
     let project = checked.project();
     let bound = checked.bound();
     put_counted(
         out,
-        "{\"accepted\":true,\"entries\":",
+        "{\"accepted\":true,\"entry_count\":",
         project.events().len() as u64,
     );
+    put_counted(out, ",\"form\":", FORM);
     out.put(b",\"indexes\":[");
     put_indexes(out, bound.indexes(), bound.sounds(), bound.notices());
+    put_beside(alloc, explains, out);
     out.put(b",\"notices\":[");
     put_notices(out, project.notices(), bound.notices());
     let rate = u64::from(project.rate().frames_per_second());
     put_counted(out, ",\"rate\":", rate);
     out.put(b"}");
+}
+
+/// Prints why the folder of the media can't be listed, if it can't, and what of the list isn't honoured.
+fn put_beside<X: Explains, O: Console>(alloc: Global, explains: &mut X, out: &mut O)
+    ensures { (beside : Beside) × Prints O.contents O.failures out.old out.new (beside_text beside) }
+{
+    let media_error = explains.media_error(alloc);
+    out.put(b",\"media_error\":");
+    put_text(out, &media_error);
+    out.put(b",\"not_honoured\":[");
+    put_all_passed(alloc, explains, out);
 }
 
 /// Prints the notices of a list and then those of its files, and the end of their array.

@@ -2,8 +2,10 @@
 #![tactic(auto)]
 
 mod accepted;
+mod explained;
 mod printed;
 mod refused;
 mod values;
 
-pub use printed::{put_accepted, put_refused};
+pub use explained::{Explains, Member, PassedLine, Value};
+pub use printed::{put_accepted, put_no_memory, put_refused, put_unread};

@@ -1,25 +1,28 @@
 // The faults of a list that is refused, as they are printed.
-ghost use Rattle.std.specs.Prelude.{◌≡◌, ◌∷◌, [], IfOk, OnErr, OnOk, IsTrue, List, option_map, string_bytes};
+ghost use Rattle.std.specs.Prelude.{◌≡◌, ◌∷◌, [], IfOk, None, OnErr, OnOk, IsTrue, List, option_map, string_bytes, ◌++◌, false};
+ghost use Rattle.serde_json.specs.Data.{Data, null, string};
 ghost use Rattle.serde_json.specs.Written.{compact_text};
 ghost use Rattle.opening.specs.Faults.{refusal_of};
-ghost use Rattle.opening.specs.declared.fault.Fault.{Fault};
 ghost use Rattle.console.specs.Printing.{Prints};
 ghost use Rattle.checkreport.specs.Report as spec;
-ghost use Rattle.checkreport.specs.Report.{entry_in, fault_data, file_in, index_in, line_in};
-ghost use Rattle.checkreport.specs.Parts.{after_commas, fault_text, name_in, ready_data, refused_end, refused_front};
+ghost use Rattle.checkreport.specs.Report.{ExplainedFault, entry_in, fault_data, fault_of, faults_of, file_in, index_in, line_in, refused_of, text_in};
+ghost use Rattle.checkreport.specs.Explained.{explained_data};
+ghost use Rattle.checkreport.specs.Parts.{after_commas, fault_text, ready_data, refused_end, refused_front};
 
-use crate::values::{put_flag, put_found, put_string};
+use crate::explained::{Explains, Member, put_explained};
+use crate::values::{FORM, put_flag, put_found, put_text};
 use adlread::{AdlFault, Faults};
 use console::{Console, put_counted};
 use list_terms::Location;
 use opening::Fault;
 use std::alloc::{AllocError, Global};
 
-/// A fault that is ready to be printed: its number, and the parts that its place has.
+/// A fault that is ready to be printed: its number, the parts that its place has, and what explains it.
 #[derive(Drop)]
 pub struct ReportedFault {
     number: u8,
     entry: Option<u64>,
+    explained: Option<Vec<Member>>,
     file: Option<String>,
     index: Option<u64>,
     line: Option<u64>,
@@ -27,17 +30,64 @@ pub struct ReportedFault {
 
 impl ReportedFault {
     /// This fault.
-    pub fn of(alloc: Global, fault: &Fault) -> Result<Self, AllocError>
-        ensures { IfOk result (λ ready. ready_data ready ≡ fault_data (refusal_of fault.now)) }
+    pub fn of<X: Explains>(
+        alloc: Global,
+        fault: &Fault,
+        explains: &mut X,
+    ) -> Result<Self, AllocError>
+        ensures { IfOk result (λ ready. ready_data ready
+            ≡ fault_data (refusal_of fault.now) (explained_data ready.explained)) }
     {
         let file = file_of(alloc, fault)?;
+        let explained = explains.explain(alloc, fault);
         Ok(ReportedFault {
             number: fault.number(),
             entry: entry_of(fault),
+            explained,
             file,
             index: index_of(fault),
             line: line_of(fault),
         })
+    }
+
+    /// Of a list at this path, which is refused by this number.
+    pub fn of_list(number: u8, path: String, explained: Option<Vec<Member>>) -> Self
+        ensures { ready_data result ≡ fault_of None (explained_data explained) (string (string_bytes path)) None None
+            number }
+    {
+        ReportedFault {
+            number,
+            entry: None,
+            explained,
+            file: Some(path),
+            index: None,
+            line: None,
+        }
+    }
+
+    /// That no memory was left.
+    pub fn of_memory() -> Self
+        ensures { ready_data result ≡ fault_of None null null None None 18 }
+    {
+        ReportedFault {
+            number: 18,
+            entry: None,
+            explained: None,
+            file: None,
+            index: None,
+            line: None,
+        }
+    }
+
+    /// Prints the report of a list that isn't read for this fault, in a line.
+    pub fn put_alone<O: Console>(&self, out: &mut O)
+        ensures { Prints O.contents O.failures out.old out.new
+            (compact_text (refused_of (ready_data self.now ∷ []) null false) ++ 10 ∷ []) }
+    {
+        out.put(b"{\"accepted\":false,\"faults\":[");
+        self.put(out);
+        put_end(&None, false, out);
+        out.end_line();
     }
 
     /// Prints the fault.
@@ -45,33 +95,30 @@ impl ReportedFault {
         ensures { Prints O.contents O.failures out.old out.new (compact_text (ready_data self.now)) }
     {
         put_found(out, "{\"entry\":", self.entry);
+        out.put(b",\"explained\":");
+        put_explained(out, &self.explained);
         out.put(b",\"file\":");
-        self.put_file(out);
+        put_text(out, &self.file);
         put_found(out, ",\"index\":", self.index);
         put_found(out, ",\"line\":", self.line);
         put_counted(out, ",\"refused\":", u64::from(self.number));
         out.put(b"}");
     }
-
-    /// Prints the name of the file, or null.
-    fn put_file<O: Console>(&self, out: &mut O)
-        ensures { Prints O.contents O.failures out.old out.new
-            (compact_text (name_in (option_map string_bytes self.now.file))) }
-    {
-        match &self.file {
-            Some(name) => put_string(out, name.as_str()),
-            None => out.put(b"null"),
-        }
-    }
 }
 
 /// Prints the report of a refused list up to its first fault.
 #[tactic(auto, unfolding(crate::specs::Parts::refused_front, crate::specs::Parts::fault_text))]
-pub fn put_first<O: Console>(alloc: Global, first: &Fault, out: &mut O) -> Result<(), AllocError>
-    ensures printed { OnOk result (Prints O.contents O.failures out.old out.new (refused_front first.now [])) }
+pub fn put_first<X: Explains, O: Console>(
+    alloc: Global,
+    first: &Fault,
+    explains: &mut X,
+    out: &mut O,
+) -> Result<(), AllocError>
+    ensures printed { OnOk result ((explained : Data) × Prints O.contents O.failures out.old out.new
+        (refused_front (record { fault = first.now; explained = explained }) [])) }
     ensures unprinted { OnErr result (out.new ≡ out.old) }
 {
-    let ready = ReportedFault::of(alloc, first)?;
+    let ready = ReportedFault::of(alloc, first, explains)?;
     out.put(b"{\"accepted\":false,\"faults\":[");
     ready.put(out);
     Ok(())
@@ -79,23 +126,34 @@ pub fn put_first<O: Console>(alloc: Global, first: &Fault, out: &mut O) -> Resul
 
 /// Prints a further fault.
 #[tactic(auto, unfolding(crate::specs::Parts::fault_text))]
-fn put_next<O: Console>(alloc: Global, fault: &Fault, out: &mut O) -> Result<(), AllocError>
-    ensures printed { OnOk result (Prints O.contents O.failures out.old out.new (44 ∷ fault_text fault.now)) }
+fn put_next<X: Explains, O: Console>(
+    alloc: Global,
+    fault: &Fault,
+    explains: &mut X,
+    out: &mut O,
+) -> Result<(), AllocError>
+    ensures printed { OnOk result ((explained : Data) × Prints O.contents O.failures out.old out.new
+        (44 ∷ fault_text (record { fault = fault.now; explained = explained }))) }
     ensures unprinted { OnErr result (out.new ≡ out.old) }
 {
-    let ready = ReportedFault::of(alloc, fault)?;
+    let ready = ReportedFault::of(alloc, fault, explains)?;
     out.put(b",");
     ready.put(out);
     Ok(())
 }
 
 /// Prints further faults, and answers whether these are all: up to the first one for which no memory was left.
-pub fn put_all<O: Console>(alloc: Global, faults: &[Fault], out: &mut O) -> bool
-    ensures { (printed : List Fault) × (IsTrue result → printed ≡ faults.now)
+pub fn put_all<X: Explains, O: Console>(
+    alloc: Global,
+    faults: &[Fault],
+    explains: &mut X,
+    out: &mut O,
+) -> bool
+    ensures { (printed : List ExplainedFault) × (IsTrue result → faults_of printed ≡ faults.now)
         × Prints O.contents O.failures out.old out.new (after_commas fault_text printed) }
 {
     for fault in faults {
-        let Ok(()) = put_next(alloc, fault, out) else {
+        let Ok(()) = put_next(alloc, fault, explains, out) else {
             return false;
         };
     }
@@ -103,8 +161,13 @@ pub fn put_all<O: Console>(alloc: Global, faults: &[Fault], out: &mut O) -> bool
 }
 
 /// Prints the further faults of a text one by one, and answers whether these are all.
-pub fn put_of_text<O: Console>(alloc: Global, faults: &mut Faults<'_>, out: &mut O) -> bool
-    ensures { (printed : List Fault)
+pub fn put_of_text<X: Explains, O: Console>(
+    alloc: Global,
+    faults: &mut Faults<'_>,
+    explains: &mut X,
+    out: &mut O,
+) -> bool
+    ensures { (printed : List ExplainedFault)
         × Prints O.contents O.failures out.old out.new (after_commas fault_text printed) }
 {
     'faults: for _ in 0..usize::MAX {
@@ -112,19 +175,24 @@ pub fn put_of_text<O: Console>(alloc: Global, faults: &mut Faults<'_>, out: &mut
             return !faults.is_cut_short();
         };
         let fault = Fault::List(fault);
-        let Ok(()) = put_next(alloc, &fault, out) else {
+        let Ok(()) = put_next(alloc, &fault, explains, out) else {
             return false;
         };
     }
     false
 }
 
-/// Prints the end of the report of a refused list.
+/// Prints the end of the report of a refused list, over a folder of media that can't be listed for this reason, if it
+/// can't.
 #[tactic(auto, unfolding(crate::specs::Parts::refused_end))]
-pub fn put_end<O: Console>(are_all: bool, out: &mut O)
-    ensures { Prints O.contents O.failures out.old out.new (refused_end are_all) }
+pub fn put_end<O: Console>(media_error: &Option<String>, are_all: bool, out: &mut O)
+    ensures { Prints O.contents O.failures out.old out.new
+        (refused_end (option_map string_bytes media_error.now) are_all) }
 {
-    out.put(b"],\"complete\":");
+    put_counted(out, "],\"form\":", FORM);
+    out.put(b",\"media_error\":");
+    put_text(out, media_error);
+    out.put(b",\"complete\":");
     put_flag(out, are_all);
     out.put(b"}");
 }
@@ -174,7 +242,7 @@ fn index_of(fault: &Fault) -> Option<u64>
 
 /// The name of the file of a fault.
 fn file_of(alloc: Global, fault: &Fault) -> Result<Option<String>, AllocError>
-    ensures { IfOk result (λ name. name_in (option_map string_bytes name) ≡ file_in (refusal_of fault.now).place) }
+    ensures { IfOk result (λ name. text_in (option_map string_bytes name) ≡ file_in (refusal_of fault.now).place) }
 {
     match fault {
         Fault::Media {

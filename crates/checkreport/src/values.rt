@@ -1,14 +1,17 @@
 // Values of JSON as they are printed.
-ghost use Rattle.std.specs.Prelude.{◌≡◌, ◌<◌, ◌++◌};
+ghost use Rattle.std.specs.Prelude.{◌≡◌, ◌<◌, ◌++◌, option_map, string_bytes};
 ghost use Rattle.std.specs.Char.{digit_char};
 ghost use Rattle.json.specs.Print as json;
 ghost use Rattle.json.specs.Print.{escape_byte, quoted};
 ghost use Rattle.serde_json.specs.Data.{boolean};
 ghost use Rattle.serde_json.specs.Written.{compact_text};
-ghost use Rattle.checkreport.specs.Report.{count_in};
+ghost use Rattle.checkreport.specs.Report.{count_in, text_in};
 ghost use Rattle.console.specs.Printing.{Prints};
 
 use console::{Console, put_counted};
+
+/// The version of the form of reports.
+pub const FORM: u64 = 4;
 
 /// Prints words, and then a number or null.
 pub fn put_found<O: Console>(out: &mut O, words: &str, found: Option<u64>)
@@ -31,6 +34,17 @@ pub fn put_flag<O: Console>(out: &mut O, flag: bool)
         out.put(b"true");
     } else {
         out.put(b"false");
+    }
+}
+
+/// Prints a text as a string, or null where there is none.
+pub fn put_text<O: Console>(out: &mut O, text: &Option<String>)
+    ensures { Prints O.contents O.failures out.old out.new
+        (compact_text (text_in (option_map string_bytes text.now))) }
+{
+    match text {
+        Some(text) => put_string(out, text.as_str()),
+        None => out.put(b"null"),
     }
 }
 

@@ -13,7 +13,7 @@ use Rattle.clap.proofs.OnLiterals.{clap_on_literals}
 use Rattle.clap.proofs.WalkLemmas.{first_value-rows}
 use Rattle.sound_terms.specs.declared.Depth.{Depth}
 use Rattle.job_terms.specs.declared.Order.{Order}
-use Rattle.commandline.specs.CommandLine.{Asked, Check, Compare, Report, Selected, Show, are_both_input, asked_compare, compare_by, selected_of, explained, adlcons_app, channels_in, chosen_of, depth_in, handle_of, number_in, order_in, ordered_by, asked, asked_over, asked_to, asks_for_help, has_flag, is_flagged, is_set, is_shown, named_by, request_of, unless_faulty, words_fault}
+use Rattle.commandline.specs.CommandLine.{Asked, Check, Compare, Report, Selected, Show, are_both_input, asked_compare, compare_by, selected_of, explained, adlcons_app, channels_in, chosen_of, depth_in, drawn_of, handle_of, number_in, order_in, ordered_by, asked, asked_over, asked_to, asks_for_help, has_flag, is_flagged, is_set, is_shown, named_by, request_of, unless_faulty, words_fault}
 
 -- one more rule over the command so far
 pub one_more : (more app known : App) (rule : Rule) → more ≡ with_rule app rule → app ≡ known → more ≡ with_rule known rule
@@ -76,7 +76,8 @@ asked-check name list media found request named one two is =
 pub asked-show : (name list media : Text) (found : Found) → bytes_eq name (codes "check") ≡ false
     → bytes_eq name (codes "show") ≡ true
     → Some list ≡ first_value found (codes "LIST") → Some media ≡ first_value found (codes "MEDIA")
-    → asked_over name (rows_of found) ≡ option_map (λ handle. Show list media handle) (handle_of (rows_of found))
+    → asked_over name (rows_of found)
+    ≡ option_map (λ handle. Show list media handle (drawn_of (rows_of found))) (handle_of (rows_of found))
 asked-show name list media found other named one two =
     rw (
       row_of_value found (codes "LIST") (Some list) one,
@@ -147,6 +148,12 @@ selected-all found channels from to count report named is begin end reports =
       row_of_value found (codes "from") from begin,
       row_of_value found (codes "to") to end,
     ) refl
+
+pub drawn-all : (found : Found) (from to : Option Text)
+    → from ≡ first_value found (codes "from") → to ≡ first_value found (codes "to")
+    → record { from = from; to = to } ≡ drawn_of (rows_of found)
+drawn-all found from to begin end =
+    rw (row_of_value found (codes "from") from begin, row_of_value found (codes "to") to end) refl
 
 pub asked-without_out : (name list media : Text) (found : Found) → bytes_eq name (codes "check") ≡ false
     → bytes_eq name (codes "show") ≡ false → bytes_eq name (codes "compare") ≡ false

@@ -39,8 +39,13 @@ over_media name =
 abbrev pub check_shape : Shape
 check_shape = (with_rule (over_media (codes "check")) (flag_rule (codes "report"))).top
 
+-- with the times that may be chosen
+abbrev pub with_times : App → App
+with_times app = with_rule (with_rule app (option_rule (codes "from"))) (option_rule (codes "to"))
+
 abbrev pub show_shape : Shape
-show_shape = (with_rule (over_media (codes "show")) (default_rule (codes "handle") (codes "48000"))).top
+show_shape =
+    (with_times (with_rule (over_media (codes "show")) (default_rule (codes "handle") (codes "48000")))).top
 
 -- and over the folder that is written to
 abbrev pub over_folders : Text → App
@@ -53,9 +58,7 @@ consolidate_shape =
 
 -- with the times and the channels that may be chosen
 abbrev pub with_range : App → App
-with_range app =
-    let timed = with_rule (with_rule app (option_rule (codes "from"))) (option_rule (codes "to")) in
-    with_rule timed (option_rule (codes "channels"))
+with_range app = with_rule (with_times app) (option_rule (codes "channels"))
 
 -- with what may be chosen of a rendering
 abbrev pub with_choice : App → App
@@ -116,6 +119,11 @@ pub record Selected : Type 0 where
   pub channels : Option ℕ
   pub report : Bool
 
+-- what is chosen of a picture: times by their texts
+pub record Drawn : Type 0 where
+  pub from : Option Text
+  pub to : Option Text
+
 -- What the program is asked for: a command with its list, the folder of its media, and the folder that is written to
 -- (a resumed one goes on with what is in there), and whether a report is written; two lists to be compared, each with
 -- the folder of its media; a report of a check, or a picture; or what the number of a refusal or of a notice means, or
@@ -127,7 +135,7 @@ pub data Asked : Type 0 where
   Resume : (list media out : Text) → (chosen : Chosen) → Asked
   Consolidate : (list media out : Text) → (handle : ℕ) → (report : Bool) → Asked
   Compare : (list media other other_media : Text) → (selected : Selected) → Asked
-  Show : (list media : Text) → (handle : ℕ) → Asked
+  Show : (list media : Text) → (handle : ℕ) → (drawn : Drawn) → Asked
   Explain : (number : Option Text) → Asked
   ExplainNotice : (number : Option Text) → Asked
 
@@ -198,6 +206,9 @@ selected_by rows channels = record {
 abbrev pub selected_of : List Row → Option Selected
 selected_of rows = option_map (selected_by rows) (channels_in (first_of (codes "channels") rows))
 
+abbrev pub drawn_of : List Row → Drawn
+drawn_of rows = record { from = first_of (codes "from") rows; to = first_of (codes "to") rows }
+
 -- two lists are standard input
 abbrev pub are_both_input : (list other : Text) → Bool
 are_both_input list other = bytes_eq list (codes "-") && bytes_eq other (codes "-")
@@ -227,7 +238,8 @@ abbrev pub asked_by : Text → (list media : Text) → List Row → Option Asked
 asked_by name list media rows =
     if bytes_eq name (codes "check")
     then Some (if is_set (codes "report") rows then Report list media else Check list media)
-    else if bytes_eq name (codes "show") then option_map (λ handle. Show list media handle) (handle_of rows)
+    else if bytes_eq name (codes "show")
+    then option_map (λ handle. Show list media handle (drawn_of rows)) (handle_of rows)
     else if bytes_eq name (codes "compare") then asked_compare list media rows
     else option_and_then (λ out. asked_to name list media out rows) (first_of (codes "OUT") rows)
 

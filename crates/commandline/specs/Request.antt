@@ -2,6 +2,7 @@
 use Rattle.std.specs.Prelude.{option_map}
 use Rattle.commandline.specs.CommandLine as words
 use Rattle.commandline.specs.declared.choice.Chosen.{Chosen}
+use Rattle.commandline.specs.declared.choice.Drawn.{Drawn}
 use Rattle.commandline.specs.declared.choice.Selected.{Selected}
 use Rattle.commandline.specs.declared.request.Request.{Request}
 use Rattle.commandline.specs.declared.request.Request.TheVariants.{Check, Report, Render, Resume, Consolidate, Compare, Show, Explain, ExplainNotice}
@@ -25,6 +26,13 @@ selected_of selected = record {
   report = selected.report;
 }
 
+-- what is chosen of a picture
+abbrev pub drawn_of : Drawn → words.Drawn
+drawn_of drawn = record {
+  from = option_map (λ text. text.now) drawn.from;
+  to = option_map (λ text. text.now) drawn.to;
+}
+
 -- what the request asks for
 abbrev pub asked_of : Request → words.Asked
 asked_of (Check list media) = words.Check list.now media.now
@@ -35,6 +43,6 @@ asked_of (Consolidate places handle report) =
     words.Consolidate places.list.now places.media.now places.out.now handle report
 asked_of (Compare places selected) = words.Compare places.list.now places.media.now places.other_list.now
     places.other_media.now (selected_of selected)
-asked_of (Show list media handle) = words.Show list.now media.now handle
+asked_of (Show list media handle drawn) = words.Show list.now media.now handle (drawn_of drawn)
 asked_of (Explain number) = words.Explain (option_map (λ text. text.now) number)
 asked_of (ExplainNotice number) = words.ExplainNotice (option_map (λ text. text.now) number)

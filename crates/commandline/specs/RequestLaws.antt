@@ -11,7 +11,7 @@ OfRender P (Render list media out chosen) = P list media out chosen
 OfRender P (Resume list media out chosen) = Unit {0}
 OfRender P (Consolidate list media out handle report) = Unit {0}
 OfRender P (Compare list media other other_media selected) = Unit {0}
-OfRender P (Show list media handle) = Unit {0}
+OfRender P (Show list media handle drawn) = Unit {0}
 OfRender P (Explain number) = Unit {0}
 OfRender P (ExplainNotice number) = Unit {0}
 
@@ -40,7 +40,7 @@ OfResume P (Render list media out chosen) = Unit {0}
 OfResume P (Resume list media out chosen) = P list media out chosen
 OfResume P (Consolidate list media out handle report) = Unit {0}
 OfResume P (Compare list media other other_media selected) = Unit {0}
-OfResume P (Show list media handle) = Unit {0}
+OfResume P (Show list media handle drawn) = Unit {0}
 OfResume P (Explain number) = Unit {0}
 OfResume P (ExplainNotice number) = Unit {0}
 
@@ -66,7 +66,7 @@ OfConsolidate P (Render list media out chosen) = Unit {0}
 OfConsolidate P (Resume list media out chosen) = Unit {0}
 OfConsolidate P (Consolidate list media out handle report) = P list media out handle report
 OfConsolidate P (Compare list media other other_media selected) = Unit {0}
-OfConsolidate P (Show list media handle) = Unit {0}
+OfConsolidate P (Show list media handle drawn) = Unit {0}
 OfConsolidate P (Explain number) = Unit {0}
 OfConsolidate P (ExplainNotice number) = Unit {0}
 
@@ -94,7 +94,7 @@ OfCompare P (Render list media out chosen) = Unit {0}
 OfCompare P (Resume list media out chosen) = Unit {0}
 OfCompare P (Consolidate list media out handle report) = Unit {0}
 OfCompare P (Compare list media other other_media selected) = P list media other other_media selected
-OfCompare P (Show list media handle) = Unit {0}
+OfCompare P (Show list media handle drawn) = Unit {0}
 OfCompare P (Explain number) = Unit {0}
 OfCompare P (ExplainNotice number) = Unit {0}
 

@@ -185,9 +185,15 @@ compares_input_twice : request_of (codes "compare" ∷ codes "-" ∷ codes "M" �
 unfolding words_fault named_by clap_on_literals
 compares_input_twice = refl
 
-shows : request_of (codes "show" ∷ codes "L.adl" ∷ codes "M" ∷ []) ≡ Some (Show (codes "L.adl") (codes "M") 48000)
+shows : request_of (codes "show" ∷ codes "L.adl" ∷ codes "M" ∷ [])
+    ≡ Some (Show (codes "L.adl") (codes "M") 48000 (record { from = None; to = None }))
 unfolding words_fault named_by clap_on_literals
 shows = refl
+
+shows_part : request_of (codes "show" ∷ codes "L" ∷ codes "M" ∷ codes "--to=y" ∷ codes "--from" ∷ codes "x" ∷ [])
+    ≡ Some (Show (codes "L") (codes "M") 48000 (record { from = Some (codes "x"); to = Some (codes "y") }))
+unfolding words_fault named_by clap_on_literals
+shows_part = refl
 
 -- ---- mistakes
 

@@ -17,6 +17,13 @@ pub struct Chosen<'a> {
     ghost few_channels: { are_few channels ≡ true },
 }
 
+/// What is chosen of a picture: the texts of its times.
+#[derive(Clone, Copy, Debug, PartialEq, Eq)]
+pub struct Drawn<'a> {
+    pub from: Option<&'a str>,
+    pub to: Option<&'a str>,
+}
+
 /// What is chosen of a comparison: the texts of its times, a number of channels from 1 to 64, and whether what comes of it
 /// is printed as JSON.
 #[derive(Clone, Copy, Debug, PartialEq, Eq)]

@@ -6,6 +6,6 @@ mod choice;
 mod request;
 mod words;
 
-pub use choice::{Chosen, Selected};
+pub use choice::{Chosen, Drawn, Selected};
 pub use request::{BothPlaces, Parsed, Places, Request, parse};
 pub use words::{VERSION, command};

@@ -10,7 +10,7 @@ ghost use Rattle.commandline.specs.CommandLine.{asked, asked_over, asks_for_help
 ghost use Rattle.commandline.specs.Request as spec;
 ghost use Rattle.commandline.specs.Request.{asked_of};
 
-use crate::choice::{Chosen, Selected};
+use crate::choice::{Chosen, Drawn, Selected};
 use crate::words::command;
 use clap::error::ErrorKind;
 use clap::{ArgMatches, Error};
@@ -51,8 +51,8 @@ pub enum Request<'a> {
     Consolidate(Places<'a>, u64, bool),
     /// Compares two lists, each over the folder of its media.
     Compare(BothPlaces<'a>, Selected<'a>),
-    /// Draws the list over the folder of its media, with handles of so many frames.
-    Show(&'a str, &'a str, u64),
+    /// Draws the list, or a part of it, over the folder of its media, with handles of so many frames.
+    Show(&'a str, &'a str, u64, Drawn<'a>),
     /// Tells what the number of a refusal means, or what all of them mean.
     Explain(Option<&'a str>),
     /// Tells what the number of a notice means, or what all of them mean.
@@ -216,14 +216,25 @@ fn checked<'a>(list: &'a str, media: &'a str, words: &ArgMatches<'_>) -> Request
     }
 }
 
-/// A picture of this list over this folder, with the handle that the words choose.
-fn shown<'a>(list: &'a str, media: &'a str, words: &ArgMatches<'_>) -> Option<Request<'a>>
+/// A picture of this list over this folder, with the handle and the times that the words choose.
+fn shown<'a>(list: &'a str, media: &'a str, words: &ArgMatches<'a>) -> Option<Request<'a>>
     ensures { option_map asked_of result
-        ≡ option_map (λ handle. line.Show list.entry.now media.entry.now handle)
+        ≡ option_map
+        (λ handle. line.Show list.entry.now media.entry.now handle (line.drawn_of (rows_of (found_of words.now))))
         (line.handle_of (rows_of (found_of words.now))) }
 {
     let handle = handle_in(words)?;
-    Some(Request::Show(list, media, handle))
+    Some(Request::Show(list, media, handle, drawn_in(words)))
+}
+
+/// What the words choose of a picture.
+fn drawn_in<'a>(words: &ArgMatches<'a>) -> Drawn<'a>
+    ensures { spec.drawn_of result ≡ line.drawn_of (rows_of (found_of words.now)) }
+{
+    Drawn {
+        from: words.get_str("from"),
+        to: words.get_str("to"),
+    }
 }
 
 /// A comparison of this list over this folder with the one that the words name after it.

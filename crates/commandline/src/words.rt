@@ -2,7 +2,7 @@
 ghost use Rattle.std.specs.Prelude.{◌≡◌, codes, IfOk, false};
 ghost use Rattle.clap.specs.Words.{app_of, new_rule, rule_of, shape_of, with_rule};
 ghost use Rattle.clap.specs.declared.Command.TheViews.{out-Command as fields_of};
-ghost use Rattle.commandline.specs.CommandLine.{adlcons_app, check_shape, compare_shape, consolidate_shape, default_rule, explain_shape, flag_rule, option_rule, over_both, over_folders, over_media, place_rule, rendering_shape, show_shape, top_app, with_choice, with_range};
+ghost use Rattle.commandline.specs.CommandLine.{adlcons_app, check_shape, compare_shape, consolidate_shape, default_rule, explain_shape, flag_rule, option_rule, over_both, over_folders, over_media, place_rule, rendering_shape, show_shape, top_app, with_choice, with_range, with_times};
 
 use clap::{Arg, ArgAction, Command};
 use std::alloc::{AllocError, Global};
@@ -27,13 +27,13 @@ pub const VERSION: &str = "1.0.0";
 
 /// What the statuses mean, for the help.
 const STATUSES: &str = "\
-Status: 0 done, 1 refused, 2 the words can't be read.
+Status: 0 done, 1 refused, 2 the words are wrong.
 A refusal is one line with its number and its place.
 'adlcons explain 46' tells what 46 means and what to do.
 Example: adlcons render session.adl sources rendered";
 
 /// What the help says of a folder in which nothing is replaced.
-const EMPTY_FOLDER: &str = "The folder to write to, which is there and empty";
+const EMPTY_FOLDER: &str = "The folder to write to: an existing, empty one";
 
 /// The program itself, which wants a command.
 fn top_command<'a>(alloc: Global) -> Result<Command<'a>, AllocError>
@@ -76,7 +76,8 @@ fn show_command<'a>(alloc: Global) -> Result<Command<'a>, AllocError>
         "Example: adlcons show session.adl sources > session.svg",
     )?;
     let help = "Frames kept on each side of what plays";
-    with_default(alloc, command, "handle", "N", "48000", help)
+    let command = with_default(alloc, command, "handle", "N", "48000", help)?;
+    with_times(alloc, command)
 }
 
 /// The command that consolidates a list.
@@ -157,12 +158,20 @@ fn with_range<'a>(alloc: Global, command: Command<'a>) -> Result<Command<'a>, Al
     ensures app { IfOk result (λ added. app_of added ≡ with_range (app_of command.entry)) }
     ensures local { IfOk result (λ added. (fields_of added).has_globals ≡ (fields_of command.entry).has_globals) }
 {
+    let command = with_times(alloc, command)?;
+    let channels = "Channels, 1 to 64 [default: all that entries name]";
+    with_option(alloc, command, "channels", "N", channels)
+}
+
+/// The command with the times that may be chosen.
+fn with_times<'a>(alloc: Global, command: Command<'a>) -> Result<Command<'a>, AllocError>
+    ensures app { IfOk result (λ added. app_of added ≡ with_times (app_of command.entry)) }
+    ensures local { IfOk result (λ added. (fields_of added).has_globals ≡ (fields_of command.entry).has_globals) }
+{
     let from = "The first sample, hh.mm.ss.ff/rrrr [default: the first in]";
     let command = with_option(alloc, command, "from", "T", from)?;
     let to = "The time behind the last sample [default: the last out]";
-    let command = with_option(alloc, command, "to", "T", to)?;
-    let channels = "Channels, 1 to 64 [default: all that entries name]";
-    with_option(alloc, command, "channels", "N", channels)
+    with_option(alloc, command, "to", "T", to)
 }
 
 /// A command over a list and the folder of its media, which may list all that is at fault, and look for media in the

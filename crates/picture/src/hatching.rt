@@ -17,35 +17,38 @@ pub fn put_pattern<W: fmt::Write>(f: &mut fmt::Formatter<W>) -> fmt::Result {
     )
 }
 
-/// Hatches in a lane that begins here and is so high what is missing of an entry.
+/// Hatches in a lane that begins here and is so high what is missing of an entry between these samples.
 pub fn put_missing<W: fmt::Write>(
     f: &mut fmt::Formatter<W>,
-    scale: Scale,
+    span: (u64, u64),
     event: &Event,
     missing: Missing,
     top: u64,
     high: u64,
 ) -> fmt::Result {
     let (start, end) = (event.dest_in.get(), event.dest_out.get());
-    put_stretch(f, scale, start, missing.before, top, high)?;
+    put_stretch(f, span, start, missing.before, top, high)?;
     let from = end.saturating_sub(missing.after);
-    put_stretch(f, scale, from, missing.after, top, high)
+    put_stretch(f, span, from, missing.after, top, high)
 }
 
-/// Hatches so many samples from one on.
+/// Hatches so many samples from one on, as far as they lie between these.
 fn put_stretch<W: fmt::Write>(
     f: &mut fmt::Formatter<W>,
-    scale: Scale,
-    from: u64,
+    span: (u64, u64),
+    start: u64,
     samples: u64,
     top: u64,
     high: u64,
 ) -> fmt::Result {
-    if samples == 0 {
+    let from = start.max(span.0);
+    let to = start.saturating_add(samples).min(span.1);
+    if to <= from {
         return Ok(());
     }
+    let scale = Scale::new(span.0, span.1);
     let left = scale.place(from);
-    let width = scale.width(samples);
+    let width = scale.width(to - from);
     writeln!(
         f,
         "<rect x='{left}' y='{top}' width='{width}' height='{high}' fill='url(#missing)'/>"

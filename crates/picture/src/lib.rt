@@ -3,6 +3,7 @@
 
 mod escaped;
 mod hatching;
+mod part;
 mod picture;
 mod ruler;
 mod scale;
@@ -10,4 +11,5 @@ mod shown;
 mod sources;
 mod timeline;
 
+pub use part::Part;
 pub use picture::Picture;

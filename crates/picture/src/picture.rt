@@ -1,6 +1,7 @@
 // The picture of a project.
 use crate::escaped::Escaped;
 use crate::hatching::put_pattern;
+use crate::part::Part;
 use crate::ruler::TimeCode;
 use crate::scale::{LEFT, WIDTH};
 use crate::shown::Shown;
@@ -24,7 +25,8 @@ struct FileRuns {
 }
 
 /// A project, printed as a picture that is 1,200 pixels wide (SVG 1.1, black on white). A lane for each channel has the
-/// entries with their fades, under the time code of the list. Of a project without a fault a bar for each file stands
+/// entries with their fades, under the time code of the list; those of a part of the timeline, where that is chosen, cut
+/// at its edges. Of a project without a fault a bar for each file stands
 /// below, with the frames that the entries play, those that a handle keeps, and what is dropped. Of one that is refused
 /// at its files or entries, an entry that can't be played has a broken line round it, and what its file doesn't have is
 /// hatched. A title and a description tell it in words. Names are escaped.
@@ -32,6 +34,7 @@ struct FileRuns {
 pub struct Picture<'a> {
     shown: Shown<'a>,
     name: &'a str,
+    part: Part,
     files: Option<FileRuns>,
 }
 
@@ -58,6 +61,7 @@ impl<'a> Picture<'a> {
                 bad_files: None,
             },
             name,
+            part: Part::ALL,
             files: Some(FileRuns {
                 played,
                 kept,
@@ -75,6 +79,7 @@ impl<'a> Picture<'a> {
                 bad_files: None,
             },
             name,
+            part: Part::ALL,
             files: None,
         }
     }
@@ -93,8 +98,14 @@ impl<'a> Picture<'a> {
                 bad_files: Some(bad_files),
             },
             name,
+            part: Part::ALL,
             files: None,
         }
+    }
+
+    /// The same of a part of the timeline.
+    pub fn of_part(self, part: Part) -> Self {
+        Picture { part, ..self }
     }
 
     /// Writes the title and the description.
@@ -116,10 +127,12 @@ impl<'a> Picture<'a> {
             samples: timeline.span.1,
         };
         writeln!(f, "<title id='title'>{name}</title>")?;
-        write!(
-            f,
-            "<desc id='words'>{entries} entries on channels {first} to {last}, "
-        )?;
+        f.write_str("<desc id='words'>")?;
+        if self.part.is_chosen() {
+            let drawn = timeline.count();
+            write!(f, "{drawn} of ")?;
+        }
+        write!(f, "{entries} entries on channels {first} to {last}, ")?;
         write!(f, "from {from} to {to}, of ")?;
         match self.shown.bound {
             Some(bound) => write!(f, "{} files", bound.sounds().len())?,
@@ -184,7 +197,7 @@ fn put_meaning<W: fmt::Write>(f: &mut fmt::Formatter<W>, top: u64) -> fmt::Resul
 
 impl fmt::Display for Picture<'_> {
     fn fmt<W: fmt::Write>(&self, f: &mut fmt::Formatter<W>) -> fmt::Result {
-        let timeline = Timeline::of(self.shown);
+        let timeline = Timeline::of(self.shown, self.part);
         let below = timeline.bottom();
         let height = self.bottom(below).saturating_add(10);
         let name = Escaped(self.name);

@@ -1,6 +1,7 @@
 // The entries over time, in a lane for each channel.
 use crate::escaped::Escaped;
 use crate::hatching::put_missing;
+use crate::part::Part;
 use crate::ruler::{TimeCode, put_ruler};
 use crate::scale::{DRAWN, LEFT, Scale, Tenths};
 use crate::shown::Shown;
@@ -29,37 +30,51 @@ const ROW: u64 = 12;
 /// So many entries before one are looked at for those that sound together with it.
 const BEFORE: usize = 8;
 
-/// What the timeline shows: the samples from the first in to the last out, and the channels from the first to the last
-/// that an entry names.
+/// What the timeline shows: the samples from the first in to the last out, or of a part of these, and the channels from
+/// the first to the last that an entry names.
 #[derive(Clone, Copy)]
 pub struct Timeline<'a> {
     shown: Shown<'a>,
+    is_part: bool,
     pub span: (u64, u64),
     pub channels: (u8, u8),
 }
 
 impl<'a> Timeline<'a> {
-    /// The timeline of a project.
-    pub fn of(shown: Shown<'a>) -> Timeline<'a> {
-        let mut span = (u64::MAX, 0);
+    /// This part of the timeline of a project.
+    pub fn of(shown: Shown<'a>, part: Part) -> Timeline<'a> {
+        let events = shown.project.events();
         let mut channels = (u8::MAX, 0);
-        for event in shown.project.events() {
-            span.0 = span.0.min(event.dest_in.get());
-            span.1 = span.1.max(event.dest_out.get());
+        for event in events {
             channels.0 = channels.0.min(event.dest.first);
             channels.1 = channels.1.max(event.dest.last);
-        }
-        if span.1 < span.0 {
-            span = (0, 0);
         }
         if channels.1 < channels.0 {
             channels = (1, 1);
         }
         Timeline {
             shown,
-            span,
+            is_part: part.is_chosen(),
+            span: part.span(events),
             channels,
         }
+    }
+
+    /// Whether an entry is drawn: all of them are, or those that reach into the part.
+    fn draws(self, event: &Event) -> bool {
+        let (from, to) = self.span;
+        !self.is_part || (event.dest_in.get() < to && from < event.dest_out.get())
+    }
+
+    /// How many entries are drawn.
+    pub fn count(self) -> u64 {
+        let mut count: u64 = 0;
+        for event in self.shown.project.events() {
+            if self.draws(event) {
+                count = count.saturating_add(1);
+            }
+        }
+        count
     }
 
     /// Where the lane of a channel begins, in pixels from the top.
@@ -78,7 +93,9 @@ impl<'a> Timeline<'a> {
         self.put_lanes(f)?;
         writeln!(f, "<g fill-opacity='.15' stroke='#000'>")?;
         for event in self.shown.project.events() {
-            self.put_entry(f, event)?;
+            if self.draws(event) {
+                self.put_entry(f, event)?;
+            }
         }
         writeln!(f, "</g>")?;
         self.put_all_missing(f)?;
@@ -131,12 +148,23 @@ impl<'a> Timeline<'a> {
 
     /// Hatches in each lane what the entries play that their files don't have.
     fn put_all_missing<W: fmt::Write>(self, f: &mut fmt::Formatter<W>) -> fmt::Result {
-        let scale = Scale::new(self.span.0, self.span.1);
         for event in self.shown.project.events() {
-            let missing = self.shown.missing(event);
-            for channel in event.dest.first..=event.dest.last {
-                put_missing(f, scale, event, missing, self.lane(channel), HIGH)?;
+            if self.draws(event) {
+                self.put_missing_of(f, event)?;
             }
+        }
+        Ok(())
+    }
+
+    /// Hatches what an entry plays that its file doesn't have.
+    fn put_missing_of<W: fmt::Write>(
+        self,
+        f: &mut fmt::Formatter<W>,
+        event: &Event,
+    ) -> fmt::Result {
+        let missing = self.shown.missing(event);
+        for channel in event.dest.first..=event.dest.last {
+            put_missing(f, self.span, event, missing, self.lane(channel), HIGH)?;
         }
         Ok(())
     }
@@ -150,6 +178,9 @@ impl<'a> Timeline<'a> {
     ) -> fmt::Result {
         let scale = Scale::new(self.span.0, self.span.1);
         let (start, end) = (event.dest_in.get(), event.dest_out.get());
+        if start < self.span.0 || self.span.1 < end {
+            return put_cut(f, self.span, event, top);
+        }
         let from = scale.place(start);
         let risen = scale.place(start.saturating_add(event.rise.length.get()));
         let falling = scale.place(end.saturating_sub(event.fall.length.get()));
@@ -172,7 +203,9 @@ impl<'a> Timeline<'a> {
             let before = events
                 .get(place.saturating_sub(BEFORE)..place)
                 .unwrap_or(&[]);
-            self.put_name(f, event, row_of(event, before))?;
+            if self.draws(event) {
+                self.put_name(f, event, row_of(event, before))?;
+            }
         }
         writeln!(f, "</g>")
     }
@@ -220,6 +253,52 @@ impl<'a> Timeline<'a> {
             None => "",
         }
     }
+}
+
+/// Writes the shape of an entry in the lane that begins here, cut at the edges of these samples.
+fn put_cut<W: fmt::Write>(
+    f: &mut fmt::Formatter<W>,
+    span: (u64, u64),
+    event: &Event,
+    top: u64,
+) -> fmt::Result {
+    let scale = Scale::new(span.0, span.1);
+    let from = event.dest_in.get().max(span.0);
+    let to = event.dest_out.get().min(span.1);
+    let risen = event.dest_in.get().saturating_add(event.rise.length.get());
+    let falling = event.dest_out.get().saturating_sub(event.fall.length.get());
+    let bottom = top.saturating_add(HIGH);
+    let left = scale.place(from);
+    write!(f, "<polygon points='{left},{bottom}")?;
+    for sample in [from, risen, falling, to] {
+        if from <= sample && sample <= to {
+            let at = scale.place(sample);
+            let high = Tenths(
+                bottom
+                    .saturating_mul(10)
+                    .saturating_sub(height_at(event, sample)),
+            );
+            write!(f, " {at},{high}")?;
+        }
+    }
+    let right = scale.place(to);
+    writeln!(f, " {right},{bottom}'/>")
+}
+
+/// How high the shape of an entry is at a sample of it, in tenths of a pixel.
+fn height_at(event: &Event, sample: u64) -> u64 {
+    let whole = HIGH * 10;
+    let risen = sample.saturating_sub(event.dest_in.get());
+    let left = event.dest_out.get().saturating_sub(sample);
+    let up = share_of(whole, risen, event.rise.length.get());
+    let down = share_of(whole, left, event.fall.length.get());
+    up.min(down)
+}
+
+/// So much of a height, so many samples into a fade of this length.
+fn share_of(whole: u64, samples: u64, length: u64) -> u64 {
+    let share = samples.min(length).saturating_mul(whole);
+    share.checked_div(length).unwrap_or(whole)
 }
 
 /// The row in which the words of an entry stand: the first one, or a next one for each of these entries that sounds

@@ -1,0 +1,153 @@
+// What is reported beside faults and projects, as it is printed.
+ghost use Rattle.std.specs.Prelude.{◌++◌, ◌∷◌, List, false, map};
+ghost use Rattle.serde_json.specs.View.{items_of};
+ghost use Rattle.serde_json.specs.Written.{compact_text, items_text, members_text};
+ghost use Rattle.console.specs.Printing.{Prints};
+ghost use Rattle.checkreport.specs.Explained.{explained_data, members_of, value_data};
+ghost use Rattle.checkreport.specs.Report.{passed_data};
+ghost use Rattle.checkreport.specs.Parts.{after_commas, member_text, passed_text};
+
+use crate::values::{put_string, put_text};
+use console::{Console, put_counted};
+use opening::Fault;
+use std::alloc::Global;
+
+/// A count or a text, or neither where there is none.
+#[derive(Drop)]
+pub enum Value {
+    Nothing,
+    Count(u64),
+    Text(String),
+}
+
+/// A value by its name.
+#[derive(Drop)]
+pub struct Member {
+    pub name: &'static str,
+    pub value: Value,
+}
+
+/// A line of the list of which something isn't honoured, and its words; without these where no memory was left for them.
+#[derive(Drop)]
+pub struct PassedLine {
+    pub line: u64,
+    pub words: Option<String>,
+}
+
+/// What explains the faults of a list beside their numbers and places, and what else is reported of the list. No clause
+/// speaks of what it says.
+pub trait Explains {
+    /// What explains this fault, in the order of the names; nothing where no memory was left, or where so many faults were
+    /// explained that no more are.
+    fn explain(&mut self, alloc: Global, fault: &Fault) -> Option<Vec<Member>>;
+
+    /// The next line of the list of which something isn't honoured.
+    fn next_passed(&mut self, alloc: Global) -> Option<PassedLine>;
+
+    /// Why the folder of the media can't be listed, if it can't.
+    fn media_error(&mut self, alloc: Global) -> Option<String>;
+}
+
+/// Prints what explains a fault as an object, or null.
+pub fn put_explained<O: Console>(out: &mut O, explained: &Option<Vec<Member>>)
+    ensures { Prints O.contents O.failures out.old out.new (compact_text (explained_data explained.now)) }
+{
+    match explained {
+        Some(members) => {
+            out.put(b"{");
+            put_members(out, members);
+        }
+        None => out.put(b"null"),
+    }
+}
+
+/// Prints members, and the end of their object.
+fn put_members<O: Console>(out: &mut O, members: &[Member])
+    ensures { Prints O.contents O.failures out.old out.new (members_text false (members_of members.now)) }
+{
+    match members.split_first() {
+        Some((first, rest)) => {
+            put_member(out, first);
+            put_further_members(out, rest);
+            out.put(b"}");
+        }
+        None => out.put(b"}"),
+    }
+}
+
+/// Prints members, each after a comma.
+fn put_further_members<O: Console>(out: &mut O, members: &[Member])
+    ensures { Prints O.contents O.failures out.old out.new (after_commas member_text members.now) }
+{
+    for member in members {
+        out.put(b",");
+        put_member(out, member);
+    }
+}
+
+/// Prints a value after its name.
+#[tactic(auto, unfolding(crate::specs::Parts::member_text))]
+fn put_member<O: Console>(out: &mut O, member: &Member)
+    ensures { Prints O.contents O.failures out.old out.new (member_text member.now) }
+{
+    put_string(out, member.name);
+    out.put(b":");
+    put_value(out, &member.value);
+}
+
+/// Prints a value.
+fn put_value<O: Console>(out: &mut O, value: &Value)
+    ensures { Prints O.contents O.failures out.old out.new (compact_text (value_data value.now)) }
+{
+    match value {
+        Value::Nothing => out.put(b"null"),
+        Value::Count(number) => put_counted(out, "", *number),
+        Value::Text(text) => put_string(out, text.as_str()),
+    }
+}
+
+/// Prints the lines of a list of which something isn't honoured, and the end of their array.
+pub fn put_all_passed<X: Explains, O: Console>(alloc: Global, explains: &mut X, out: &mut O)
+    ensures { (passed : List PassedLine) × Prints O.contents O.failures out.old out.new
+        (items_text false (items_of (map passed_data passed))) }
+{
+    match explains.next_passed(alloc) {
+        Some(first) => {
+            put_passed(out, &first);
+            put_further_passed(alloc, explains, out);
+            out.put(b"]");
+        }
+        None => out.put(b"]"),
+    }
+}
+
+/// Prints further ones, each after a comma.
+fn put_further_passed<X: Explains, O: Console>(alloc: Global, explains: &mut X, out: &mut O)
+    ensures { (passed : List PassedLine) × Prints O.contents O.failures out.old out.new (after_commas passed_text passed) }
+{
+    'lines: for _ in 0..usize::MAX {
+        let Some(passed) = explains.next_passed(alloc) else {
+            return;
+        };
+        put_next_passed(out, &passed);
+    }
+}
+
+/// Prints one more, after a comma.
+fn put_next_passed<O: Console>(out: &mut O, passed: &PassedLine)
+    ensures { Prints O.contents O.failures out.old out.new (44 ∷ passed_text passed.now) }
+{
+    out.put(b",");
+    put_passed(out, passed);
+}
+
+/// Prints a line of which something isn't honoured.
+#[tactic(auto, unfolding(crate::specs::Parts::passed_text, json::specs::Print::escape_byte))]
+fn put_passed<O: Console>(out: &mut O, passed: &PassedLine)
+    ensures { Prints O.contents O.failures out.old out.new (passed_text passed.now) }
+{
+    put_counted(out, "{\"line\":", passed.line);
+    out.put(b",\"words\":");
+    put_text(out, &passed.words);
+    out.put(b"}");
+}
