@@ -17,18 +17,18 @@ impl Part {
     };
 
     /// Whether a time is chosen.
-    pub fn is_chosen(self) -> bool {
+    pub fn is_chosen(&self) -> bool {
         self.from.is_some() || self.to.is_some()
     }
 
     /// Whether a time is chosen so that nothing lies between both.
-    pub fn is_empty(self, events: &[Event]) -> bool {
+    pub fn is_empty(&self, events: &[Event]) -> bool {
         let (from, to) = self.span(events);
         self.is_chosen() && to <= from
     }
 
     /// The samples from which and up to which it goes.
-    pub fn span(self, events: &[Event]) -> (u64, u64) {
+    pub fn span(&self, events: &[Event]) -> (u64, u64) {
         let (first, last) = whole_of(events);
         let from = match self.from {
             Some(from) => from.get(),
