@@ -195,6 +195,23 @@ For more information, try '--help'.
 """
 
 
+BAD_DEPTH = """error: a depth is 16, 24 or 32
+
+Usage: adlcons %s [OPTIONS] <LIST> <MEDIA> <OUT>
+
+For more information, try '--help'.
+"""
+
+
+def bad_values(scene: Scene) -> None:
+    """A mistake in a value shows the usage of its command."""
+    for command in ("render", "resume"):
+        got = scene.run(command, LIST, MEDIA, OUT, "--depth", "20")
+        same("the mistake", got, Outcome(2, b"", (BAD_DEPTH % command).encode()))
+    got = scene.run("explain", "13", "46")
+    same("of an explanation", b"Usage: adlcons explain [WHAT] [NUMBER]\n" in got.error, True)
+
+
 def texts(scene: Scene) -> None:
     """What help, the version and mistakes say."""
     for words, text in (
@@ -262,6 +279,7 @@ def run(suite: Suite) -> None:
     suite.case("forms of options", option_forms)
     suite.case("times that can't be read", bad_times)
     suite.case("the texts of help and mistakes", texts)
+    suite.case("a mistake in a value", bad_values)
     suite.case("no words: the stored run", stored_run)
     for name, words in MISTAKES.items():
         suite.case(f"words: {name}", mistake(words))

@@ -11,12 +11,12 @@ ghost use Rattle.commandline.specs.Request as spec;
 ghost use Rattle.commandline.specs.Request.{asked_of};
 
 use crate::choice::{Chosen, Drawn, Selected};
-use crate::words::command;
+use crate::words::{command, command_named};
 use clap::error::ErrorKind;
-use clap::{ArgMatches, Error};
+use clap::{ArgMatches, Command, Error};
 use job_terms::Order;
 use sound_terms::Depth;
-use std::alloc::Global;
+use std::alloc::{AllocError, Global};
 
 /// The words of a command over a list: the list (a file, `-` is standard input), the folder of its media, and the
 /// folder that is written to.
@@ -92,12 +92,23 @@ pub fn parse<'a>(alloc: Global, words: &'a [&'a str]) -> Result<Parsed<'a>, Erro
             searches: asks_for("search", &matches),
             verifies: asks_for("verify", &matches),
         }),
-        None => Err(command.error(ErrorKind::ValueValidation, mistake_of(&matches))?),
+        None => {
+            let mut mistaken = command_in(alloc, &matches)?;
+            Err(mistaken.error(ErrorKind::ValueValidation, mistake_of(&matches))?)
+        }
     }
 }
 
 /// What is reported of another number of channels.
 const FEW_CHANNELS: &str = "there are 1 to 64 channels";
+
+/// The command that the words name, as a mistake in its words shows it.
+fn command_in<'a>(alloc: Global, matches: &ArgMatches<'_>) -> Result<Command<'a>, AllocError> {
+    match matches.subcommand() {
+        Some((name, _)) => command_named(alloc, name),
+        None => command(alloc),
+    }
+}
 
 /// What is told of words that clap takes and that ask for nothing.
 fn mistake_of(matches: &ArgMatches<'_>) -> &'static str {

@@ -22,6 +22,19 @@ pub fn command<'a>(alloc: Global) -> Result<Command<'a>, AllocError>
         .subcommand(explain_command(alloc)?)
 }
 
+/// The command of this name by itself, with the program's name before its own; the program where no command has it.
+pub fn command_named<'a>(alloc: Global, name: &str) -> Result<Command<'a>, AllocError> {
+    match name {
+        "consolidate" => consolidate_command(alloc)?.bin_name("adlcons consolidate"),
+        "render" => render_command(alloc)?.bin_name("adlcons render"),
+        "resume" => resume_command(alloc)?.bin_name("adlcons resume"),
+        "compare" => compare_command(alloc)?.bin_name("adlcons compare"),
+        "show" => show_command(alloc)?.bin_name("adlcons show"),
+        "explain" => explain_command(alloc)?.bin_name("adlcons explain"),
+        _ => command(alloc),
+    }
+}
+
 /// The version of the program.
 pub const VERSION: &str = "1.0.0";
 
