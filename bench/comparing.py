@@ -66,7 +66,7 @@ def output_of(words: list) -> str:
 
 
 def other_depth(bench: Bench) -> str:
-    """The same sound in a file of 32 bits, so that both sides are unpacked; beside it `cmp` of the source with a copy."""
+    """The same sound in a file of 32 bits, whose bytes are others; beside it `cmp` of the source with a copy."""
     other = other_media(bench)
     make_sound(other / "A.wav", block_of(SECOND, 2, 32), SECONDS, 2, 32)
     text = bench.put(list_text([Cut(0, 0, FRAMES)], channels="1~2"))
