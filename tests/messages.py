@@ -432,7 +432,8 @@ def further_words(scene: Scene) -> None:
         entry.replace(b"0001 (Cut)", b"0002 (Cut)") + b"(Gain) _ _ -3.00\n",
         entry.replace(b"0001 (Cut)", b"0003 (Cut)").replace(b"01.00.00.00/0004", b"01.00.00.25/0000"), *lines[10:]))
     told = (
-        "also 07 at line 11: bad number of an index or an entry; at column 9 stands: 0",
+        "also 07 at line 11: bad number of an index or an entry: such a number is 1 to 32767, in at most six digits; at "
+        "column 9 stands: 0",
         "also 13 at line 14 entry 2: unsupported line; at column 12 stands: -3.00; of gains only zero is read",
         "also 06 at line 15 entry 3: bad time; at column 65 stands: 01.00.00.25/0000; the list has 25 frames a second")
     expect_refused(scene, text, MEDIA_FILES, "refused 07 at line 7")

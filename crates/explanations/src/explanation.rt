@@ -135,8 +135,26 @@ impl<'a> Explanation<'a> {
         }
     }
 
+    /// What the number means.
+    pub fn meaning(&self) -> Option<&'static str> {
+        Some(meaning_at(self.number, self.spot)?.meaning)
+    }
+
+    /// How the refusal comes about, by the number.
+    pub fn cause(&self) -> &'static str {
+        match meaning_at(self.number, self.spot) {
+            Some(meaning) => meaning.cause,
+            None => "",
+        }
+    }
+
+    /// What to do.
+    pub fn remedy(&self) -> Option<&'static str> {
+        Some(self.remedy_by(meaning_at(self.number, self.spot)?))
+    }
+
     /// What to do: by what was found in the folder, by what the system said, or else by the number.
-    fn remedy(&self, meaning: Meaning) -> &'static str {
+    fn remedy_by(&self, meaning: Meaning) -> &'static str {
         if let Some(remedy) = self.findings.look.and_then(|look| look.remedy()) {
             return remedy;
         }
@@ -205,6 +223,55 @@ impl<'a> FurtherExplanation<'a> {
             look,
         }
     }
+
+    /// What the number means.
+    pub fn meaning(&self) -> Option<&'static str> {
+        Some(self.meaning?.meaning)
+    }
+
+    /// What to do.
+    pub fn remedy(&self) -> Option<&'static str> {
+        self.look.remedy().or(Some(self.meaning?.remedy))
+    }
+
+    /// How the fault comes about, as it was found or else as the number says.
+    pub fn cause(self) -> FoundCause<'a> {
+        FoundCause(self)
+    }
+
+    /// Writes how it comes about, behind a colon; nothing where the line says that.
+    fn fmt_cause<W: fmt::Write>(&self, f: &mut fmt::Formatter<W>) -> fmt::Result {
+        if self.look.has_cause() {
+            f.write_str(": ")?;
+            return self.look.fmt_cause(f);
+        }
+        match (self.line, self.meaning) {
+            (Some(line), Some(meaning)) if !line.has_cause() => write!(f, ": {}", meaning.cause),
+            _ => Ok(()),
+        }
+    }
+}
+
+/// How a further fault comes about.
+#[derive(Clone, Copy)]
+pub struct FoundCause<'a>(FurtherExplanation<'a>);
+
+impl fmt::Display for FoundCause<'_> {
+    fn fmt<W: fmt::Write>(&self, f: &mut fmt::Formatter<W>) -> fmt::Result {
+        let FurtherExplanation {
+            meaning,
+            line,
+            look,
+        } = self.0;
+        if look.has_cause() {
+            return look.fmt_cause(f);
+        }
+        match (line, meaning) {
+            (Some(line), _) if line.has_cause() => line.fmt_cause(f),
+            (_, Some(meaning)) => f.write_str(meaning.cause),
+            (_, None) => Ok(()),
+        }
+    }
 }
 
 impl fmt::Display for FurtherExplanation<'_> {
@@ -212,10 +279,7 @@ impl fmt::Display for FurtherExplanation<'_> {
         if let Some(meaning) = self.meaning {
             write!(f, ": {}", meaning.meaning)?;
         }
-        if self.look.has_cause() {
-            f.write_str(": ")?;
-            self.look.fmt_cause(f)?;
-        }
+        self.fmt_cause(f)?;
         if let Some(line) = self.line {
             line.fmt_brief(f)?;
         }
@@ -348,7 +412,7 @@ impl fmt::Display for Explanation<'_> {
         }
         self.findings.fmt(f)?;
         if let Some(meaning) = meaning {
-            write!(f, "; {}", self.remedy(meaning))?;
+            write!(f, "; {}", self.remedy_by(meaning))?;
         }
         write!(f, " (adlcons explain {number})")
     }

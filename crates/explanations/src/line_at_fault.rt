@@ -163,10 +163,24 @@ impl LineAtFault<'_> {
         }
         match self.passed {
             Some(rate) => {
-                let frames = rate.frames_per_second();
-                write!(f, "; the list has {frames} frames a second")
+                f.write_str("; ")?;
+                fmt_rate(rate, f)
             }
             None => Ok(()),
+        }
+    }
+
+    /// Whether it is known of the line how its fault comes about.
+    pub fn has_cause(&self) -> bool {
+        self.passed.is_some() || self.hint.is_some()
+    }
+
+    /// How it comes about, where that is known.
+    pub fn fmt_cause<W: fmt::Write>(&self, f: &mut fmt::Formatter<W>) -> fmt::Result {
+        match (self.passed, self.hint) {
+            (Some(rate), _) => fmt_rate(rate, f),
+            (None, Some(hint)) => f.write_str(hint),
+            (None, None) => Ok(()),
         }
     }
 
@@ -183,6 +197,12 @@ impl LineAtFault<'_> {
         self.fmt_stood(f)?;
         self.fmt_hint(f)
     }
+}
+
+/// Writes how many frames a second the list has.
+fn fmt_rate<W: fmt::Write>(rate: Rate, f: &mut fmt::Formatter<W>) -> fmt::Result {
+    let frames = rate.frames_per_second();
+    write!(f, "the list has {frames} frames a second")
 }
 
 impl fmt::Display for LineAtFault<'_> {

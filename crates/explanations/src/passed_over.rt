@@ -12,34 +12,73 @@ const ENTRY_FIELDS: usize = 10;
 /// How many bytes of such words are shown.
 const SHOWN_BYTES: usize = 60;
 
-/// The words of a list that are passed over though they may be meant to be heard, those of a line in one: gain, pan
-/// and mute in TRACKLIST, a length of crossfades in SYSTEM that isn't zero, what stands behind the fields of an entry,
-/// and sections of levels, which are skipped. At most 20 are told, and how many more there are.
+/// Words of a line that are passed over, and the number of the line.
 #[derive(Clone, Copy)]
-pub struct PassedWords<'a>(pub &'a [u8]);
+pub struct PassedLineWords<'a> {
+    pub line: u64,
+    pub words: &'a [u8],
+}
 
-impl fmt::Display for PassedWords<'_> {
-    fn fmt<W: fmt::Write>(&self, f: &mut fmt::Formatter<W>) -> fmt::Result {
-        let mut section = Section::Other;
-        let mut count: usize = 0;
-        let mut lines = Lines::new(self.0);
-        'lines: while let Some(line) = lines.next_line() {
+/// The lines of a list with words that are passed over though they may be meant to be heard: gain, pan and mute in
+/// TRACKLIST, a length of crossfades in SYSTEM that isn't zero, what stands behind the fields of an entry, and sections
+/// of levels, which are skipped.
+#[derive(Drop)]
+pub struct PassedLines<'a> {
+    lines: Lines<'a>,
+    section: Section,
+}
+
+impl<'a> PassedLines<'a> {
+    /// Those of this list.
+    pub fn new(list: &'a [u8]) -> Self {
+        PassedLines {
+            lines: Lines::new(list),
+            section: Section::Other,
+        }
+    }
+
+    /// The next of them, with the words of the line in one.
+    pub fn next_line(&mut self) -> Option<PassedLineWords<'a>> {
+        let mut section = self.section;
+        'lines: while let Some(line) = self.lines.next_line() {
             if section == Section::EventList && ends_with_time(line) {
                 continue;
             }
             let text = trimmed(line);
             if is_same_name(text, b"</ADL>") {
+                self.lines = Lines::new(b"");
                 break;
             }
-            if let Some(words) = words_in(section, text) {
-                count = count.saturating_add(1);
-                if count <= MOST {
-                    let number = lines.number();
-                    let words = Shown(words, SHOWN_BYTES);
-                    writeln!(f, "not honoured at line {number}: {words}")?;
-                }
-            }
+            let passed = words_in(section, text);
             section = section.behind(text);
+            if let Some(words) = passed {
+                self.section = section;
+                let line = self.lines.number();
+                return Some(PassedLineWords { line, words });
+            }
+        }
+        None
+    }
+}
+
+/// What is passed over so in a list. At most 20 lines are told, and how many more there are.
+#[derive(Clone, Copy)]
+pub struct PassedWords<'a>(pub &'a [u8]);
+
+impl fmt::Display for PassedWords<'_> {
+    fn fmt<W: fmt::Write>(&self, f: &mut fmt::Formatter<W>) -> fmt::Result {
+        let mut lines = PassedLines::new(self.0);
+        let mut count: usize = 0;
+        'lines: for _ in 0..usize::MAX {
+            let Some(passed) = lines.next_line() else {
+                break;
+            };
+            count = count.saturating_add(1);
+            if count <= MOST {
+                let line = passed.line;
+                let words = Shown(passed.words, SHOWN_BYTES);
+                writeln!(f, "not honoured at line {line}: {words}")?;
+            }
         }
         match count.checked_sub(MOST) {
             None | Some(0) => Ok(()),
