@@ -3,6 +3,7 @@
 A kill takes the process alone, and not what it wrote: what a disk may lose besides is tested over memory.
 """
 
+import os
 import random
 import re
 import shutil
@@ -319,6 +320,35 @@ def changed_by_hand(scene: Scene) -> None:
         same_files(scene.files(), whole)
 
 
+NEWER = "the source %s was written to after render.marks: what was marked by then is of the file as it was before\n"
+
+
+def newer_sources(scene: Scene) -> None:
+    """A source that was written to after the marks is told where the rendering is gone on with, by its time; the answer and
+    the file stay. One that the list doesn't name isn't told, nor any where the rendering is refused or no marks are there."""
+    whole = put_stopped(scene, 4, {0, 2})
+    stopped = scene.files()
+    source, unused, marks = (scene.folder / path for path in (f"{MEDIA}/A.wav", f"{MEDIA}/B.wav", f"{OUT}/{MARKS}"))
+    unused.write_bytes(b"")
+    for written, marked, told in (
+        ((5, 0), (4, 999_999_999), NEWER % "A.wav"), ((5, 2), (5, 1), NEWER % "A.wav"), ((5, 1), (5, 1), ""),
+        ((5, 0), (5, 1), "")):
+        scene.put_out(stopped)
+        for path, (seconds, more) in ((source, written), (unused, (9, 0)), (marks, marked)):
+            os.utime(path, ns=(0, 1_000_000_000 * seconds + more))
+        got = scene.run(*RESUME, *DEPTH)
+        same("the line and the status", (got.output.decode(), got.status), (
+            f"resumed {4 * BLOCK} frames 2 blocks were marked\n", 0))
+        same("standard error", got.error.decode(), told)
+        same_files(scene.files(), whole)
+    scene.put_out(stopped)
+    got = scene.run(*RESUME)
+    same_outcome(got, 1, "refused 67")
+    scene.put_out({})
+    got = scene.run(*RESUME, *DEPTH)
+    same("without marks", (got.status, got.error), (0, b""))
+
+
 def no_folder(scene: Scene) -> None:
     """An output that isn't there is 62 at its first file, and never 20; standard error names the folder first."""
     text, media = plain(2)
@@ -409,6 +439,7 @@ def run(suite: Suite) -> None:
     for name, change in BROKEN.items():
         suite.case(f"damaged: {name}", broken(68, DAMAGED, change))
     suite.case("a head or a pad that was changed", changed_by_hand)
+    suite.case("sources that were written to after the marks", newer_sources)
     suite.case("no folder", no_folder)
     suite.case("links in the output", links)
     suite.case("other files in the output", beside_others)

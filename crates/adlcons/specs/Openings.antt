@@ -17,7 +17,7 @@ use Rattle.console.specs.declared.console.Console as console
 use Rattle.console.specs.declared.lines.ListOfTwo.{ListOfTwo}
 use Rattle.console.specs.declared.lines.ListOfTwo.TheVariants.{First, Second}
 use Rattle.answers.specs.Answers.{ComparesBy, IsAnswered, IsChecked, IsComparedAs, IsVerified, Tells, accepted_lines, all_of_both, asking, list_refusal_line, refusal_line, written_lines}
-use Rattle.checkreport.specs.Reported.{IsReported}
+use Rattle.checkreport.specs.Reported.{IsReported, PrintsUnread}
 use Rattle.adlcons.specs.declared.folders.OpenFault.{OpenFault}
 use Rattle.adlcons.specs.declared.folders.OpenFault.TheVariants as opened
 use Rattle.adlcons.specs.declared.reading.ReadFault.{ReadFault}
@@ -49,6 +49,14 @@ pub record IsKeptOut {O : Type 0} (out : console.Ghosts O) (list folder : List �
   pub fault : OpenFault
   pub status_is : status ≡ 1
   pub printed : Tells out old new (refusal_line true (refusal_of_opening fault list folder))
+
+-- the list, or its report, didn't come to be, and the report has that alone
+pub record IsReportKeptOut {O : Type 0} (out : console.Ghosts O) (list : List ℕ) (old new : O) (status : ℕ)
+    : Type 0 where
+  pub fault : OpenFault
+  pub status_is : status ≡ 1
+  pub unread : PrintsUnread out old new (refusal_of_opening fault list []).number
+      (refusal_of_opening fault list []).place
 
 -- the path of one of two lists
 abbrev pub path_of : ListOfTwo → (list other : List ℕ) → List ℕ

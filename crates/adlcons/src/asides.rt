@@ -1,4 +1,5 @@
 // What a command tells on standard error beside the refusal and its explanation.
+use crate::folders::unlisted_reason;
 use crate::media::{Manner, open_media};
 use answers::{Asides, FEW_FAULTS};
 use explanations::Near;
@@ -110,6 +111,11 @@ where
             return Some(Near::Spelled(similar));
         }
         Some(Near::Folder(self.folder_of(alloc, name)?))
+    }
+
+    fn media_error(&self, alloc: Global) -> Option<String> {
+        let reason = unlisted_reason(self.rt, self.media)?;
+        format!(in alloc; "{reason}").ok()
     }
 
     fn sources(&self, _: Global) -> Option<FolderShelf<R>> {

@@ -9,7 +9,7 @@ ghost use Rattle.console.specs.Places.{where_of};
 ghost use Rattle.sound_terms.specs.Passes.{standard_groups};
 ghost use Rattle.rendering.specs.declared.cutting.JobLength.TheVariants.{Longer};
 ghost use Rattle.answers.specs.Answers.{RendersBy, ResumesBy, asking, rendered_lines, resumed_lines, written_lines};
-ghost use Rattle.adlcons.specs.Openings.{ChecksFolder, ComparesFolders, IsKeptOut, IsOneKeptOut, ReportsFolder, VerifiesInFolders, WorksInFolders, overwrite_for, refusal_of_opening};
+ghost use Rattle.adlcons.specs.Openings.{ChecksFolder, ComparesFolders, IsKeptOut, IsOneKeptOut, IsReportKeptOut, ReportsFolder, VerifiesInFolders, WorksInFolders, overwrite_for, refusal_of_opening};
 ghost use Rattle.shelf.specs.declared.Overwrite.TheVariants as overwrite;
 
 use crate::asides::{FolderAsides, listed};
@@ -18,6 +18,7 @@ use crate::head::{changed_position, report_change};
 use crate::looks::{report_folder, show_folder};
 use crate::media::{Manner, open_media, report_found};
 use crate::meter::{Progress, WorkMeter};
+use crate::newer::{newer_sources, report_newer};
 use crate::output::{HeldFolder, Lock, hold_folder, require_ready_folder, require_unshared};
 use crate::reading::{ReadFault, read_list};
 use crate::sources::ShownShelf;
@@ -126,7 +127,7 @@ where
         → IsKeptOut O.Console list (codes "") out.old out.new result
         ⊎ ChecksFolder ⟦<ShownShelf<'static, R, L> as devices::Shelf>⟧ O.Console media out.old out.new result }
     ensures reported { (list media : Text) → request_of (texts words.now) ≡ Some (asked.Report list media) → result ≢ 2
-        → IsKeptOut O.Console list (codes "") out.old out.new result
+        → IsReportKeptOut O.Console list out.old out.new result
         ⊎ ReportsFolder ⟦<ShownShelf<'static, R, L> as devices::Shelf>⟧ O.Console media out.old out.new result }
     ensures rendered { (list media target : Text) (chosen : asked.Chosen)
         → request_of (texts words.now) ≡ Some (asked.Render list media target chosen) → result ≢ 2
@@ -181,8 +182,8 @@ where
         Request::Compare(places, selected) => {
             compare_folders(rt, places, selected, manner, out, err, line)
         }
-        Request::Show(list, media, handle) => show_folder(
-            rt, list, media, handle, manner, out, err, line,
+        Request::Show(list, media, handle, drawn) => show_folder(
+            rt, list, media, handle, drawn, manner, out, err, line,
         ),
         Request::Render(places, chosen) => {
             let request = Request::Render(places, chosen);
@@ -410,6 +411,7 @@ where
     let overwrite = overwrite_for(&request);
     let _held = ready_output(rt, places, &list, overwrite, err)?;
     let changed = changed_position(rt, request, &list);
+    let newer = newer_sources(rt, request, &list);
     let mut bench = FolderBench::new(rt.alloc(), rt.clone()?, places.out, overwrite)?;
     let mut shelf = ShownShelf::open(rt, places.media, manner, line)?;
     let unlisted = unlisted_reason(rt, places.media);
@@ -433,6 +435,9 @@ where
     }
     if let (0, Some(position)) = (status, changed) {
         report_change(places.out, position, err);
+    }
+    if let (0, Some(names)) = (status, &newer) {
+        report_newer(names, err);
     }
     if status == MISTAKE {
         err.print_line(TIMES);

@@ -10,6 +10,7 @@ mod head;
 mod looks;
 mod media;
 mod meter;
+mod newer;
 mod output;
 mod reading;
 mod sources;

@@ -31,7 +31,7 @@ use Rattle.console.specs.declared.lines.ListOfTwo.{ListOfTwo}
 use Rattle.console.specs.declared.lines.ListOfTwo.TheVariants.{First, Second}
 use Rattle.console.specs.Lines.{accepted_text, differ_text, in_list, notices_of_list, notices_text, refusal_text, rendered_text, resumed_text, same_text, written_text}
 use Rattle.console.specs.Printing.{Prints}
-use Rattle.answers.specs.Times.{selection_of, values_of}
+use Rattle.answers.specs.Times.{part_of, selection_of, values_of}
 
 -- the version of this program, where a report is asked for
 abbrev pub asking : Bool → Option (List ℕ)
@@ -207,6 +207,6 @@ MayBeMistaken rate (Render list media out chosen) = IsErr (values_of rate chosen
 MayBeMistaken rate (Resume list media out chosen) = IsErr (values_of rate chosen)
 MayBeMistaken rate (Consolidate list media out handle report) = ⊥
 MayBeMistaken rate (Compare list media other other_media selected) = ⊤
-MayBeMistaken rate (Show list media handle) = ⊥
+MayBeMistaken rate (Show list media handle drawn) = IsErr (part_of rate drawn)
 MayBeMistaken rate (Explain number) = ⊤
 MayBeMistaken rate (ExplainNotice number) = ⊤

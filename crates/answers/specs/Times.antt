@@ -1,10 +1,11 @@
--- What the options of a rendering or of a comparison say, their times at the rate of frames of the list.
+-- What the options of a rendering, of a comparison or of a picture say, their times at the rate of frames of the list.
 use Rattle.std.specs.Prelude.{ℕ, ◌∷◌, [], ◌++◌, List, Option, None, Some, Result, Ok, Err, option_map, codes}
 use Rattle.sampletime.specs.TimeCode.{samples_of}
 use Rattle.list_terms.specs.Accepted.{OptionValues}
 use Rattle.clap.specs.Walk.{Text}
 use Rattle.comparison.specs.declared.range.Selection.{Selection}
-use Rattle.commandline.specs.CommandLine.{Chosen, Selected}
+use Rattle.picture.specs.declared.part.Part.{Part}
+use Rattle.commandline.specs.CommandLine.{Chosen, Drawn, Selected}
 
 -- the time that an option's text spells, at so many frames a second
 abbrev pub time_in : ℕ → Option Text → Option (Option ℕ)
@@ -28,6 +29,16 @@ selection_of rate selected = elim (time_in rate selected.from) [
   | Some from ↦ elim (time_in rate selected.to) [
     | None ↦ Err (codes "--to")
     | Some to ↦ Ok (record { from = from; to = to; channels = selected.channels })
+  ]
+]
+
+-- of a picture likewise
+abbrev pub part_of : ℕ → Drawn → Result Part Text
+part_of rate drawn = elim (time_in rate drawn.from) [
+  | None ↦ Err (codes "--from")
+  | Some from ↦ elim (time_in rate drawn.to) [
+    | None ↦ Err (codes "--to")
+    | Some to ↦ Ok (record { from = from; to = to })
   ]
 ]
 

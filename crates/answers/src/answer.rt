@@ -18,7 +18,7 @@ ghost use Rattle.list_terms.specs.Text.{rate_of as rate_at};
 ghost use Rattle.answers.specs.Answers.{IsAnswered, IsChecked, MayBeMistaken, RendersBy, ResumesBy, accepted_lines, asking, rendered_lines, resumed_lines, written_lines};
 ghost use Rattle.answers.specs.BadTime.{name_of};
 ghost use Rattle.checkreport.specs.Reported.{IsReported};
-ghost use Rattle.answers.specs.Times.{bad_time_line, values_of};
+ghost use Rattle.answers.specs.Times.{bad_time_line, part_of, values_of};
 
 use crate::also::tell_further;
 use crate::asides::Asides;
@@ -121,8 +121,12 @@ pub fn answer_request<
         → bench.new ≡ bench.old }
     ensures report_writes_nothing { (place media : Text) → asked_of request.entry ≡ asked.Report place media
         → bench.new ≡ bench.old }
-    ensures picture_writes_nothing { (place media : Text) (handle : ℕ)
-        → asked_of request.entry ≡ asked.Show place media handle → bench.new ≡ bench.old }
+    ensures bad_time_shown { (place media : Text) (handle : ℕ) (drawn : asked.Drawn) (option : Text)
+        → asked_of request.entry ≡ asked.Show place media handle drawn
+        → part_of (rate_at list.now) drawn ≡ Err option
+        → (result ≡ 2) × Prints E.contents E.failures err.old err.new (bad_time_line option) }
+    ensures picture_writes_nothing { (place media : Text) (handle : ℕ) (drawn : asked.Drawn)
+        → asked_of request.entry ≡ asked.Show place media handle drawn → bench.new ≡ bench.old }
 {
     match request {
         Request::Check(_, _) => answer_check(alloc, list, shelf, out, err, asides),
@@ -148,9 +152,9 @@ pub fn answer_request<
             )
         }
         Request::Compare(_, _) => refuse_two_lists(err),
-        Request::Show(name, _, handle) => {
-            answer_picture(alloc, name, list, handle, shelf, out, err, asides)
-        }
+        Request::Show(name, _, handle, drawn) => answer_picture(
+            alloc, name, list, handle, drawn, shelf, out, err, asides,
+        ),
         Request::Explain(number) => explain(number, out, err),
         Request::ExplainNotice(number) => explain_notice(number, out, err),
     }

@@ -14,6 +14,9 @@ pub trait Asides {
     /// Where a source of this name, which is missing, may be.
     fn near(&self, alloc: Global, name: &str) -> Option<Near>;
 
+    /// Why the folder of the media can't be listed, if it can't.
+    fn media_error(&self, alloc: Global) -> Option<String>;
+
     /// The sources once more; none where no memory was left.
     fn sources(&self, alloc: Global) -> Option<Self::Sources>;
 }

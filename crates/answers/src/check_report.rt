@@ -3,6 +3,7 @@ ghost use Rattle.std.specs.Prelude.{◌≤◌, IsTrue};
 ghost use Rattle.checkreport.specs.Reported.{IsReported};
 
 use crate::asides::Asides;
+use crate::explainer::Explainer;
 use crate::refusal::look_at;
 use crate::report::tell_changed;
 use checkreport::{put_accepted, put_refused};
@@ -14,7 +15,7 @@ use shelf::{Reasons, Shelf};
 use std::alloc::Global;
 
 /// Checks the list, and prints all that came of it as JSON on `out`, by the form of `docs/REPORT.md`; where no memory
-/// was left for the first fault of a list that is refused, the refusal 18. A refusal of the list is explained on `err`.
+/// was left for the first fault of a list that is refused, that alone. A refusal of the list is explained on `err`.
 /// The status is 0 where the list is accepted and told, and else 1.
 pub fn answer_report<S: Shelf + Reasons, O: Console, E: Console, A: Asides>(
     alloc: Global,
@@ -31,9 +32,13 @@ pub fn answer_report<S: Shelf + Reasons, O: Console, E: Console, A: Asides>(
     let outcome = open_project(alloc, list, shelf);
     tell_changed(alloc, shelf, err);
     match outcome {
-        Ok(checked) => put_accepted(&checked, out),
+        Ok(checked) => {
+            let mut explainer = Explainer::new(alloc, list, asides);
+            put_accepted(alloc, &checked, &mut explainer, out)
+        }
         Err(fault) => {
-            let status = put_refused(alloc, list, shelf, &fault, out);
+            let mut explainer = Explainer::new(alloc, list, asides);
+            let status = put_refused(alloc, list, shelf, &fault, &mut explainer, out);
             let fault = Fault::Project(fault);
             let look = look_at(alloc, list, &fault, asides);
             err.print_line(Explanation::of(&fault, list, shelf.reason(), None).with_look(&look));

@@ -1,17 +1,18 @@
-// What the words choose of a rendering or of a comparison, as its options.
+// What the words choose of a rendering, of a comparison or of a picture, as its options.
 ghost use Rattle.std.specs.Prelude.{◌≡◌, Err, IfErr, IfOk, Ok, option_map};
 ghost use Rattle.sampletime.specs.FrameRate.{frames_per_second};
 ghost use Rattle.rendering.specs.Rendering as rendering;
 ghost use Rattle.rendering.specs.Rendering.{HaveChannels};
 ghost use Rattle.answers.specs.BadTime.{name_of};
-ghost use Rattle.answers.specs.Times.{bad_time_line, selection_of, time_in, values_of};
+ghost use Rattle.answers.specs.Times.{bad_time_line, part_of, selection_of, time_in, values_of};
 ghost use Rattle.comparison.specs.Range.{HasChannels};
-ghost use Rattle.commandline.specs.Request.{chosen_of, selected_of};
+ghost use Rattle.commandline.specs.Request.{chosen_of, drawn_of, selected_of};
 ghost use Rattle.console.specs.Printing.{Prints};
 
-use commandline::{Chosen, Selected};
+use commandline::{Chosen, Drawn, Selected};
 use console::Console;
 use consolidate::{Options, Selection};
+use picture::Part;
 use sampletime::{Rate, SampleTime, parse_time};
 
 /// The option whose time can't be read.
@@ -68,6 +69,17 @@ pub fn selection_of(selected: Selected<'_>, rate: Rate) -> Result<Selection, Bad
         to,
         channels: selected.channels,
     })
+}
+
+/// The part of the timeline that the words choose of a picture, with times at this rate. `--from` is looked at before
+/// `--to`.
+pub fn part_of(drawn: Drawn<'_>, rate: Rate) -> Result<Part, BadTime>
+    ensures read { IfOk result (λ part. part_of (frames_per_second rate) (drawn_of drawn.entry) ≡ Ok part) }
+    ensures bad { IfErr result (λ bad. part_of (frames_per_second rate) (drawn_of drawn.entry) ≡ Err (name_of bad)) }
+{
+    let from = time_of(drawn.from, rate).ok_or(BadTime::From)?;
+    let to = time_of(drawn.to, rate).ok_or(BadTime::To)?;
+    Ok(Part { from, to })
 }
 
 /// The time that a text spells at this rate, where there is a text.

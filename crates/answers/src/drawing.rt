@@ -1,28 +1,63 @@
 // The answer to a request for a picture.
-ghost use Rattle.std.specs.Prelude.{◌≤◌};
+ghost use Rattle.std.specs.Prelude.{◌≡◌, ◌≤◌, Err, IsErr};
+ghost use Rattle.clap.specs.Walk.{Text};
+ghost use Rattle.commandline.specs.Request.{drawn_of};
+ghost use Rattle.console.specs.Printing.{Prints};
+ghost use Rattle.list_terms.specs.Text.{rate_of as rate_at};
+ghost use Rattle.answers.specs.Times.{bad_time_line, part_of};
 
+use crate::answer::refuse_time;
 use crate::asides::Asides;
+use crate::chosen::part_of;
 use crate::refusal::refuse_on;
 use crate::report::tell_changed;
 use adlmodel::{Project, place_of};
-use adlread::read;
+use adlread::{rate_of, read};
+use commandline::Drawn;
 use console::Console;
 use consolidate::Fault;
 use explanations::Explanation;
 use opening::{further_faults, open_project};
-use picture::Picture;
+use picture::{Part, Picture};
 use shelf::{Reasons, Shelf};
 use sourceindex::bind;
 use std::alloc::{AllocError, Global};
 use std::collections::BTreeMap;
 
-/// Draws the list of this path with handles of so many frames, as SVG on `out`, and answers 0; or draws what can be drawn
-/// of a list that is refused at its files or entries, prints on `err` why it is refused, and answers 1.
+/// Draws what the words choose of the list of this path with handles of so many frames, as SVG on `out`, and answers 0;
+/// or draws what can be drawn of a list that is refused at its files or entries, prints on `err` why it is refused, and
+/// answers 1. A list of which nothing lies between the times that are chosen is refused too. Where a time can't be read
+/// the answer is 2, and that is told on `err`.
 pub fn answer_picture<S: Shelf + Reasons, O: Console, E: Console, A: Asides>(
     alloc: Global,
     path: &str,
     list: &[u8],
     handle: u64,
+    drawn: Drawn<'_>,
+    shelf: &mut S,
+    out: &mut O,
+    err: &mut E,
+    asides: &A,
+) -> u8
+    ensures bad_time { (option : Text) → part_of (rate_at list.now) (drawn_of drawn.entry) ≡ Err option
+        → (result ≡ 2) × Prints E.contents E.failures err.old err.new (bad_time_line option) }
+    ensures statuses { result ≤ 2 }
+    ensures mistake { result ≡ 2 → IsErr (part_of (rate_at list.now) (drawn_of drawn.entry)) }
+    ensures two { result ≡ 2 → (shelf.new ≡ shelf.old) × (out.new ≡ out.old) }
+{
+    match part_of(drawn, rate_of(list)) {
+        Ok(part) => draw(alloc, path, list, handle, part, shelf, out, err, asides),
+        Err(bad) => refuse_time(bad, err),
+    }
+}
+
+/// Draws this part of the list.
+fn draw<S: Shelf + Reasons, O: Console, E: Console, A: Asides>(
+    alloc: Global,
+    path: &str,
+    list: &[u8],
+    handle: u64,
+    part: Part,
     shelf: &mut S,
     out: &mut O,
     err: &mut E,
@@ -34,9 +69,10 @@ pub fn answer_picture<S: Shelf + Reasons, O: Console, E: Console, A: Asides>(
     let outcome = open_project(alloc, list, shelf);
     tell_changed(alloc, shelf, err);
     let fault = match outcome {
+        Ok(checked) if part.is_empty(checked.project().events()) => Fault::EmptyRange,
         Ok(checked) => match Picture::of(alloc, &checked, name, handle) {
             Ok(picture) => {
-                out.print(picture);
+                out.print(picture.of_part(part));
                 return 0;
             }
             Err(fault) => Fault::Runs(fault),
@@ -46,16 +82,18 @@ pub fn answer_picture<S: Shelf + Reasons, O: Console, E: Console, A: Asides>(
     let explanation = Explanation::of(&fault, list, shelf.reason(), None);
     refuse_on(alloc, list, &fault, explanation, asides, err);
     if let Fault::Project(of_list) = &fault {
-        draw_refused(alloc, name, list, of_list, shelf, out);
+        draw_refused(alloc, name, list, part, of_list, shelf, out);
     }
     1
 }
 
-/// Draws what can be drawn of a list that is refused by this fault: nothing of one whose text is at fault.
+/// Draws what can be drawn of a list that is refused by this fault: nothing of one whose text is at fault, or of which
+/// nothing lies in the part that is chosen.
 fn draw_refused<S: Shelf, O: Console>(
     alloc: Global,
     name: &str,
     list: &[u8],
+    part: Part,
     fault: &opening::Fault,
     shelf: &mut S,
     out: &mut O,
@@ -63,16 +101,19 @@ fn draw_refused<S: Shelf, O: Console>(
     let Ok(project) = read(alloc, list) else {
         return;
     };
+    if part.is_empty(project.events()) {
+        return;
+    }
     match fault {
         opening::Fault::List(_) => {}
         opening::Fault::Entry(_) => {
             if let Ok(bound) = bind(alloc, &project, shelf) {
-                out.print(Picture::of_bad_entries(&project, &bound, name));
+                out.print(Picture::of_bad_entries(&project, &bound, name).of_part(part));
             }
         }
         opening::Fault::SameName { .. } | opening::Fault::Media { .. } => {
             if let Ok(bad_files) = bad_files_of(alloc, list, &project, fault, shelf) {
-                out.print(Picture::of_bad_files(&project, &bad_files, name));
+                out.print(Picture::of_bad_files(&project, &bad_files, name).of_part(part));
             }
         }
     }

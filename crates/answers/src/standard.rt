@@ -72,7 +72,7 @@ pub fn answer_standard<
         | Request::Render(_, _)
         | Request::Resume(_, _)
         | Request::Compare(_, _)
-        | Request::Show(_, _, _)
+        | Request::Show(_, _, _, _)
         | Request::Explain(_)
         | Request::ExplainNotice(_) => Ok(answer_request(
             alloc,

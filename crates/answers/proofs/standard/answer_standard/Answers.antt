@@ -61,7 +61,7 @@ returns-in-Check g c = record {
           | inr rest ↦ elim rest [
             | inl compare ↦ let other = ap asked_of (sym compare.2) ∙ request in cc
             | inr rest ↦ elim rest [
-              | inl show ↦ let other = ap asked_of (sym show.3) ∙ request in cc
+              | inl show ↦ let other = ap asked_of (sym show.4) ∙ request in cc
               | inr rest ↦ elim rest [
                 | inl explain ↦ let other = ap asked_of (sym explain.1) ∙ request in cc
                 | inr notice ↦ let other = ap asked_of (sym notice.1) ∙ request in cc
