@@ -45,6 +45,10 @@ impl Asides for NoAsides {
         None
     }
 
+    fn media_error(&self, _alloc: Global) -> Option<String> {
+        None
+    }
+
     fn sources(&self, _alloc: Global) -> Option<MemoryShelf> {
         None
     }

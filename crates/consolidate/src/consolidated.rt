@@ -12,7 +12,7 @@ ghost use Rattle.consolidate.specs.Outcomes.{AnswersAs};
 use crate::Fault;
 use crate::media::execution_of;
 use crate::opened::{Opened, open};
-use consolidation::{Consolidation, Sizes};
+use consolidation::{Consolidation, MediaChoice, Sizes};
 use devices::{Bench, Shelf, Unwatched, Watch};
 use execution::ExecutionFault;
 use job_terms::Progress;
@@ -60,9 +60,11 @@ fn consolidate_checked<S: Shelf, B: Bench, W: Watch>(
         checked.project checked.bound handle (option_map (λ version. version.now) report.entry)
         (λ count. rounds (3 * count)) shelf.old shelf.new bench.old bench.new result }
 {
-    let consolidation = match Consolidation::plan(
-        alloc, &checked, handle, passes, report, shelf, watch,
-    ) {
+    let choice = MediaChoice {
+        handle,
+        version: report,
+    };
+    let consolidation = match Consolidation::plan(alloc, &checked, choice, passes, shelf, watch) {
         Ok(consolidation) => consolidation,
         Err(fault) => return Err(Fault::of_consolidation(checked, fault)),
     };

@@ -11,7 +11,7 @@ ghost use Rattle.consolidate.specs.Schedules.{IsConsolidationSchedule};
 use crate::Fault;
 use crate::media::execution_of;
 use crate::opened::{Opened, open};
-use consolidation::Consolidation;
+use consolidation::{Consolidation, MediaChoice};
 use devices::{Bench, Shelf, Unwatched};
 use execution::ExecutionFault;
 use job_terms::{BoardEvent, Progress};
@@ -42,15 +42,12 @@ fn schedule_consolidation<S: Shelf, B: Bench>(
     ensures { ConsolidatesByEvents S.Shelf B.Bench (left_by (λ pass. looking pass) (λ pass. gives pass) passes.items)
         checked.project checked.bound handle (λ _. events.now) shelf.old shelf.new bench.old bench.new result }
 {
-    let consolidation = match Consolidation::plan(
-        alloc,
-        &checked,
+    let choice = MediaChoice {
         handle,
-        passes,
-        None,
-        shelf,
-        &mut Unwatched,
-    ) {
+        version: None,
+    };
+    let watch = &mut Unwatched;
+    let consolidation = match Consolidation::plan(alloc, &checked, choice, passes, shelf, watch) {
         Ok(consolidation) => consolidation,
         Err(fault) => return Err(Fault::of_consolidation(checked, fault)),
     };

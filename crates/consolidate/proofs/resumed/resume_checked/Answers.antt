@@ -72,8 +72,8 @@ returns-in-Ok-render_anew-clause-does g c =
     let due = opened_of (run_of list (range_of project values)) (g.B.Bench.stored c.args.bench.now) in
     let begun = IsLeftByRun m (g.B.Bench.may_leave c.args.bench.now) in
     let was = marked_for c.args.choice.now.jobs list project binding values c.in-Ok.work c.in-Ok.ensures.planned c.in-Ok.ensures.run in
-    let of = reopened list project binding values c.in-Ok.work c.open.new.self was c.in-Ok-open.ensures.planned
-    c.in-Ok-open.ensures.sounds c.in-Ok-open.ensures.run in
+    let of = reopened list project binding values c.in-Ok.work c.open.new.self was c.in-Ok-open.ensures.reopened.planned
+    c.in-Ok-open.ensures.reopened.sounds c.in-Ok-open.ensures.reopened.run in
     project_ok g.S.Shelf g.B.Bench list project binding values c.open.new.self of c.args.shelf.now c.render_anew.new.shelf
     c.args.bench.now c.render_anew.new.bench (λ _. ⊤) (λ _ progress. progress.finished ≡ true) begun begun begun begun
     (ResumesBound c.args.choice.now.jobs list values project binding due (source_view g.S.Shelf c.args.shelf.now)
@@ -84,7 +84,7 @@ returns-in-Ok-render_anew-clause-does g c =
     (output_view g.B.Bench c.render_anew.new.bench))
     _ _
     (anew_after_open g.S.Shelf g.B.Bench c.args.choice.now.jobs list values project binding c.in-Ok.work c.open.new.self was
-    c.in-Ok-open.ensures.planned c.in-Ok-open.ensures.sounds c.in-Ok-open.ensures.run c.args.shelf.now
+    c.in-Ok-open.ensures.reopened.planned c.in-Ok-open.ensures.reopened.sounds c.in-Ok-open.ensures.reopened.run c.args.shelf.now
     c.render_anew.new.shelf c.args.bench.now c.open.new.bench c.render_anew.new.bench c.in-Ok-open.found c.in-Ok-open.ensures.untouched
     c.in-Ok-open.ensures.only_reads _ (λ right. c.in-Ok-open.ensures.unstarted right sources c.in-None.is)
     (λ right. subst (λ (r : RunId). opened_of r (g.B.Bench.stored c.args.bench.now) ≡ Ok None) was.run
@@ -92,7 +92,7 @@ returns-in-Ok-render_anew-clause-does g c =
     c.in-None.is (c.in-Ok-open.ensures.found right)))
     (subst (λ (w : MarkedWork). IsRenderingOf c.args.choice.now.jobs project binding values w.work)
     (sym (c.in-Ok-open.ensures.unchanged c.in-None.is)) c.in-Ok.ensures.planned)
-    c.in-Ok-open.ensures.jobs c.in-Ok-render_anew.ensures.does)
+    c.in-Ok-open.ensures.reopened.jobs c.in-Ok-render_anew.ensures.does)
     (λ _. c.in-Ok-render_anew.ensures.finished) c.in-Ok-render_anew.ensures.finished (λ left. left) (λ left. left) (λ ended came. came)
 
 pub returns-in-Err-render_anew-clause-does : goal.returns-in-Err-render_anew-clause-does
@@ -106,8 +106,8 @@ returns-in-Err-render_anew-clause-does g c =
     let due = opened_of (run_of list (range_of project values)) (g.B.Bench.stored c.args.bench.now) in
     let begun = IsLeftByRun m (g.B.Bench.may_leave c.args.bench.now) in
     let was = marked_for c.args.choice.now.jobs list project binding values c.in-Ok.work c.in-Ok.ensures.planned c.in-Ok.ensures.run in
-    let of = reopened list project binding values c.in-Ok.work c.open.new.self was c.in-Ok-open.ensures.planned
-    c.in-Ok-open.ensures.sounds c.in-Ok-open.ensures.run in
+    let of = reopened list project binding values c.in-Ok.work c.open.new.self was c.in-Ok-open.ensures.reopened.planned
+    c.in-Ok-open.ensures.reopened.sounds c.in-Ok-open.ensures.reopened.run in
     project_err g.S.Shelf g.B.Bench list project binding values c.open.new.self of c.args.shelf.now c.render_anew.new.shelf
     c.args.bench.now c.render_anew.new.bench (λ _. ⊤) (λ _ progress. progress.finished ≡ true) begun begun begun begun
     (ResumesBound c.args.choice.now.jobs list values project binding due (source_view g.S.Shelf c.args.shelf.now)
@@ -118,7 +118,7 @@ returns-in-Err-render_anew-clause-does g c =
     (output_view g.B.Bench c.render_anew.new.bench))
     _
     (anew_after_open g.S.Shelf g.B.Bench c.args.choice.now.jobs list values project binding c.in-Ok.work c.open.new.self was
-    c.in-Ok-open.ensures.planned c.in-Ok-open.ensures.sounds c.in-Ok-open.ensures.run c.args.shelf.now
+    c.in-Ok-open.ensures.reopened.planned c.in-Ok-open.ensures.reopened.sounds c.in-Ok-open.ensures.reopened.run c.args.shelf.now
     c.render_anew.new.shelf c.args.bench.now c.open.new.bench c.render_anew.new.bench c.in-Ok-open.found c.in-Ok-open.ensures.untouched
     c.in-Ok-open.ensures.only_reads _ (λ right. c.in-Ok-open.ensures.unstarted right sources c.in-None.is)
     (λ right. subst (λ (r : RunId). opened_of r (g.B.Bench.stored c.args.bench.now) ≡ Ok None) was.run
@@ -126,7 +126,7 @@ returns-in-Err-render_anew-clause-does g c =
     c.in-None.is (c.in-Ok-open.ensures.found right)))
     (subst (λ (w : MarkedWork). IsRenderingOf c.args.choice.now.jobs project binding values w.work)
     (sym (c.in-Ok-open.ensures.unchanged c.in-None.is)) c.in-Ok.ensures.planned)
-    c.in-Ok-open.ensures.jobs c.in-Err-render_anew.ensures.does)
+    c.in-Ok-open.ensures.reopened.jobs c.in-Err-render_anew.ensures.does)
     (λ left. left) (λ left. left) (λ ended came. came)
 
 pub returns-in-Ok-render_anew-clause-reads_back : goal.returns-in-Ok-render_anew-clause-reads_back
@@ -143,8 +143,8 @@ returns-in-Ok-go_on_marked-clause-does g c =
     let due = opened_of (run_of list (range_of project values)) (g.B.Bench.stored c.args.bench.now) in
     let begun = IsLeftByRun m (g.B.Bench.may_leave c.args.bench.now) in
     let was = marked_for c.args.choice.now.jobs list project binding values c.in-Ok.work c.in-Ok.ensures.planned c.in-Ok.ensures.run in
-    let of = reopened list project binding values c.in-Ok.work c.open.new.self was c.in-Ok-open.ensures.planned
-    c.in-Ok-open.ensures.sounds c.in-Ok-open.ensures.run in
+    let of = reopened list project binding values c.in-Ok.work c.open.new.self was c.in-Ok-open.ensures.reopened.planned
+    c.in-Ok-open.ensures.reopened.sounds c.in-Ok-open.ensures.reopened.run in
     project_ok g.S.Shelf g.B.Bench list project binding values c.open.new.self of c.args.shelf.now c.go_on_marked.new.shelf
     c.args.bench.now c.go_on_marked.new.bench (λ _. ⊤) (λ _ progress. progress.finished ≡ true) begun begun begun begun
     (ResumesBound c.args.choice.now.jobs list values project binding due (source_view g.S.Shelf c.args.shelf.now)
@@ -155,7 +155,7 @@ returns-in-Ok-go_on_marked-clause-does g c =
     (output_view g.B.Bench c.go_on_marked.new.bench))
     _ _
     (marked_after_open g.S.Shelf g.B.Bench c.args.choice.now.jobs list values project binding c.in-Ok.work c.open.new.self was
-    c.in-Ok-open.ensures.planned c.in-Ok-open.ensures.sounds c.in-Ok-open.ensures.run c.args.shelf.now
+    c.in-Ok-open.ensures.reopened.planned c.in-Ok-open.ensures.reopened.sounds c.in-Ok-open.ensures.reopened.run c.args.shelf.now
     c.go_on_marked.new.shelf c.args.bench.now c.open.new.bench c.go_on_marked.new.bench c.in-Ok-open.found
     c.in-Ok-open.ensures.untouched c.in-Ok-open.ensures.only_reads _
     (λ right left done agrees. (
@@ -172,7 +172,7 @@ returns-in-Ok-go_on_marked-clause-does g c =
     (subst (λ (f : Option ℕ). IfSome f (λ _. (marked : List Bool)
     × (opened_of c.in-Ok.work.run (g.B.Bench.stored c.args.bench.now) ≡ Ok (Some marked))
     × AreCutBy c.args.choice.now.jobs marked c.open.new.self.work)) c.in-Some.is (c.in-Ok-open.ensures.cut right)))
-    c.in-Ok-open.ensures.jobs c.in-Ok-go_on_marked.ensures.does)
+    c.in-Ok-open.ensures.reopened.jobs c.in-Ok-go_on_marked.ensures.does)
     (λ _. c.in-Ok-go_on_marked.ensures.finished) c.in-Ok-go_on_marked.ensures.finished (λ left. left) (λ left. left) (λ ended came. came)
 
 pub returns-in-Err-go_on_marked-clause-does : goal.returns-in-Err-go_on_marked-clause-does
@@ -186,8 +186,8 @@ returns-in-Err-go_on_marked-clause-does g c =
     let due = opened_of (run_of list (range_of project values)) (g.B.Bench.stored c.args.bench.now) in
     let begun = IsLeftByRun m (g.B.Bench.may_leave c.args.bench.now) in
     let was = marked_for c.args.choice.now.jobs list project binding values c.in-Ok.work c.in-Ok.ensures.planned c.in-Ok.ensures.run in
-    let of = reopened list project binding values c.in-Ok.work c.open.new.self was c.in-Ok-open.ensures.planned
-    c.in-Ok-open.ensures.sounds c.in-Ok-open.ensures.run in
+    let of = reopened list project binding values c.in-Ok.work c.open.new.self was c.in-Ok-open.ensures.reopened.planned
+    c.in-Ok-open.ensures.reopened.sounds c.in-Ok-open.ensures.reopened.run in
     project_err g.S.Shelf g.B.Bench list project binding values c.open.new.self of c.args.shelf.now c.go_on_marked.new.shelf
     c.args.bench.now c.go_on_marked.new.bench (λ _. ⊤) (λ _ progress. progress.finished ≡ true) begun begun begun begun
     (ResumesBound c.args.choice.now.jobs list values project binding due (source_view g.S.Shelf c.args.shelf.now)
@@ -198,7 +198,7 @@ returns-in-Err-go_on_marked-clause-does g c =
     (output_view g.B.Bench c.go_on_marked.new.bench))
     _
     (marked_after_open g.S.Shelf g.B.Bench c.args.choice.now.jobs list values project binding c.in-Ok.work c.open.new.self was
-    c.in-Ok-open.ensures.planned c.in-Ok-open.ensures.sounds c.in-Ok-open.ensures.run c.args.shelf.now
+    c.in-Ok-open.ensures.reopened.planned c.in-Ok-open.ensures.reopened.sounds c.in-Ok-open.ensures.reopened.run c.args.shelf.now
     c.go_on_marked.new.shelf c.args.bench.now c.open.new.bench c.go_on_marked.new.bench c.in-Ok-open.found
     c.in-Ok-open.ensures.untouched c.in-Ok-open.ensures.only_reads _
     (λ right left done agrees. (
@@ -215,7 +215,7 @@ returns-in-Err-go_on_marked-clause-does g c =
     (subst (λ (f : Option ℕ). IfSome f (λ _. (marked : List Bool)
     × (opened_of c.in-Ok.work.run (g.B.Bench.stored c.args.bench.now) ≡ Ok (Some marked))
     × AreCutBy c.args.choice.now.jobs marked c.open.new.self.work)) c.in-Some.is (c.in-Ok-open.ensures.cut right)))
-    c.in-Ok-open.ensures.jobs c.in-Err-go_on_marked.ensures.does)
+    c.in-Ok-open.ensures.reopened.jobs c.in-Err-go_on_marked.ensures.does)
     (λ left. left) (λ left. left) (λ ended came. came)
 
 pub returns-in-Ok-go_on_marked-clause-reads_back : goal.returns-in-Ok-go_on_marked-clause-reads_back
@@ -257,8 +257,8 @@ returns-in-Ok-render_anew-clause-keeps g c honest right left told there started 
     let sources = g.S.Shelf.stored c.args.shelf.now in
     let m = list_marking list values sources project binding in
     let was = marked_for c.args.choice.now.jobs list project binding values c.in-Ok.work c.in-Ok.ensures.planned c.in-Ok.ensures.run in
-    let of = reopened list project binding values c.in-Ok.work c.open.new.self was c.in-Ok-open.ensures.planned
-    c.in-Ok-open.ensures.sounds c.in-Ok-open.ensures.run in
+    let of = reopened list project binding values c.in-Ok.work c.open.new.self was c.in-Ok-open.ensures.reopened.planned
+    c.in-Ok-open.ensures.reopened.sounds c.in-Ok-open.ensures.reopened.run in
     let now = subst IsTrue (sym c.in-Ok-open.ensures.only_reads.honest_same) right in
     absurd (started_found (run_of list (range_of project values)) (g.B.Bench.stored c.args.bench.now)
     told there started (subst (λ (r : RunId). opened_of r (g.B.Bench.stored c.args.bench.now) ≡ Ok None) (was.run)
@@ -275,8 +275,8 @@ returns-in-Err-render_anew-clause-keeps g c honest right left told there started
     let sources = g.S.Shelf.stored c.args.shelf.now in
     let m = list_marking list values sources project binding in
     let was = marked_for c.args.choice.now.jobs list project binding values c.in-Ok.work c.in-Ok.ensures.planned c.in-Ok.ensures.run in
-    let of = reopened list project binding values c.in-Ok.work c.open.new.self was c.in-Ok-open.ensures.planned
-    c.in-Ok-open.ensures.sounds c.in-Ok-open.ensures.run in
+    let of = reopened list project binding values c.in-Ok.work c.open.new.self was c.in-Ok-open.ensures.reopened.planned
+    c.in-Ok-open.ensures.reopened.sounds c.in-Ok-open.ensures.reopened.run in
     let now = subst IsTrue (sym c.in-Ok-open.ensures.only_reads.honest_same) right in
     absurd (started_found (run_of list (range_of project values)) (g.B.Bench.stored c.args.bench.now)
     told there started (subst (λ (r : RunId). opened_of r (g.B.Bench.stored c.args.bench.now) ≡ Ok None) (was.run)
@@ -295,8 +295,8 @@ returns-in-Ok-go_on_marked-clause-keeps g c honest right left told there started
     let held = left_holds m (g.B.Bench.may_leave c.args.bench.now) (g.B.Bench.stored c.args.bench.now) told left
     (g.met.B.Bench.reads_now c.args.bench.now right) there started in
     let was = marked_for c.args.choice.now.jobs list project binding values c.in-Ok.work c.in-Ok.ensures.planned c.in-Ok.ensures.run in
-    let of = reopened list project binding values c.in-Ok.work c.open.new.self was c.in-Ok-open.ensures.planned
-    c.in-Ok-open.ensures.sounds c.in-Ok-open.ensures.run in
+    let of = reopened list project binding values c.in-Ok.work c.open.new.self was c.in-Ok-open.ensures.reopened.planned
+    c.in-Ok-open.ensures.reopened.sounds c.in-Ok-open.ensures.reopened.run in
     let was_left = run_leaves (marks_of c.in-Ok.work sources) (g.B.Bench.may_leave c.args.bench.now)
     (from_list list project binding values c.in-Ok.work was sources (g.B.Bench.may_leave c.args.bench.now) left) in
     let now = subst IsTrue (sym c.in-Ok-open.ensures.only_reads.honest_same) right in
@@ -328,8 +328,8 @@ returns-in-Err-go_on_marked-clause-keeps g c honest right left told there starte
     let held = left_holds m (g.B.Bench.may_leave c.args.bench.now) (g.B.Bench.stored c.args.bench.now) told left
     (g.met.B.Bench.reads_now c.args.bench.now right) there started in
     let was = marked_for c.args.choice.now.jobs list project binding values c.in-Ok.work c.in-Ok.ensures.planned c.in-Ok.ensures.run in
-    let of = reopened list project binding values c.in-Ok.work c.open.new.self was c.in-Ok-open.ensures.planned
-    c.in-Ok-open.ensures.sounds c.in-Ok-open.ensures.run in
+    let of = reopened list project binding values c.in-Ok.work c.open.new.self was c.in-Ok-open.ensures.reopened.planned
+    c.in-Ok-open.ensures.reopened.sounds c.in-Ok-open.ensures.reopened.run in
     let was_left = run_leaves (marks_of c.in-Ok.work sources) (g.B.Bench.may_leave c.args.bench.now)
     (from_list list project binding values c.in-Ok.work was sources (g.B.Bench.may_leave c.args.bench.now) left) in
     let now = subst IsTrue (sym c.in-Ok-open.ensures.only_reads.honest_same) right in

@@ -17,8 +17,8 @@ added_twice channels stretch depth fits =
           (All-cons (IsFormed 83 channels) line [] (fits, tt) (All-nil (IsFormed 83 channels)));
     }
 
-pub run-requires-clause-fits : goal.run-requires-clause-fits
-run-requires-clause-fits g c =
+pub run_over-requires-clause-fits : goal.run_over-requires-clause-fits
+run_over-requires-clause-fits g c =
     let channels = ap (λ machine. machine.channels) c.requires.machine in
     let frames = ap (λ machine. machine.frames) c.requires.machine in
     let lines = ap (λ (p : Programmed). p.lines) c.add_twice.ensures in (
