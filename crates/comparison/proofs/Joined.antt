@@ -20,14 +20,14 @@ module _ (reading other : Reading) where
       → AreSameFrames reading other later
       → AreSameFrames reading other (record earlier { end = max earlier.end later.end })
   continued_same earlier later follows first second channel i from_one to_last below =
-      by_place (cases_lt i (earlier.end - earlier.frame)) where
-        by_place : (i < earlier.end - earlier.frame) ⊎ (earlier.end - earlier.frame ≤ i)
+      by_position (cases_lt i (earlier.end - earlier.frame)) where
+        by_position : (i < earlier.end - earlier.frame) ⊎ (earlier.end - earlier.frame ≤ i)
             → IsSameAt earlier.file (earlier.frame + i) earlier.other_file (earlier.other_frame + i) channel
-        by_place (inl inside) = first channel i from_one to_last inside
-        by_place (inr past) =
+        by_position (inl inside) = first channel i from_one to_last inside
+        by_position (inr past) =
             let j = i - (later.frame - earlier.frame) in
             let here : later.frame + j ≡ earlier.frame + i = omega (arith, follows, past) in
-            let there : later.other_frame + j ≡ earlier.other_frame + i = omega (arith, follows, past) in
+            let other_here : later.other_frame + j ≡ earlier.other_frame + i = omega (arith, follows, past) in
             let inside : j < later.end - later.frame = omega (arith, follows, past, below) in
             let found : IsSameAt later.file (later.frame + j) later.other_file (later.other_frame + j) channel =
             second channel j from_one (omega (arith, follows, to_last)) inside in
@@ -36,7 +36,7 @@ module _ (reading other : Reading) where
             (subst (λ (n : ℕ). IsSameAt later.file (earlier.frame + i) n (earlier.other_frame + i) channel)
             follows.same_other
             (subst (λ (n : ℕ). IsSameAt later.file n later.other_file (earlier.other_frame + i) channel) here
-            (subst (λ (n : ℕ). IsSameAt later.file (later.frame + j) later.other_file n channel) there found)))
+            (subst (λ (n : ℕ). IsSameAt later.file (later.frame + j) later.other_file n channel) other_here found)))
 
   -- of a part of it
   pub covered_same : (whole part : Match) → Follows whole part → part.end ≤ whole.end
@@ -44,14 +44,14 @@ module _ (reading other : Reading) where
   covered_same whole part follows ends same channel i from_one to_last below =
       let j = i + (part.frame - whole.frame) in
       let here : whole.frame + j ≡ part.frame + i = omega (arith, follows) in
-      let there : whole.other_frame + j ≡ part.other_frame + i = omega (arith, follows) in
+      let other_here : whole.other_frame + j ≡ part.other_frame + i = omega (arith, follows) in
       let inside : j < whole.end - whole.frame = omega (arith, follows, ends, below) in
       let found : IsSameAt whole.file (whole.frame + j) whole.other_file (whole.other_frame + j) channel =
       same channel j from_one (omega (arith, follows, to_last)) inside in
       subst (λ (n : ℕ). IsSameAt n (part.frame + i) part.other_file (part.other_frame + i) channel) (sym follows.same_file)
       (subst (λ (n : ℕ). IsSameAt whole.file (part.frame + i) n (part.other_frame + i) channel) (sym follows.same_other)
       (subst (λ (n : ℕ). IsSameAt whole.file n whole.other_file (part.other_frame + i) channel) here
-      (subst (λ (n : ℕ). IsSameAt whole.file (whole.frame + j) whole.other_file n channel) there found)))
+      (subst (λ (n : ℕ). IsSameAt whole.file (whole.frame + j) whole.other_file n channel) other_here found)))
 
   -- of matches that are others
   pub both_same : (new old : List Match) (changed whole : Match) → new ≡ old → changed ≡ whole
@@ -80,11 +80,11 @@ module _ (reading other : Reading) (stretch part whole counterpart : Stretch) (f
       let first : whole.first ≡ 1 = ap (λ (s : Stretch). s.first) of_whole in
       let other_first : counterpart.first ≡ 1 = ap (λ (s : Stretch). s.first) of_counterpart in
       let here : whole.first + j ≡ channel = omega (arith, first, from_one) in
-      let there : counterpart.first + j ≡ channel = omega (arith, other_first, from_one) in
+      let other_here : counterpart.first + j ≡ channel = omega (arith, other_first, from_one) in
       let same : reading whole.file channel (whole.frame + i) ≡ other counterpart.file channel (counterpart.frame + i) =
       subst (λ (c : ℕ). reading whole.file c (whole.frame + i) ≡ other counterpart.file channel (counterpart.frame + i)) here
       (subst (λ (c : ℕ). reading whole.file (whole.first + j) (whole.frame + i)
-      ≡ other counterpart.file c (counterpart.frame + i)) there (alike.samples j i on inside)) in
+      ≡ other counterpart.file c (counterpart.frame + i)) other_here (alike.samples j i on inside)) in
       let full : (neg_ℤ (pos (2 ^ 47)) ≤ℤ reading whole.file channel (whole.frame + i))
       × (reading whole.file channel (whole.frame + i) ≤ℤ pos (2 ^ 47)) =
       subst (λ (c : ℕ). (neg_ℤ (pos (2 ^ 47)) ≤ℤ reading whole.file c (whole.frame + i))

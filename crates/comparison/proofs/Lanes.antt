@@ -24,26 +24,26 @@ low24 : (a b c : ℕ) (rest : List ℕ) → a < 256 → b < 256 → c < 256
     → full_scale 32 (sample_of 32 (0 ∷ a ∷ b ∷ c ∷ rest)) ≡ full_scale 24 (sample_of 24 (a ∷ b ∷ c ∷ []))
 low24 a b c rest first second third = grind (arith, ints, nat_tests)
 
-module _ (bytes : List ℕ) (small : (k : ℕ) → get_or bytes k 0 < 256) (place : ℕ) (rest : List ℕ) where
-  pub upper16 : full_scale 32 (sample_of 32 (0 ∷ 0 ∷ get_or bytes (place + 0) 0 ∷ get_or bytes (place + 1) 0 ∷ rest))
-      ≡ full_scale 16 (sample_of 16 (drop place bytes))
+module _ (bytes : List ℕ) (small : (k : ℕ) → get_or bytes k 0 < 256) (position : ℕ) (rest : List ℕ) where
+  pub upper16 : full_scale 32 (sample_of 32 (0 ∷ 0 ∷ get_or bytes (position + 0) 0 ∷ get_or bytes (position + 1) 0 ∷ rest))
+      ≡ full_scale 16 (sample_of 16 (drop position bytes))
   upper16 =
-      rw (get_or-drop place bytes 0 0, get_or-drop place bytes 1 0)
-      (low16 (get_or bytes (place + 0) 0) (get_or bytes (place + 1) 0) rest (small (place + 0)) (small (place + 1)))
+      rw (get_or-drop position bytes 0 0, get_or-drop position bytes 1 0)
+      (low16 (get_or bytes (position + 0) 0) (get_or bytes (position + 1) 0) rest (small (position + 0)) (small (position + 1)))
 
-  pub upper24 : full_scale 32 (sample_of 32 (0 ∷ get_or bytes (place + 0) 0 ∷ get_or bytes (place + 1) 0
-      ∷ get_or bytes (place + 2) 0 ∷ rest)) ≡ full_scale 24 (sample_of 24 (drop place bytes))
+  pub upper24 : full_scale 32 (sample_of 32 (0 ∷ get_or bytes (position + 0) 0 ∷ get_or bytes (position + 1) 0
+      ∷ get_or bytes (position + 2) 0 ∷ rest)) ≡ full_scale 24 (sample_of 24 (drop position bytes))
   upper24 =
-      rw (get_or-drop place bytes 0 0, get_or-drop place bytes 1 0, get_or-drop place bytes 2 0)
-      (low24 (get_or bytes (place + 0) 0) (get_or bytes (place + 1) 0) (get_or bytes (place + 2) 0) rest
-      (small (place + 0)) (small (place + 1)) (small (place + 2)))
+      rw (get_or-drop position bytes 0 0, get_or-drop position bytes 1 0, get_or-drop position bytes 2 0)
+      (low24 (get_or bytes (position + 0) 0) (get_or bytes (position + 1) 0) (get_or bytes (position + 2) 0) rest
+      (small (position + 0)) (small (position + 1)) (small (position + 2)))
 
 -- the bytes of a vector
 pub small_bytes : (bytes : List ℕ) → Each1 (Fits w8) bytes → (k : ℕ) → get_or bytes k 0 < 256
-small_bytes bytes fit k = by_place (cases_lt k (length bytes)) where
-  by_place : (k < length bytes) ⊎ (length bytes ≤ k) → get_or bytes k 0 < 256
-  by_place (inl below) = (Each1-get_or (Fits w8) bytes k 0 below fit).fits
-  by_place (inr past) = omega (arith, get_or_past bytes k 0 past)
+small_bytes bytes fit k = by_position (cases_lt k (length bytes)) where
+  by_position : (k < length bytes) ⊎ (length bytes ≤ k) → get_or bytes k 0 < 256
+  by_position (inl below) = (Each1-get_or (Fits w8) bytes k 0 below fit).fits
+  by_position (inr past) = omega (arith, get_or_past bytes k 0 past)
 
 pub four_alike : (a b c d e f g h : ℤ) → a ≡ e → b ≡ f → c ≡ g → d ≡ h
     → ◌≡◌ {A = List ℤ} (a ∷ b ∷ c ∷ d ∷ []) (e ∷ f ∷ g ∷ h ∷ [])
@@ -70,7 +70,7 @@ same_by_mask (x ∷ xs) (y ∷ ys) long none =
     let rest : xs ≡ ys = same_by_mask xs ys (omega (arith, long)) (omega (arith, none)) in
     rw (first, rest) refl
 
--- ---- samples behind others
+-- ---- samples after others
 
 samples_in-append : (depth n m : ℕ) (bytes : List ℕ)
     → samples_in depth (n + m) bytes ≡ samples_in depth n bytes ++ samples_in depth m (drop (n * (depth / 8)) bytes)

@@ -171,7 +171,7 @@ fn count_block<S: Shelf, T: Shelf>(
     )
 }
 
-/// The same: a block behind one in which sums differ is summed at once, since it hardly is alike.
+/// The same: a block after one in which sums differ is summed at once, since it is hardly alike.
 fn count_next<S: Shelf, T: Shelf>(
     k: u64,
     was_apart: bool,

@@ -53,7 +53,7 @@ fn are_equal(bytes: u8x16, others: u8x16) -> bool
     bytes.simd_ne(others).to_bitmask() == 0
 }
 
-/// How many samples from the front on are the same at full scale, four at a time, as long as eight are left.
+/// How many samples from the front on are the same at full scale, four at a time, as long as eight remain.
 #[inline(always)]
 fn same_lanes(depth: Depth, bytes: &[u8], other: Depth, others: &[u8], count: usize) -> usize
     requires bytes { length bytes.now ≡ count * (bits_of depth / 8) }
@@ -109,7 +109,7 @@ fn are_same_in(depth: Depth, bytes: &[u8], other: Depth, others: &[u8], count: u
     true
 }
 
-/// The same of a depth and a deeper one. Each pair of them has a loop of its own.
+/// The same of a depth and a deeper one. Each pair of them has a separate loop.
 fn are_same_deeper(depth: Depth, bytes: &[u8], deeper: Depth, others: &[u8], count: usize) -> bool
     requires bytes { length bytes.now ≡ count * (bits_of depth / 8) }
     requires others { length others.now ≡ count * (bits_of deeper / 8) }

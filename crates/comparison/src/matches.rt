@@ -114,7 +114,7 @@ impl Matches {
         false
     }
 
-    /// One more, joined with those that it follows or that follow it, in place of the oldest.
+    /// One more, joined with those that it follows or that follow it, instead of the oldest.
     pub fn add(&mut self, more: Match)
         ensures { (reading other : Reading) → All (AreSameFrames reading other) self.old
             → AreSameFrames reading other more → All (AreSameFrames reading other) self.new }

@@ -9,8 +9,8 @@ pub returns : goal.returns
 returns c =
     let bytes = c.args.bytes in
     let small = small_bytes bytes c.fits-bytes.1 in
-    let behind = drop-drop 2 2 bytes in
-    let last = ap (drop 2) behind ∙ drop-drop 2 4 bytes in
+    let after = drop-drop 2 2 bytes in
+    let last = ap (drop 2) after ∙ drop-drop 2 4 bytes in
     four_alike _ _ _ _ _ _ _ _ (upper16 bytes small 0 []) (upper16 bytes small 2 [])
-    (upper16 bytes small 4 [] ∙ ap (λ (l : List ℕ). full_scale 16 (sample_of 16 l)) (sym behind))
+    (upper16 bytes small 4 [] ∙ ap (λ (l : List ℕ). full_scale 16 (sample_of 16 l)) (sym after))
     (upper16 bytes small 6 [] ∙ ap (λ (l : List ℕ). full_scale 16 (sample_of 16 l)) (sym last))
