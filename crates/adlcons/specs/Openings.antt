@@ -48,7 +48,7 @@ pub record IsKeptOut {O : Type 0} (out : console.Ghosts O) (list folder : List �
     : Type 0 where
   pub fault : OpenFault
   pub status_is : status ≡ 1
-  pub printed : Tells out old new (refusal_line true (refusal_of_opening fault list folder))
+  pub printed : Tells out old new (refusal_line (refusal_of_opening fault list folder))
 
 -- the list, or its report, didn't come to be, and the report has that alone
 pub record IsReportKeptOut {O : Type 0} (out : console.Ghosts O) (list : List ℕ) (old new : O) (status : ℕ)
@@ -68,7 +68,7 @@ pub record IsListKeptOut {O : Type 0} (out : console.Ghosts O) (which : ListOfTw
     (status : ℕ) : Type 0 where
   pub fault : OpenFault
   pub status_is : status ≡ 1
-  pub printed : Tells out old new (list_refusal_line which true (refusal_of_opening fault path []))
+  pub printed : Tells out old new (list_refusal_line which (refusal_of_opening fault path []))
 
 -- a comparison didn't come to the sources of one of its lists
 pub record IsOneKeptOut {O : Type 0} (out : console.Ghosts O) (list other : List ℕ) (old new : O) (status : ℕ)

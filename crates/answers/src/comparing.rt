@@ -11,7 +11,6 @@ ghost use Rattle.answers.specs.Answers.{ComparesBy, IsComparedAs, compared_lines
 ghost use Rattle.consolidate.specs.CompareFault as comparing;
 ghost use Rattle.answers.specs.Times.{bad_time_line, selection_of};
 
-use crate::answer::{DONE, REFUSED, refuse_time};
 use crate::asides::Asides;
 use crate::chosen::selection_of;
 use crate::comparison_report::put_comparison_report;
@@ -20,6 +19,7 @@ use crate::difference::{BothLists, report_difference};
 use crate::meter::Meter;
 use crate::refusal::{look_at_list, put_list_fault};
 use crate::report::{tell_changed, tell_meanings_of_two};
+use crate::requests::{DONE, REFUSED, refuse_time};
 use adlread::rate_of;
 use commandline::Selected;
 use console::{

@@ -6,11 +6,11 @@ ghost use Rattle.console.specs.Printing.{Prints};
 ghost use Rattle.list_terms.specs.Text.{rate_of as rate_at};
 ghost use Rattle.answers.specs.Times.{bad_time_line, part_of};
 
-use crate::answer::refuse_time;
 use crate::asides::Asides;
 use crate::chosen::part_of;
 use crate::refusal::refuse_on;
 use crate::report::tell_changed;
+use crate::requests::refuse_time;
 use adlmodel::{Project, place_of};
 use adlread::{rate_of, read};
 use commandline::Drawn;

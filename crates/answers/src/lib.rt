@@ -2,7 +2,6 @@
 #![tactic(auto)]
 
 mod also;
-mod answer;
 mod asides;
 mod check_report;
 mod chosen;
@@ -16,13 +15,13 @@ mod held;
 mod meter;
 mod refusal;
 mod report;
+mod requests;
 mod second_look;
 mod standard;
 mod verified;
 mod words;
 
 pub use also::tell_further;
-pub use answer::{MISTAKE, REFUSED, answer_error, answer_request, explain, explain_notice};
 pub use asides::{Asides, FEW_FAULTS};
 pub use check_report::answer_report;
 pub use chosen::BadTime;
@@ -31,6 +30,7 @@ pub use drawing::answer_picture;
 pub use explainer::explained_unread;
 pub use held::HeldLines;
 pub use meter::Meter;
+pub use requests::{MISTAKE, REFUSED, answer_error, answer_request, explain, explain_notice};
 pub use standard::answer_standard;
 pub use verified::{answer_verified, put_lines};
 pub use words::answer;

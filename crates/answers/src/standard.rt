@@ -8,9 +8,9 @@ ghost use Rattle.sound_terms.specs.Passes.{standard_groups};
 ghost use Rattle.rendering.specs.declared.cutting.JobLength.TheVariants.{Longer};
 ghost use Rattle.answers.specs.Answers.{IsAnswered, RendersBy, ResumesBy, asking, rendered_lines, resumed_lines, written_lines};
 
-use crate::answer::answer_request;
 use crate::asides::Asides;
 use crate::meter::Meter;
+use crate::requests::answer_request;
 use commandline::Request;
 use console::Console;
 use consolidate::JobLength;

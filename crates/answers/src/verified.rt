@@ -5,12 +5,12 @@ ghost use Rattle.consolidate.specs.CompareFault as comparing;
 ghost use Rattle.answers.specs.Answers.{IsVerified, all_of_both, list_refusal_line, verdict_lines};
 ghost use Rattle.console.specs.Printing.{Prints};
 
-use crate::answer::{DONE, REFUSED};
 use crate::asides::Asides;
 use crate::comparing::{explain_list, put_comparison, put_refusal_in, report_compared, status_of};
 use crate::difference::BothLists;
 use crate::meter::Meter;
 use crate::report::tell_changed;
+use crate::requests::{DONE, REFUSED};
 use console::{Console, ListOfTwo};
 use consolidate::{CompareFault, Compared, Comparison, ListFault, Selection, compare};
 use shelf::{Reason, Reasons, Shelf};

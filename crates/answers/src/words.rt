@@ -8,8 +8,8 @@ ghost use Rattle.commandline.specs.CommandLine as asked;
 ghost use Rattle.commandline.specs.CommandLine.{asks_for_help, request_of, verifies};
 ghost use Rattle.answers.specs.Answers.{IsAnswered, IsChecked, RendersBy, ResumesBy, accepted_lines, asking, rendered_lines, resumed_lines, written_lines};
 
-use crate::answer::{answer_error, answer_request, refuse_two_lists};
 use crate::asides::NoAsides;
+use crate::requests::{answer_error, answer_request, refuse_two_lists};
 use commandline::parse;
 use console::Console;
 use consolidate::JobLength;

@@ -1,5 +1,5 @@
 use Rattle.std.proofs.Common.{Ok, refl, rules, true}
-use Rattle.answers.proofs.answer.answer_resume.Goals as goal
+use Rattle.answers.proofs.requests.answer_resume.Goals as goal
 
 pub returns-in-Ok-clause-answered : goal.returns-in-Ok-clause-answered
 returns-in-Ok-clause-answered g c = record {

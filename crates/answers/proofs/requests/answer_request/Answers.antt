@@ -4,7 +4,7 @@ use Rattle.consolidate.specs.Commands.{IsConsolidation}
 use Rattle.commandline.specs.Request.{asked_of}
 use Rattle.answers.specs.Answers.{IsAnswered, asking, written_lines}
 use Rattle.commandline.specs.RequestLaws.{consolidate_fields}
-use Rattle.answers.proofs.answer.answer_request.Goals as goal
+use Rattle.answers.proofs.requests.answer_request.Goals as goal
 
 pub returns-in-Consolidate-clause-consolidated : goal.returns-in-Consolidate-clause-consolidated
 returns-in-Consolidate-clause-consolidated g c place media target handle report request =
