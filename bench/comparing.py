@@ -65,19 +65,19 @@ def output_of(words: list) -> str:
     return subprocess.run(words, capture_output=True, text=True).stdout
 
 
-def other_depth(bench: Bench) -> str:
-    """The same sound in a file of 32 bits, whose bytes are others; beside it `cmp` of the source with a copy."""
+def other_depth(bench: Bench, bits: int) -> str:
+    """The same sound in a file of other bits, whose bytes are others; beside it `cmp` of the source with a copy."""
     other = other_media(bench)
-    make_sound(other / "A.wav", block_of(SECOND, 2, 32), SECONDS, 2, 32)
+    make_sound(other / "A.wav", block_of(SECOND, 2, bits), SECONDS, 2, bits)
     text = bench.put(list_text([Cut(0, 0, FRAMES)], channels="1~2"))
     words = [bench.program, "compare", text, bench.media(), text, other]
     found = output_of(words)
     if found != f"same {FRAMES} frames 2 channels\n":
-        sys.exit(f"bench: the sound is the same at 32 bits, and compare says {found}")
+        sys.exit(f"bench: the sound is the same at {bits} bits, and compare says {found}")
     costs = bench.costs_of({
         "compare": Job(words), "cmp": Job(["cmp", bench.media() / "A.wav", bench.folder / "B.wav"])})
     shutil.rmtree(other)
-    return line("`compare`: one file and the same sound at 32 bits", costs["compare"], (costs["cmp"],))
+    return line(f"`compare`: one file and the same sound at {bits} bits", costs["compare"], (costs["cmp"],))
 
 
 def all_counted(bench: Bench) -> str:
@@ -119,7 +119,7 @@ def lines(bench: Bench) -> list:
     make_sound(source, block_of(*BLOCK), SECONDS, 2, 24)
     shutil.copy(source, bench.folder / "B.wav")
     rows = [mix_line(bench, name, cuts) for name, cuts in MIXES.items()]
-    rows += [other_depth(bench), last_sample(bench), all_counted(bench)]
+    rows += [other_depth(bench, 16), other_depth(bench, 32), last_sample(bench), all_counted(bench)]
     return [
         *table("Job", "Seconds", "Peak memory, KB", "Time to `cmp`"), *rows, "",
         *table("Job", "Seconds", "Peak memory, KB", "Time to `consolidate`"), verify_line(bench)]
