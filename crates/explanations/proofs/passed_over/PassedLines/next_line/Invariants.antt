@@ -2,4 +2,4 @@ use Rattle.std.proofs.Common.{length}
 use Rattle.explanations.proofs.passed_over.PassedLines.next_line.Given as goal
 
 abbrev pub decreases-lines : goal.decreases-lines
-decreases-lines g l = length l.self.lines.lines
+decreases-lines l = length l.self.lines.lines
