@@ -1,2 +1,3 @@
+pub mod Drawn
 mod Rates
 pub mod Tables

@@ -2,7 +2,10 @@ use Rattle.std.proofs.Common.{◌∙◌, ℕ, Bool, List, Option, Some, ap, subs
 use Rattle.passes.specs.Left.{Leaving, left_by, standard_left}
 use Rattle.consolidate.specs.Commands.{IsConsolidation}
 use Rattle.commandline.specs.Request.{asked_of}
+use Rattle.list_terms.specs.Text.{rate_of}
 use Rattle.answers.specs.Answers.{IsAnswered, asking, written_lines}
+use Rattle.answers.specs.Times.{part_of}
+use Rattle.answers.proofs.Drawn.{show_drawn}
 use Rattle.commandline.specs.RequestLaws.{consolidate_fields}
 use Rattle.answers.proofs.requests.answer_request.Goals as goal
 
@@ -34,3 +37,8 @@ returns-in-Consolidate-clause-standard g c are place media target handle report 
     g.O.Console c.args.out.now c.answer_consolidate.new.out c.answer_consolidate.result)
     (standard_left _ _ c.args.passes.items are)
     (returns-in-Consolidate-clause-consolidated g c place media target handle report request)
+
+pub returns-in-Show-clause-bad_time_shown : goal.returns-in-Show-clause-bad_time_shown
+returns-in-Show-clause-bad_time_shown g c place media handle drawn option request failed =
+    let same = show_drawn _ _ place media _ handle _ drawn (ap asked_of (sym c.in-Show.is) ∙ request) in
+    c.answer_picture.ensures.bad_time option (ap (part_of (rate_of c.args.list.now)) same ∙ failed)

@@ -1,4 +1,4 @@
-use Rattle.std.proofs.Common.{Ok, refl, rules, true}
+use Rattle.std.proofs.Common.{Ok, refl, rules}
 use Rattle.answers.proofs.requests.answer_resume.Goals as goal
 
 pub returns-in-Ok-clause-answered : goal.returns-in-Ok-clause-answered
