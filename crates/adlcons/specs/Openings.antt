@@ -1,5 +1,5 @@
 -- Why a command doesn't come to its stores, and what it is to come to them.
-use Rattle.std.specs.Prelude.{◌≡◌, ◌⊎◌, ℕ, Bool, IsTrue, true, false, List, [], codes, Result, Ok, Err}
+use Rattle.std.specs.Prelude.{◌≡◌, ◌⊎◌, ℕ, Bool, IsTrue, false, List, [], codes, Result, Ok, Err}
 use Rattle.work_terms.specs.Refusals.{Refusal, Where, Nowhere, File}
 use Rattle.devices.specs.declared.source.Shelf as source
 use Rattle.shelf.specs.Folder.{OutputFolder, SourceFolder, folder_named}

@@ -4,7 +4,7 @@ use Rattle.adlcons.proofs.folders.try_places.Goals as goal
 
 pub returns-clause-rendered : goal.returns-clause-rendered
 returns-clause-rendered g c = λ list media target chosen request told. record {
-  list = c.deref-3.result.now;
+  list = c.deref-4.result.now;
   before = c.in_ok-shelf.shelf;
   after = c.answer_standard-answered.new.shelf;
   empty = c.in_ok-bench.bench;
@@ -17,7 +17,7 @@ returns-clause-rendered g c = λ list media target chosen request told. record {
 
 pub returns-clause-resumed : goal.returns-clause-resumed
 returns-clause-resumed g c = λ list media target chosen request told. record {
-  list = c.deref-3.result.now;
+  list = c.deref-4.result.now;
   before = c.in_ok-shelf.shelf;
   after = c.answer_standard-answered.new.shelf;
   empty = c.in_ok-bench.bench;
@@ -30,7 +30,7 @@ returns-clause-resumed g c = λ list media target chosen request told. record {
 
 pub returns-clause-consolidated : goal.returns-clause-consolidated
 returns-clause-consolidated g c = λ list media target handle report request. record {
-  list = c.deref-3.result.now;
+  list = c.deref-4.result.now;
   before = c.in_ok-shelf.shelf;
   after = c.answer_standard-answered.new.shelf;
   empty = c.in_ok-bench.bench;

@@ -1,11 +1,27 @@
-use Rattle.std.proofs.Common.{◌≡◌, ◌∙◌, ℕ, List, ap, subst, sym}
+use Rattle.std.proofs.Common.{◌≡◌, ◌∙◌, ℕ, List, [], ap, string_bytes, subst, sym}
 use Rattle.work_terms.specs.Refusals.{File, Where}
+use Rattle.console.specs.declared.console.Console as console
+use Rattle.console.specs.Places.{where_of}
 use Rattle.checkreport.specs.Reported.{PrintsUnread}
+use Rattle.adlcons.specs.Openings.{IsReportKeptOut, refusal_of_opening}
+use Rattle.adlcons.specs.declared.folders.OpenFault.{OpenFault}
 use Rattle.adlcons.specs.declared.folders.OpenFault.TheVariants.{Memory}
 use Rattle.adlcons.proofs.looks.report_unread.Goals as goal
 
-pub returns-in-else : goal.returns-in-else
-returns-in-else g c = record {
+-- by the number and the place that were printed
+kept_out : {O : Type 0} (out : console.Ghosts O) (list : List ℕ) (old new : O) (status : ℕ) (fault : OpenFault)
+    (number : ℕ) (place : Where)
+    → number ≡ (refusal_of_opening fault list []).number → place ≡ (refusal_of_opening fault list []).place
+    → status ≡ 1 → PrintsUnread out old new number place → IsReportKeptOut out list old new status
+kept_out out list old new status fault number place number_is place_is one printed = record {
+  fault = fault;
+  status_is = one;
+  unread = subst (λ (n : ℕ). PrintsUnread out old new n (refusal_of_opening fault list []).place) number_is
+      (subst (λ (p : Where). PrintsUnread out old new number p) place_is printed);
+}
+
+pub returns-in_default : goal.returns-in_default
+returns-in_default g c = record {
   fault = Memory;
   status_is = c.put_no_memory.ensures.status;
   unread = c.put_no_memory.ensures.unread;
@@ -13,15 +29,10 @@ returns-in-else g c = record {
 
 pub returns-in-Ok : goal.returns-in-Ok
 returns-in-Ok g c =
-    let O = g.O.Console in
-    let number = c.refusal-refusal.ensures.number in
-    let place = ap File c.in-Ok.ensures ∙ c.refusal-refusal.ensures.place in
-    record {
-      fault = c.args.fault;
-      status_is = c.put_unread.ensures.status;
-      unread = subst (λ (n : ℕ). PrintsUnread O c.args.out.now c.put_unread.new.out n _) number
-          (subst (PrintsUnread O c.args.out.now c.put_unread.new.out _) place c.put_unread.ensures.unread);
-    }
+    kept_out g.O.Console c.args.list.now c.args.out.now c.put_unread.new.out c.put_unread.result c.args.fault
+    c.refusal-refusal.result.number (File (string_bytes c.in-Ok.path)) c.refusal-refusal.ensures.number
+    (ap File c.in-Ok.ensures.ok ∙ ap where_of (sym c.in-File.is) ∙ c.refusal-refusal.ensures.place)
+    c.put_unread.ensures.status c.put_unread.ensures.unread
 
 pub returns-in-Err : goal.returns-in-Err
 returns-in-Err g c = record {
