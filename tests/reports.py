@@ -270,6 +270,10 @@ def within_memory(peak: int) -> None:
         raise Mismatch(f"it took {peak} bytes of memory, more than {MOST_MEMORY}")
 
 
+# A long line that isn't honoured, of which 65,535 are kept at most.
+MUTE = b"(Mute) " + b"1 " * 72 + b"\n"
+
+
 def long_lists() -> dict:
     """Ten megabytes with a notice or a fault in each line: the text, the status, and how many objects the report has."""
     sources = FIRST_LIST.index(b"</SOURCE_INDEX>")
@@ -283,7 +287,7 @@ def long_lists() -> dict:
         "notices": (with_lines(sources, b"x\n", 5_000_000), 0, 5_000_002),
         "brackets": (with_lines(entries, b"(\n", 5_000_000), 1, 5_000_001 + MOST_EXPLAINED),
         "gains": (with_lines(entries, b"(Gain) 1\n", 1_100_000), 1, 1_100_001 + MOST_EXPLAINED),
-        "mutes": (with_lines(tracks, b"<TRACKLIST>\n" + b"(Mute)\n" * 1_400_000 + b"</TRACKLIST>\n", 1), 0, 1_400_002),
+        "mutes": (with_lines(tracks, b"<TRACKLIST>\n" + MUTE * 65_000 + b"</TRACKLIST>\n", 1), 0, 65_002),
     }
 
 
@@ -298,7 +302,7 @@ def long_report(text: bytes, status: int, objects: int):
             same("the objects", sum(part.count(b"{") for part in iter(partial(file.read, 1 << 20), b"")), objects)
             file.seek(-30, os.SEEK_END)
             end = file.read()
-        same("the end", end.endswith(b'],"complete":true}\n' if status else b'],"rate":25}\n'), True)
+        same("the end", end.endswith(b',"complete":true}\n' if status else b'],"rate":25}\n'), True)
     return body
 
 
