@@ -13,6 +13,7 @@ pub mod SettingLines
 pub mod SoFar
 pub mod SourceTexts
 pub mod SourceLines
+pub mod SpanLaws
 pub mod SpelledLists
 pub mod Stages
 pub mod TokenRun

@@ -2,6 +2,8 @@ pub mod Context
 pub mod CutLines
 pub mod Entries
 pub mod Fault
+pub mod FaultSpans
+pub mod FaultSpanVectors
 pub mod Flags
 pub mod HeaderSoFar
 pub mod LineGrammar

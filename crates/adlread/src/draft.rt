@@ -1,17 +1,23 @@
 // What was read of a list so far.
-ghost use Rattle.std.specs.Prelude.{◌≡◌, ◌&&◌, ℕ, Err, IfOk, IsTrue, MatchOption, None, Ok, is_some, option_map};
+ghost use Rattle.std.specs.Prelude.{◌≡◌, ◌&&◌, ℕ, Err, IfOk, IfSome, IsTrue, MatchOption, None, Ok, is_some, length, option_map};
 ghost use Rattle.sampletime.specs.FrameRate.{frames_per_second};
 ghost use Rattle.list_terms.specs.Text as text;
 ghost use Rattle.list_terms.specs.Text.{nothing_read};
 ghost use Rattle.list_terms.specs.Tokens.{trimmed};
 ghost use Rattle.list_terms.specs.WholeProject.{IsProject};
+ghost use Rattle.adltoken.specs.declared.tokens.Span.{Span};
+ghost use Rattle.list_terms.specs.Forms.{Number, Then, any};
+ghost use Rattle.adlread.specs.Entries.{entries_of};
 ghost use Rattle.adlread.specs.Fault.{Reads, refusal, refused};
+ghost use Rattle.adlread.specs.FaultSpans.{IsAt, end_from, entry_fields, event_line_span, fault_span, first_of_line, form_from, header_span, index_fields, index_line_span, section_span};
+ghost use Rattle.adlread.specs.HeaderSoFar.{header_so_far};
 ghost use Rattle.adlread.specs.Context.{context_of};
 ghost use Rattle.adlread.specs.SoFar.{IsSoFar};
 
 use crate::fault::{AdlFault, at_line, first_in, located};
 use crate::fields::{end_line, is_keyword, number_field};
 use crate::header::{HeaderSoFar, is_tag};
+use crate::reader::{cut_next, reached, tokens_of};
 use crate::sections::{EventList, SourceIndex};
 use crate::tags::{is_end, is_list_begin, opened_name, section_of};
 use adlmodel::{KeptLines, Project};
@@ -63,7 +69,7 @@ impl<'a> Draft<'a> {
     }
 
     /// Reads one line more, of this number.
-    #[tactic(auto, unfolding(list_terms::specs::Text::with_line))]
+    #[tactic(auto, unfolding(list_terms::specs::Text::with_line, crate::specs::FaultSpans::fault_span))]
     pub fn add(
         &mut self,
         alloc: Global,
@@ -71,7 +77,8 @@ impl<'a> Draft<'a> {
         number: u64,
         rate: Rate,
     ) -> Result<(), AdlFault>
-        ensures { Reads (λ _. context_of self.new) result (text.with_line (frames_per_second rate) (context_of self.old) number line.now) }
+        ensures exact { Reads (λ _. context_of self.new) result (text.with_line (frames_per_second rate) (context_of self.old) number line.now) }
+        ensures span { IsAt (fault_span (frames_per_second rate) (context_of self.old) line.now) result }
     {
         match self.stage {
             Stage::Before => self.before_list(line, number),
@@ -91,7 +98,8 @@ impl<'a> Draft<'a> {
     /// Reads a line before the list: a blank one, or `<ADL>`.
     #[tactic(auto, unfolding(list_terms::specs::Text::before_list))]
     fn before_list(&mut self, line: &[u8], number: u64) -> Result<(), AdlFault>
-        ensures { Reads (λ _. context_of self.new) result (text.before_list (context_of self.old) number (trimmed line.now)) }
+        ensures exact { Reads (λ _. context_of self.new) result (text.before_list (context_of self.old) number (trimmed line.now)) }
+        ensures span { IsAt (first_of_line line.now) result }
     {
         let tag = trimmed(line);
         if tag.is_empty() {
@@ -107,7 +115,8 @@ impl<'a> Draft<'a> {
     /// Reads a line between sections: a blank one, `</ADL>`, or one that opens a section.
     #[tactic(auto, unfolding(list_terms::specs::Text::outside))]
     fn outside(&mut self, alloc: Global, line: &'a [u8], number: u64) -> Result<(), AdlFault>
-        ensures { Reads (λ _. context_of self.new) result (text.outside (context_of self.old) number (trimmed line.now)) }
+        ensures exact { Reads (λ _. context_of self.new) result (text.outside (context_of self.old) number (trimmed line.now)) }
+        ensures span { IsAt (first_of_line line.now) result }
     {
         let tag = trimmed(line);
         if tag.is_empty() {
@@ -132,7 +141,8 @@ impl<'a> Draft<'a> {
         line: &[u8],
         number: u64,
     ) -> Result<(), AdlFault>
-        ensures { Reads (λ _. context_of self.new) result (text.opened (context_of self.old) number name.now) }
+        ensures exact { Reads (λ _. context_of self.new) result (text.opened (context_of self.old) number name.now) }
+        ensures span { IsAt (first_of_line line.now) result }
     {
         let section = section_of(name);
         if self.is_opened(section) {
@@ -163,8 +173,9 @@ impl<'a> Draft<'a> {
 
     /// Notes that a section begins; one that is passed over gives notice 1.
     fn begin(&mut self, alloc: Global, section: Section, number: u64) -> Result<(), AdlFault>
-        ensures { Reads (λ _. context_of self.new) result
+        ensures exact { Reads (λ _. context_of self.new) result
             (Ok (text.with_section (context_of self.old) number section)) }
+        ensures span { (span : Span) → IsAt span result }
     {
         match section {
             Section::Version => self.header.lines.version = Some(KeptLines::new(alloc)),
@@ -181,14 +192,15 @@ impl<'a> Draft<'a> {
 
     /// Adds a notice of this kind at a line.
     fn note(&mut self, kind: u8, line: u64) -> Result<(), AdlFault>
-        ensures { Reads (λ _. context_of self.new) result (Ok (text.with_notice (context_of self.old) kind line)) }
+        ensures exact { Reads (λ _. context_of self.new) result (Ok (text.with_notice (context_of self.old) kind line)) }
+        ensures span { (span : Span) → IsAt span result }
     {
         self.notices.push(Notice { kind, at: line })?;
         Ok(())
     }
 
     /// Reads a line inside a section.
-    #[tactic(auto, unfolding(list_terms::specs::Text::in_section))]
+    #[tactic(auto, unfolding(list_terms::specs::Text::in_section, crate::specs::FaultSpans::section_span))]
     fn inside(
         &mut self,
         alloc: Global,
@@ -197,8 +209,9 @@ impl<'a> Draft<'a> {
         number: u64,
         rate: Rate,
     ) -> Result<(), AdlFault>
-        ensures { Reads (λ _. context_of self.new) result
+        ensures exact { Reads (λ _. context_of self.new) result
             (text.in_section (frames_per_second rate) (context_of self.old) number line.now section) }
+        ensures span { IsAt (section_span (frames_per_second rate) (context_of self.old) line.now section) result }
     {
         match section {
             Section::Version
@@ -223,18 +236,20 @@ impl<'a> Draft<'a> {
         number: u64,
         rate: Rate,
     ) -> Result<(), AdlFault>
-        ensures { Reads (λ _. context_of self.new) result
+        ensures exact { Reads (λ _. context_of self.new) result
             (text.in_header (frames_per_second rate) (context_of self.old) number line.now section) }
+        ensures span { IsAt (header_span (frames_per_second rate) (header_so_far self.old.header) section
+            (length line.now) (first_of_line line.now) line.now) result }
     {
-        let mut tokens = Tokens::new(line);
+        let mut tokens = tokens_of(line);
         match self.header.keep(alloc, section, &mut tokens, rate) {
             Ok(()) => Ok(()),
-            Err(fault) => Err(fault.at(Location::Line { line: number }, tokens.stood())),
+            Err(fault) => Err(fault.at(Location::Line { line: number }, reached(&tokens))),
         }
     }
 
     /// Reads a line of the source index.
-    #[tactic(auto, unfolding(list_terms::specs::Text::in_source_index))]
+    #[tactic(auto, unfolding(list_terms::specs::Text::in_source_index, crate::specs::FaultSpans::index_line_span))]
     fn in_source_index(
         &mut self,
         alloc: Global,
@@ -242,15 +257,16 @@ impl<'a> Draft<'a> {
         number: u64,
         rate: Rate,
     ) -> Result<(), AdlFault>
-        ensures { Reads (λ _. context_of self.new) result
+        ensures exact { Reads (λ _. context_of self.new) result
             (text.in_source_index (frames_per_second rate) (context_of self.old) number line.now) }
+        ensures span { IsAt (index_line_span (frames_per_second rate) self.old.index.sources line.now) result }
     {
         if is_tag(line) {
             return Err(at_line(TextFault::SectionMismatch, number, first_in(line)));
         }
         let location = Location::Line { line: number };
-        let mut tokens = Tokens::new(line);
-        let Some(token) = located(tokens.cut_next(), location, tokens.stood())? else {
+        let mut tokens = tokens_of(line);
+        let Some(token) = located(cut_next(&mut tokens), location, reached(&tokens))? else {
             return Ok(());
         };
         if is_keyword(b"Index", &token) {
@@ -261,7 +277,7 @@ impl<'a> Draft<'a> {
     }
 
     /// Reads an `(Index)` line, behind this keyword.
-    #[tactic(auto, unfolding(list_terms::specs::Text::index_line))]
+    #[tactic(auto, unfolding(list_terms::specs::Text::index_line, crate::specs::FaultSpans::form_span))]
     fn index_line(
         &mut self,
         alloc: Global,
@@ -269,13 +285,15 @@ impl<'a> Draft<'a> {
         line: u64,
         rate: Rate,
     ) -> Result<(), AdlFault>
-        ensures { Reads (λ _. context_of self.new) result
+        ensures exact { Reads (λ _. context_of self.new) result
             (text.index_line (frames_per_second rate) (context_of self.old) line tokens.old.rest.now) }
+        ensures span { IsAt (form_from (Then Number (index_fields (frames_per_second rate) self.old.index.sources))
+            tokens.old) result }
     {
         let number = located(
             number_field(tokens),
             Location::Line { line },
-            tokens.stood(),
+            reached(tokens),
         )?;
         let location = Location::Index {
             line,
@@ -283,52 +301,56 @@ impl<'a> Draft<'a> {
         };
         match self.index.add(alloc, number, tokens, rate) {
             Ok(()) => Ok(()),
-            Err(fault) => Err(fault.at(location, tokens.stood())),
+            Err(fault) => Err(fault.at(location, reached(tokens))),
         }
     }
 
     /// Drops another line of the source index, with notice 2.
     #[tactic(auto, unfolding(list_terms::specs::Text::dropped_line))]
     fn dropped_line(&mut self, tokens: &mut Tokens<'_>, line: u64) -> Result<(), AdlFault>
-        ensures { Reads (λ _. context_of self.new) result
+        ensures exact { Reads (λ _. context_of self.new) result
             (text.dropped_line (context_of self.old) line tokens.old.rest.now) }
+        ensures span { IsAt (end_from any tokens.old) result }
     {
-        located(end_line(tokens), Location::Line { line }, tokens.stood())?;
+        located(end_line(tokens), Location::Line { line }, reached(tokens))?;
         self.note(2, line)
     }
 
     /// Reads a line of the event list.
-    #[tactic(auto, unfolding(list_terms::specs::Text::in_event_list))]
+    #[tactic(auto, unfolding(list_terms::specs::Text::in_event_list, crate::specs::FaultSpans::event_line_span))]
     fn in_event_list(&mut self, line: &[u8], number: u64, rate: Rate) -> Result<(), AdlFault>
-        ensures { Reads (λ _. context_of self.new) result
+        ensures exact { Reads (λ _. context_of self.new) result
             (text.in_event_list (frames_per_second rate) (context_of self.old) number line.now) }
+        ensures span { IsAt (event_line_span (frames_per_second rate) (entries_of self.old.events) line.now) result }
     {
         if is_tag(line) {
             return Err(at_line(TextFault::SectionMismatch, number, first_in(line)));
         }
         let location = location_in(number, self.events.entry);
-        let mut tokens = Tokens::new(line);
-        let Some(token) = located(tokens.cut_next(), location, tokens.stood())? else {
+        let mut tokens = tokens_of(line);
+        let Some(token) = located(cut_next(&mut tokens), location, reached(&tokens))? else {
             return Ok(());
         };
         if is_keyword(b"Entry", &token) {
             self.entry_line(&mut tokens, number, rate)
         } else {
             let said = self.events.add_further(&token, &mut tokens, rate);
-            located(said, location, tokens.stood())
+            located(said, location, reached(&tokens))
         }
     }
 
     /// Reads an `(Entry)` line, behind this keyword.
-    #[tactic(auto, unfolding(list_terms::specs::Text::entry_line))]
+    #[tactic(auto, unfolding(list_terms::specs::Text::entry_line, crate::specs::FaultSpans::form_span))]
     fn entry_line(&mut self, tokens: &mut Tokens<'_>, line: u64, rate: Rate) -> Result<(), AdlFault>
-        ensures { Reads (λ _. context_of self.new) result
+        ensures exact { Reads (λ _. context_of self.new) result
             (text.entry_line (frames_per_second rate) (context_of self.old) line tokens.old.rest.now) }
+        ensures span { IsAt (form_from (Then Number (entry_fields (frames_per_second rate) (entries_of self.old.events)))
+            tokens.old) result }
     {
         let number = located(
             number_field(tokens),
             Location::Line { line },
-            tokens.stood(),
+            reached(tokens),
         )?;
         let location = Location::Entry {
             line,
@@ -336,7 +358,7 @@ impl<'a> Draft<'a> {
         };
         match self.events.add(number, tokens, rate) {
             Ok(()) => Ok(()),
-            Err(fault) => Err(fault.at(location, tokens.stood())),
+            Err(fault) => Err(fault.at(location, reached(tokens))),
         }
     }
 
@@ -346,6 +368,7 @@ impl<'a> Draft<'a> {
         ensures exact { Reads (λ project. project) result
             (text.finished (frames_per_second rate) (context_of self.entry) number) }
         ensures whole { IfOk result IsProject }
+        ensures span { IsAt (first_of_line line.now) result }
     {
         if let Some(fault) = self.lacks() {
             return Err(at_line(fault, number, first_in(line)));
@@ -355,7 +378,8 @@ impl<'a> Draft<'a> {
 
     /// The fault of a list that ends at this line and lacks a section or a rate; `None` where it lacks none.
     pub fn missing(&self, line: &[u8], number: u64) -> Option<AdlFault>
-        ensures { (rate : ℕ) → option_map refusal result ≡ refused (text.finished rate (context_of self.now) number) }
+        ensures exact { (rate : ℕ) → option_map refusal result ≡ refused (text.finished rate (context_of self.now) number) }
+        ensures span { IfSome result (λ fault. IsAt {X = Unit {0}} (first_of_line line.now) (Err fault)) }
     {
         match self.lacks() {
             Some(fault) => Some(at_line(fault, number, first_in(line))),
@@ -397,6 +421,7 @@ impl<'a> Draft<'a> {
         ensures exact { Reads (λ project. project) result
             (Ok (text.project_of (frames_per_second rate) (context_of self.entry))) }
         ensures whole { IfOk result IsProject }
+        ensures span { (span : Span) → IsAt span result }
     {
         let Draft {
             header,
@@ -424,7 +449,8 @@ impl<'a> Draft<'a> {
 /// Reads a line of a section that may hold blank lines alone.
 #[tactic(auto, unfolding(list_terms::specs::Text::in_unsupported))]
 fn in_unsupported(line: &[u8], number: u64) -> Result<(), AdlFault>
-    ensures { (c : text.Context) → Reads (λ _. c) result (text.in_unsupported c number line.now) }
+    ensures exact { (c : text.Context) → Reads (λ _. c) result (text.in_unsupported c number line.now) }
+    ensures span { IsAt (first_of_line line.now) result }
 {
     if trimmed(line).is_empty() {
         Ok(())

@@ -1,5 +1,5 @@
 // What the lines of the source index, of the event list and of the two sections of settings say.
-ghost use Rattle.std.specs.Prelude.{◌≡◌, ◌==◌, ◌≤◌, ◌-◌, IfOk, IsTrue, codes, false, is_some, length, option_map, unwrap_or};
+ghost use Rattle.std.specs.Prelude.{◌≡◌, ◌==◌, ◌≤◌, ◌-◌, IfOk, IsTrue, OnErr, codes, false, is_some, length, option_map, unwrap_or};
 ghost use Rattle.list_terms.specs.Steps.{ok_map};
 ghost use Rattle.list_terms.specs.Fields.{is_missing, is_zero, told_rate};
 ghost use Rattle.list_terms.specs.Forms as form;
@@ -12,12 +12,14 @@ ghost use Rattle.sampletime.specs.FrameRate.{frames_per_second};
 ghost use Rattle.sampletime.specs.TimeCode.{day};
 ghost use Rattle.adltoken.specs.Views.{token_view};
 ghost use Rattle.adlread.specs.Fault.{Says};
+ghost use Rattle.adlread.specs.FaultSpans.{OnText, form_from, line_from, line_length, next_from, reached};
 
 use crate::fault::LineFault;
 use crate::fields::{
     channels_field, end_line, end_with_zeros, field, identifier_field, is_keyword, is_missing,
     is_zero, keyword_field, number_field, optional_time_field, time_field, told_rate,
 };
+use crate::reader::cut_next;
 use adlmodel::{Bytes, Channels, Event, Fade, Source, place_of};
 use adltoken::{TextFault, Token, Tokens, is_same_name, skip_blanks};
 use list_terms::{OpenEntry, Rates};
@@ -25,7 +27,7 @@ use sampletime::{Rate, SampleTime, Separators, parse_time};
 use std::alloc::Global;
 
 /// Reads `(F)`, URL, identifier, in and length, behind the number of an index.
-#[tactic(auto, unfolding(list_terms::specs::Forms::reads, list_terms::specs::Fields::end_line))]
+#[tactic(auto, unfolding(list_terms::specs::Forms::reads, crate::specs::FaultSpans::form_span, list_terms::specs::Fields::end_line))]
 pub fn source_fields(
     alloc: Global,
     number: u32,
@@ -35,6 +37,8 @@ pub fn source_fields(
     ensures fields { Says (λ source. source) result (reads (spec.source_fields (frames_per_second rate) number) tokens.old.rest.now) }
     ensures number { IfOk result (λ source. source.number ≡ number) }
     ensures whole { IsTrue (is_number number) → IfOk result (λ source. IsTrue (is_source source)) }
+    ensures span { OnText result (reached tokens.new
+        ≡ form_from (spec.source_fields (frames_per_second rate) number) tokens.old) }
 {
     keyword_field(b"F", tokens)?;
     let url = url_field(alloc, tokens)?;
@@ -52,6 +56,8 @@ pub fn source_fields(
 fn url_field<'a>(alloc: Global, tokens: &mut Tokens<'a>) -> Result<&'a [u8], LineFault>
     ensures value { Says (λ url. (url.now, tokens.new.rest.now)) result (value_at form.Url tokens.old.rest.now) }
     ensures place { IfOk result (λ url. IsTrue (is_some (place_of_url url.now))) }
+    ensures span { reached tokens.new ≡ next_from tokens.old }
+    ensures long { line_length tokens.new ≡ line_length tokens.old }
 {
     let token = field(tokens)?;
     let place = place_of(alloc, token.content)?;
@@ -64,7 +70,7 @@ fn url_field<'a>(alloc: Global, tokens: &mut Tokens<'a>) -> Result<&'a [u8], Lin
 
 /// Reads `(Cut) I`, index, channels and times, behind the number of an entry: the event, and the separators of its
 /// destination in.
-#[tactic(auto, unfolding(list_terms::specs::Forms::reads, list_terms::specs::Fields::end_line))]
+#[tactic(auto, unfolding(list_terms::specs::Forms::reads, crate::specs::FaultSpans::form_span, list_terms::specs::Fields::end_line))]
 pub fn event_fields(
     number: u32,
     tokens: &mut Tokens<'_>,
@@ -73,6 +79,8 @@ pub fn event_fields(
     ensures fields { result ≡ reads (spec.event_fields (frames_per_second rate) number) tokens.old.rest.now }
     ensures number { IfOk result (λ entry. entry.0.number ≡ number) }
     ensures whole { IsTrue (is_number number) → IfOk result (λ entry. IsTrue (is_event entry.0)) }
+    ensures span { OnErr result (reached tokens.new
+        ≡ form_from (spec.event_fields (frames_per_second rate) number) tokens.old) }
 {
     keyword_field(b"Cut", tokens)?;
     cut_field(tokens)?;
@@ -116,8 +124,10 @@ const NO_FADE: Fade = Fade {
 /// Reads `I`, the only kind of cut that is supported.
 #[tactic(auto, unfolding(list_terms::specs::Forms::value_at))]
 fn cut_field(tokens: &mut Tokens<'_>) -> Result<(), TextFault>
-    ensures { ok_map (λ _. (tt, tokens.new.rest.now)) result
+    ensures exact { ok_map (λ _. (tt, tokens.new.rest.now)) result
         ≡ value_at (form.Passes spec.is_cut Unsupported) tokens.old.rest.now }
+    ensures span { reached tokens.new ≡ next_from tokens.old }
+    ensures long { line_length tokens.new ≡ line_length tokens.old }
 {
     let token = field(tokens)?;
     if token.content == b"I".as_slice() {
@@ -128,10 +138,12 @@ fn cut_field(tokens: &mut Tokens<'_>) -> Result<(), TextFault>
 }
 
 /// Reads the length of a fade, and its curve where it is longer than zero: linear alone.
-#[tactic(auto, unfolding(list_terms::specs::Forms::reads, list_terms::specs::Fields::end_line))]
+#[tactic(auto, unfolding(list_terms::specs::Forms::reads, crate::specs::FaultSpans::form_span, list_terms::specs::Fields::end_line))]
 fn fade_fields(tokens: &mut Tokens<'_>, rate: Rate) -> Result<SampleTime, TextFault>
     ensures value { result ≡ reads (spec.fade_fields (frames_per_second rate)) tokens.old.rest.now }
     ensures in_day { IfOk result (λ length. length ≤ day) }
+    ensures span { OnErr result (reached tokens.new
+        ≡ form_from (spec.fade_fields (frames_per_second rate)) tokens.old) }
 {
     let length = optional_time_field(tokens, rate)?.unwrap_or(SampleTime::ZERO);
     if length.get() != 0 {
@@ -144,8 +156,10 @@ fn fade_fields(tokens: &mut Tokens<'_>, rate: Rate) -> Result<SampleTime, TextFa
 /// Reads `LIN`, the only curve that is supported.
 #[tactic(auto, unfolding(list_terms::specs::Forms::value_at))]
 fn linear_field(tokens: &mut Tokens<'_>) -> Result<(), TextFault>
-    ensures { ok_map (λ _. (tt, tokens.new.rest.now)) result
+    ensures exact { ok_map (λ _. (tt, tokens.new.rest.now)) result
         ≡ value_at (form.Passes spec.is_linear Unsupported) tokens.old.rest.now }
+    ensures span { reached tokens.new ≡ next_from tokens.old }
+    ensures long { line_length tokens.new ≡ line_length tokens.old }
 {
     let token = field(tokens)?;
     if is_same_name(token.content, b"LIN") {
@@ -156,7 +170,7 @@ fn linear_field(tokens: &mut Tokens<'_>) -> Result<(), TextFault>
 }
 
 /// The entry with what a line behind its own says: a fade, a remark, or a gain of zero.
-#[tactic(auto, unfolding(list_terms::specs::EntryLines::entry_with, list_terms::specs::Forms::reads, list_terms::specs::Fields::end_line))]
+#[tactic(auto, unfolding(list_terms::specs::EntryLines::entry_with, list_terms::specs::Forms::reads, crate::specs::FaultSpans::form_span, list_terms::specs::Fields::end_line))]
 pub fn entry_with(
     entry: OpenEntry,
     token: &Token<'_>,
@@ -167,6 +181,8 @@ pub fn entry_with(
         ≡ reads (spec.entry_with (frames_per_second rate) entry (token_view token.now)) tokens.old.rest.now }
     ensures number { IfOk result (λ new. new.event.number ≡ entry.event.number) }
     ensures whole { IsTrue (is_event entry.event) → IfOk result (λ new. IsTrue (is_event new.event)) }
+    ensures span { OnErr result (reached tokens.new
+        ≡ form_from (spec.entry_with (frames_per_second rate) entry (token_view token.now)) tokens.old) }
 {
     if is_keyword(b"Infade", token) {
         with_rise(entry, tokens, rate)
@@ -184,11 +200,13 @@ pub fn entry_with(
 }
 
 /// The entry with its fade-in.
-#[tactic(auto, using(list_terms::specs::FormLaws::reads_mapped), unfolding(list_terms::specs::Forms::reads))]
+#[tactic(auto, using(list_terms::specs::FormLaws::reads_mapped, crate::proofs::SpanLaws::span_mapped), unfolding(list_terms::specs::Forms::reads, crate::specs::FaultSpans::form_span))]
 fn with_rise(entry: OpenEntry, tokens: &mut Tokens<'_>, rate: Rate) -> Result<OpenEntry, TextFault>
     ensures value { result ≡ reads (spec.told_rise (frames_per_second rate) entry) tokens.old.rest.now }
     ensures number { IfOk result (λ new. new.event.number ≡ entry.event.number) }
     ensures whole { IsTrue (is_event entry.event) → IfOk result (λ new. IsTrue (is_event new.event)) }
+    ensures span { OnErr result (reached tokens.new
+        ≡ form_from (spec.told_rise (frames_per_second rate) entry) tokens.old) }
 {
     if entry.has_rise {
         return Err(TextFault::RepeatedFade);
@@ -201,11 +219,13 @@ fn with_rise(entry: OpenEntry, tokens: &mut Tokens<'_>, rate: Rate) -> Result<Op
 }
 
 /// The entry with its fade-out.
-#[tactic(auto, using(list_terms::specs::FormLaws::reads_mapped), unfolding(list_terms::specs::Forms::reads))]
+#[tactic(auto, using(list_terms::specs::FormLaws::reads_mapped, crate::proofs::SpanLaws::span_mapped), unfolding(list_terms::specs::Forms::reads, crate::specs::FaultSpans::form_span))]
 fn with_fall(entry: OpenEntry, tokens: &mut Tokens<'_>, rate: Rate) -> Result<OpenEntry, TextFault>
     ensures value { result ≡ reads (spec.told_fall (frames_per_second rate) entry) tokens.old.rest.now }
     ensures number { IfOk result (λ new. new.event.number ≡ entry.event.number) }
     ensures whole { IsTrue (is_event entry.event) → IfOk result (λ new. IsTrue (is_event new.event)) }
+    ensures span { OnErr result (reached tokens.new
+        ≡ form_from (spec.told_fall (frames_per_second rate) entry) tokens.old) }
 {
     if entry.has_fall {
         return Err(TextFault::RepeatedFade);
@@ -218,9 +238,10 @@ fn with_fall(entry: OpenEntry, tokens: &mut Tokens<'_>, rate: Rate) -> Result<Op
 }
 
 /// Reads a line before the first entry, which has to be a remark.
-#[tactic(auto, unfolding(list_terms::specs::EntryLines::remark, list_terms::specs::Forms::reads, list_terms::specs::Fields::end_line))]
+#[tactic(auto, unfolding(list_terms::specs::EntryLines::remark, list_terms::specs::Forms::reads, crate::specs::FaultSpans::form_span, list_terms::specs::Fields::end_line))]
 pub fn remark(token: &Token<'_>, tokens: &mut Tokens<'_>) -> Result<(), TextFault>
-    ensures { ok_map (λ _. tt) result ≡ reads (spec.remark (token_view token.now)) tokens.old.rest.now }
+    ensures exact { ok_map (λ _. tt) result ≡ reads (spec.remark (token_view token.now)) tokens.old.rest.now }
+    ensures span { OnErr result (reached tokens.new ≡ form_from (spec.remark (token_view token.now)) tokens.old) }
 {
     if is_keyword(b"Rem", token) {
         end_line(tokens)
@@ -230,11 +251,13 @@ pub fn remark(token: &Token<'_>, tokens: &mut Tokens<'_>) -> Result<(), TextFaul
 }
 
 /// Which rates SEQUENCE told, with what one more line says. Lines that tell none aren't interpreted.
-#[tactic(auto, unfolding(list_terms::specs::EntryLines::sequence_line, list_terms::specs::Forms::reads_line, list_terms::specs::Forms::reads, list_terms::specs::Fields::end_line))]
+#[tactic(auto, unfolding(list_terms::specs::EntryLines::sequence_line, list_terms::specs::Forms::reads_line, crate::specs::FaultSpans::line_span, list_terms::specs::Forms::reads, crate::specs::FaultSpans::form_span, list_terms::specs::Fields::end_line))]
 pub fn sequence_line(rates: Rates, tokens: &mut Tokens<'_>, rate: Rate) -> Result<Rates, TextFault>
-    ensures { result ≡ spec.sequence_line (frames_per_second rate) rates tokens.old.rest.now }
+    ensures exact { result ≡ spec.sequence_line (frames_per_second rate) rates tokens.old.rest.now }
+    ensures span { OnErr result (reached tokens.new
+        ≡ line_from (spec.sequence_fields (frames_per_second rate) rates) tokens.old) }
 {
-    let Some(token) = tokens.cut_next()? else {
+    let Some(token) = cut_next(tokens)? else {
         return Ok(rates);
     };
     let mut rates = rates;
@@ -252,8 +275,10 @@ pub fn sequence_line(rates: Rates, tokens: &mut Tokens<'_>, rate: Rate) -> Resul
 /// Reads `S48000` or `48000`.
 #[tactic(auto, unfolding(list_terms::specs::Forms::value_at))]
 fn sample_rate_field(tokens: &mut Tokens<'_>) -> Result<(), TextFault>
-    ensures { ok_map (λ _. (tt, tokens.new.rest.now)) result
+    ensures exact { ok_map (λ _. (tt, tokens.new.rest.now)) result
         ≡ value_at (form.Passes spec.is_48000 WrongSequence) tokens.old.rest.now }
+    ensures span { reached tokens.new ≡ next_from tokens.old }
+    ensures long { line_length tokens.new ≡ line_length tokens.old }
 {
     let token = field(tokens)?;
     if is_same_name(token.content, b"S48000") || token.content == b"48000".as_slice() {
@@ -266,8 +291,10 @@ fn sample_rate_field(tokens: &mut Tokens<'_>) -> Result<(), TextFault>
 /// Reads the rate of frames that the list has.
 #[tactic(auto, unfolding(list_terms::specs::Forms::value_at))]
 fn frame_rate_field(tokens: &mut Tokens<'_>, rate: Rate) -> Result<(), TextFault>
-    ensures { ok_map (λ _. (tt, tokens.new.rest.now)) result
+    ensures exact { ok_map (λ _. (tt, tokens.new.rest.now)) result
         ≡ value_at (form.Passes (spec.tells_rate (frames_per_second rate)) WrongSequence) tokens.old.rest.now }
+    ensures span { reached tokens.new ≡ next_from tokens.old }
+    ensures long { line_length tokens.new ≡ line_length tokens.old }
 {
     let token = field(tokens)?;
     if tells_rate(token.content, rate) {
@@ -289,11 +316,13 @@ fn tells_rate(text: &[u8], rate: Rate) -> bool
 }
 
 /// Reads a line of SYSTEM: no offset of the sources and no gain may be told. Other lines aren't interpreted.
-#[tactic(auto, unfolding(list_terms::specs::EntryLines::system_line, list_terms::specs::Forms::reads_line, list_terms::specs::Forms::reads, list_terms::specs::Fields::end_line))]
+#[tactic(auto, unfolding(list_terms::specs::EntryLines::system_line, list_terms::specs::Forms::reads_line, crate::specs::FaultSpans::line_span, list_terms::specs::Forms::reads, crate::specs::FaultSpans::form_span, list_terms::specs::Fields::end_line))]
 pub fn system_line(tokens: &mut Tokens<'_>, rate: Rate) -> Result<(), TextFault>
-    ensures { ok_map (λ _. tt) result ≡ spec.system_line (frames_per_second rate) tokens.old.rest.now }
+    ensures exact { ok_map (λ _. tt) result ≡ spec.system_line (frames_per_second rate) tokens.old.rest.now }
+    ensures span { OnErr result (reached tokens.new
+        ≡ line_from (spec.system_fields (frames_per_second rate)) tokens.old) }
 {
-    let Some(token) = tokens.cut_next()? else {
+    let Some(token) = cut_next(tokens)? else {
         return Ok(());
     };
     if is_keyword(b"SYS_SRC_OFFSET", &token) {
@@ -306,12 +335,14 @@ pub fn system_line(tokens: &mut Tokens<'_>, rate: Rate) -> Result<(), TextFault>
 }
 
 /// Reads nothing, `_`, or a time of zero.
-#[tactic(auto, unfolding(list_terms::specs::Forms::reads))]
+#[tactic(auto, unfolding(list_terms::specs::Forms::reads, crate::specs::FaultSpans::form_span))]
 fn offset_setting(tokens: &mut Tokens<'_>, rate: Rate) -> Result<(), TextFault>
-    ensures { ok_map (λ _. tt {0}) result
+    ensures exact { ok_map (λ _. tt {0}) result
         ≡ reads (form.May (λ t. spec.is_no_offset (frames_per_second rate) t.content) Unsupported (tt {0})) tokens.old.rest.now }
+    ensures span { OnErr result (reached tokens.new
+        ≡ form_from (form.May (λ t. spec.is_no_offset (frames_per_second rate) t.content) Unsupported (tt {0})) tokens.old) }
 {
-    let Some(token) = tokens.cut_next()? else {
+    let Some(token) = cut_next(tokens)? else {
         return Ok(());
     };
     if is_no_offset(token.content, rate) {
@@ -322,12 +353,14 @@ fn offset_setting(tokens: &mut Tokens<'_>, rate: Rate) -> Result<(), TextFault>
 }
 
 /// Reads nothing, or a zero.
-#[tactic(auto, unfolding(list_terms::specs::Forms::reads))]
+#[tactic(auto, unfolding(list_terms::specs::Forms::reads, crate::specs::FaultSpans::form_span))]
 fn gain_setting(tokens: &mut Tokens<'_>) -> Result<(), TextFault>
-    ensures { ok_map (λ _. tt {0}) result
+    ensures exact { ok_map (λ _. tt {0}) result
         ≡ reads (form.May (λ t. is_zero t.content) Unsupported (tt {0})) tokens.old.rest.now }
+    ensures span { OnErr result (reached tokens.new
+        ≡ form_from (form.May (λ t. is_zero t.content) Unsupported (tt {0})) tokens.old) }
 {
-    let Some(token) = tokens.cut_next()? else {
+    let Some(token) = cut_next(tokens)? else {
         return Ok(());
     };
     if is_zero(token.content) {

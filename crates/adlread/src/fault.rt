@@ -4,6 +4,7 @@ ghost use Rattle.list_terms.specs.declared.Location.TheVariants as location;
 ghost use Rattle.adltoken.specs.Spans.{first_span};
 ghost use Rattle.adlread.specs.Fault.{entry_of, index_of, line_of, refusal};
 ghost use Rattle.adlread.specs.Fault as spec;
+ghost use Rattle.adlread.specs.FaultSpans.{first_of_line};
 ghost use Rattle.adlread.specs.declared.fault.AdlFault.TheVariants.{Text, Memory};
 ghost use Rattle.adlread.specs.declared.fault.LineFault.TheVariants as line;
 
@@ -139,8 +140,10 @@ pub fn at_line(fault: TextFault, number: u64, stood: Span) -> AdlFault
 }
 
 /// What stands first in a line.
+#[tactic(auto, using(crate::proofs::SpanLaws::span_of_line))]
 pub fn first_in(line: &[u8]) -> Span
     ensures first { result ≡ first_span 0 line.now }
+    ensures line { result ≡ first_of_line line.now }
     ensures inside { result.at + result.length ≤ length line.now }
 {
     Tokens::new(line).stood()

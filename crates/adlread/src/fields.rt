@@ -1,18 +1,20 @@
 // The fields of a line.
-ghost use Rattle.std.specs.Prelude.{◌≡◌, ◌≤◌, [], IfOk, IsTrue, length, option_map, unwrap_or};
+ghost use Rattle.std.specs.Prelude.{◌≡◌, ◌≤◌, [], IfOk, IsTrue, OnErr, length, option_map, unwrap_or};
 ghost use Rattle.std.specs.List.{list_all};
 ghost use Rattle.list_terms.specs.Steps.{ok_map};
 ghost use Rattle.list_terms.specs.Names.{behind_byte};
 ghost use Rattle.list_terms.specs.Tokens.{all_tokens, token_text};
 ghost use Rattle.list_terms.specs.Fields as spec;
 ghost use Rattle.list_terms.specs.Forms as form;
-ghost use Rattle.list_terms.specs.Forms.{keyword, value_at};
+ghost use Rattle.list_terms.specs.Forms.{any, keyword, value_at};
 ghost use Rattle.list_terms.specs.WholeProject.{are_channels, is_number, is_time_of_day};
 ghost use Rattle.sampletime.specs.FrameRate.{frames_per_second};
 ghost use Rattle.sampletime.specs.TimeCode.{day};
 ghost use Rattle.adltoken.specs.Views.{token_view};
+ghost use Rattle.adlread.specs.FaultSpans.{end_from, line_length, next_from, reached};
 
 use crate::numbers::{channels_of, number_up_to};
+use crate::reader::cut_next;
 use adlmodel::Channels;
 use adltoken::{TextFault, Token, TokenKind, Tokens, behind_byte, is_same_name, length_before};
 use sampletime::{Rate, SampleTime, Separators, parse_time};
@@ -32,8 +34,10 @@ pub fn is_keyword(name: &[u8], token: &Token<'_>) -> bool
 pub fn field<'a>(tokens: &mut Tokens<'a>) -> Result<Token<'a>, TextFault>
     ensures exact { ok_map (λ token. (token_view token, tokens.new.rest.now)) result ≡ spec.field tokens.old.rest.now }
     ensures whole { IfOk result (λ token. token.text.now ≡ token_text (token_view token)) }
+    ensures span { reached tokens.new ≡ next_from tokens.old }
+    ensures long { line_length tokens.new ≡ line_length tokens.old }
 {
-    match tokens.cut_next()? {
+    match cut_next(tokens)? {
         Some(token) => Ok(token),
         None => Err(TextFault::MissingField),
     }
@@ -42,7 +46,9 @@ pub fn field<'a>(tokens: &mut Tokens<'a>) -> Result<Token<'a>, TextFault>
 /// The next token, which has to be the keyword of this name.
 #[tactic(auto, unfolding(list_terms::specs::Forms::value_at))]
 pub fn keyword_field(name: &[u8], tokens: &mut Tokens<'_>) -> Result<(), TextFault>
-    ensures { ok_map (λ _. (tt, tokens.new.rest.now)) result ≡ value_at (keyword name.now) tokens.old.rest.now }
+    ensures exact { ok_map (λ _. (tt, tokens.new.rest.now)) result ≡ value_at (keyword name.now) tokens.old.rest.now }
+    ensures span { reached tokens.new ≡ next_from tokens.old }
+    ensures long { line_length tokens.new ≡ line_length tokens.old }
 {
     let token = field(tokens)?;
     if is_keyword(name, &token) {
@@ -57,6 +63,8 @@ pub fn keyword_field(name: &[u8], tokens: &mut Tokens<'_>) -> Result<(), TextFau
 pub fn number_field(tokens: &mut Tokens<'_>) -> Result<u32, TextFault>
     ensures exact { ok_map (λ number. (number, tokens.new.rest.now)) result ≡ value_at form.Number tokens.old.rest.now }
     ensures range { IfOk result (λ number. IsTrue (is_number number)) }
+    ensures span { reached tokens.new ≡ next_from tokens.old }
+    ensures long { line_length tokens.new ≡ line_length tokens.old }
 {
     let token = field(tokens)?;
     number_up_to(32_767, token.content).ok_or(TextFault::BadNumber)
@@ -68,6 +76,8 @@ pub fn channels_field(tokens: &mut Tokens<'_>) -> Result<Channels, TextFault>
     ensures exact { ok_map (λ channels. (channels, tokens.new.rest.now)) result
         ≡ value_at form.Run tokens.old.rest.now }
     ensures range { IfOk result (λ channels. IsTrue (are_channels channels)) }
+    ensures span { reached tokens.new ≡ next_from tokens.old }
+    ensures long { line_length tokens.new ≡ line_length tokens.old }
 {
     let token = field(tokens)?;
     channels_of(token.content).ok_or(TextFault::BadChannels)
@@ -82,6 +92,8 @@ pub fn time_field(
     ensures exact { ok_map (λ time. ((time.0, time.1), tokens.new.rest.now)) result
         ≡ value_at (form.Time (frames_per_second rate)) tokens.old.rest.now }
     ensures in_day { IfOk result (λ time. time.0 ≤ day) }
+    ensures span { reached tokens.new ≡ next_from tokens.old }
+    ensures long { line_length tokens.new ≡ line_length tokens.old }
 {
     let token = field(tokens)?;
     parse_time(token.content, rate).ok_or(TextFault::BadTime)
@@ -96,6 +108,8 @@ pub fn optional_time_field(
     ensures exact { ok_map (λ time. (time, tokens.new.rest.now)) result
         ≡ value_at (form.MayTime (frames_per_second rate)) tokens.old.rest.now }
     ensures in_day { IfOk result (λ time. IsTrue (is_time_of_day time)) }
+    ensures span { reached tokens.new ≡ next_from tokens.old }
+    ensures long { line_length tokens.new ≡ line_length tokens.old }
 {
     let token = field(tokens)?;
     optional_time(token.content, rate)
@@ -119,28 +133,32 @@ fn optional_time(text: &[u8], rate: Rate) -> Result<Option<SampleTime>, TextFaul
 /// An identifier, as it stands.
 #[tactic(auto, unfolding(list_terms::specs::Forms::value_at))]
 pub fn identifier_field<'a>(tokens: &mut Tokens<'a>) -> Result<&'a [u8], TextFault>
-    ensures { ok_map (λ text. (text.now, tokens.new.rest.now)) result ≡ value_at form.Identifier tokens.old.rest.now }
+    ensures exact { ok_map (λ text. (text.now, tokens.new.rest.now)) result ≡ value_at form.Identifier tokens.old.rest.now }
+    ensures span { reached tokens.new ≡ next_from tokens.old }
+    ensures long { line_length tokens.new ≡ line_length tokens.old }
 {
     let token = field(tokens)?;
     Ok(token.text)
 }
 
 /// Cuts what is left of a line into tokens.
-#[tactic(auto, unfolding(list_terms::specs::Fields::end_line, list_terms::specs::Tokens::all_tokens))]
+#[tactic(auto, unfolding(list_terms::specs::Fields::end_line, list_terms::specs::Tokens::all_tokens, crate::specs::FaultSpans::end_span))]
 pub fn end_line(tokens: &mut Tokens<'_>) -> Result<(), TextFault>
     ensures exact { ok_map (λ _. tt) result ≡ spec.end_line tokens.old.rest.now }
+    ensures span { OnErr result (reached tokens.new ≡ end_from any tokens.old) }
 {
-    while let Some(_) = tokens.cut_next()? {}
+    while let Some(_) = cut_next(tokens)? {}
     Ok(())
 }
 
 /// Cuts what is left of a line into tokens, each of which has to be a zero.
-#[tactic(auto, unfolding(list_terms::specs::Tokens::all_tokens))]
+#[tactic(auto, unfolding(list_terms::specs::Tokens::all_tokens, crate::specs::FaultSpans::end_span))]
 pub fn end_with_zeros(tokens: &mut Tokens<'_>) -> Result<(), TextFault>
     ensures exact { ok_map (λ _. tt) result ≡ all_tokens (λ t.
         spec.is_zero t.content) (length tokens.old.rest.now) tokens.old.rest.now }
+    ensures span { OnErr result (reached tokens.new ≡ end_from (λ t. spec.is_zero t.content) tokens.old) }
 {
-    while let Some(token) = tokens.cut_next()? {
+    while let Some(token) = cut_next(tokens)? {
         if !is_zero(token.content) {
             return Err(TextFault::Unsupported);
         }

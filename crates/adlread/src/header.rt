@@ -1,10 +1,11 @@
 // The header so far.
-ghost use Rattle.std.specs.Prelude.{◌≡◌, OnOk};
+ghost use Rattle.std.specs.Prelude.{◌≡◌, OnErr, OnOk};
 ghost use Rattle.sampletime.specs.FrameRate.{frames_per_second};
 ghost use Rattle.list_terms.specs.Text.{is_tag, keep, kept_line, no_header, rates_with, with_text};
 ghost use Rattle.list_terms.specs.Text as text;
 ghost use Rattle.adlmodel.specs.Header.{header_view};
 ghost use Rattle.adlread.specs.Fault.{Says};
+ghost use Rattle.adlread.specs.FaultSpans.{OnText, header_span, line_length, reached, settings_span};
 ghost use Rattle.adlread.specs.HeaderSoFar.{header_so_far};
 
 use crate::entry_lines::{sequence_line, system_line};
@@ -56,9 +57,12 @@ impl HeaderSoFar {
         tokens: &mut Tokens<'_>,
         rate: Rate,
     ) -> Result<(), LineFault>
-        ensures { Says (λ _. header_so_far self.new) result
+        ensures exact { Says (λ _. header_so_far self.new) result
             (kept_line (header_so_far self.old) section tokens.old.rest.now
             (rates_with (frames_per_second rate) section self.old.rates tokens.old.rest.now)) }
+        ensures span { OnText result (reached tokens.new
+            ≡ header_span (frames_per_second rate) (header_so_far self.old) section (line_length tokens.old)
+            (reached tokens.old) tokens.old.rest.now) }
     {
         if self.kept >= MOST_LINES {
             return Err(LineFault::Text(TextFault::TooMany));
@@ -79,7 +83,10 @@ fn rates_with(
     tokens: &mut Tokens<'_>,
     rate: Rate,
 ) -> Result<Rates, TextFault>
-    ensures { result ≡ text.rates_with (frames_per_second rate) section rates tokens.old.rest.now }
+    ensures exact { result ≡ text.rates_with (frames_per_second rate) section rates tokens.old.rest.now }
+    ensures span { OnErr result (reached tokens.new
+        ≡ settings_span (frames_per_second rate) section rates (line_length tokens.old) (reached tokens.old)
+        tokens.old.rest.now) }
 {
     match section {
         Section::System => {

@@ -5,7 +5,7 @@
 //! 25 or 30 frames a second are the rates that are read.
 #![tactic(auto)]
 
-ghost use Rattle.std.specs.Prelude.{false, IfErr, IfOk, IsTrue, Ok, ◌≡◌};
+ghost use Rattle.std.specs.Prelude.{[], false, IfErr, IfOk, IsTrue, Ok, ◌≡◌};
 ghost use Rattle.sampletime.specs.FrameRate.{frames_per_second};
 ghost use Rattle.list_terms.specs.Project.{ListProject};
 ghost use Rattle.list_terms.specs.Text.{nothing_read, read_from, text_value};
@@ -13,6 +13,7 @@ ghost use Rattle.list_terms.specs.Lines.{lines_of};
 ghost use Rattle.list_terms.specs.WholeProject.{IsProject};
 ghost use Rattle.work_terms.specs.Refusals.{Gives, is_memory};
 ghost use Rattle.adlread.specs.Fault.{Reads, line_of, refusal};
+ghost use Rattle.adlread.specs.FaultSpans.{IsAt, lines_span, text_span};
 ghost use Rattle.adlread.specs.Spells.{Spells};
 
 mod draft;
@@ -24,6 +25,7 @@ mod header;
 mod numbers;
 mod outline;
 mod rate;
+mod reader;
 mod sections;
 mod tags;
 mod taken;
@@ -49,6 +51,7 @@ pub fn read(alloc: Global, text: &[u8]) -> Result<Project, AdlFault>
         → Gives (λ p. p) refusal (λ r. r.number) result (Ok project) }
     ensures faulty { IfErr result (λ fault. is_memory (refusal fault).number ≡ false → (project : ListProject)
         → Spells text.now project → ⊥) }
+    ensures span { IsAt (text_span text.now) result }
     ensures memory_line { IfErr result (λ fault. IsTrue (is_memory (refusal fault).number) → line_of fault ≡ 0) }
 {
     let rate = rate_of(text);
@@ -56,10 +59,11 @@ pub fn read(alloc: Global, text: &[u8]) -> Result<Project, AdlFault>
 }
 
 /// Reads the lines of a list, one after another.
-#[tactic(auto, unfolding(list_terms::specs::Text::read_from))]
+#[tactic(auto, unfolding(list_terms::specs::Text::read_from, crate::specs::FaultSpans::lines_span))]
 fn read_lines(alloc: Global, text: &[u8], rate: Rate) -> Result<Project, AdlFault>
     ensures exact { Reads (λ project. project) result
         (read_from (frames_per_second rate) nothing_read 0 (lines_of text.now)) }
+    ensures span { IsAt (lines_span (frames_per_second rate) nothing_read 0 [] (lines_of text.now)) result }
     ensures whole { IfOk result IsProject }
 {
     let mut draft = Draft::new(alloc)?;

@@ -1,5 +1,5 @@
 // The source index and the event list so far.
-ghost use Rattle.std.specs.Prelude.{◌≡◌, ◌<◌, [], IfOk, IsTrue, OnOk};
+ghost use Rattle.std.specs.Prelude.{◌≡◌, ◌<◌, [], IfOk, IsTrue, OnErr, OnOk};
 ghost use Rattle.std.proofs.Props.{props};
 ghost use Rattle.sampletime.specs.FrameRate.{frames_per_second};
 ghost use Rattle.list_terms.specs.WholeProject.{AreEvents, AreNumberedSources, is_number};
@@ -7,6 +7,7 @@ ghost use Rattle.list_terms.specs.Steps.{ok_map};
 ghost use Rattle.list_terms.specs.Text.{all_events, closed_entries, entry_of, further_line, no_entry, source_with};
 ghost use Rattle.adltoken.specs.Views.{token_view};
 ghost use Rattle.adlread.specs.Fault.{Says};
+ghost use Rattle.adlread.specs.FaultSpans.{OnText, entry_fields, form_from, further_span, index_fields, line_length, reached};
 ghost use Rattle.adlread.specs.Flags.{AreFlags};
 
 use crate::entry_lines::{entry_with, event_fields, remark, source_fields};
@@ -36,7 +37,7 @@ impl SourceIndex {
     }
 
     /// Adds the source that a line says behind its number, where no other has that number.
-    #[tactic(auto, unfolding(list_terms::specs::Text::source_with))]
+    #[tactic(auto, unfolding(list_terms::specs::Text::source_with, crate::specs::FaultSpans::form_span))]
     pub fn add(
         &mut self,
         alloc: Global,
@@ -45,8 +46,10 @@ impl SourceIndex {
         rate: Rate,
     ) -> Result<(), LineFault>
         requires { IsTrue (is_number number) }
-        ensures { Says (λ _. self.new.sources) result
+        ensures exact { Says (λ _. self.new.sources) result
             (source_with (frames_per_second rate) self.old.sources number tokens.old.rest.now) }
+        ensures span { OnText result (reached tokens.new
+            ≡ form_from (index_fields (frames_per_second rate) self.old.sources number) tokens.old) }
     {
         if self.sources.contains(number) {
             return Err(LineFault::Text(TextFault::DuplicateNumber));
@@ -97,11 +100,13 @@ impl EventList {
     }
 
     /// Adds the event that a line says behind its number, where no other has that number.
-    #[tactic(auto, unfolding(list_terms::specs::Text::entry_of))]
+    #[tactic(auto, unfolding(list_terms::specs::Text::entry_of, crate::specs::FaultSpans::form_span))]
     pub fn add(&mut self, number: u32, tokens: &mut Tokens<'_>, rate: Rate) -> Result<(), LineFault>
         requires { IsTrue (is_number number) }
-        ensures { Says (λ _. entries_of self.new) result
+        ensures exact { Says (λ _. entries_of self.new) result
             (entry_of (frames_per_second rate) (entries_of self.old) number tokens.old.rest.now) }
+        ensures span { OnText result (reached tokens.new
+            ≡ form_from (entry_fields (frames_per_second rate) (entries_of self.old) number) tokens.old) }
     {
         if self.numbers.contains(number) {
             return Err(LineFault::Text(TextFault::DuplicateNumber));
@@ -126,8 +131,11 @@ impl EventList {
         tokens: &mut Tokens<'_>,
         rate: Rate,
     ) -> Result<(), TextFault>
-        ensures { ok_map (λ _. entries_of self.new) result
+        ensures exact { ok_map (λ _. entries_of self.new) result
             ≡ further_line (frames_per_second rate) (entries_of self.old) (token_view token.now) tokens.old.rest.now }
+        ensures span { OnErr result (reached tokens.new
+            ≡ further_span (frames_per_second rate) self.old.entry (token_view token.now) (line_length tokens.old)
+            (reached tokens.old) tokens.old.rest.now) }
     {
         match self.entry {
             None => remark(token, tokens),

@@ -1,4 +1,4 @@
-use Rattle.std.proofs.Common.{◌≡◌, ℕ, true, false, List, Result, Ok, Err, refl, ap, sym, subst, ◌∙◌}
+use Rattle.std.proofs.Common.{◌≡◌, ℕ, true, false, List, [], Result, Ok, Err, refl, ap, sym, subst, ◌∙◌}
 use Rattle.std.specs.Prelude.{IfErr, IfOk}
 use Rattle.work_terms.specs.Refusals.{Gives, Refusal, is_excused, is_memory}
 use Rattle.list_terms.specs.declared.TextFault.{TextFault}
@@ -11,6 +11,7 @@ use Rattle.list_terms.specs.WholeProject.{IsProject}
 use Rattle.adlread.specs.declared.fault.AdlFault.{AdlFault}
 use Rattle.adlread.specs.declared.fault.AdlFault.TheVariants.{Text, Memory}
 use Rattle.adlread.specs.Fault.{Reads, refusal}
+use Rattle.adlread.specs.FaultSpans.{IsAt, lines_span, text_span}
 use Rattle.adlread.specs.Spells.{Spells}
 use Rattle.adlread.proofs.Blocks.{value_of}
 use Rattle.adlread.proofs.SpelledLists.{spelled_of}
@@ -101,3 +102,13 @@ returns-clause-only c project spells =
 pub returns-clause-faulty : goal.returns-clause-faulty
 returns-clause-faulty c = faulty_from_reads c.args.text.now c.read_lines.result
     (at_its_rate c.args.text.now c.read_lines.result _ c.rate_of-rate.ensures c.read_lines.ensures.exact)
+
+at_text_span :
+    {X : Type 0} (text : List ℕ) (result : Result X AdlFault) (rate : ℕ) → rate ≡ rate_of text
+    → IsAt (lines_span rate nothing_read 0 [] (lines_of text)) result → IsAt (text_span text) result
+unfolding text_span
+at_text_span text result rate same h = subst (λ r. IsAt (lines_span r nothing_read 0 [] (lines_of text)) result) same h
+
+pub returns-clause-span : goal.returns-clause-span
+returns-clause-span c =
+    at_text_span c.args.text.now c.read_lines.result _ c.rate_of-rate.ensures c.read_lines.ensures.span

@@ -1,4 +1,4 @@
-use Rattle.std.proofs.Common.{◌≡◌, true, length}
+use Rattle.std.proofs.Common.{◌≡◌, true, [], length}
 use Rattle.std.specs.List.{list_all}
 use Rattle.sampletime.specs.FrameRate.{frames_per_second}
 use Rattle.list_terms.specs.Lines.{lines_of}
@@ -6,6 +6,7 @@ use Rattle.list_terms.specs.Text.{nothing_read, read_from}
 use Rattle.list_terms.specs.WholeProject.{is_line_byte}
 use Rattle.adlread.specs.Context.{context_of}
 use Rattle.adlread.specs.SoFar.{IsSoFar}
+use Rattle.adlread.specs.FaultSpans.{lines_span}
 use Rattle.adlread.proofs.read_lines.Given as goal
 
 -- what is left to read, behind what was read so far, gives what the whole gives
@@ -13,6 +14,8 @@ abbrev pub invariant-lines : goal.invariant-lines
 invariant-lines l = record {
   same : read_from (frames_per_second l.rate) (context_of l.draft) l.lines.number l.lines.lines
       ≡ read_from (frames_per_second l.rate) nothing_read 0 (lines_of l.fn.text);
+  span : lines_span (frames_per_second l.rate) (context_of l.draft) l.lines.number l.last l.lines.lines
+      ≡ lines_span (frames_per_second l.rate) nothing_read 0 [] (lines_of l.fn.text);
   so_far : IsSoFar (frames_per_second l.rate) (context_of l.draft);
   whole : list_all (list_all is_line_byte) l.lines.lines ≡ true;
 }
