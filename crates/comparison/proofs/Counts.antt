@@ -66,11 +66,12 @@ differing-append sums others n (suc m) =
     ap (differing sums others) all ∙ omega (arith, rest)
 
 -- where so many differ of each channel, no count grew by more than there are
-pub few_more : (sums others : ℕ → ℕ → ℤ) (n : ℕ) (old new : List ℕ) → ((k : ℕ) → k < length new
-    → get_or new k 0 ≡ get_or old k 0 + differing (sums k) (others k) n) → (k : ℕ) → get_or new k 0 ≤ get_or old k 0 + n
-few_more sums others n old new more k = by_place (cases_lt k (length new)) where
+pub few_more : (of : ℕ → List ℤ → ℕ → ℤ) (sums others : List ℤ) (n : ℕ) (old new : List ℕ) → ((k : ℕ) → k < length new
+    → get_or new k 0 ≡ get_or old k 0 + differing (of k sums) (of k others) n) → (k : ℕ)
+    → get_or new k 0 ≤ get_or old k 0 + n
+few_more of sums others n old new more k = by_place (cases_lt k (length new)) where
   by_place : (k < length new) ⊎ (length new ≤ k) → get_or new k 0 ≤ get_or old k 0 + n
-  by_place (inl below) = omega (arith, more k below, differing_few (sums k) (others k) n)
+  by_place (inl below) = omega (arith, more k below, differing_few (of k sums) (of k others) n)
   by_place (inr past) = omega (arith, get_or_past new k 0 past)
 
 -- a stretch more was counted
@@ -101,15 +102,15 @@ pub sums_counted : (frames channels start : ℕ) (sums others : List ℤ) (mix m
     → length new ≡ channels → AreSumsOf frames channels sums (λ i channel. mix channel (start + i))
     → AreSumsOf frames channels others (λ i channel. mixed channel (start + i))
     → ((k : ℕ) → k < length new → get_or new k 0
-    ≡ get_or old k 0 + differing (of_channel (length new) k sums) (of_channel (length new) k others) frames)
+    ≡ get_or old k 0 + differing (of_channel channels k sums) (of_channel channels k others) frames)
     → HasCounted mix mixed start frames old new
 sums_counted frames channels start sums others mix mixed old new wide are also more k below =
-    let at : (i : ℕ) → i * length new + k ≡ i * channels + (k + 1 - 1) = λ i. rw wide (omega arith) in
-    let mine : (i : ℕ) → i < frames → of_channel (length new) k sums i ≡ mix (k + 1) (start + i) = λ i inside.
+    let at : (i : ℕ) → i * channels + k ≡ i * channels + (k + 1 - 1) = λ i. omega arith in
+    let mine : (i : ℕ) → i < frames → of_channel channels k sums i ≡ mix (k + 1) (start + i) = λ i inside.
     ap (λ (p : ℕ). get_or sums p (pos 0)) (at i) ∙ are i (k + 1) inside (omega arith) (omega (arith, below, wide)) in
-    let theirs : (i : ℕ) → i < frames → of_channel (length new) k others i ≡ mixed (k + 1) (start + i) = λ i inside.
+    let theirs : (i : ℕ) → i < frames → of_channel channels k others i ≡ mixed (k + 1) (start + i) = λ i inside.
     ap (λ (p : ℕ). get_or others p (pos 0)) (at i) ∙ also i (k + 1) inside (omega arith) (omega (arith, below, wide)) in
-    let same = differing_alike (of_channel (length new) k sums) (of_channel (length new) k others)
+    let same = differing_alike (of_channel channels k sums) (of_channel channels k others)
     (λ i. mix (k + 1) (start + i)) (λ i. mixed (k + 1) (start + i)) frames mine theirs in
     more k below ∙ ap (λ (n : ℕ). get_or old k 0 + n) same
 

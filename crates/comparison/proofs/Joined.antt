@@ -1,10 +1,11 @@
 -- Frames that are the same in two files, and those that follow them.
-use Rattle.std.proofs.Common.{◌≡◌, ◌⊎◌, inl, inr, ℕ, ◌+◌, ◌-◌, ◌^◌, ◌<◌, ◌≤◌, List, arith, ap, ◌∙◌, subst, sym}
+use Rattle.std.proofs.Common.{◌≡◌, ◌⊎◌, inl, inr, ℕ, ◌+◌, ◌-◌, ◌^◌, ◌<◌, ◌≤◌, List, arith, ap, subst, sym}
 use Rattle.std.specs.List.{All}
 use Rattle.std.specs.Prelude.{max, pos, neg_ℤ, ◌≤ℤ◌}
 use Rattle.std.proofs.lemmas.Bool.{cases_lt}
 use Rattle.sound_terms.specs.declared.block.Stretch.{Stretch}
 use Rattle.sound_terms.specs.Mix.{Reading}
+use Rattle.sound_terms.specs.Sounds.{SoundFacts}
 use Rattle.comparison.specs.declared.matches.Match.{Match}
 use Rattle.comparison.specs.Matched.{AreSameFrames, Follows}
 use Rattle.comparison.specs.Stored.{IsMatchOf, PlayAlike}
@@ -66,62 +67,24 @@ module _ (reading other : Reading) where
   pub none_same : (none : Match) → none.end ≡ 0 → AreSameFrames reading other none
   none_same none empty channel i from_one to_last below = absurd (omega (arith, empty, below))
 
--- ---- frames of stretches
-
-module _ (reading other : Reading) (stretch part whole counterpart : Stretch) (found : Match)
-    (is : IsMatchOf found whole counterpart) (of_whole : whole ≡ record stretch { first = 1; width = whole.width })
-    (of_counterpart : counterpart ≡ record part { first = 1; width = counterpart.width }) where
-  -- the frames that were compared, with all channels
-  pub played_same : PlayAlike reading other whole counterpart → AreSameFrames reading other found
-  played_same alike channel i from_one to_last below =
-      let j = channel - 1 in
-      let on : j < whole.width = omega (arith, from_one, to_last, is.channels) in
-      let inside : i < whole.length = omega (arith, below, is.end, is.frame) in
-      let first : whole.first ≡ 1 = ap (λ (s : Stretch). s.first) of_whole in
-      let other_first : counterpart.first ≡ 1 = ap (λ (s : Stretch). s.first) of_counterpart in
-      let here : whole.first + j ≡ channel = omega (arith, first, from_one) in
-      let other_here : counterpart.first + j ≡ channel = omega (arith, other_first, from_one) in
-      let same : reading whole.file channel (whole.frame + i) ≡ other counterpart.file channel (counterpart.frame + i) =
-      subst (λ (c : ℕ). reading whole.file c (whole.frame + i) ≡ other counterpart.file channel (counterpart.frame + i)) here
-      (subst (λ (c : ℕ). reading whole.file (whole.first + j) (whole.frame + i)
-      ≡ other counterpart.file c (counterpart.frame + i)) other_here (alike.samples j i on inside)) in
-      let full : (neg_ℤ (pos (2 ^ 47)) ≤ℤ reading whole.file channel (whole.frame + i))
-      × (reading whole.file channel (whole.frame + i) ≤ℤ pos (2 ^ 47)) =
-      subst (λ (c : ℕ). (neg_ℤ (pos (2 ^ 47)) ≤ℤ reading whole.file c (whole.frame + i))
-      × (reading whole.file c (whole.frame + i) ≤ℤ pos (2 ^ 47))) here (alike.full j i on inside) in
-      rw (is.file, is.frame, is.other_file, is.other_frame) (same, full.0, full.1)
-
-  -- what is known of them says it of both stretches
-  pub known_alike : part ≡ record stretch { file = part.file; frame = part.frame } → 1 ≤ stretch.first
-      → stretch.first + stretch.width ≤ whole.width + 1 → whole.frame + whole.length < 2 ^ 64
-      → AreSameFrames reading other found → PlayAlike reading other stretch part
-  known_alike layout from_one wide ends known =
-      let file : found.file ≡ stretch.file = is.file ∙ ap (λ (s : Stretch). s.file) of_whole in
-      let frame : found.frame ≡ stretch.frame = is.frame ∙ ap (λ (s : Stretch). s.frame) of_whole in
-      let other_file : found.other_file ≡ part.file = is.other_file ∙ ap (λ (s : Stretch). s.file) of_counterpart in
-      let other_frame : found.other_frame ≡ part.frame = is.other_frame ∙ ap (λ (s : Stretch). s.frame) of_counterpart in
-      let long : whole.length ≡ stretch.length = ap (λ (s : Stretch). s.length) of_whole in
-      let start : whole.frame ≡ stretch.frame = ap (λ (s : Stretch). s.frame) of_whole in
-      let first : part.first ≡ stretch.first = ap (λ (s : Stretch). s.first) layout in
-      let part_long : part.length ≡ stretch.length = ap (λ (s : Stretch). s.length) layout in
-      let part_width : part.width ≡ stretch.width = ap (λ (s : Stretch). s.width) layout in
+  -- what is known of the frames of two stretches says it of both
+  pub known_alike : (sounds others : List SoundFacts) (stretch part : Stretch) (found : Match)
+      → IsMatchOf sounds others stretch part found → AreSameFrames reading other found
+      → PlayAlike reading other stretch part
+  known_alike sounds others stretch part found is known =
+      let first : part.first ≡ stretch.first = ap (λ (s : Stretch). s.first) is.layout in
+      let long : part.length ≡ stretch.length = ap (λ (s : Stretch). s.length) is.layout in
+      let width : part.width ≡ stretch.width = ap (λ (s : Stretch). s.width) is.layout in
       let at : (j i : ℕ) → j < stretch.width → i < stretch.length
-      → IsSameAt reading other stretch.file (stretch.frame + i) part.file (part.frame + i) (stretch.first + j) =
-      λ j i on inside.
-      let here : IsSameAt reading other found.file (found.frame + i) found.other_file (found.other_frame + i)
-      (stretch.first + j) =
-      known (stretch.first + j) i (omega (arith, from_one)) (omega (arith, wide, on, is.channels))
-      (omega (arith, inside, is.end, frame, long, start, ends)) in
-      subst (λ (n : ℕ). IsSameAt reading other n (stretch.frame + i) part.file (part.frame + i) (stretch.first + j)) file
-      (subst (λ (n : ℕ). IsSameAt reading other found.file (n + i) part.file (part.frame + i) (stretch.first + j)) frame
-      (subst (λ (n : ℕ). IsSameAt reading other found.file (found.frame + i) n (part.frame + i) (stretch.first + j)) other_file
-      (subst (λ (n : ℕ). IsSameAt reading other found.file (found.frame + i) found.other_file (n + i) (stretch.first + j))
-      other_frame here))) in
+      → IsSameAt stretch.file (stretch.frame + i) part.file (part.frame + i) (stretch.first + j) = λ j i on inside.
+      rw (← is.file, ← is.frame, ← is.other_file, ← is.other_frame)
+      (known (stretch.first + j) i (omega (arith, is.from_one)) (omega (arith, is.wide, on))
+      (omega (arith, inside, is.end, is.frame))) in
       record {
-        layout = layout;
+        layout = is.layout;
         samples = λ j i on inside. rw first (at j i on inside).0;
         full = λ j i on inside. ((at j i on inside).1, (at j i on inside).2);
         other_full = λ j i on inside.
-            let mine = at j i (omega (arith, on, part_width)) (omega (arith, inside, part_long)) in
+            let mine = at j i (omega (arith, on, width)) (omega (arith, inside, long)) in
             rw (first, ← mine.0) (mine.1, mine.2);
       }

@@ -1,3 +1,4 @@
+pub mod Both
 pub mod Counts
 pub mod Events
 pub mod Heard

@@ -7,13 +7,12 @@ use Rattle.std.proofs.lemmas.Int.{ints}
 use Rattle.std.proofs.Math.IntN.{negsuc-*ℤ-pos, pos-*ℤ-pos}
 use Rattle.sound_terms.specs.declared.Depth.{Depth}
 use Rattle.sound_terms.specs.declared.Depth.TheVariants.{Sixteen, TwentyFour, ThirtyTwo}
-use Rattle.sound_terms.specs.declared.block.Stretch.{Stretch}
 use Rattle.sound_terms.specs.declared.block.Instruction.{Instruction}
 use Rattle.sound_terms.specs.declared.block.Instruction.TheVariants.{Start}
 use Rattle.sound_terms.specs.Depth.{bits_of}
 use Rattle.sound_terms.specs.Media.{frame_length}
 use Rattle.sound_terms.specs.Mix.{Reading, full_scale}
-use Rattle.sound_terms.specs.Blocks.{BlockState, IsFull, PlaysFull, block_frames, block_start, executed, executed_all}
+use Rattle.sound_terms.specs.Blocks.{BlockState, PlaysFull, block_frames, block_start, executed, executed_all}
 use Rattle.sound_terms.specs.Render.{Range}
 use Rattle.sound_terms.specs.Sounds.{SoundFacts, reading_by}
 use Rattle.sound_terms.specs.Waves.{sample_of}
@@ -22,10 +21,10 @@ use Rattle.devices.specs.declared.fault.ShelfFault.{ShelfFault}
 use Rattle.devices.specs.declared.fault.ShelfFault.TheVariants as shelf
 use Rattle.pcm.specs.Samples.{FitsDepth, samples_in}
 use Rattle.pcm.specs.Laws.{AreBytes, all_fit, get_or-samples_in_file, length-samples_in}
-use Rattle.blockmachine.specs.Playing.{Plays}
 use Rattle.comparison.specs.Alike.{AreAlike}
-use Rattle.comparison.specs.declared.stored.Counterparts.{Counterparts}
-use Rattle.comparison.specs.Stored.{AddAlike, AreCounterparts, PlayAlike, SumAlike, full_samples}
+use Rattle.comparison.specs.declared.matches.Match.{Match}
+use Rattle.comparison.specs.Matched.{AreSameFrames}
+use Rattle.comparison.specs.Stored.{AddAlike, HoldFrames, SumAlike, full_samples}
 
 pub device_of : (fault : ShelfFault) → (fault ≡ shelf.NotFound → ⊥) → fault ≡ shelf.Device
 device_of shelf.NotFound other = absurd (other refl)
@@ -73,50 +72,9 @@ heard_sample files sounds facts n channel frame file there stored inside first l
     let high : nat_le channel facts.channels ≡ true = grind (arith, nat_tests) in
     rw (there, stored, frames, low, high) refl
 
-module _ (files : Files) (sounds : List SoundFacts) (facts : SoundFacts) (part : Stretch) (bytes : List ℕ)
-    (there : slice_get sounds part.file ≡ Some facts)
-    (range : IsRange (files facts.name) (facts.place + part.frame * frame_length facts) bytes)
-    (whole : length bytes ≡ part.length * facts.channels * (bits_of facts.depth / 8)) (first : 1 ≤ part.first)
-    (last : part.first + part.width ≤ facts.channels + 1) (inside : part.frame + part.length ≤ facts.frames) where
-  abbrev samples : List ℤ
-  samples = samples_in (bits_of facts.depth) (part.length * facts.channels) bytes
-
-  -- the frames that were read are what the stretch plays
-  pub read_plays : Plays (reading_by files sounds) part facts.channels (bits_of facts.depth)
-      (samples_in (bits_of facts.depth) (part.length * facts.channels) bytes)
-  read_plays = λ i j below on.
-      let bits = bits_of facts.depth in
-      let n = part.length * facts.channels in
-      let start = facts.place + part.frame * frame_length facts in
-      let row : (i + 1) * facts.channels ≤ part.length * facts.channels = grind arith in
-      let k = i * facts.channels + (part.first - 1 + j) in
-      let within : k < n = omega arith in
-      let same : bytes ≡ take (n * (bits / 8)) (drop start range.file) =
-      range.same ∙ ap (λ m. take m (drop start range.file)) whole in
-      let place : start + k * (bits / 8)
-      ≡ facts.place + ((part.frame + i) * facts.channels + (part.first + j - 1)) * (bits / 8) =
-      let channel : part.first - 1 + j ≡ part.first + j - 1 = omega arith in rw channel (omega arith) in
-      ap (full_scale bits) (get_or-samples_in_file bits n k start range.file bytes (pos 0) same within
-      ∙ ap (λ m. sample_of bits (drop m range.file)) place)
-      ∙ sym (heard_sample files sounds facts part.file (part.first + j) (part.frame + i) range.file there range.there
-      (omega arith) (omega arith) (omega arith))
-
-  pub read_full : AreBytes bytes → IsFull (reading_by files sounds) part
-  read_full small = λ j i on below.
-      let bits = bits_of facts.depth in
-      let n = part.length * facts.channels in
-      let row : (i + 1) * facts.channels ≤ part.length * facts.channels = grind arith in
-      let k = i * facts.channels + (part.first - 1 + j) in
-      let within : k < length (samples_in bits n bytes) = omega (arith, length-samples_in bits n bytes) in
-      subst Within (read_plays i j below on)
-      (full_sample facts.depth (get_or (samples_in bits n bytes) k (pos 0))
-      (all_fit facts.depth n bytes small k (pos 0) within))
-
--- ---- what is played
-
--- what is read at a place of samples at full scale
-full_at : (depth : ℕ) (frames : List ℤ) (k : ℕ) (d : ℤ)
-    → get_or (map (full_scale depth) frames) k (full_scale depth d) ≡ full_scale depth (get_or frames k d)
+-- the sample at a position at full scale
+full_at : (depth : ℕ) (samples : List ℤ) (k : ℕ) (d : ℤ)
+    → get_or (map (full_scale depth) samples) k (full_scale depth d) ≡ full_scale depth (get_or samples k d)
 full_at depth [] k d = refl
 full_at depth (sample ∷ more) zero d = refl
 full_at depth (sample ∷ more) (suc k) d = full_at depth more k d
@@ -125,65 +83,73 @@ zero_full : (depth : ℕ) → full_scale depth (pos 0) ≡ pos 0
 zero_full depth =
     let none : 0 * 2 ^ (48 - depth) ≡ 0 = omega arith in pos-*ℤ-pos 0 (2 ^ (48 - depth)) ∙ ap pos none
 
-same_full : (depth other : ℕ) (frames others : List ℤ) (k : ℕ)
-    → map (full_scale depth) frames ≡ map (full_scale other) others
-    → full_scale depth (get_or frames k (pos 0)) ≡ full_scale other (get_or others k (pos 0))
-same_full depth other frames others k same =
-    sym (full_at depth frames k (pos 0))
-    ∙ ap (λ (l : List ℤ). get_or l k (full_scale depth (pos 0))) same
-    ∙ ap (λ (d : ℤ). get_or (map (full_scale other) others) k d) (zero_full depth ∙ sym (zero_full other))
-    ∙ full_at other others k (pos 0)
+-- the bytes that were read are these frames
+pub read_held : (files : Files) (sounds : List SoundFacts) (facts : SoundFacts) (file from n : ℕ) (bytes : List ℕ)
+    → slice_get sounds file ≡ Some facts
+    → IsRange (files facts.name) (facts.place + from * frame_length facts) bytes
+    → length bytes ≡ n * facts.channels * (bits_of facts.depth / 8) → from + n ≤ facts.frames → AreBytes bytes
+    → HoldFrames (reading_by files sounds) facts.channels (bits_of facts.depth) file from n bytes
+read_held files sounds facts file from n bytes there range whole inside small channel i first last below =
+    let bits = bits_of facts.depth in
+    let total = n * facts.channels in
+    let samples = samples_in bits total bytes in
+    let start = facts.place + from * frame_length facts in
+    let k = i * facts.channels + (channel - 1) in
+    let row : (i + 1) * facts.channels ≤ n * facts.channels = grind arith in
+    let within : k < total = omega arith in
+    let stored : bytes ≡ take (total * (bits / 8)) (drop start range.file) =
+    range.same ∙ ap (λ m. take m (drop start range.file)) whole in
+    let position : start + k * (bits / 8)
+    ≡ facts.place + ((from + i) * facts.channels + (channel - 1)) * (bits / 8) = omega arith in
+    let heard : reading_by files sounds file channel (from + i) ≡ full_scale bits (get_or samples k (pos 0)) =
+    heard_sample files sounds facts file channel (from + i) range.file there range.there (omega arith) first last
+    ∙ sym (ap (full_scale bits) (get_or-samples_in_file bits total k start range.file bytes (pos 0) stored within
+    ∙ ap (λ m. sample_of bits (drop m range.file)) position)) in
+    let at : get_or (full_samples bits total bytes) k (pos 0) ≡ full_scale bits (get_or samples k (pos 0)) =
+    ap (get_or (full_samples bits total bytes) k) (sym (zero_full bits)) ∙ full_at bits samples k (pos 0) in
+    let full : Within (reading_by files sounds file channel (from + i)) =
+    subst Within (sym heard)
+    (full_sample facts.depth (get_or samples k (pos 0))
+    (all_fit facts.depth total bytes small k (pos 0) (omega (arith, within, length-samples_in bits total bytes)))) in
+    (heard ∙ sym at, full.0, full.1)
 
--- two stretches that play the same samples play alike
-pub plays_alike : (reading other : Reading) (stretch part : Stretch) (channels depth other_depth : ℕ)
-    (frames counterparts : List ℤ) → part ≡ record stretch { file = part.file; frame = part.frame }
-    → map (full_scale depth) frames ≡ map (full_scale other_depth) counterparts
-    → Plays reading stretch channels depth frames → Plays other part channels other_depth counterparts
-    → IsFull reading stretch → IsFull other part → PlayAlike reading other stretch part
-plays_alike reading other stretch part channels depth other_depth frames counterparts layout same mine theirs full
-    other_full = record {
-      layout = layout;
-      samples = λ j i on below.
-          let first : part.first ≡ stretch.first = ap (λ (s : Stretch). s.first) layout in
-          let width : part.width ≡ stretch.width = ap (λ (s : Stretch). s.width) layout in
-          let long : part.length ≡ stretch.length = ap (λ (s : Stretch). s.length) layout in
-          sym (mine i j below on)
-          ∙ same_full depth other_depth frames counterparts (i * channels + (stretch.first - 1 + j)) same
-          ∙ ap (λ (f : ℕ). full_scale other_depth (get_or counterparts (i * channels + (f - 1 + j)) (pos 0))) (sym first)
-          ∙ theirs i j (omega (arith, below, long)) (omega (arith, on, width));
-      full = full;
-      other_full = other_full;
-    }
+-- frames that are the same as they are stored are those of a match
+same_frames : (reading other : Reading) (found : Match) (depth other_depth : ℕ) (bytes others : List ℕ)
+    → full_samples depth ((found.end - found.frame) * found.channels) bytes
+    ≡ full_samples other_depth ((found.end - found.frame) * found.channels) others
+    → HoldFrames reading found.channels depth found.file found.frame (found.end - found.frame) bytes
+    → HoldFrames other found.channels other_depth found.other_file found.other_frame (found.end - found.frame) others
+    → AreSameFrames reading other found
+same_frames reading other found depth other_depth bytes others same mine theirs channel i first last below =
+    let held = mine channel i first last below in (
+      held.0 ∙ ap (λ (l : List ℤ). get_or l (i * found.channels + (channel - 1)) (pos 0)) same
+          ∙ sym (theirs channel i first last below).0,
+      held.1,
+      held.2,
+    )
 
--- so do those whose samples are the same as they are stored
-pub stored_play : (reading other : Reading) (sounds others : List SoundFacts) (stretch part : Stretch)
-    (found : Counterparts) (bytes other_bytes : List ℕ) (alike : AreCounterparts sounds others stretch part found)
-    → full_samples (bits_of found.depth) found.samples bytes
-    ≡ full_samples (bits_of found.other_depth) found.samples other_bytes
-    → Plays reading stretch alike.facts.channels (bits_of alike.facts.depth)
-    (samples_in (bits_of alike.facts.depth) (stretch.length * alike.facts.channels) bytes)
-    → Plays other part alike.other_facts.channels (bits_of alike.other_facts.depth)
-    (samples_in (bits_of alike.other_facts.depth) (part.length * alike.other_facts.channels) other_bytes)
-    → IsFull reading stretch → IsFull other part → PlayAlike reading other stretch part
-stored_play reading other sounds others stretch part found bytes other_bytes alike same mine theirs full other_full =
-    let channels = alike.facts.channels in
-    let bits = bits_of alike.facts.depth in
-    let other_bits = bits_of alike.other_facts.depth in
-    let n = stretch.length * channels in
-    let long : part.length ≡ stretch.length = ap (λ (s : Stretch). s.length) alike.layout in
-    let of_channels = subst (λ (m : ℕ). Plays other part m other_bits (samples_in other_bits (part.length * m) other_bytes))
-    alike.channels_alike theirs in
-    let of_length = subst (λ (m : ℕ). Plays other part channels other_bits (samples_in other_bits (m * channels) other_bytes))
-    long of_channels in
-    let mine_full : full_samples (bits_of found.depth) found.samples bytes ≡ full_samples bits n bytes =
-    ap (λ (d : Depth). full_samples (bits_of d) found.samples bytes) alike.depth
-    ∙ ap (λ m. full_samples bits m bytes) alike.samples in
-    let theirs_full : full_samples (bits_of found.other_depth) found.samples other_bytes
-    ≡ full_samples other_bits n other_bytes =
-    ap (λ (d : Depth). full_samples (bits_of d) found.samples other_bytes) alike.other_depth
-    ∙ ap (λ m. full_samples other_bits m other_bytes) alike.samples in
-    plays_alike reading other stretch part channels bits other_bits (samples_in bits n bytes)
-    (samples_in other_bits n other_bytes) alike.layout (sym mine_full ∙ same ∙ theirs_full) mine of_length full other_full
+-- so they are where the bytes that were read of both files are the same as they are stored
+pub match_same : (reading other : Reading) (found : Match) (facts other_facts : SoundFacts) (channels : ℕ)
+    (depth other_depth : Depth) (bytes others : List ℕ) → channels ≡ found.channels → facts.channels ≡ found.channels
+    → other_facts.channels ≡ found.channels → depth ≡ facts.depth → other_depth ≡ other_facts.depth
+    → length bytes ≡ (found.end - found.frame) * channels * (bits_of depth / 8)
+    → length others ≡ (found.end - found.frame) * channels * (bits_of other_depth / 8)
+    → full_samples (bits_of depth) ((found.end - found.frame) * channels) bytes
+    ≡ full_samples (bits_of other_depth) ((found.end - found.frame) * channels) others
+    → (length bytes ≡ (found.end - found.frame) * facts.channels * (bits_of facts.depth / 8)
+    → HoldFrames reading facts.channels (bits_of facts.depth) found.file found.frame (found.end - found.frame) bytes)
+    → (length others ≡ (found.end - found.frame) * other_facts.channels * (bits_of other_facts.depth / 8)
+    → HoldFrames other other_facts.channels (bits_of other_facts.depth) found.other_file found.other_frame
+    (found.end - found.frame) others) → AreSameFrames reading other found
+match_same reading other found facts other_facts channels depth other_depth bytes others wide chan other_chan deep
+    other_deep whole others_whole same held others_held =
+    let n = found.end - found.frame in
+    same_frames reading other found (bits_of facts.depth) (bits_of other_facts.depth) bytes others
+    (rw (← wide, ← deep, ← other_deep) same)
+    (subst (λ (m : ℕ). HoldFrames reading m (bits_of facts.depth) found.file found.frame n bytes) chan
+    (held (rw (chan, ← wide, ← deep) whole)))
+    (subst (λ (m : ℕ). HoldFrames other m (bits_of other_facts.depth) found.other_file found.other_frame n others)
+    other_chan (others_held (rw (other_chan, ← wide, ← other_deep) others_whole)))
 
 -- ---- programs
 

@@ -1,8 +1,10 @@
 pub mod Alike
+pub mod Both
 pub mod Counted
 pub mod Fault
 pub mod Matched
 pub mod Range
 pub mod Side
+pub mod Sided
 pub mod Stored
 pub mod Whole

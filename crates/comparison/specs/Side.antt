@@ -1,8 +1,8 @@
 -- One of two sides of a comparison: what its plan's pieces sound like, block by block.
-use Rattle.std.specs.Prelude.{◌≡◌, ℕ, ◌+◌, ◌*◌, ◌<◌, ◌≤◌, min, ℤ, List, length}
+use Rattle.std.specs.Prelude.{◌≡◌, ℕ, ◌+◌, ◌*◌, ◌<◌, ◌≤◌, min, ℤ, List, length, take}
 use Rattle.std.specs.List.{All}
 use Rattle.sound_terms.specs.declared.block.Instruction.{Instruction}
-use Rattle.sound_terms.specs.Blocks.{BlockState, LiesInFiles, PlaysFull, block_frames, block_start, executed_all}
+use Rattle.sound_terms.specs.Blocks.{BlockState, LiesInFiles, PlaysFull, Programmed, block_frames, block_start, executed_all}
 use Rattle.sound_terms.specs.Groups.{sum_of}
 use Rattle.sound_terms.specs.Media.{IsPieceOf}
 use Rattle.sound_terms.specs.Render.{Range}
@@ -10,17 +10,26 @@ use Rattle.sound_terms.specs.Sounds.{SoundFacts, reading_by}
 use Rattle.work_terms.specs.Disk.{Files}
 use Rattle.renderplan.specs.Planned.{IsPlan, Planned}
 use Rattle.blockmachine.specs.Exact.{AreSumsOf}
-use Rattle.comparison.specs.declared.room.Room.{Room}
+use Rattle.blockmachine.specs.Sums.{Extent}
 
 -- a plan over opened files
 pub record SideWork : Type 0 where
   pub planned : Planned
   pub sounds : List SoundFacts
 
--- whose pieces lie in these files
-pub record IsSide (work : SideWork) : Type 0 where
+-- with the program and the sums that were written last
+pub record SideState : Type 0 where
+  pub work : SideWork
+  pub lines : List Instruction
+  pub sums : List ℤ
+
+-- the plan's pieces lie in these files, and the machine, the program and the sums have room for any block
+pub record IsSide (work : SideWork) (machine : Extent) (program : Programmed) (sums : List ℤ) : Type 0 where
   pub planned : IsPlan work.planned
   pub inside : All (IsPieceOf work.sounds) work.planned.pieces
+  pub ready : machine ≡ record { frames = 4096; channels = work.planned.range.channels }
+  pub lines_room : length work.planned.pieces + 2 ≤ program.room
+  pub sums_room : length sums ≡ 4096 * work.planned.range.channels
 
 -- what the plan's pieces sound like over these sources
 abbrev pub heard : SideWork → Files → ℕ → ℕ → ℤ
@@ -39,10 +48,9 @@ pub record IsBlockOf (work : SideWork) (k : ℕ) (lines : List Instruction) : Ty
       → (executed_all (reading_by sources work.sounds) work.planned.range.channels lines start).sums i channel
       ≡ heard work sources channel (block_start work.planned.range k + i)
 
--- a room holds the program and the sums of any block of a side
-pub record HasRoom (work : SideWork) (room : Room) : Type 0 where
-  pub program : length work.planned.pieces + 2 ≤ room.program.room
-  pub sums : length room.sums.items ≡ 4096 * work.planned.range.channels
+-- of sums of any block, as many as block k has
+abbrev pub first_sums : Range → ℕ → List ℤ → List ℤ
+first_sums range k sums = take (block_frames range k * range.channels) sums
 
 -- the time that is reached before block k
 abbrev pub reached : Range → ℕ → ℕ

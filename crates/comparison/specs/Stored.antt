@@ -1,42 +1,46 @@
 -- What two blocks add to their sums from samples that are the same as they are stored.
-use Rattle.std.specs.Prelude.{◌≡◌, ℕ, ◌+◌, ◌*◌, ◌^◌, ◌<◌, ◌≤◌, min, ◌-◌, ℤ, List, Some, length, map, slice_get, slice_index_or}
+use Rattle.std.specs.Prelude.{◌≡◌, ℕ, ◌+◌, ◌-◌, ◌*◌, ◌/◌, ◌^◌, ◌<◌, ◌≤◌, ℤ, pos, neg_ℤ, ◌≤ℤ◌, List, Some, length, map, slice_get, slice_index_or}
 use Rattle.sound_terms.specs.declared.block.Stretch.{Stretch}
 use Rattle.sound_terms.specs.declared.block.Instruction.{Instruction}
 use Rattle.sound_terms.specs.Blocks.{BlockState, IsFull, PlaysFull, executed}
+use Rattle.sound_terms.specs.Depth.{bits_of}
 use Rattle.sound_terms.specs.Mix.{Reading, full_scale}
 use Rattle.sound_terms.specs.Sounds.{SoundFacts}
 use Rattle.pcm.specs.Samples.{samples_in}
 use Rattle.comparison.specs.declared.matches.Match.{Match}
-use Rattle.comparison.specs.declared.stored.Counterparts.{Counterparts}
+use Rattle.comparison.specs.Matched.{LieInBoth}
 
 -- the first n samples of bytes of this depth, at full scale
 abbrev pub full_samples : (depth n : ℕ) → List ℕ → List ℤ
 full_samples depth n bytes = map (full_scale depth) (samples_in depth n bytes)
 
--- two stretches of the same samples and channels of a block, which play files of as many channels: so many samples of
--- either file, at its depth
-pub record AreCounterparts (sounds others : List SoundFacts) (stretch part : Stretch) (found : Counterparts)
-    : Type 0 where
+-- so many bytes as whole frames of an opened file have, from this one on
+pub record AreFrames (sounds : List SoundFacts) (file from : ℕ) (bytes : List ℕ) : Type 0 where
+  pub facts : SoundFacts
+  pub there : slice_get sounds file ≡ Some facts
+  pub n : ℕ
+  pub whole : length bytes ≡ n * facts.channels * (bits_of facts.depth / 8)
+  pub inside : from + n ≤ facts.frames
+
+-- these bytes are the n frames of a file from this one on, and no sample of them lies outside full scale
+abbrev pub HoldFrames : Reading → (channels depth file from n : ℕ) → List ℕ → Type 0
+HoldFrames reading channels depth file from n bytes = (channel i : ℕ) → 1 ≤ channel → channel ≤ channels → i < n
+    → (reading file channel (from + i)
+    ≡ slice_index_or (full_samples depth (n * channels) bytes) (i * channels + (channel - 1)) (pos 0))
+    × (neg_ℤ (pos (2 ^ 47)) ≤ℤ reading file channel (from + i))
+    × (reading file channel (from + i) ≤ℤ pos (2 ^ 47))
+
+-- these are the frames of two stretches of the same samples and channels of a block, with all channels of their files
+pub record IsMatchOf (sounds others : List SoundFacts) (stretch part : Stretch) (found : Match) : Type 0 where
   pub layout : part ≡ record stretch { file = part.file; frame = part.frame }
   pub from_one : 1 ≤ stretch.first
-  pub facts : SoundFacts
-  pub there : slice_get sounds stretch.file ≡ Some facts
-  pub other_facts : SoundFacts
-  pub other_there : slice_get others part.file ≡ Some other_facts
-  pub channels_alike : other_facts.channels ≡ facts.channels
-  pub depth : found.depth ≡ facts.depth
-  pub other_depth : found.other_depth ≡ other_facts.depth
-  pub samples : found.samples ≡ stretch.length * facts.channels
-  pub few : found.samples < 2 ^ 40
-
--- these are frames of two stretches, on the channels of the first
-pub record IsMatchOf (found : Match) (stretch part : Stretch) : Type 0 where
   pub file : found.file ≡ stretch.file
   pub frame : found.frame ≡ stretch.frame
-  pub end : found.end ≡ min (stretch.frame + stretch.length) (2 ^ 64 - 1)
+  pub end : found.end ≡ stretch.frame + stretch.length
   pub other_file : found.other_file ≡ part.file
   pub other_frame : found.other_frame ≡ part.frame
-  pub channels : found.channels ≡ stretch.width
+  pub wide : stretch.first + stretch.width ≤ found.channels + 1
+  pub lies : LieInBoth sounds others found
 
 -- two stretches of the same samples and channels of a block play the same, and no sample outside full scale
 pub record PlayAlike (reading other : Reading) (stretch part : Stretch) : Type 0 where

@@ -1,8 +1,9 @@
 // The sums of two blocks, one by one.
-ghost use Rattle.std.specs.Prelude.{◌≡◌, ◌+◌, ◌*◌, ◌<◌, ◌≤◌, ℕ, ℤ, pos, IsTrue, length, slice_index_or};
-ghost use Rattle.sampletime.specs.TimeCode.{day};
-ghost use Rattle.blockmachine.specs.Exact.{AreSumsOf};
+ghost use Rattle.std.specs.Prelude.{◌≡◌, ◌+◌, ◌<◌, ℕ, ℤ, pos, IsTrue, length, slice_index_or};
 ghost use Rattle.comparison.specs.Alike.{IsCompared, IsFirstDiffering};
+ghost use Rattle.comparison.specs.Both.{AreSumsOfBlock};
+
+use crate::block::BlockSums;
 
 /// A sample of a channel, counted from 1 on, at a time of the day, and the exact sums of two projects for it. Full scale
 /// is 2^47.
@@ -16,11 +17,11 @@ pub struct Difference {
 
 /// Whether no two of these sums differ. A loop that never ends early is made wide.
 #[inline(always)]
-fn are_same(sums: &[i64], others: &[i64]) -> bool
-    requires { length sums.now ≡ length others.now }
-    ensures { IsTrue result → (k : ℕ) → k < length sums.now
-        → slice_index_or sums.now k (pos 0) ≡ slice_index_or others.now k (pos 0) }
+fn are_same(block: &BlockSums) -> bool
+    ensures { IsTrue result → (k : ℕ) → k < length block.now.sums.now
+        → slice_index_or block.now.sums.now k (pos 0) ≡ slice_index_or block.now.others.now k (pos 0) }
 {
+    let (sums, others) = (block.sums, block.others);
     let mut same = true;
     for k in 0..sums.len() {
         same &= sums[k] == others[k];
@@ -29,10 +30,10 @@ fn are_same(sums: &[i64], others: &[i64]) -> bool
 }
 
 /// The position of the first sum that differs; `None` where none does.
-fn first_differing(sums: &[i64], others: &[i64]) -> Option<usize>
-    requires { length sums.now ≡ length others.now }
-    ensures { IsFirstDiffering sums.now others.now (length sums.now) result }
+fn first_differing(block: &BlockSums) -> Option<usize>
+    ensures { IsFirstDiffering block.now.sums.now block.now.others.now (length block.now.sums.now) result }
 {
+    let (sums, others) = (block.sums, block.others);
     for k in 0..sums.len() {
         if sums[k] != others[k] {
             return Some(k);
@@ -41,34 +42,22 @@ fn first_differing(sums: &[i64], others: &[i64]) -> Option<usize>
     None
 }
 
-/// Where two blocks of so many channels differ first. Both begin at this time, and have a sum for each frame and
-/// channel, frame by frame.
-pub fn first_difference(
-    sums: &[i64],
-    others: &[i64],
-    channels: u8,
-    start: u64,
-) -> Option<Difference>
-    requires same { length sums.now ≡ length others.now }
-    requires whole { (frames : ℕ) × (frames ≤ 4096) × (length sums.now ≡ frames * channels) }
-    requires channels { (1 ≤ channels) × (channels ≤ 64) }
-    requires in_day { start ≤ day }
-    ensures { (frames : ℕ) (mix mixed : ℕ → ℕ → ℤ) → length sums.now ≡ frames * channels
-        → AreSumsOf frames channels sums.now (λ i channel. mix channel (start + i))
-        → AreSumsOf frames channels others.now (λ i channel. mixed channel (start + i))
-        → IsCompared start (start + frames) channels mix mixed result }
+/// Where the sums of a block differ first.
+pub fn first_difference(block: &BlockSums) -> Option<Difference>
+    ensures { (mix other : ℕ → ℕ → ℤ) → AreSumsOfBlock block.now mix other
+        → IsCompared block.now.start (block.now.start + block.now.frames) block.now.channels mix other result }
 {
-    if are_same(sums, others) {
+    if are_same(block) {
         return None;
     }
-    let Some(position) = first_differing(sums, others) else {
+    let Some(position) = first_differing(block) else {
         return None;
     };
-    let channels = channels as usize;
+    let channels = block.channels as usize;
     Some(Difference {
-        at: start + (position / channels) as u64,
+        at: block.start + (position / channels) as u64,
         channel: (position % channels) as u8 + 1,
-        first: sums[position],
-        second: others[position],
+        first: block.sums[position],
+        second: block.others[position],
     })
 }

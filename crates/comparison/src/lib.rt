@@ -10,6 +10,8 @@
 //! `differing_in` counts, channel by channel, at how many samples of a stretch they differ (`counted`).
 #![tactic(auto)]
 
+mod block;
+mod comparing;
 mod counting;
 mod depths;
 mod differing;
@@ -17,7 +19,6 @@ mod fault;
 mod matches;
 mod projects;
 mod range;
-mod room;
 mod side;
 mod sides;
 mod stored;

@@ -5,22 +5,25 @@ ghost use Rattle.sampletime.specs.TimeCode.{day};
 ghost use Rattle.sound_terms.specs.declared.Depth.TheVariants.{TwentyFour};
 ghost use Rattle.sound_terms.specs.Groups.{sum_of};
 ghost use Rattle.sound_terms.specs.Media.{IsPieceOf};
+ghost use Rattle.sound_terms.specs.Mix.{Reading};
 ghost use Rattle.work_terms.specs.Disk.{Files};
 ghost use Rattle.list_terms.specs.Heard.{project_mix, reading_of, sounds_of};
 ghost use Rattle.devices.specs.Frame.{OnlyReads};
 ghost use Rattle.comparison.specs.Alike.{IsCompared};
 ghost use Rattle.comparison.specs.Fault.{FailsAt, IsMemory, IsSource, IsAny, OfEither, OfFirst, OfSecond};
-ghost use Rattle.comparison.specs.Side.{HasRoom, heard};
+ghost use Rattle.comparison.specs.Matched.{AreSameFrames, ReadFiles};
+ghost use Rattle.comparison.specs.Sided.{IsSideOf};
 ghost use Rattle.comparison.specs.Range as range;
 ghost use Rattle.comparison.specs.Range.{HasChannels};
 ghost use Rattle.comparison.specs.Whole.{HasCompared, IsComparison};
 
+use crate::comparing::compare_sides;
 use crate::differing::Difference;
 use crate::matches::Matches;
 use crate::range::{Extent, Selection, compared_in};
-use crate::room::Room;
 use crate::side::Side;
-use crate::sides::compare_sides;
+use crate::sides::Sides;
+use crate::stored::Stored;
 use crate::{CompareFault, SideFault};
 use devices::{Shelf, Watch};
 use interval::from_checked;
@@ -49,8 +52,7 @@ pub enum Comparison {
 
 /// The plan of an extent of a project.
 fn plan_of(alloc: Global, checked: &Checked, extent: &Extent) -> Result<Plan, SideFault>
-    requires channels { (1 ≤ extent.now.channels) × (extent.now.channels ≤ 64) }
-    requires some { extent.now.from < extent.now.to }
+    requires { extent.now.from < extent.now.to }
     ensures from { IfOk result (λ plan. plan.range.from ≡ extent.now.from) }
     ensures to { IfOk result (λ plan. plan.range.to ≡ extent.now.to) }
     ensures same { IfOk result (λ plan. plan.range
@@ -79,27 +81,13 @@ fn plan_of(alloc: Global, checked: &Checked, extent: &Extent) -> Result<Plan, Si
 
 /// A side of an extent of a project.
 fn side_of<'a>(alloc: Global, checked: &'a Checked, extent: &Extent) -> Result<Side<'a>, SideFault>
-    requires channels { (1 ≤ extent.now.channels) × (extent.now.channels ≤ 64) }
-    requires some { extent.now.from < extent.now.to }
-    ensures same { IfOk result (λ side. side.planned.range
-        ≡ record { from = extent.now.from; to = extent.now.to; channels = extent.now.channels; depth = TwentyFour }) }
-    ensures sounds { IfOk result (λ side. side.sounds ≡ sounds_of checked.now.bound) }
-    ensures mixes { IfOk result (λ side. (files : Files) (channel time : ℕ)
-        → heard side files channel time ≡ project_mix files checked.now.project checked.now.bound channel time) }
+    requires { extent.now.from < extent.now.to }
+    ensures side { IfOk result (IsSideOf checked.now.project checked.now.bound extent.now) }
     ensures only_memory { IfErr result IsMemory }
 {
     let plan = plan_of(alloc, checked, extent)?;
     let side = Side::new(alloc, plan, checked.bound().sounds())?;
     Ok(side)
-}
-
-/// Two sides of one extent, each with room for its blocks.
-#[derive(Drop)]
-pub struct Sides<'a, 'b> {
-    pub first: Side<'a>,
-    pub second: Side<'b>,
-    pub first_room: Room,
-    pub second_room: Room,
 }
 
 /// Both sides of an extent of two projects.
@@ -109,42 +97,37 @@ pub fn sides_of<'a, 'b>(
     second: &'b Checked,
     extent: &Extent,
 ) -> Result<Sides<'a, 'b>, CompareFault>
-    requires channels { (1 ≤ extent.now.channels) × (extent.now.channels ≤ 64) }
-    requires some { extent.now.from < extent.now.to }
-    ensures range { IfOk result (λ sides. sides.first.planned.range
-        ≡ record { from = extent.now.from; to = extent.now.to; channels = extent.now.channels; depth = TwentyFour }) }
-    ensures same { IfOk result (λ sides. sides.second.planned.range ≡ sides.first.planned.range) }
-    ensures first_sounds { IfOk result (λ sides. sides.first.sounds ≡ sounds_of first.now.bound) }
-    ensures second_sounds { IfOk result (λ sides. sides.second.sounds ≡ sounds_of second.now.bound) }
-    ensures first_mixes { IfOk result (λ sides. (files : Files) (channel time : ℕ)
-        → heard sides.first files channel time ≡ project_mix files first.now.project first.now.bound channel time) }
-    ensures second_mixes { IfOk result (λ sides. (files : Files) (channel time : ℕ)
-        → heard sides.second files channel time ≡ project_mix files second.now.project second.now.bound channel time) }
-    ensures first_room { IfOk result (λ sides. HasRoom sides.first sides.first_room) }
-    ensures second_room { IfOk result (λ sides. HasRoom sides.second sides.second_room) }
+    requires { extent.now.from < extent.now.to }
+    ensures first { IfOk result (λ sides. IsSideOf first.now.project first.now.bound extent.now sides.first) }
+    ensures second { IfOk result (λ sides. IsSideOf second.now.project second.now.bound extent.now sides.second) }
+    ensures no_match { IfOk result (λ sides. (reading other : Reading)
+        → All (AreSameFrames reading other) sides.stored.matches) }
     ensures only_memory { IfErr result (OfEither IsMemory) }
 {
     let first = match side_of(alloc, first, extent) {
         Ok(side) => side,
         Err(fault) => return Err(CompareFault::First(fault)),
     };
-    let first_room = match first.room(alloc) {
-        Ok(room) => room,
+    let bytes = match first.bytes(alloc) {
+        Ok(bytes) => bytes,
         Err(fault) => return Err(CompareFault::First(fault)),
     };
     let second = match side_of(alloc, second, extent) {
         Ok(side) => side,
         Err(fault) => return Err(CompareFault::Second(fault)),
     };
-    let second_room = match second.room(alloc) {
-        Ok(room) => room,
+    let other_bytes = match second.bytes(alloc) {
+        Ok(bytes) => bytes,
         Err(fault) => return Err(CompareFault::Second(fault)),
     };
     Ok(Sides {
         first,
         second,
-        first_room,
-        second_room,
+        stored: Stored {
+            bytes,
+            other_bytes,
+            matches: Matches::new(),
+        },
     })
 }
 
@@ -158,34 +141,18 @@ fn compare_in<S: Shelf, T: Shelf, W: Watch>(
     second_shelf: &mut T,
     watch: &mut W,
 ) -> Result<Option<Difference>, CompareFault>
-    requires channels { (1 ≤ extent.now.channels) × (extent.now.channels ≤ 64) }
-    requires some { extent.now.from < extent.now.to }
+    requires { extent.now.from < extent.now.to }
     ensures compared { IsTrue (S.honest first_shelf.old) → IsTrue (T.honest second_shelf.old)
         → IfOk result (IsCompared
         extent.now.from extent.now.to extent.now.channels
         (project_mix (S.stored first_shelf.old) first.now.project first.now.bound)
         (project_mix (T.stored second_shelf.old) second.now.project second.now.bound)) }
     ensures of_sums { IfErr result (OfEither IsAny) }
-    ensures first_read { OnlyReads S.Shelf first_shelf.old first_shelf.new result (λ fault. OfFirst IsSource fault)
-        (λ fault failed. OfFirst (λ of. FailsAt (sounds_of first.now.bound) of failed) fault) }
-    ensures second_read { OnlyReads T.Shelf second_shelf.old second_shelf.new result
-        (λ fault. OfSecond IsSource fault)
-        (λ fault failed. OfSecond (λ of. FailsAt (sounds_of second.now.bound) of failed) fault) }
+    ensures files { ReadFiles S.Shelf T.Shelf first_shelf.old first_shelf.new second_shelf.old second_shelf.new
+        (sounds_of first.now.bound) (sounds_of second.now.bound) result }
 {
-    let sides = sides_of(alloc, first, second, extent)?;
-    let (mut one, mut two) = (sides.first, sides.second);
-    let (mut first_room, mut second_room) = (sides.first_room, sides.second_room);
-    let mut matches = Matches::new();
-    compare_sides(
-        &mut one,
-        &mut two,
-        first_shelf,
-        second_shelf,
-        &mut first_room,
-        &mut second_room,
-        &mut matches,
-        watch,
-    )
+    let mut sides = sides_of(alloc, first, second, extent)?;
+    compare_sides(&mut sides, first_shelf, second_shelf, watch)
 }
 
 /// So many samples as a time of the day.

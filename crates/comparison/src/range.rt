@@ -39,6 +39,8 @@ pub struct Extent {
     pub from: SampleTime,
     pub to: SampleTime,
     pub channels: u8,
+    ghost some_channels: { 1 ≤ channels },
+    ghost few_channels: { channels ≤ 64 },
 }
 
 /// The time at which the first event begins; 0 without an event.
@@ -100,7 +102,6 @@ pub fn compared_in(selection: &Selection, events: &[Event], others: &[Event]) ->
     ensures from { result.from ≡ (compared_in selection.now events.now others.now).from }
     ensures to { result.to ≡ (compared_in selection.now events.now others.now).to }
     ensures channels { result.channels ≡ (compared_in selection.now events.now others.now).channels }
-    ensures few { (1 ≤ result.channels) × (result.channels ≤ 64) }
 {
     let from = first_in_both(events, others);
     let to = last_out(events).max(last_out(others));

@@ -1,5 +1,5 @@
 // One of two sides of a comparison.
-ghost use Rattle.std.specs.Prelude.{◌≡◌, ◌+◌, ◌*◌, ◌<◌, ◌≤◌, ℕ, pos, IfErr, IfOk, IsTrue, OnOk, is_some, length, not, take};
+ghost use Rattle.std.specs.Prelude.{◌≡◌, ◌+◌, ◌*◌, ◌<◌, ◌≤◌, ℕ, pos, IfErr, IfOk, IsTrue, OnOk, is_some, length, not};
 ghost use Rattle.std.specs.List.{All};
 ghost use Rattle.sampletime.specs.TimeCode.{day};
 ghost use Rattle.work_terms.specs.Disk.{Files};
@@ -8,14 +8,14 @@ ghost use Rattle.sound_terms.specs.Media.{IsPieceOf};
 ghost use Rattle.devices.specs.Frame.{OnlyReads};
 ghost use Rattle.renderplan.specs.Sources.{source_of};
 ghost use Rattle.comparison.specs.Fault.{FailsAt, IsSource};
-ghost use Rattle.comparison.specs.Side.{AreBlockSums, HasRoom, IsBlockOf, heard};
+ghost use Rattle.comparison.specs.Side.{AreBlockSums, IsBlockOf, first_sums, heard};
 ghost use Rattle.comparison.specs.declared.fault.SideFault.TheVariants.{Memory};
 
 use crate::SideFault;
-use crate::room::Room;
 use blockmachine::{Machine, MachineFault};
 use devices::Shelf;
 use renderplan::{Plan, Program};
+use sound_terms::Instruction;
 use std::alloc::{AllocError, Global};
 use std::marker::Model;
 use wavread::Sound;
@@ -27,27 +27,34 @@ const BLOCK_LENGTH: u32 = 4096;
 /// have.
 const STORED_LENGTH: usize = 8 * 4096;
 
-/// The blocks of a plan over opened files, and a machine that sums them. A clause sees the plan and the files.
+/// The blocks of a plan over opened files, a machine that sums them, and room for the program and the sums of any. A
+/// clause sees the plan and the files, and the program and the sums that were written last.
 #[derive(Drop)]
 pub struct Side<'a> {
     plan: Plan,
     sounds: &'a [Sound],
     machine: Machine,
+    program: Program,
+    sums: Vec<i64>,
 }
 
 impl<'a> Model for Side<'a> {
-    ghost use Rattle.std.specs.Prelude.{◌≡◌};
-    ghost use Rattle.comparison.specs.Side.{IsSide, SideWork};
+    ghost use Rattle.comparison.specs.Side.{IsSide, SideState};
 
-    ghost Value = { SideWork };
+    ghost Value = { SideState };
 
-    ghost view = { λ s. record { planned = s.plan; sounds = s.sounds.now } };
+    ghost view = { λ s. record {
+      work = record { planned = s.plan; sounds = s.sounds.now };
+      lines = s.program.lines;
+      sums = s.sums.items;
+    } };
 
-    ghost invariant = { λ s. IsSide (record { planned = s.plan; sounds = s.sounds.now })
-        × (s.machine ≡ record { frames = 4096; channels = s.plan.range.channels }) };
+    ghost invariant = { λ s. IsSide (record { planned = s.plan; sounds = s.sounds.now }) s.machine s.program
+        s.sums.items };
 }
 
-/// Sums block k of a plan over opened files. There is room for its program, and for just its sums.
+/// Sums block k of a plan over opened files, over the first of `sums`. There is room for the program and the sums of any
+/// block.
 fn sum_block<S: Shelf>(
     plan: &Plan,
     k: u64,
@@ -61,18 +68,20 @@ fn sum_block<S: Shelf>(
     requires inside { All (IsPieceOf sounds.now) plan.now.pieces }
     requires machine { machine.old ≡ record { frames = 4096; channels = plan.now.range.channels } }
     requires program { length plan.now.pieces + 2 ≤ program.old.room }
-    requires room { length sums.old ≡ block_frames plan.now.range k * plan.now.range.channels }
+    requires room { length sums.old ≡ 4096 * plan.now.range.channels }
     ensures summed { IsTrue (S.honest shelf.old) → OnOk result (AreBlockSums plan.now.range
-        (heard (record { planned = plan.now; sounds = sounds.now }) (S.stored shelf.old)) k sums.new) }
+        (heard (record { planned = plan.now; sounds = sounds.now }) (S.stored shelf.old)) k
+        (first_sums plan.now.range k sums.new)) }
     ensures ready { machine.new ≡ machine.old }
     ensures program { program.new.room ≡ program.old.room }
     ensures source { IfErr result IsSource }
     ensures only_reads { OnlyReads S.Shelf shelf.old shelf.new result (λ fault. IsSource fault)
         (λ fault failed. FailsAt sounds.now fault failed) }
 {
+    let count = plan.frames_of(k) as usize * usize::from(plan.format().channels);
     plan.sums_exactly();
     plan.fill(k, program);
-    match machine.sum(program, sounds, shelf, sums) {
+    match machine.sum(program, sounds, shelf, &mut sums[..count]) {
         Ok(()) => Ok(()),
         Err(MachineFault::Source { file }) => Err(SideFault::Source { file }),
         Err(MachineFault::Memory) => Err(SideFault::Memory),
@@ -85,73 +94,69 @@ impl<'a> Side<'a> {
     /// A plan over these files.
     pub fn new(alloc: Global, plan: Plan, sounds: &'a [Sound]) -> Result<Self, SideFault>
         requires { All (IsPieceOf sounds.now) plan.pieces }
-        ensures made { IfOk result (λ side. side ≡ record { planned = plan; sounds = sounds.now }) }
+        ensures made { IfOk result (λ side. side.work ≡ record { planned = plan; sounds = sounds.now }) }
         ensures only_memory { IfErr result (λ fault. fault ≡ Memory) }
     {
         let channels = plan.format().channels;
         let Ok(machine) = Machine::new(alloc, BLOCK_LENGTH, channels) else {
             return Err(SideFault::Memory);
         };
+        let program = Program::with_room(alloc, plan.most_instructions())?;
+        let mut sums = Vec::new(alloc);
+        sums.resize(4096 * usize::from(channels), 0)?;
         Ok(Side {
             plan,
             sounds,
             machine,
+            program,
+            sums,
         })
     }
 
-    /// Room for its blocks.
-    pub fn room(&self, alloc: Global) -> Result<Room, SideFault>
-        ensures room { IfOk result (HasRoom self.now) }
-        ensures only_memory { IfErr result (λ fault. fault ≡ Memory) }
+    /// Room for what is read of its files as it is stored.
+    pub fn bytes(&self, alloc: Global) -> Result<Vec<u8>, SideFault>
+        ensures { IfErr result (λ fault. fault ≡ Memory) }
     {
-        let channels = usize::from(self.channels());
-        let program = Program::with_room(alloc, self.plan.most_instructions())?;
-        let mut sums = Vec::new(alloc);
-        sums.resize(4096 * channels, 0)?;
         let mut bytes = Vec::new(alloc);
-        bytes.resize(STORED_LENGTH * channels, 0)?;
-        Ok(Room {
-            program,
-            sums,
-            bytes,
-        })
+        bytes.resize(STORED_LENGTH * usize::from(self.channels()), 0)?;
+        Ok(bytes)
     }
 
     /// The files.
     pub fn sounds(&self) -> &'a [Sound]
-        ensures { result.now ≡ self.now.sounds }
+        ensures { result.now ≡ self.now.work.sounds }
     {
         self.sounds
     }
 
     /// How many blocks there are.
     pub fn blocks(&self) -> u64
-        ensures count { result ≡ block_count self.now.planned.range }
-        ensures in_day { self.now.planned.range.to ≤ day }
+        ensures count { result ≡ block_count self.now.work.planned.range }
+        ensures in_day { self.now.work.planned.range.to ≤ day }
     {
         self.plan.blocks()
     }
 
     /// How many channels there are, 1 to 64.
     pub fn channels(&self) -> u8
-        ensures channels { result ≡ self.now.planned.range.channels }
+        ensures channels { result ≡ self.now.work.planned.range.channels }
         ensures within { (1 ≤ result) × (result ≤ 64) }
     {
         self.plan.format().channels
     }
 
     /// How many sums block k has: one for each of its frames and channels.
-    pub fn sums_of(&self, k: u64) -> usize
-        requires { k < block_count self.now.planned.range }
-        ensures sums { result ≡ block_frames self.now.planned.range k * self.now.planned.range.channels }
-        ensures few { result ≤ 4096 * self.now.planned.range.channels }
+    fn sums_of(&self, k: u64) -> usize
+        requires { k < block_count self.now.work.planned.range }
+        ensures sums { result ≡ block_frames self.now.work.planned.range k * self.now.work.planned.range.channels }
+        ensures few { result ≤ 4096 * self.now.work.planned.range.channels }
     {
         self.plan.frames_of(k) as usize * usize::from(self.channels())
     }
 
     /// The frames of block k, 4096 at most.
     pub fn frames_of(&self, k: u64) -> usize
-        ensures frames { result ≡ block_frames self.now.planned.range k }
+        ensures frames { result ≡ block_frames self.now.work.planned.range k }
         ensures few { result ≤ 4096 }
     {
         self.plan.frames_of(k) as usize
@@ -171,8 +176,8 @@ impl<'a> Side<'a> {
 
     /// The time at which block k begins.
     pub fn start_of(&self, k: u64) -> u64
-        requires { k < block_count self.now.planned.range }
-        ensures start { result ≡ block_start self.now.planned.range k }
+        requires { k < block_count self.now.work.planned.range }
+        ensures start { result ≡ block_start self.now.work.planned.range k }
         ensures in_day { result ≤ day }
     {
         self.plan.start_of(k)
@@ -180,51 +185,58 @@ impl<'a> Side<'a> {
 
     /// Whether nothing sounds in block k.
     pub fn is_silent(&self, k: u64) -> bool
-        requires { k < block_count self.now.planned.range }
-        ensures found { is_some (source_of self.now.planned.pieces self.now.planned.range k) ≡ not result }
-        ensures zero { IsTrue result → (files : Files) (i channel : ℕ) → i < block_frames self.now.planned.range k
-            → channel ≤ self.now.planned.range.channels
-            → heard self.now files channel (block_start self.now.planned.range k + i) ≡ pos 0 }
+        requires { k < block_count self.now.work.planned.range }
+        ensures found { is_some (source_of self.now.work.planned.pieces self.now.work.planned.range k) ≡ not result }
+        ensures zero { IsTrue result → (files : Files) (i channel : ℕ) → i < block_frames self.now.work.planned.range k
+            → channel ≤ self.now.work.planned.range.channels
+            → heard self.now.work files channel (block_start self.now.work.planned.range k + i) ≡ pos 0 }
     {
         self.plan.is_silent(k)
     }
 
-    /// Writes the program of block k over another that has room for that of any block.
-    pub fn fill(&self, k: u64, program: &mut Program)
-        requires there { k < block_count self.now.planned.range }
-        requires room { length self.now.planned.pieces + 2 ≤ program.old.room }
-        ensures program { IsBlockOf self.now k program.new.lines }
-        ensures room { program.new.room ≡ program.old.room }
+    /// Writes the program of block k.
+    pub fn fill(&mut self, k: u64)
+        requires { k < block_count self.old.work.planned.range }
+        ensures program { IsBlockOf self.old.work k self.new.lines }
+        ensures work { self.new.work ≡ self.old.work }
     {
         self.plan.sums_exactly();
-        self.plan.fill(k, program);
+        self.plan.fill(k, &mut self.program);
     }
 
-    /// Sums block k over the first of `sums`, which hold those of any block, as the program does its instructions. A file
-    /// that can't be read fails it.
-    pub fn sum<S: Shelf>(
-        &mut self,
-        k: u64,
-        program: &mut Program,
-        shelf: &mut S,
-        sums: &mut [i64],
-    ) -> Result<(), SideFault>
-        requires there { k < block_count self.old.planned.range }
-        requires program { length self.old.planned.pieces + 2 ≤ program.old.room }
-        requires room { length sums.old ≡ 4096 * self.old.planned.range.channels }
+    /// The program that was written last.
+    pub fn lines(&self) -> &[Instruction]
+        ensures { result.now ≡ self.now.lines }
+    {
+        self.program.as_slice()
+    }
+
+    /// Sums block k, as its program does its instructions. A file that can't be read fails it.
+    pub fn sum<S: Shelf>(&mut self, k: u64, shelf: &mut S) -> Result<(), SideFault>
+        requires { k < block_count self.old.work.planned.range }
         ensures summed { IsTrue (S.honest shelf.old) → OnOk result
-            (AreBlockSums self.old.planned.range (heard self.old (S.stored shelf.old)) k
-            (take (block_frames self.old.planned.range k * self.old.planned.range.channels) sums.new)) }
-        ensures ready { self.new ≡ self.old }
-        ensures program { program.new.room ≡ program.old.room }
+            (AreBlockSums self.old.work.planned.range (heard self.old.work (S.stored shelf.old)) k
+            (first_sums self.old.work.planned.range k self.new.sums)) }
+        ensures work { self.new.work ≡ self.old.work }
         ensures source { IfErr result IsSource }
         ensures only_reads { OnlyReads S.Shelf shelf.old shelf.new result (λ fault. IsSource fault)
-            (λ fault failed. FailsAt self.old.sounds fault failed) }
+            (λ fault failed. FailsAt self.old.work.sounds fault failed) }
+    {
+        let sums = self.sums.as_mut_slice();
+        let machine = &mut self.machine;
+        let program = &mut self.program;
+        sum_block(&self.plan, k, self.sounds, shelf, machine, program, sums)
+    }
+
+    /// The first sums that were written last, as many as block k has.
+    pub fn sums(&self, k: u64) -> &[i64]
+        requires { k < block_count self.now.work.planned.range }
+        ensures value { result.now ≡ first_sums self.now.work.planned.range k self.now.sums }
+        ensures count { length result.now
+            ≡ block_frames self.now.work.planned.range k * self.now.work.planned.range.channels }
     {
         let count = self.sums_of(k);
-        let sums = &mut sums[..count];
-        let machine = &mut self.machine;
-        sum_block(&self.plan, k, self.sounds, shelf, machine, program, sums)
+        &self.sums.as_slice()[..count]
     }
 }
 

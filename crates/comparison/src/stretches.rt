@@ -6,11 +6,11 @@ ghost use Rattle.devices.specs.Frame.{OnlyReads};
 ghost use Rattle.comparison.specs.Counted as spec;
 ghost use Rattle.comparison.specs.Counted.{AreCounts};
 ghost use Rattle.comparison.specs.Fault.{FailsAt, IsAny, IsSource, OfEither, OfFirst, OfSecond};
+ghost use Rattle.comparison.specs.Matched.{ReadFiles};
 ghost use Rattle.comparison.specs.Range as range;
 ghost use Rattle.comparison.specs.Range.{HasChannels};
 
 use crate::counting::count_sides;
-use crate::matches::Matches;
 use crate::projects::{sides_of, time_of};
 use crate::range::{Extent, Selection, compared_in};
 use crate::{CompareFault, SideFault};
@@ -79,7 +79,6 @@ fn count_in<S: Shelf, T: Shelf, W: Watch>(
     counts: &mut [u32],
     watch: &mut W,
 ) -> Result<(), CompareFault>
-    requires channels { (1 ≤ extent.now.channels) × (extent.now.channels ≤ 64) }
     requires wide { length counts.old ≡ extent.now.channels }
     requires zero { (k : ℕ) → slice_index_or counts.old k 0 ≡ 0 }
     ensures counted { IsTrue (S.honest first_shelf.old) → IsTrue (T.honest second_shelf.old) → OnOk result (AreCounts
@@ -87,30 +86,14 @@ fn count_in<S: Shelf, T: Shelf, W: Watch>(
         (project_mix (T.stored second_shelf.old) second.now.project second.now.bound)
         extent.now.from (extent.now.to - extent.now.from) counts.new) }
     ensures of_sums { IfErr result (OfEither IsAny) }
-    ensures first_read { OnlyReads S.Shelf first_shelf.old first_shelf.new result (λ fault. OfFirst IsSource fault)
-        (λ fault failed. OfFirst (λ of. FailsAt (sounds_of first.now.bound) of failed) fault) }
-    ensures second_read { OnlyReads T.Shelf second_shelf.old second_shelf.new result
-        (λ fault. OfSecond IsSource fault)
-        (λ fault failed. OfSecond (λ of. FailsAt (sounds_of second.now.bound) of failed) fault) }
+    ensures files { ReadFiles S.Shelf T.Shelf first_shelf.old first_shelf.new second_shelf.old second_shelf.new
+        (sounds_of first.now.bound) (sounds_of second.now.bound) result }
 {
     if extent.to.get() <= extent.from.get() {
         return Ok(());
     }
-    let sides = sides_of(alloc, first, second, extent)?;
-    let (mut one, mut two) = (sides.first, sides.second);
-    let (mut first_room, mut second_room) = (sides.first_room, sides.second_room);
-    let mut matches = Matches::new();
-    count_sides(
-        &mut one,
-        &mut two,
-        first_shelf,
-        second_shelf,
-        &mut first_room,
-        &mut second_room,
-        &mut matches,
-        counts,
-        watch,
-    )
+    let mut sides = sides_of(alloc, first, second, extent)?;
+    count_sides(&mut sides, first_shelf, second_shelf, counts, watch)
 }
 
 /// At how many samples two projects differ on each channel, by their exact sums, in a stretch of what

@@ -6,6 +6,7 @@ use Rattle.comparison.proofs.counting.count_apart.Given as goal
 abbrev pub invariant-loop-k : goal.invariant-loop-k
 invariant-loop-k l = record {
   counted : (c : ℕ) → c < l.k → get_or l.counts c 0 ≡ get_or l.initial.counts c 0
-      + differing (of_channel l.channels c l.sums) (of_channel l.channels c l.others) l.frames;
+      + differing (of_channel l.block.channels c l.block.sums.now) (of_channel l.block.channels c l.block.others.now)
+      l.block.frames;
   later : (c : ℕ) → l.k ≤ c → get_or l.counts c 0 ≡ get_or l.initial.counts c 0;
 }

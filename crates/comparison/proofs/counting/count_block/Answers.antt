@@ -1,34 +1,49 @@
-use Rattle.std.proofs.Common.{IsTrue, sym, subst}
-use Rattle.std.specs.Prelude.{OnOk}
+use Rattle.std.proofs.Common.{◌≡◌, ℕ, ◌+◌, ◌≤◌, ap, ◌∙◌, subst, sym, get_or, length}
 use Rattle.sound_terms.specs.Blocks.{block_frames, block_start}
-use Rattle.work_terms.specs.Disk.{Files}
-use Rattle.comparison.specs.Counted.{HasCounted}
-use Rattle.comparison.specs.Side.{heard}
-use Rattle.comparison.proofs.Counts.{alike_counted}
+use Rattle.comparison.specs.Both.{AreSummed}
+use Rattle.comparison.specs.Counted.{HasCounted, of_channel}
+use Rattle.comparison.specs.Side.{SideWork, heard}
+use Rattle.comparison.proofs.Both.{block_summed, of_both}
+use Rattle.comparison.proofs.Counts.{alike_counted, few_more, sums_counted}
 use Rattle.comparison.proofs.counting.count_block.Goals as goal
 
 pub returns-then-alike-clause-counted : goal.returns-then-alike-clause-counted
 returns-then-alike-clause-counted g c = λ honest sure.
-    let range = c.args.first.now.planned.range in
-    alike_counted (heard c.args.first.now (g.S.Shelf.stored c.args.first_shelf.now))
-    (heard c.args.second.now (g.T.Shelf.stored c.args.second_shelf.now)) (block_start range c.args.k)
-    (block_frames range c.args.k) range.channels c.args.counts.now c.requires.wide
-    (c.in_ok-alike.ensures.alike honest sure c.if-alike.true)
+    let one = c.args.sides.now.first.work in
+    alike_counted (heard one (g.S.Shelf.stored c.args.first_shelf.now))
+    (heard c.args.sides.now.second.work (g.T.Shelf.stored c.args.second_shelf.now))
+    (block_start one.planned.range c.args.k) (block_frames one.planned.range c.args.k) one.planned.range.channels
+    c.args.counts.now c.requires.wide (c.in_ok-alike.ensures.alike honest sure c.if-alike.true)
 
 pub returns-clause-counted : goal.returns-clause-counted
 returns-clause-counted g c = λ honest sure.
-    let range = c.args.first.now.planned.range in
-    let one = c.args.first.now in
-    let two = c.args.second.now in
-    let start = block_start range c.args.k in
-    let frames = block_frames range c.args.k in
-    let read = c.in_ok-alike.ensures.first_read in
-    let other_read = c.in_ok-alike.ensures.second_read in
-    let said = c.count_sums.ensures.counted (subst IsTrue (sym read.honest_same) honest)
-    (subst IsTrue (sym other_read.honest_same) sure) in
-    let mine = subst (λ (stored : Files). OnOk c.count_sums.result (HasCounted (heard one stored)
-    (heard two (g.T.Shelf.stored c.is_alike.new.second_shelf)) start frames c.args.counts.now
-    c.count_sums.new.counts)) read.same said in
-    subst (λ (stored : Files). OnOk c.count_sums.result (HasCounted
-    (heard one (g.S.Shelf.stored c.args.first_shelf.now)) (heard two stored) start frames c.args.counts.now
-    c.count_sums.new.counts)) other_read.same mine
+    let k = c.args.k in
+    let kept = c.in_ok-alike.ensures.kept in
+    let mix = heard c.args.sides.now.first.work (g.S.Shelf.stored c.args.first_shelf.now) in
+    let other = heard c.args.sides.now.second.work (g.T.Shelf.stored c.args.second_shelf.now) in
+    let new = c.sum.new.self in
+    let block = c.sums-block.result in
+    let is = c.sums-block.ensures in
+    let summed = of_both g.S.Shelf g.T.Shelf c.args.first_shelf.now c.are_alike.new.first_shelf c.args.second_shelf.now
+    c.are_alike.new.second_shelf c.args.sides.now c.are_alike.new.self (AreSummed new k) kept.first_work kept.second_work
+    kept.files.first_read.same kept.files.first_read.honest_same kept.files.second_read.same kept.files.second_read.honest_same
+    c.in_ok-sum.ensures.summed honest sure in
+    let works = c.in_ok-sum.ensures.kept.first_work ∙ kept.first_work in
+    let wide : length c.count_apart.new.counts ≡ block.channels =
+    c.count_apart.auto.counts ∙ c.requires.wide
+    ∙ sym (is.channels ∙ ap (λ (w : SideWork). w.planned.range.channels) works) in
+    let are = block_summed new k block mix other is summed in
+    subst (λ (w : SideWork). HasCounted mix other (block_start w.planned.range k) (block_frames w.planned.range k)
+    c.args.counts.now c.count_apart.new.counts) works
+    (rw (← is.frames, ← is.start) (sums_counted block.frames block.channels block.start block.sums.now block.others.now mix
+    other c.args.counts.now c.count_apart.new.counts wide are.sums are.others c.count_apart.ensures))
+
+pub returns-clause-few : goal.returns-clause-few
+returns-clause-few g c =
+    let block = c.sums-block.result in
+    let new = c.count_apart.new.counts in
+    subst (λ (w : SideWork). (j : ℕ) → get_or new j 0 ≤ get_or c.args.counts.now j 0 + block_frames w.planned.range c.args.k)
+    (c.in_ok-sum.ensures.kept.first_work ∙ c.in_ok-alike.ensures.kept.first_work)
+    (rw (← c.sums-block.ensures.frames)
+    (few_more (of_channel block.channels) block.sums.now block.others.now block.frames c.args.counts.now new
+    c.count_apart.ensures))

@@ -1,23 +1,21 @@
-use Rattle.std.proofs.Common.{◌≡◌, ◌-◌, ◌≤◌, ℕ, IsTrue, get_or}
+use Rattle.std.proofs.Common.{◌≡◌, ◌-◌, ◌≤◌, ℕ, get_or}
 use Rattle.devices.specs.Frame.{IsQuiet}
+use Rattle.comparison.specs.Both.{AreMatched, OfBoth}
 use Rattle.comparison.specs.Counted.{AreCounts}
-use Rattle.comparison.specs.Matched.{AreMatches}
-use Rattle.comparison.specs.Side.{HasRoom, heard, reached}
+use Rattle.comparison.specs.Side.{reached}
 use Rattle.comparison.proofs.counting.count_sides.Given as goal
 
 -- the blocks before k are counted
 abbrev pub invariant-loop-k : goal.invariant-loop-k
 invariant-loop-k g l = record {
-  first_ready : l.first ≡ l.fn.first;
-  second_ready : l.second ≡ l.fn.second;
+  first_work : l.sides.first.work ≡ l.fn.sides.first.work;
+  second_work : l.sides.second.work ≡ l.fn.sides.second.work;
   first_quiet : IsQuiet g.S.Shelf l.fn.first_shelf l.first_shelf;
   second_quiet : IsQuiet g.T.Shelf l.fn.second_shelf l.second_shelf;
-  first_room : HasRoom l.fn.first l.first_room;
-  second_room : HasRoom l.fn.second l.second_room;
-  matches : AreMatches g.S.Shelf g.T.Shelf l.first_shelf l.second_shelf l.fn.first.sounds l.fn.second.sounds l.matches;
-  few : (c : ℕ) → get_or l.counts c 0 ≤ reached l.fn.first.planned.range l.k - l.fn.first.planned.range.from;
-  counted : IsTrue (g.S.Shelf.honest l.fn.first_shelf) → IsTrue (g.T.Shelf.honest l.fn.second_shelf)
-      → AreCounts (heard l.fn.first (g.S.Shelf.stored l.fn.first_shelf))
-      (heard l.fn.second (g.T.Shelf.stored l.fn.second_shelf)) l.fn.first.planned.range.from
-      (reached l.fn.first.planned.range l.k - l.fn.first.planned.range.from) l.counts;
+  matched : AreMatched g.S.Shelf g.T.Shelf l.first_shelf l.second_shelf l.sides;
+  few : (c : ℕ) → get_or l.counts c 0
+      ≤ reached l.fn.sides.first.work.planned.range l.k - l.fn.sides.first.work.planned.range.from;
+  counted : OfBoth g.S.Shelf g.T.Shelf l.fn.first_shelf l.fn.second_shelf l.fn.sides
+      (λ mix other. AreCounts mix other l.fn.sides.first.work.planned.range.from
+      (reached l.fn.sides.first.work.planned.range l.k - l.fn.sides.first.work.planned.range.from) l.counts);
 }

@@ -13,7 +13,7 @@ pub loop-k-preserved : goal.loop-k-preserved
 loop-k-preserved g c = record {
   first_quiet = search rules;
   second_quiet = search rules;
-  matches = c.in_ok-alike.ensures.matches;
+  matches = c.in_ok-alike.ensures.read.matched;
   alike = λ honest sure n d below.
       let k = c.loop-k.k in
       let lines = c.args.lines.now in
@@ -22,13 +22,13 @@ loop-k-preserved g c = record {
       let others_quiet = c.loop-k.invariant.second_quiet in
       let found = c.in_ok-alike.ensures.alike (subst IsTrue (sym quiet.honest_same) honest)
       (subst IsTrue (sym others_quiet.honest_same) sure) c.if-not-alike.false in
-      let reading : Reading = reading_by (g.S.Shelf.stored c.args.first_shelf.now) c.args.sounds.now in
-      let other : Reading = reading_by (g.T.Shelf.stored c.args.second_shelf.now) c.args.others.now in
-      let mine = subst (λ (stored : Files). AddAlike (reading_by stored c.args.sounds.now)
-      (reading_by (g.T.Shelf.stored c.loop-k.second_shelf) c.args.others.now) (get_or lines k (Start 0))
+      let reading : Reading = reading_by (g.S.Shelf.stored c.args.first_shelf.now) c.args.files.now.sounds.now in
+      let other : Reading = reading_by (g.T.Shelf.stored c.args.second_shelf.now) c.args.files.now.others.now in
+      let mine = subst (λ (stored : Files). AddAlike (reading_by stored c.args.files.now.sounds.now)
+      (reading_by (g.T.Shelf.stored c.loop-k.second_shelf) c.args.files.now.others.now) (get_or lines k (Start 0))
       (get_or counterparts k (Start 0))) quiet.same found in
       let here : AddAlike reading other (get_or lines k (Start 0)) (get_or counterparts k (Start 0)) =
-      subst (λ (stored : Files). AddAlike reading (reading_by stored c.args.others.now) (get_or lines k (Start 0))
+      subst (λ (stored : Files). AddAlike reading (reading_by stored c.args.files.now.others.now) (get_or lines k (Start 0))
       (get_or counterparts k (Start 0))) others_quiet.same mine in
       let at = below_more (λ (m : ℕ). AddAlike reading other (get_or lines m (Start 0)) (get_or counterparts m (Start 0)))
       k (λ m less. c.loop-k.invariant.alike honest sure m (Start 0) less) here n below in

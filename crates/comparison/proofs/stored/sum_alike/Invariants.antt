@@ -11,9 +11,10 @@ abbrev pub invariant-loop-k : goal.invariant-loop-k
 invariant-loop-k g l = record {
   first_quiet : IsQuiet g.S.Shelf l.fn.first_shelf l.first_shelf;
   second_quiet : IsQuiet g.T.Shelf l.fn.second_shelf l.second_shelf;
-  matches : AreMatches g.S.Shelf g.T.Shelf l.first_shelf l.second_shelf l.sounds l.others l.matches;
+  matches : AreMatches g.S.Shelf g.T.Shelf l.first_shelf l.second_shelf l.files.sounds.now l.files.others.now
+      l.stored.matches;
   alike : IsTrue (g.S.Shelf.honest l.fn.first_shelf) → IsTrue (g.T.Shelf.honest l.fn.second_shelf)
       → (k : ℕ) (d : Instruction) → k < l.k
-      → AddAlike (reading_by (g.S.Shelf.stored l.fn.first_shelf) l.sounds)
-      (reading_by (g.T.Shelf.stored l.fn.second_shelf) l.others) (get_or l.lines k d) (get_or l.counterparts k d);
+      → AddAlike (reading_by (g.S.Shelf.stored l.fn.first_shelf) l.files.sounds.now)
+      (reading_by (g.T.Shelf.stored l.fn.second_shelf) l.files.others.now) (get_or l.lines k d) (get_or l.counterparts k d);
 }
