@@ -3,7 +3,7 @@ _adlcons() {
     local word=${COMP_WORDS[COMP_CWORD]} last=${COMP_WORDS[COMP_CWORD - 1]} options=--help
     case ${COMP_WORDS[1]} in
         check) options='--all --search --report --help' ;;
-        consolidate) options='--all --search --handle --report --verify --help' ;;
+        consolidate) options='--all --search --handle --report --digests --verify --help' ;;
         show) options='--all --search --handle --from --to --help' ;;
         compare) options='--all --search --report --from --to --channels --help' ;;
         render | resume) options='--all --search --from --to --channels --depth --order --help' ;;

@@ -30,6 +30,8 @@ MISTAKES = {
     "no channels": ("render", LIST, MEDIA, OUT, "--channels", "0"),
     "65 channels": ("render", LIST, MEDIA, OUT, "--channels", "65"),
     "channels in words": ("render", LIST, MEDIA, OUT, "--channels", "two"),
+    "digests without a report": ("consolidate", LIST, MEDIA, OUT, "--digests"),
+    "digests of a check": ("check", LIST, MEDIA, "--report", "--digests"),
     "a handle of more than a day": ("consolidate", LIST, MEDIA, OUT, "--handle", "4147200001"),
     "a handle below zero": ("consolidate", LIST, MEDIA, OUT, "--handle=-1"),
     "a handle past all numbers": ("consolidate", LIST, MEDIA, OUT, "--handle", "18446744073709551616"),
@@ -149,6 +151,7 @@ Options:
       --search      Look for missing media by name in the folders below
       --handle <N>  Frames kept on each side of what plays [default: 48000]
       --report      Write where the media come from, and checksums
+      --digests     Have the SHA-256 of each whole source in the report
       --verify      Read it again, and compare it with what was given
   -h, --help        Print help
 

@@ -32,7 +32,8 @@ def check_page(example: str, command: str, answer: model.Answer) -> None:
     places = {"check": "", "render": " RENDERED", "consolidate": " CONSOLIDATED"}
     words = [f"adlcons {command} {example}.adl media{places[command]}", *EXAMPLES[example].words(command)]
     sizes = [f"{name} {len(data)} bytes" for name, data in answer.files.items()]
-    for line in (" ".join(words), *answer.notices, answer.line, *sizes, *clipped_lines(answer)):
+    told = answer.clipped.splitlines()
+    for line in (" ".join(words), *answer.notices, answer.line, *told, *sizes, *clipped_lines(answer)):
         if f"    {line}" not in page:
             raise Mismatch(f"examples/{example}/README.txt has no line {line!r}")
 

@@ -115,16 +115,18 @@ def meanings_of(notices: tuple) -> str:
     return "".join(NOTICE % (kind, kind) for kind in kinds)
 
 
-def same_outcome(got: Outcome, status: int, line: str, notices: tuple = (), further: tuple = ()) -> None:
+def same_outcome(
+        got: Outcome, status: int, line: str, notices: tuple = (), further: tuple = (), clipped: str = "") -> None:
     """Notices and one line on standard output. On standard error one line that explains the refusal, with one for each
-    further fault; or one that tells what a consolidation saved, one for each kind of notice, and what isn't honoured."""
+    further fault; or one that tells what a consolidation saved, one for each kind of notice, what isn't honoured, and
+    what of a rendering is clipped."""
     same("standard output", got.output.decode(), "".join(f"{each}\n" for each in (*notices, line)))
     if status == 1:
         told = "".join(FURTHER % re.escape(each) for each in further)
         same_shape(f"the explanation of {line}", got.error, EXPLANATION % int(line.split()[1]) + told)
     else:
         saved = SAVED if line.startswith("written") else ""
-        same_shape("standard error", got.error, saved + meanings_of(notices) + PASSED_OVER)
+        same_shape("standard error", got.error, saved + meanings_of(notices) + PASSED_OVER + re.escape(clipped))
     same("the status", got.status, status)
 
 
@@ -135,7 +137,7 @@ def same_shape(what: str, got: bytes, pattern: str) -> None:
 
 def same_answer(got: Outcome, wanted: model.Answer) -> None:
     """What was printed, and the status."""
-    same_outcome(got, wanted.status, wanted.line, wanted.notices, wanted.further)
+    same_outcome(got, wanted.status, wanted.line, wanted.notices, wanted.further, wanted.clipped)
     if wanted.saved is not None:
         kept, whole, written = map(int, re.match(SAVED, got.error.decode()).groups())
         told = whole, kept, written

@@ -73,7 +73,7 @@ def play_together(one: dict, other: dict) -> bool:
         for place, times in one.items() if place in other)
 
 
-def told_medium(number: int, run, project, bound, data: bytes) -> dict:
+def told_medium(number: int, run, project, bound, data: bytes, whole: str | None) -> dict:
     sound, home = bound.sounds[run.name], bound.home(run.name)
     source = next(source for source in project.sources if source.number == home.number)
     return {
@@ -81,7 +81,7 @@ def told_medium(number: int, run, project, bound, data: bytes) -> dict:
         "channels": sound.channels, "depth": sound.depth,
         "source": {
             "file": run.name, "first": run.first, "index": home.number, "url": text_of_bytes(source.url),
-            "identifier": text_of_bytes(source.uid),
+            "identifier": text_of_bytes(source.uid), "sha256": whole,
         },
     }
 
@@ -90,8 +90,8 @@ def told_group(numbers: list) -> dict:
     return {"given": numbers[:MOST_TOLD], "more": len(numbers[MOST_TOLD:])}
 
 
-def wanted_report(text: bytes, media: dict, handle: int, version: str, files: dict) -> dict:
-    """The report of a consolidation that writes these files."""
+def wanted_report(text: bytes, media: dict, handle: int, version: str, files: dict, digests: bool) -> dict:
+    """The report of a consolidation that writes these files, with the digests of the sources or without them."""
     project, bound = model.accepted(text, media)
     runs = runs_of(standard_groups(project, bound), bound, handle)
     given = [
@@ -106,9 +106,11 @@ def wanted_report(text: bytes, media: dict, handle: int, version: str, files: di
             groups.append(group)
         new.append({"entry": entry.number, "group": groups.index(group)})
     return {
-        "media": [told_medium(number, run, project, bound, files[medium_name(number)])
+        "media": [told_medium(number, run, project, bound, files[medium_name(number)],
+                              digest(media[run.name]) if digests else None)
                   for number, run in enumerate(runs, 1)],
-        "entries": new, "groups": groups, "handle": handle, "list_sha256": digest(files[NEW_LIST]), "version": version,
+        "entries": new, "groups": groups, "handle": handle, "given_list_sha256": digest(text),
+        "new_list_sha256": digest(files[NEW_LIST]), "program": "adlcons", "version": version,
     }
 
 
@@ -150,19 +152,27 @@ def check_sums(scene: Scene, files: dict) -> None:
 
 
 def consolidated(scene: Scene, text: bytes, media: dict, handle: int) -> dict:
-    """The report of a consolidation: all that it writes and prints is compared with the model and with a plain one."""
+    """The report of a consolidation with digests: all that is written and printed, with and without them, is compared
+    with the model and with a plain one."""
     scene.put(text, media)
     scene.empty_out()
     plain = scene.run(*words_with(handle))
     same_files(scene.files(), model.answer("consolidate", text, media, model.Options(handle=handle)).files)
     without = scene.files()
+    reported(scene, text, media, handle, plain, without, False)
+    return reported(scene, text, media, handle, plain, without, True)
+
+
+def reported(scene: Scene, text: bytes, media: dict, handle: int, plain, without: dict, digests: bool) -> dict:
+    """The report of a consolidation that prints and writes just what the plain one did besides."""
     scene.empty_out()
-    same("output, error and status", scene.run(*words_with(handle), "--report"), plain)
+    words = ("--report", "--digests") if digests else ("--report",)
+    same("output, error and status", scene.run(*words_with(handle), *words), plain)
     files = scene.files()
     same_files({name: data for name, data in files.items() if name not in (REPORT, SUMS)}, without)
     report = read_report(files[REPORT])
     version = scene.run("--version").output.decode().removeprefix("adlcons ").rstrip("\n")
-    wanted = wanted_report(text, media, handle, version, without)
+    wanted = wanted_report(text, media, handle, version, without, digests)
     for part, value in wanted.items():
         same(f"{part} of the report", report[part], value)
     same("the parts of the report", set(report), set(wanted))
@@ -261,8 +271,8 @@ def odd_texts(scene: Scene) -> None:
     report = consolidated(scene, model.list_text(lines, entries), {"A.wav": wave(), name: wave()}, 0)
     same("the sources", [medium["source"] for medium in report["media"]], [
         {"file": "A.wav", "first": 0, "index": 1, "url": "URL:file://localhost/tapes/A.wav",
-         "identifier": '"\u0001\\ \u00e9\u007f"'},
-        {"file": name, "first": 0, "index": 2, "url": None, "identifier": None},
+         "identifier": '"\u0001\\ \u00e9\u007f"', "sha256": digest(wave())},
+        {"file": name, "first": 0, "index": 2, "url": None, "identifier": None, "sha256": digest(wave())},
     ])
 
 
@@ -306,7 +316,7 @@ def limited(scene: Scene) -> None:
     files = scene.files()
     same("whether the report is too long", len(files[REPORT]) > FILE_SIZE, True)
     scene.empty_out()
-    got = scene.run(*words_with(0), "--report", **file_size_limit(FILE_SIZE))
+    got = scene.run(*words_with(0), "--report", "--digests", **file_size_limit(FILE_SIZE))
     same_outcome(got, 1, f"refused 62 at file {REPORT}")
     written = scene.files()
     same("whether the report is broken off", written.pop(REPORT) != files.pop(REPORT), True)

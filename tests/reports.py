@@ -21,7 +21,7 @@ PARTS = ("line", "entry", "index", "file")
 MEMBERS = (
     "after", "before", "bits", "cause", "channels", "column", "file", "frames", "index", "meaning", "near", "rate",
     "remedy", "tag", "text", "word")
-FORM = 4
+FORM = 5
 MOST_EXPLAINED = 1000
 MOST_MEMORY = 200_000_000
 

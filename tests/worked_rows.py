@@ -80,7 +80,8 @@ def expect_rendering(scene: Scene, text: bytes, media: dict, wanted: Rendering, 
     same_bytes("the file of the model", told.files["render.wav"], answer.files["render.wav"])
     scene.put(text, media)
     files = {**told.files, **answer.files}
-    expect_answer(scene, "render", answer._replace(notices=told.notices, files=files), options)
+    answer = answer._replace(notices=told.notices, files=files, clipped=told.clipped)
+    expect_answer(scene, "render", answer, options)
     scene.empty_out()
 
 

@@ -7,7 +7,7 @@ from typing import NamedTuple, Optional
 from .binding import Bound, bind, check_entry, faults_of_entries, faults_of_files
 from .groups import FALL, RISE, Run, runs_of, standard_groups
 from .marks import marks_of
-from .mixing import Range, rendered
+from .mixing import Range, clipped_line, exact, rendered
 from .project import STANDARD_SEPARATORS, Entry, Project, Source
 from .refusal import Refused
 from .sounds import Sound, packed, written_sound
@@ -54,13 +54,14 @@ STANDARD = Options()
 class Answer(NamedTuple):
     """The status, the last line printed, the files written, the lines of notices before; of a consolidation the bytes
     of samples in the sources, those that are kept, and all bytes that were written; of a refused check the faults told
-    behind the first one."""
+    behind the first one; of a rendering what standard error says of clipped samples."""
     status: int
     line: str
     files: dict
     notices: tuple = ()
     saved: Optional[tuple] = None
     further: tuple = ()
+    clipped: str = ""
 
     def output(self) -> str:
         return "".join(f"{line}\n" for line in (*self.notices, self.line))
@@ -101,11 +102,13 @@ def render(text: bytes, media: dict, options: Options) -> Answer:
     part = range_of(project, options)
     if part.frames() <= 0:
         raise Refused(58)
-    data = packed(options.depth, rendered(project, bound, part, options.depth))
+    sums = exact(project, bound, part)
+    data = packed(options.depth, rendered(sums, options.depth))
     sound = Sound(part.channels, options.depth, data, time_reference=part.begin)
     line = f"rendered {part.frames()} frames {part.channels} channels"
     files = {"render.wav": written_sound(sound), "render.marks": marks_of(text, part, options.depth)}
-    return Answer(0, line, files, notices_of(project, bound))
+    clipped = clipped_line(sums, part, options.depth, project.rate)
+    return Answer(0, line, files, notices_of(project, bound), clipped=clipped)
 
 
 def medium_name(number: int) -> str:

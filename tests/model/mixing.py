@@ -1,10 +1,12 @@
 """The exact sum of all entries, and how it is rounded to a depth."""
 
+import math
 from collections import defaultdict
 from typing import NamedTuple
 
 from .binding import Bound
 from .project import Entry, Project
+from .times import time_text
 
 FULL_DEPTH = 48
 
@@ -68,12 +70,38 @@ class Range(NamedTuple):
         return self.end - self.begin
 
 
-def rendered(project: Project, bound: Bound, part: Range, depth: int) -> list:
-    """The samples of all channels, frame after frame."""
+def exact(project: Project, bound: Bound, part: Range) -> list:
+    """The exact sums of all channels, frame after frame."""
     sums = [0] * (part.frames() * part.channels)
     for entry in project.entries:
         for channel, numbers in contributions(entry, bound, part.begin, part.end).items():
             if channel <= part.channels:
                 for place, number in numbers:
                     sums[(place - part.begin) * part.channels + channel - 1] += number
+    return sums
+
+
+def rendered(sums: list, depth: int) -> list:
+    """The samples that sums are rounded to."""
     return [finished(total, depth) for total in sums]
+
+
+def is_clipped(total: int, depth: int) -> bool:
+    unit = 2 ** (FULL_DEPTH - depth)
+    return not -2 ** (depth - 1) <= (total + unit // 2) // unit < 2 ** (depth - 1)
+
+
+def clipped_line(sums: list, part: Range, depth: int, rate: int) -> str:
+    """What standard error says of sums that are clipped, where some are."""
+    clipped = [place for place, total in enumerate(sums) if is_clipped(total, depth)]
+    if not clipped:
+        return ""
+    frame, channel = divmod(clipped[0], part.channels)
+    channels = [str(number + 1) for number in sorted({place % part.channels for place in clipped})]
+    words = ", ".join(channels[:-1]) + " and " + channels[-1] if len(channels) > 1 else channels[0]
+    loudest = max(abs(sums[place]) for place in clipped)
+    above = math.floor(200 * math.log10(loudest / 2 ** (FULL_DEPTH - 1)) + 0.5)
+    return (
+        f"clipped: {len(clipped)} sample{'s' * (len(clipped) > 1)} on channel{'s' * (len(channels) > 1)} {words}, the first "
+        f"at {time_text(part.begin + frame, rate=rate).decode()} on channel {channel + 1}; the loudest sum is "
+        f"{max(above, 0) // 10}.{max(above, 0) % 10} dB above full scale\n")

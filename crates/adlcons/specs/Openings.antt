@@ -1,10 +1,11 @@
 -- Why a command doesn't come to its stores, and what it is to come to them.
-use Rattle.std.specs.Prelude.{◌≡◌, ◌⊎◌, ℕ, Bool, IsTrue, false, List, [], codes, Result, Ok, Err}
+use Rattle.std.specs.Prelude.{◌≡◌, ◌⊎◌, ℕ, IsTrue, false, List, [], codes, Result, Ok, Err}
 use Rattle.work_terms.specs.Refusals.{Refusal, Where, Nowhere, File}
 use Rattle.devices.specs.declared.source.Shelf as source
 use Rattle.shelf.specs.Folder.{OutputFolder, SourceFolder, folder_named}
 use Rattle.shelf.specs.declared.Overwrite.{Overwrite}
 use Rattle.shelf.specs.declared.Overwrite.TheVariants.{Files, Never}
+use Rattle.commandline.specs.declared.choice.MediaReport.{MediaReport}
 use Rattle.commandline.specs.CommandLine.{Asked, Resume, Selected}
 use Rattle.devices.specs.declared.bench.Bench as output
 use Rattle.sound_terms.specs.Passes.{standard_groups}
@@ -132,7 +133,7 @@ AnswersVerified shelf out list target before old new status (Ok told) =
 -- a list was consolidated over the files of one folder into another, and where that was done compared with what was
 -- written there
 pub record VerifiesInFolders {O : Type 0} (shelf : source.Ghosts SourceFolder) (bench : output.Ghosts OutputFolder)
-    (out : console.Ghosts O) (handle : ℕ) (report : Bool) (media target : List ℕ) (old new : O) (status : ℕ)
+    (out : console.Ghosts O) (handle : ℕ) (report : MediaReport) (media target : List ℕ) (old new : O) (status : ℕ)
     : Type 0 where
   pub list : List ℕ
   pub before : SourceFolder
@@ -143,7 +144,7 @@ pub record VerifiesInFolders {O : Type 0} (shelf : source.Ghosts SourceFolder) (
   pub output : empty.folder ≡ folder_named target
   pub careful : empty.overwrite ≡ Never
   pub outcome : Result Written Fault
-  pub consolidated : IsConsolidation shelf bench standard_groups list handle (asking report) before after empty full
+  pub consolidated : IsConsolidation shelf bench standard_groups list handle (asking report list) before after empty full
       outcome
   pub answered : AnswersVerified shelf out list target after old new status outcome
 

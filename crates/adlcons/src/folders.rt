@@ -2,6 +2,7 @@
 ghost use Rattle.std.specs.Prelude.{◌≡◌, ◌≢◌, ◌≤◌, ◌⊎◌, ℕ, Bool, codes, None, Some, Err, Ok, true, false, IfOk, OnErr};
 ghost use Rattle.clap.specs.Walk.{Text, texts};
 ghost use Rattle.consolidate.specs.Commands.{IsConsolidation};
+ghost use Rattle.commandline.specs.declared.choice.MediaReport as choice;
 ghost use Rattle.commandline.specs.CommandLine as asked;
 ghost use Rattle.commandline.specs.CommandLine.{asks_for_help, request_of, verifies};
 ghost use Rattle.commandline.specs.Request.{asked_of};
@@ -27,7 +28,7 @@ use answers::{
     MISTAKE, REFUSED, answer_error, answer_request, answer_standard, explain, explain_notice,
     tell_further,
 };
-use commandline::{Places, Request, parse};
+use commandline::{MediaReport, Places, Request, parse};
 use console::{Console, Place, Refusal, put_refusal};
 use consolidate::{JobLength, MARKS, check_project};
 use explanations::{Explanation, FoundFolder, PrintedName};
@@ -141,17 +142,17 @@ where
         ⊎ WorksInFolders overwrite.Files
         (ResumesBy ⟦<ShownShelf<'static, R, L> as devices::Shelf>⟧ ⟦<FolderBench<R> as devices::Bench>⟧ Longer chosen)
         resumed_lines O.Console media target out.old out.new result }
-    ensures consolidated { (list media target : Text) (handle : ℕ) (report : Bool)
+    ensures consolidated { (list media target : Text) (handle : ℕ) (report : choice.MediaReport)
         → request_of (texts words.now) ≡ Some (asked.Consolidate list media target handle report)
         → verifies (texts words.now) ≡ false → result ≢ 2
         → IsKeptOut O.Console list target out.old out.new result
         ⊎ WorksInFolders overwrite.Never
         (λ list. IsConsolidation ⟦<ShownShelf<'static, R, L> as devices::Shelf>⟧ ⟦<FolderBench<R> as devices::Bench>⟧ standard_groups
-        list handle (asking report))
+        list handle (asking report list))
         written_lines O.Console media target out.old out.new result }
     // Such a consolidation is done only where the written list sounds the same. Where no memory remains for its lines that
     // is reported as if there were none for its stores.
-    ensures verified { (list media target : Text) (handle : ℕ) (report : Bool)
+    ensures verified { (list media target : Text) (handle : ℕ) (report : choice.MediaReport)
         → request_of (texts words.now) ≡ Some (asked.Consolidate list media target handle report)
         → verifies (texts words.now) ≡ true → result ≢ 2
         → IsKeptOut O.Console list target out.old out.new result
@@ -205,7 +206,7 @@ fn consolidate_folders<R, O: Console, E: Console, L: Progress>(
     rt: &R,
     places: Places<'_>,
     handle: u64,
-    report: bool,
+    report: MediaReport,
     verifies: bool,
     manner: Manner,
     out: &mut O,
@@ -219,7 +220,7 @@ where
         → IsKeptOut O.Console places.entry.list.now places.entry.out.now out.old out.new result
         ⊎ WorksInFolders overwrite.Never
         (λ list. IsConsolidation ⟦<ShownShelf<'static, R, L> as devices::Shelf>⟧ ⟦<FolderBench<R> as devices::Bench>⟧ standard_groups
-        list handle (asking report))
+        list handle (asking report list))
         written_lines O.Console places.entry.media.now places.entry.out.now out.old out.new result }
     ensures verified { verifies ≡ true
         → IsKeptOut O.Console places.entry.list.now places.entry.out.now out.old out.new result
@@ -354,12 +355,12 @@ where
         ⊎ WorksInFolders overwrite.Files
         (ResumesBy ⟦<ShownShelf<'static, R, L> as devices::Shelf>⟧ ⟦<FolderBench<R> as devices::Bench>⟧ Longer chosen)
         resumed_lines O.Console places.entry.media.now places.entry.out.now out.old out.new result }
-    ensures consolidated { (list media target : Text) (handle : ℕ) (report : Bool)
+    ensures consolidated { (list media target : Text) (handle : ℕ) (report : choice.MediaReport)
         → asked_of request.entry ≡ asked.Consolidate list media target handle report
         → IsKeptOut O.Console places.entry.list.now places.entry.out.now out.old out.new result
         ⊎ WorksInFolders overwrite.Never
         (λ list. IsConsolidation ⟦<ShownShelf<'static, R, L> as devices::Shelf>⟧ ⟦<FolderBench<R> as devices::Bench>⟧ standard_groups
-        list handle (asking report))
+        list handle (asking report list))
         written_lines O.Console places.entry.media.now places.entry.out.now out.old out.new result }
     ensures statuses { result ≤ 2 }
 {
@@ -398,11 +399,11 @@ where
         → IfOk result (λ status. status ≢ 2 → WorksInFolders overwrite.Files
         (ResumesBy ⟦<ShownShelf<'static, R, L> as devices::Shelf>⟧ ⟦<FolderBench<R> as devices::Bench>⟧ Longer chosen)
         resumed_lines O.Console places.entry.media.now places.entry.out.now out.old out.new status) }
-    ensures consolidated { (list media target : Text) (handle : ℕ) (report : Bool)
+    ensures consolidated { (list media target : Text) (handle : ℕ) (report : choice.MediaReport)
         → asked_of request.entry ≡ asked.Consolidate list media target handle report
         → IfOk result (λ status. WorksInFolders overwrite.Never
         (λ list. IsConsolidation ⟦<ShownShelf<'static, R, L> as devices::Shelf>⟧ ⟦<FolderBench<R> as devices::Bench>⟧ standard_groups
-        list handle (asking report))
+        list handle (asking report list))
         written_lines O.Console places.entry.media.now places.entry.out.now out.old out.new status) }
     ensures statuses { IfOk result (λ status. status ≤ 2) }
     ensures nothing { OnErr result (out.new ≡ out.old) }

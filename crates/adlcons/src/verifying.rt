@@ -17,7 +17,7 @@ use crate::output::Lock;
 use crate::reading::read_list;
 use crate::sources::ShownShelf;
 use answers::{HeldLines, REFUSED, answer_standard, answer_verified, put_lines};
-use commandline::{Places, Request};
+use commandline::{MediaReport, Places, Request};
 use console::{Console, ListOfTwo};
 use consolidate::LIST;
 use shelf::{FolderBench, Overwrite};
@@ -38,7 +38,7 @@ pub fn verify_in_folders<R, O: Console, E: Console, L: Progress>(
     rt: &R,
     places: Places<'_>,
     handle: u64,
-    report: bool,
+    report: MediaReport,
     manner: Manner,
     out: &mut O,
     err: &mut E,
@@ -67,7 +67,7 @@ fn try_verified<R, O: Console, E: Console, L: Progress>(
     rt: &R,
     places: Places<'_>,
     handle: u64,
-    report: bool,
+    report: MediaReport,
     manner: Manner,
     out: &mut O,
     err: &mut E,

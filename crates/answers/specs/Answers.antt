@@ -8,6 +8,7 @@ use Rattle.devices.specs.declared.bench.Bench as output
 use Rattle.list_terms.specs.Accepted.{OptionValues}
 use Rattle.list_terms.specs.Text.{rate_of}
 use Rattle.rendering.specs.declared.cutting.JobLength.{JobLength}
+use Rattle.provenance.specs.Asked.{AskedReport}
 use Rattle.consolidate.specs.Commands.{IsChecking, IsRendering}
 use Rattle.consolidate.specs.Resuming.{IsResuming}
 use Rattle.consolidate.specs.Fault.{refusal_of}
@@ -25,6 +26,8 @@ use Rattle.consolidate.specs.declared.Fault.{Fault}
 use Rattle.consolidate.specs.declared.Rendered.{Rendered}
 use Rattle.consolidate.specs.declared.Resumed.{Resumed}
 use Rattle.consolidate.specs.declared.Written.{Written}
+use Rattle.commandline.specs.declared.choice.MediaReport.{MediaReport}
+use Rattle.commandline.specs.declared.choice.MediaReport.TheVariants.{NoReport, Plain, WithDigests}
 use Rattle.commandline.specs.CommandLine.{Asked, Chosen, Selected, Check, Report, Render, Resume, Consolidate, Compare, Show, Explain, ExplainNotice}
 use Rattle.console.specs.declared.console.Console as console
 use Rattle.console.specs.declared.lines.ListOfTwo.{ListOfTwo}
@@ -33,9 +36,16 @@ use Rattle.console.specs.Lines.{accepted_text, differ_text, in_list, notices_of_
 use Rattle.console.specs.Printing.{Prints}
 use Rattle.answers.specs.Times.{part_of, selection_of, values_of}
 
--- the version of this program, where a report is asked for
-abbrev pub asking : Bool → Option (List ℕ)
-asking report = if report then Some (codes "1.0.0") else None
+-- the report of this program on the list of this text, with the digests of whole sources or without them
+abbrev pub program_report : (digests : Bool) → (list : List ℕ) → AskedReport
+program_report digests list =
+    record { program = codes "adlcons"; version = codes "1.0.0"; list = list; digests = digests }
+
+-- that which is asked for
+abbrev pub asking : MediaReport → (list : List ℕ) → Option AskedReport
+asking NoReport list = None
+asking Plain list = Some (program_report false list)
+asking WithDigests list = Some (program_report true list)
 
 -- the notices and the line of a list that was checked
 abbrev pub accepted_lines : Accepted → List ℕ
@@ -205,7 +215,7 @@ MayBeMistaken rate (Check list media) = ⊥
 MayBeMistaken rate (Report list media) = ⊥
 MayBeMistaken rate (Render list media out chosen) = IsErr (values_of rate chosen)
 MayBeMistaken rate (Resume list media out chosen) = IsErr (values_of rate chosen)
-MayBeMistaken rate (Consolidate list media out handle report) = ⊥
+MayBeMistaken rate (Consolidate list media out handle _) = ⊥
 MayBeMistaken rate (Compare list media other other_media selected) = ⊤
 MayBeMistaken rate (Show list media handle drawn) = IsErr (part_of rate drawn)
 MayBeMistaken rate (Explain number) = ⊤

@@ -3,8 +3,10 @@ ghost use Rattle.std.specs.Prelude.{◌++◌, ◌∷◌, []};
 ghost use Rattle.console.specs.Lines.{counts_text, notices_text};
 ghost use Rattle.console.specs.Printing.{Prints};
 
+use adlread::rate_of;
 use console::{Console, Counts, put_counts, put_notices};
-use explanations::{ChangedSources, NOTICES, PassedWords};
+use consolidate::Clipping;
+use explanations::{ChangedSources, ClippedLine, NOTICES, PassedWords, Rendering};
 use list_terms::Notice;
 use shelf::Reasons;
 use std::alloc::Global;
@@ -57,6 +59,20 @@ pub fn tell_meanings_of_two<E: Console>(
 /// Whether one of these notices is of this kind.
 fn has_kind(notices: &[Notice], kind: u8) -> bool {
     notices.iter().any(|notice| notice.kind == kind)
+}
+
+/// Reports what was clipped of a rendering of this list, where something was.
+pub fn tell_clipping<E: Console>(
+    clipping: Clipping,
+    rendering: Rendering,
+    list: &[u8],
+    err: &mut E,
+) {
+    err.print(ClippedLine {
+        clipping,
+        rendering,
+        rate: rate_of(list),
+    });
 }
 
 /// Tells which sources were changed or taken away since they were opened.

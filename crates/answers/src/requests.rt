@@ -1,7 +1,8 @@
 // The program's answer to a request.
-ghost use Rattle.std.specs.Prelude.{◌≡◌, ◌≢◌, ◌≤◌, ℕ, Bool, Err, IsTrue, Ok, Option, false, option_map};
+ghost use Rattle.std.specs.Prelude.{◌≡◌, ◌≢◌, ◌≤◌, ℕ, Bool, Err, IsTrue, List, Ok, Option, false, option_map};
 ghost use Rattle.clap.specs.Walk.{Text};
 ghost use Rattle.clap.specs.Words.{kind_of};
+ghost use Rattle.consolidate.specs.Asked.{asked_on};
 ghost use Rattle.consolidate.specs.Commands.{IsConsolidation, IsRendering};
 ghost use Rattle.consolidate.specs.Resuming.{IsResuming};
 ghost use Rattle.consolidate.specs.Fault.{refusal_of};
@@ -10,6 +11,7 @@ ghost use Rattle.passes.specs.Standard.{AreStandard};
 ghost use Rattle.sound_terms.specs.Passes.{standard_groups};
 ghost use Rattle.rendering.specs.Rendering as rendering;
 ghost use Rattle.rendering.specs.Rendering.{HaveChannels};
+ghost use Rattle.commandline.specs.declared.choice.MediaReport as choice;
 ghost use Rattle.commandline.specs.CommandLine as asked;
 ghost use Rattle.commandline.specs.CommandLine.{is_shown};
 ghost use Rattle.commandline.specs.Request.{asked_of};
@@ -27,16 +29,16 @@ use crate::chosen::{BadTime, options_of, tell_bad_time};
 use crate::drawing::answer_picture;
 use crate::meter::Meter;
 use crate::refusal::refuse;
-use crate::report::{tell_changed, tell_done, tell_meanings};
+use crate::report::{tell_changed, tell_clipping, tell_done, tell_meanings};
 use adlread::rate_of;
 use clap::Error;
-use commandline::{Request, VERSION};
+use commandline::{MediaReport, Request, VERSION};
 use console::{Console, Counts};
 use consolidate::{
-    Fault, JobLength, RenderChoice, check_project, consolidate_watched, render_watched,
-    resume_watched,
+    Fault, JobLength, RenderChoice, ReportChoice, check_project, consolidate_watched,
+    render_watched, resume_watched,
 };
-use explanations::{Explanation, PrintedLines, Saved, meanings_of, notice_meanings_of};
+use explanations::{Explanation, PrintedLines, Rendering, Saved, meanings_of, notice_meanings_of};
 use passes::Pass;
 use shelf::{Bench, Reasons, Shelf};
 use std::alloc::Global;
@@ -89,16 +91,16 @@ pub fn answer_request<
         → asked_of request.entry ≡ asked.Resume place media target chosen → result ≢ 2
         → IsAnswered (ResumesBy S.Shelf B.Bench jobs chosen list.now shelf.old shelf.new bench.old bench.new)
         resumed_lines O.Console out.old out.new result }
-    ensures consolidated { (place media target : Text) (handle : ℕ) (report : Bool)
+    ensures consolidated { (place media target : Text) (handle : ℕ) (report : choice.MediaReport)
         → asked_of request.entry ≡ asked.Consolidate place media target handle report
         → IsAnswered (IsConsolidation S.Shelf B.Bench
         (left_by (λ pass. looking pass) (λ pass. gives pass) passes.items)
-        list.now handle (asking report) shelf.old shelf.new bench.old bench.new)
+        list.now handle (asking report list.now) shelf.old shelf.new bench.old bench.new)
         written_lines O.Console out.old out.new result }
     ensures standard { AreStandard (λ pass. looking pass) (λ pass. gives pass) passes.items
-        → (place media target : Text) (handle : ℕ) (report : Bool)
+        → (place media target : Text) (handle : ℕ) (report : choice.MediaReport)
         → asked_of request.entry ≡ asked.Consolidate place media target handle report → IsAnswered
-        (IsConsolidation S.Shelf B.Bench standard_groups list.now handle (asking report) shelf.old shelf.new bench.old
+        (IsConsolidation S.Shelf B.Bench standard_groups list.now handle (asking report list.now) shelf.old shelf.new bench.old
         bench.new)
         written_lines O.Console out.old out.new result }
     // It names a time that can't be read.
@@ -232,7 +234,8 @@ fn answer_render<
     meter.clear();
     tell_changed(alloc, shelf, err);
     match outcome {
-        Ok(rendered) => {
+        Ok(made) => {
+            let rendered = made.rendered;
             let words = Counts {
                 before: "rendered ",
                 between: " frames ",
@@ -242,6 +245,7 @@ fn answer_render<
             let channels = u64::from(rendered.channels);
             tell_done(out, notices, words, rendered.frames, channels);
             tell_meanings(notices, list, err);
+            tell_clipping(made.clipping, Rendering::Whole, list, err);
             DONE
         }
         Err(fault) => {
@@ -282,7 +286,8 @@ fn answer_resume<
     meter.clear();
     tell_changed(alloc, shelf, err);
     match outcome {
-        Ok(resumed) => {
+        Ok(made) => {
+            let resumed = made.resumed;
             let words = Counts {
                 before: "resumed ",
                 between: " frames ",
@@ -292,6 +297,7 @@ fn answer_resume<
             let marked = u64::from(resumed.marked);
             tell_done(out, notices, words, resumed.frames, marked);
             tell_meanings(notices, list, err);
+            tell_clipping(made.clipping, Rendering::Resumed, list, err);
             DONE
         }
         Err(fault) => {
@@ -303,15 +309,23 @@ fn answer_resume<
     }
 }
 
-/// The version of this program, where a report is asked for.
-fn asked_for(report: bool) -> Option<&'static str>
-    ensures { option_map (λ version. version.now) result ≡ asking report }
+/// The report that this program asks for, where one is wanted.
+fn asked_for(report: MediaReport) -> Option<ReportChoice<'static>>
+    ensures { (list : List ℕ) → option_map (asked_on list) result ≡ asking report list }
 {
-    if report { Some(VERSION) } else { None }
+    let digests = match report {
+        MediaReport::NoReport => return None,
+        MediaReport::Plain => false,
+        MediaReport::WithDigests => true,
+    };
+    Some(ReportChoice {
+        program: "adlcons",
+        version: VERSION,
+        digests,
+    })
 }
 
-/// Consolidates the list, with the report that a program of this version asks for, and prints what came of it; on `err`,
-/// how much was saved.
+/// Consolidates the list, with the report that is asked for, and prints what came of it; on `err`, how much was saved.
 fn answer_consolidate<
     S: Shelf + Reasons,
     B: Bench + Reasons,
@@ -324,7 +338,7 @@ fn answer_consolidate<
     list: &[u8],
     handle: u64,
     passes: Vec<Box<dyn Pass>>,
-    asked: Option<&str>,
+    asked: Option<ReportChoice<'_>>,
     shelf: &mut S,
     bench: &mut B,
     out: &mut O,
@@ -334,7 +348,7 @@ fn answer_consolidate<
 ) -> u8
     ensures answered { IsAnswered (IsConsolidation S.Shelf B.Bench
         (left_by (λ pass. looking pass) (λ pass. gives pass) passes.items)
-        list.now handle (option_map (λ version. version.now) asked.entry) shelf.old shelf.new bench.old bench.new)
+        list.now handle (option_map (asked_on list.now) asked.entry) shelf.old shelf.new bench.old bench.new)
         written_lines O.Console out.old out.new result }
     ensures statuses { result ≤ 1 }
 {

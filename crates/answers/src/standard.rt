@@ -1,6 +1,7 @@
 // Answers with the standard passes.
 ghost use Rattle.std.specs.Prelude.{◌≡◌, ◌≢◌, ◌≤◌, ℕ, Bool, IfOk, OnErr};
 ghost use Rattle.clap.specs.Walk.{Text};
+ghost use Rattle.commandline.specs.declared.choice.MediaReport as choice;
 ghost use Rattle.commandline.specs.CommandLine as asked;
 ghost use Rattle.commandline.specs.Request.{asked_of};
 ghost use Rattle.consolidate.specs.Commands.{IsConsolidation};
@@ -46,10 +47,10 @@ pub fn answer_standard<
         → asked_of request.entry ≡ asked.Resume place media target chosen → IfOk result (λ status. status ≢ 2
         → IsAnswered (ResumesBy S.Shelf B.Bench Longer chosen list.now shelf.old shelf.new bench.old bench.new)
         resumed_lines O.Console out.old out.new status) }
-    ensures consolidated { (place media target : Text) (handle : ℕ) (report : Bool)
+    ensures consolidated { (place media target : Text) (handle : ℕ) (report : choice.MediaReport)
         → asked_of request.entry ≡ asked.Consolidate place media target handle report
         → IfOk result (λ status. IsAnswered (IsConsolidation S.Shelf B.Bench standard_groups list.now handle
-        (asking report) shelf.old shelf.new bench.old bench.new)
+        (asking report list.now) shelf.old shelf.new bench.old bench.new)
         written_lines O.Console out.old out.new status) }
     ensures statuses { IfOk result (λ status. status ≤ 2) }
     ensures nothing { OnErr result (out.new ≡ out.old) }

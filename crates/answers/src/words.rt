@@ -4,6 +4,7 @@ ghost use Rattle.clap.specs.Walk.{Text, texts};
 ghost use Rattle.rendering.specs.declared.cutting.JobLength.TheVariants.{OneBlock};
 ghost use Rattle.consolidate.specs.Commands.{IsConsolidation};
 ghost use Rattle.passes.specs.Left.{left_by};
+ghost use Rattle.commandline.specs.declared.choice.MediaReport as choice;
 ghost use Rattle.commandline.specs.CommandLine as asked;
 ghost use Rattle.commandline.specs.CommandLine.{asks_for_help, request_of, verifies};
 ghost use Rattle.answers.specs.Answers.{IsAnswered, IsChecked, RendersBy, ResumesBy, accepted_lines, asking, rendered_lines, resumed_lines, written_lines};
@@ -46,11 +47,11 @@ pub fn answer<S: Shelf + Reasons, B: Bench + Reasons, O: Console, E: Console>(
         → request_of (texts words.now) ≡ Some (asked.Resume place media target chosen) → result ≢ 2
         → IsAnswered (ResumesBy S.Shelf B.Bench OneBlock chosen list.now shelf.old shelf.new bench.old bench.new)
         resumed_lines O.Console out.old out.new result }
-    ensures consolidated { (place media target : Text) (handle : ℕ) (report : Bool)
+    ensures consolidated { (place media target : Text) (handle : ℕ) (report : choice.MediaReport)
         → request_of (texts words.now) ≡ Some (asked.Consolidate place media target handle report) → result ≢ 2
         → IsAnswered (IsConsolidation S.Shelf B.Bench
         (left_by (λ pass. looking pass) (λ pass. gives pass) passes.items)
-        list.now handle (asking report) shelf.old shelf.new bench.old bench.new)
+        list.now handle (asking report list.now) shelf.old shelf.new bench.old bench.new)
         written_lines O.Console out.old out.new result }
     ensures statuses { result ≤ 2 }
     ensures refused_words { request_of (texts words.now) ≡ None → asks_for_help (texts words.now) ≡ false

@@ -100,7 +100,7 @@ layer_sum depth sum x small fit =
 
 -- ---- what it is handed out as
 
-floor_whole : (y : ℤ) (r step : ℕ) → r < step → int_div_euclid (y *ℤ pos step +ℤ pos r) (pos step) ≡ y
+pub floor_whole : (y : ℤ) (r step : ℕ) → r < step → int_div_euclid (y *ℤ pos step +ℤ pos r) (pos step) ≡ y
 floor_whole (pos m) r step small = ap pos (div-mul-add m step r small)
 floor_whole (negsuc k) r step small =
     let product = negsuc-*ℤ-pos k step in

@@ -44,7 +44,7 @@ module _ (h half step : ℕ) (small : half < step) where
         turned : negsuc (n * step + (step - 1)) +ℤ pos half ≡ negsuc (n * step + (step - 1 - half))
         turned = omega (arith, ints)
 
-none_more : (z : ℤ) → pos 0 +ℤ z ≡ z
+pub none_more : (z : ℤ) → pos 0 +ℤ z ≡ z
 none_more z = omega (arith, ints)
 
 -- the same, added to nothing

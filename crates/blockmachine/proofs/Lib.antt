@@ -1,6 +1,7 @@
 pub mod Places
 pub mod Added
 pub mod Bounds
+pub mod UnclippedSums
 pub mod Counted
 pub mod Emitted
 pub mod Fits
@@ -14,3 +15,4 @@ pub mod Ran
 pub mod Slopes
 pub mod StoredSamples
 pub mod Filled
+pub mod FilledSums

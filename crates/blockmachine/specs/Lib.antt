@@ -1,4 +1,5 @@
 pub mod Alone
+pub mod Clipped
 pub mod Exact
 pub mod Fault
 pub mod Holding

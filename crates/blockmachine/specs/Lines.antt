@@ -1,5 +1,5 @@
 -- The lines of a program that are added to sums.
-use Rattle.std.specs.Prelude.{ℕ, List, IsSomeAnd}
+use Rattle.std.specs.Prelude.{List, IsSomeAnd}
 use Rattle.sound_terms.specs.declared.block.Stretch.{Stretch}
 use Rattle.sound_terms.specs.declared.block.Instruction.{Instruction}
 use Rattle.sound_terms.specs.declared.piece.Shape.{Shape}

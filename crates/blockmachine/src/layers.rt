@@ -141,7 +141,7 @@ pub fn add_stored_layer(stored: &Stored, lanes: Lanes, sums: &mut [i32])
 
 /// A sum at full scale.
 #[inline(always)]
-fn at_full_scale(sum: i32, depth: Depth) -> i64
+pub fn at_full_scale(sum: i32, depth: Depth) -> i64
     ensures { result ≡ full_scale (bits_of depth) sum }
 {
     let sum = i64::from(sum);

@@ -5,6 +5,7 @@ mod addition;
 mod additions;
 mod alone;
 mod buffer;
+mod clipped;
 mod exact;
 mod fault;
 mod frames;
@@ -16,6 +17,7 @@ mod slope;
 mod stretches;
 mod sums;
 
+pub use clipping::Clips;
 pub use fault::MachineFault;
 pub use machine::Machine;
 pub use sound_terms::{Depth, Instruction, Program, Stretch};

@@ -5,6 +5,7 @@ ghost use Rattle.sound_terms.specs.declared.Depth as declared;
 ghost use Rattle.sound_terms.specs.declared.block.Instruction as word;
 ghost use Rattle.sound_terms.specs.declared.block.Instruction.TheVariants as instruction;
 ghost use Rattle.sound_terms.specs.Depth.{bits_of};
+ghost use Rattle.clipping.specs.Clips.{IsClippingOf, block_sums};
 ghost use Rattle.pcm.specs.Samples.{FitsDepth};
 ghost use Rattle.sound_terms.specs.Blocks.{BlockState, IsBlockProgram, LiesInFiles, PlaysFull, executed, executed_all};
 ghost use Rattle.sound_terms.specs.Sounds.{reading_by};
@@ -22,6 +23,7 @@ use crate::buffer::Buffer;
 use crate::frames::Lanes;
 use crate::stretches::{add_stretch, read_stored};
 use crate::sums::Sums;
+use clipping::Clips;
 use devices::Shelf;
 use pcm::pack;
 use sound_terms::{Depth, Instruction, Program, Shape};
@@ -150,7 +152,7 @@ impl Machine {
         Ok(Machine { sums, buffer })
     }
 
-    /// Adds what these instructions play to sums of zero, and hands the sums out.
+    /// Adds what these instructions play to sums of zero, and hands the sums out. What of them is clipped is returned.
     fn run_lines<S: Shelf>(
         &mut self,
         lines: &[Instruction],
@@ -158,7 +160,7 @@ impl Machine {
         sounds: &[Sound],
         shelf: &mut S,
         out: &mut [i32],
-    ) -> Result<(), MachineFault>
+    ) -> Result<Clips, MachineFault>
         requires lines { All (CanAdd sounds.now self.old) lines.now }
         requires whole { (frames : ℕ) × (frames ≤ self.old.frames) × (length out.old ≡ frames * self.old.channels) }
         ensures ran { IsTrue (S.honest shelf.old)
@@ -166,6 +168,12 @@ impl Machine {
             → out.new ≡ (executed_all (reading_by (S.stored shelf.old) sounds.now) self.old.channels
             (instruction.Start frames ∷ (lines.now ++ instruction.Emit depth ∷ [])) start).out) }
         ensures fit { OnOk result (All (FitsDepth (bits_of depth)) out.new) }
+        ensures clips { IsTrue (S.honest shelf.old)
+            → IfOk result (λ clips. (frames : ℕ) (start : BlockState) → length out.old ≡ frames * self.old.channels
+            → IsClippingOf (bits_of depth) self.old.channels
+            (block_sums (executed_all (reading_by (S.stored shelf.old) sounds.now) self.old.channels
+            (instruction.Start frames ∷ (lines.now ++ instruction.Emit depth ∷ [])) start).sums
+            self.old.channels 0 frames) clips) }
         ensures full { IsTrue (S.honest shelf.old)
             → OnOk result (All (PlaysFull (reading_by (S.stored shelf.old) sounds.now)) lines.now) }
         ensures ready { self.new ≡ self.old }
@@ -178,7 +186,7 @@ impl Machine {
         self.buffer.held = None;
         add_all(lines, sounds, shelf, &mut self.buffer, sums)?;
         sums.emit(depth, out);
-        Ok(())
+        Ok(sums.clips(depth, out))
     }
 
     /// Runs the program of a block over the files that a project is bound to, and writes the samples that it hands out,
@@ -246,8 +254,8 @@ impl Machine {
 
     /// Runs the program of a block, which hands its samples out at this depth, and writes them over `bytes` as a file of
     /// this depth stores them. `samples` has room for them. The frames of a file that fills the block as it is are read
-    /// to where they go. It takes no memory. `Source` where a read fails; what was written is then unspecified, and the
-    /// machine as ready as before.
+    /// to where they go. What is clipped of the sums is returned. It takes no memory. `Source` where a read fails; what was
+    /// written is then unspecified, and the machine as ready as before.
     pub fn run_packed<S: Shelf>(
         &mut self,
         program: &Program,
@@ -256,7 +264,7 @@ impl Machine {
         shelf: &mut S,
         samples: &mut [i32],
         bytes: &mut [u8],
-    ) -> Result<(), MachineFault>
+    ) -> Result<Clips, MachineFault>
         requires fits { (frames : ℕ) × (frames ≤ self.old.frames)
             × IsBlockProgram frames self.old.channels depth program.now.lines
             × (length samples.old ≡ frames * self.old.channels) }
@@ -265,6 +273,11 @@ impl Machine {
         ensures ran { IsTrue (S.honest shelf.old) → OnOk result ((start : BlockState)
             → bytes.new ≡ flat_map (sample_bytes (bits_of depth)) (executed_all (reading_by (S.stored shelf.old) sounds.now)
             self.old.channels program.now.lines start).out) }
+        ensures clips { IsTrue (S.honest shelf.old)
+            → IfOk result (λ clips. (frames : ℕ) (start : BlockState) → length samples.old ≡ frames * self.old.channels
+            → IsClippingOf (bits_of depth) self.old.channels
+            (block_sums (executed_all (reading_by (S.stored shelf.old) sounds.now) self.old.channels
+            program.now.lines start).sums self.old.channels 0 frames) clips) }
         ensures full { IsTrue (S.honest shelf.old)
             → OnOk result (All (PlaysFull (reading_by (S.stored shelf.old) sounds.now)) program.now.lines) }
         ensures ready { self.new ≡ self.old }
@@ -280,10 +293,11 @@ impl Machine {
             channels: lanes.channels,
         };
         if let Some(stretch) = fills_alone(lines, filled, depth, sounds) {
-            return read_stored(&stretch, sounds, shelf, bytes);
+            read_stored(&stretch, sounds, shelf, bytes)?;
+            return Ok(Clips::none());
         }
-        self.run_over(program, sounds, shelf, samples)?;
+        let clips = self.run_lines(lines, depth, sounds, shelf, samples)?;
         pack(depth, samples, bytes);
-        Ok(())
+        Ok(clips)
     }
 }

@@ -58,7 +58,7 @@ text_in text = unwrap_or (option_map string text) null
 
 -- the version of the form of reports
 abbrev pub form : ℕ
-form = 4
+form = 5
 
 -- what of a line isn't honoured
 abbrev pub passed_data : PassedLine → Data

@@ -13,6 +13,8 @@ use Rattle.sound_terms.specs.declared.Depth.{Depth}
 use Rattle.sound_terms.specs.declared.Depth.TheVariants.{Sixteen, TwentyFour, ThirtyTwo}
 use Rattle.job_terms.specs.declared.Order.{Order}
 use Rattle.job_terms.specs.declared.Order.TheVariants.{ByTime, BySource}
+pub use Rattle.commandline.specs.declared.choice.MediaReport.{MediaReport}
+use Rattle.commandline.specs.declared.choice.MediaReport.TheVariants.{NoReport, Plain, WithDigests}
 
 -- a word that has to be given, by its place
 abbrev pub place_rule : Text → Rule
@@ -54,7 +56,8 @@ over_folders name = with_rule (over_media name) (place_rule (codes "OUT"))
 abbrev pub consolidate_shape : Shape
 consolidate_shape =
     let handled = with_rule (over_folders (codes "consolidate")) (default_rule (codes "handle") (codes "48000")) in
-    (with_rule (with_rule handled (flag_rule (codes "report"))) (flag_rule (codes "verify"))).top
+    let reported = with_rule (with_rule handled (flag_rule (codes "report"))) (flag_rule (codes "digests")) in
+    (with_rule reported (flag_rule (codes "verify"))).top
 
 -- with the times and the channels that may be chosen
 abbrev pub with_range : App → App
@@ -125,7 +128,7 @@ pub record Drawn : Type 0 where
   pub to : Option Text
 
 -- What the program is asked for: a command with its list, the folder of its media, and the folder that is written to
--- (a resumed one goes on with what is in there), and whether a report is written; two lists to be compared, each with
+-- (a resumed one goes on with what is in there), and which report is written; two lists to be compared, each with
 -- the folder of its media; a report of a check, or a picture; or what the number of a refusal or of a notice means, or
 -- all of them.
 pub data Asked : Type 0 where
@@ -133,7 +136,7 @@ pub data Asked : Type 0 where
   Report : (list media : Text) → Asked
   Render : (list media out : Text) → (chosen : Chosen) → Asked
   Resume : (list media out : Text) → (chosen : Chosen) → Asked
-  Consolidate : (list media out : Text) → (handle : ℕ) → (report : Bool) → Asked
+  Consolidate : (list media out : Text) → (handle : ℕ) → (report : MediaReport) → Asked
   Compare : (list media other other_media : Text) → (selected : Selected) → Asked
   Show : (list media : Text) → (handle : ℕ) → (drawn : Drawn) → Asked
   Explain : (number : Option Text) → Asked
@@ -157,6 +160,13 @@ number_in low high text =
 -- a handle is no longer than a day
 abbrev pub handle_of : List Row → Option ℕ
 handle_of rows = option_and_then (number_in 0 4147200000) (first_of (codes "handle") rows)
+
+-- the report of a consolidation; only a report has digests
+abbrev pub media_report : List Row → Option MediaReport
+media_report rows =
+    if is_set (codes "report") rows
+    then Some (if is_set (codes "digests") rows then WithDigests else Plain)
+    else if is_set (codes "digests") rows then None else Some NoReport
 
 abbrev pub depth_in : Text → Option Depth
 depth_in text =
@@ -230,7 +240,7 @@ asked_to name list media out rows =
     if bytes_eq name (codes "render") then option_map (λ chosen. Render list media out chosen) (chosen_of rows)
     else if bytes_eq name (codes "resume") then option_map (λ chosen. Resume list media out chosen) (chosen_of rows)
     else if bytes_eq name (codes "consolidate")
-    then option_map (λ handle. Consolidate list media out handle (is_set (codes "report") rows)) (handle_of rows)
+    then option_and_then (λ handle. option_map (Consolidate list media out handle) (media_report rows)) (handle_of rows)
     else None
 
 -- the command of this name over a list and its media

@@ -1,6 +1,7 @@
 -- What is said of a request is said of an equal one.
-use Rattle.std.proofs.Common.{◌≡◌, ℕ, Bool, Some, refl, subst}
+use Rattle.std.proofs.Common.{◌≡◌, ℕ, Some, refl, subst}
 use Rattle.clap.specs.Walk.{Text}
+use Rattle.commandline.specs.declared.choice.MediaReport.{MediaReport}
 use Rattle.commandline.specs.CommandLine.{Asked, Check, Report, Chosen, Selected, Render, Resume, Consolidate, Compare, Show, Explain, ExplainNotice}
 
 -- of a rendering
@@ -9,7 +10,7 @@ OfRender P (Check list media) = Unit {0}
 OfRender P (Report list media) = Unit {0}
 OfRender P (Render list media out chosen) = P list media out chosen
 OfRender P (Resume list media out chosen) = Unit {0}
-OfRender P (Consolidate list media out handle report) = Unit {0}
+OfRender P (Consolidate list media out handle _) = Unit {0}
 OfRender P (Compare list media other other_media selected) = Unit {0}
 OfRender P (Show list media handle drawn) = Unit {0}
 OfRender P (Explain number) = Unit {0}
@@ -38,7 +39,7 @@ OfResume P (Check list media) = Unit {0}
 OfResume P (Report list media) = Unit {0}
 OfResume P (Render list media out chosen) = Unit {0}
 OfResume P (Resume list media out chosen) = P list media out chosen
-OfResume P (Consolidate list media out handle report) = Unit {0}
+OfResume P (Consolidate list media out handle _) = Unit {0}
 OfResume P (Compare list media other other_media selected) = Unit {0}
 OfResume P (Show list media handle drawn) = Unit {0}
 OfResume P (Explain number) = Unit {0}
@@ -59,7 +60,7 @@ resume_fields list media out chosen list' media' out' chosen' same =
     list' media' out' chosen' same (refl, refl, refl, refl)
 
 -- of a consolidation
-abbrev OfConsolidate : (Text → Text → Text → ℕ → Bool → Type 0) → Asked → Type 0
+abbrev OfConsolidate : (Text → Text → Text → ℕ → MediaReport → Type 0) → Asked → Type 0
 OfConsolidate P (Check list media) = Unit {0}
 OfConsolidate P (Report list media) = Unit {0}
 OfConsolidate P (Render list media out chosen) = Unit {0}
@@ -70,16 +71,17 @@ OfConsolidate P (Show list media handle drawn) = Unit {0}
 OfConsolidate P (Explain number) = Unit {0}
 OfConsolidate P (ExplainNotice number) = Unit {0}
 
-consolidate_alike : (P : Text → Text → Text → ℕ → Bool → Type 0) (list media out : Text) (handle : ℕ) (report : Bool)
-    (list' media' out' : Text) (handle' : ℕ) (report' : Bool)
+consolidate_alike : (P : Text → Text → Text → ℕ → MediaReport → Type 0) (list media out : Text) (handle : ℕ)
+    (report : MediaReport)
+    (list' media' out' : Text) (handle' : ℕ) (report' : MediaReport)
     → Some (Consolidate list media out handle report) ≡ Some (Consolidate list' media' out' handle' report')
     → P list media out handle report → P list' media' out' handle' report'
 consolidate_alike P list media out handle report list' media' out' handle' report' same holds =
     subst (OfConsolidate P)
     (some_same (Consolidate list media out handle report) (Consolidate list' media' out' handle' report') same) holds
 
-pub consolidate_fields : (list media out : Text) (handle : ℕ) (report : Bool) (list' media' out' : Text) (handle' : ℕ)
-    (report' : Bool)
+pub consolidate_fields : (list media out : Text) (handle : ℕ) (report : MediaReport) (list' media' out' : Text)
+    (handle' : ℕ) (report' : MediaReport)
     → Some (Consolidate list media out handle report) ≡ Some (Consolidate list' media' out' handle' report')
     → (list ≡ list') × (media ≡ media') × (out ≡ out') × (handle ≡ handle') × (report ≡ report')
 consolidate_fields list media out handle report list' media' out' handle' report' same =
@@ -92,7 +94,7 @@ OfCompare P (Check list media) = Unit {0}
 OfCompare P (Report list media) = Unit {0}
 OfCompare P (Render list media out chosen) = Unit {0}
 OfCompare P (Resume list media out chosen) = Unit {0}
-OfCompare P (Consolidate list media out handle report) = Unit {0}
+OfCompare P (Consolidate list media out handle _) = Unit {0}
 OfCompare P (Compare list media other other_media selected) = P list media other other_media selected
 OfCompare P (Show list media handle drawn) = Unit {0}
 OfCompare P (Explain number) = Unit {0}

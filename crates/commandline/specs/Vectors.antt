@@ -4,6 +4,7 @@ use Rattle.clap.specs.declared.error.ErrorKind.TheVariants.{DisplayHelp, Display
 use Rattle.clap.proofs.OnLiterals.{clap_on_literals}
 use Rattle.sound_terms.specs.declared.Depth.TheVariants.{Sixteen, TwentyFour, ThirtyTwo}
 use Rattle.job_terms.specs.declared.Order.TheVariants.{ByTime, BySource}
+use Rattle.commandline.specs.declared.choice.MediaReport.TheVariants.{NoReport, Plain, WithDigests}
 use Rattle.commandline.specs.CommandLine.{Check, Chosen, Compare, Render, Report, Resume, Consolidate, Show, Explain, ExplainNotice, asks_for_help, has_flag, named_by, request_of, searches, tells_all, verifies, words_fault}
 
 -- ---- good words
@@ -35,7 +36,7 @@ unfolding words_fault named_by clap_on_literals
 orders_by_time = refl
 
 handles : request_of (codes "consolidate" ∷ codes "--handle" ∷ codes "0" ∷ codes "L" ∷ codes "M" ∷ codes "O" ∷ [])
-    ≡ Some (Consolidate (codes "L") (codes "M") (codes "O") 0 false)
+    ≡ Some (Consolidate (codes "L") (codes "M") (codes "O") 0 NoReport)
 unfolding words_fault named_by clap_on_literals
 handles = refl
 
@@ -113,13 +114,13 @@ unfolding words_fault named_by clap_on_literals
 resumes = refl
 
 consolidates : request_of (codes "consolidate" ∷ codes "L.adl" ∷ codes "M" ∷ codes "O" ∷ [])
-    ≡ Some (Consolidate (codes "L.adl") (codes "M") (codes "O") 48000 false)
+    ≡ Some (Consolidate (codes "L.adl") (codes "M") (codes "O") 48000 NoReport)
 unfolding words_fault named_by clap_on_literals
 consolidates = refl
 
 -- `-` is a word like others, for standard input
 consolidates_input : request_of (codes "consolidate" ∷ codes "-" ∷ codes "M" ∷ codes "O" ∷ [])
-    ≡ Some (Consolidate (codes "-") (codes "M") (codes "O") 48000 false)
+    ≡ Some (Consolidate (codes "-") (codes "M") (codes "O") 48000 NoReport)
 unfolding words_fault named_by clap_on_literals
 consolidates_input = refl
 
@@ -156,9 +157,21 @@ unfolding words_fault named_by clap_on_literals
 reports = refl
 
 consolidates_with_report : request_of (codes "consolidate" ∷ codes "--report" ∷ codes "L" ∷ codes "M" ∷ codes "O" ∷ [])
-    ≡ Some (Consolidate (codes "L") (codes "M") (codes "O") 48000 true)
+    ≡ Some (Consolidate (codes "L") (codes "M") (codes "O") 48000 Plain)
 unfolding words_fault named_by clap_on_literals
 consolidates_with_report = refl
+
+consolidates_with_digests : request_of (codes "consolidate" ∷ codes "--report" ∷ codes "--digests" ∷ codes "L"
+    ∷ codes "M" ∷ codes "O" ∷ [])
+    ≡ Some (Consolidate (codes "L") (codes "M") (codes "O") 48000 WithDigests)
+unfolding words_fault named_by clap_on_literals
+consolidates_with_digests = refl
+
+-- only a report has digests
+digests_without_report : request_of (codes "consolidate" ∷ codes "--digests" ∷ codes "L" ∷ codes "M" ∷ codes "O" ∷ [])
+    ≡ None
+unfolding words_fault named_by clap_on_literals
+digests_without_report = refl
 
 compares : request_of (codes "compare" ∷ codes "L" ∷ codes "M" ∷ codes "L2" ∷ codes "M2" ∷ [])
     ≡ Some (Compare (codes "L") (codes "M") (codes "L2") (codes "M2")

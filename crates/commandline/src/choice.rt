@@ -1,4 +1,4 @@
-// What the words choose of a rendering, and of a comparison.
+// What the words choose of a rendering, of a consolidation and of a comparison.
 ghost use Rattle.std.specs.Prelude.{◌≡◌, true};
 ghost use Rattle.commandline.specs.Channels.{are_few};
 
@@ -15,6 +15,17 @@ pub struct Chosen<'a> {
     pub depth: Depth,
     pub order: Order,
     ghost few_channels: { are_few channels ≡ true },
+}
+
+/// Which report of a consolidation is written.
+#[derive(Clone, Copy, Debug, PartialEq, Eq)]
+pub enum MediaReport {
+    /// None.
+    NoReport,
+    /// Where the media and the entries come from, and checksums of all that is written.
+    Plain,
+    /// The same with the digest of each source as a whole.
+    WithDigests,
 }
 
 /// What is chosen of a picture: the texts of its times.

@@ -6,6 +6,6 @@ mod choice;
 mod request;
 mod words;
 
-pub use choice::{Chosen, Drawn, Selected};
+pub use choice::{Chosen, Drawn, MediaReport, Selected};
 pub use request::{BothPlaces, Parsed, Places, Request, parse};
 pub use words::{VERSION, command};

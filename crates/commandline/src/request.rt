@@ -10,7 +10,7 @@ ghost use Rattle.commandline.specs.CommandLine.{asked, asked_over, asks_for_help
 ghost use Rattle.commandline.specs.Request as spec;
 ghost use Rattle.commandline.specs.Request.{asked_of};
 
-use crate::choice::{Chosen, Drawn, Selected};
+use crate::choice::{Chosen, Drawn, MediaReport, Selected};
 use crate::words::{command, command_named};
 use clap::error::ErrorKind;
 use clap::{ArgMatches, Command, Error};
@@ -47,8 +47,8 @@ pub enum Request<'a> {
     Render(Places<'a>, Chosen<'a>),
     /// Goes on with such a rendering that was stopped.
     Resume(Places<'a>, Chosen<'a>),
-    /// Writes a list over new media, with handles of so many frames, and a report where it is asked for.
-    Consolidate(Places<'a>, u64, bool),
+    /// Writes a list over new media, with handles of so many frames, and this report.
+    Consolidate(Places<'a>, u64, MediaReport),
     /// Compares two lists, each over the folder of its media.
     Compare(BothPlaces<'a>, Selected<'a>),
     /// Draws the list, or a part of it, over the folder of its media, with handles of so many frames.
@@ -113,6 +113,9 @@ fn command_in<'a>(alloc: Global, matches: &ArgMatches<'_>) -> Result<Command<'a>
 /// What is told of words that clap takes and that ask for nothing.
 fn mistake_of(matches: &ArgMatches<'_>) -> &'static str {
     match matches.subcommand() {
+        Some(("consolidate", words)) if handle_in(words).is_some() => {
+            "only a report has digests: --report asks for it"
+        }
         Some(("consolidate" | "show", _)) => "a handle is 0 to 4147200000 frames",
         Some(("render" | "resume", words)) => mistake_of_rendering(words),
         Some(("compare", words)) => mistake_of_comparison(words),
@@ -287,13 +290,28 @@ fn selected_in<'a>(words: &ArgMatches<'a>) -> Option<Selected<'a>>
     })
 }
 
-/// A consolidation with this handle, and a report where the words ask for it.
-fn consolidated<'a>(places: Places<'a>, handle: u64, words: &ArgMatches<'_>) -> Request<'a>
-    ensures { asked_of result
-        ≡ line.Consolidate places.entry.list.now places.entry.media.now places.entry.out.now handle
-        (line.is_set (codes "report") (rows_of (found_of words.now))) }
+/// A consolidation with this handle, and with the report that the words ask for.
+fn consolidated<'a>(places: Places<'a>, handle: u64, words: &ArgMatches<'_>) -> Option<Request<'a>>
+    ensures { option_map asked_of result
+        ≡ option_map (line.Consolidate places.entry.list.now places.entry.media.now places.entry.out.now handle)
+        (line.media_report (rows_of (found_of words.now))) }
 {
-    Request::Consolidate(places, handle, is_set("report", words))
+    let report = media_report(words)?;
+    Some(Request::Consolidate(places, handle, report))
+}
+
+/// The report of a consolidation that the words ask for. There is none where they ask for digests alone.
+fn media_report(words: &ArgMatches<'_>) -> Option<MediaReport>
+    ensures { result ≡ line.media_report (rows_of (found_of words.now)) }
+{
+    let report = is_set("report", words);
+    let digests = is_set("digests", words);
+    match (report, digests) {
+        (false, false) => Some(MediaReport::NoReport),
+        (false, true) => None,
+        (true, false) => Some(MediaReport::Plain),
+        (true, true) => Some(MediaReport::WithDigests),
+    }
 }
 
 /// What the command of this name asks for over places that it writes to.
@@ -305,7 +323,7 @@ fn request_to<'a>(name: &str, places: Places<'a>, words: &ArgMatches<'a>) -> Opt
     match name {
         "render" => Some(Request::Render(places, chosen_in(words)?)),
         "resume" => Some(Request::Resume(places, chosen_in(words)?)),
-        "consolidate" => Some(consolidated(places, handle_in(words)?, words)),
+        "consolidate" => consolidated(places, handle_in(words)?, words),
         _ => None,
     }
 }

@@ -109,6 +109,8 @@ fn consolidate_command<'a>(alloc: Global) -> Result<Command<'a>, AllocError>
     let command = with_default(alloc, command, "handle", "N", "48000", help)?;
     let report = "Write where the media come from, and checksums";
     let command = with_flag(alloc, command, "report", report)?;
+    let digests = "Have the SHA-256 of each whole source in the report";
+    let command = with_flag(alloc, command, "digests", digests)?;
     let verify = "Read it again, and compare it with what was given";
     with_flag(alloc, command, "verify", verify)
 }

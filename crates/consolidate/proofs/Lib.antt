@@ -1,3 +1,4 @@
+mod Clipped
 pub mod Crashes
 pub mod Due
 mod First

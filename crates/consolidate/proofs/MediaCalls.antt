@@ -30,6 +30,7 @@ use Rattle.execution.specs.Plan as execution
 use Rattle.execution.specs.Plan.{AreBlank, HoldJobs, HoldLast, IsLast, JobPlan, OfJob, SourcesFit}
 use Rattle.execution.specs.declared.fault.ExecutionFault.{ExecutionFault}
 use Rattle.execution.specs.declared.fault.ExecutionFault.TheVariants as cause
+use Rattle.provenance.specs.Asked.{AskedReport}
 use Rattle.consolidation.specs.Consolidated.{AreDurable, IsElsewhere}
 use Rattle.consolidation.specs.Jobs.{work_of}
 use Rattle.consolidation.specs.Media.{IsNoMedium}
@@ -68,8 +69,7 @@ report_no_list : codes "consolidated.json" ≢ codes "consolidated.adl"
 report_no_list same = let e : 106 ≡ 97 = ap (nth 13) same in omega (arith, e)
 
 -- over the files that the passes left as they were
-pub ready : (leave : Leaving) (text : List ℕ) (project : ListProject) (binding : Binding) (handle : ℕ) (asked : Option
-    (List ℕ)) (honest : Bool)
+pub ready : (leave : Leaving) (text : List ℕ) (project : ListProject) (binding : Binding) (handle : ℕ) (asked : Option AskedReport) (honest : Bool)
     (old new : Files)
     (plan : MediaPlan) → new ≡ old → IsTrue honest → IsAccepted text old project binding
     → IsPlanOf leave project binding handle asked honest old plan → AreThere old (sounds_of binding)
@@ -470,7 +470,7 @@ module _ {S : Type 0} (shelf : source.Ghosts S) (old mid : S) (same : shelf.stor
 
   -- of the list that was opened before
   pub listed_media : (X Y : Type 0) (leave : Leaving) (text : List ℕ) (project : ListProject) (binding : Binding)
-      (handle : ℕ) (asked : Option (List ℕ)) (events : ℕ → List BoardEvent) (Reports : X → Progress → Type 0)
+      (handle : ℕ) (asked : Option AskedReport) (events : ℕ → List BoardEvent) (Reports : X → Progress → Type 0)
       (Answers : Y → Progress → Type 0) (s2 : SourceView) (o o2 : OutputView) (result : Result X Fault)
       (answer : Result Y Fault) → IsAccepted text (shelf.stored old) project binding
       → ((fault_for : ExecutionFault → Fault) (ended : Result Progress ExecutionFault)

@@ -24,6 +24,7 @@ use Rattle.execution.specs.Outcome.{IsFresh, Outcome}
 use Rattle.execution.specs.Plan.{AreBlank, HoldJobs, HoldLast, IsForeign}
 use Rattle.execution.specs.declared.fault.ExecutionFault.{ExecutionFault}
 use Rattle.execution.specs.declared.fault.ExecutionFault.TheVariants as cause
+use Rattle.provenance.specs.Asked.{AskedReport}
 use Rattle.consolidation.specs.Consolidated.{AreDurable, IsConsolidated, IsWorkOf, Work, work_fault}
 use Rattle.consolidation.specs.Jobs.{work_of}
 use Rattle.consolidation.specs.Outputs.{AreNamedOutputs, FitsSources, job_plan, whole_output}
@@ -44,7 +45,7 @@ use Rattle.consolidate.proofs.MediaCalls.{IsMediaCall, answers_finished, came_ou
 use Rattle.consolidate.proofs.MediaFaults.{of_events, of_execution}
 use Rattle.consolidate.proofs.Stores.{opened_before}
 
--- a report is asked for just where a version is
+-- a report is asked for just where a choice of it is
 pub asked_some : {A B : Type 0} (f : A → B) (o : Option A) → is_some (option_map f o) ≡ is_some o
 asked_some f None = refl
 asked_some f (Some x) = refl
@@ -53,7 +54,7 @@ module _ {S B : Type 0} (shelf : source.Ghosts S) (bench : output.Ghosts B) (lea
     (binding : Binding) (handle : ℕ) (old new : S) (b : B) (fault : Fault) (early : (refusal_of fault).late ≡ false)
     (due : IsTrue (shelf.honest old) → (work : Work) → IsWorkOf leave project binding handle (shelf.stored old) work
     → IsDue (refusal_of fault) (work_fault work)) where
-  pub refused : (asked : Option (List ℕ)) (events : ℕ → List BoardEvent) → ((text : List ℕ) → IsOfConsolidation (is_some asked) text fault)
+  pub refused : (asked : Option AskedReport) (events : ℕ → List BoardEvent) → ((text : List ℕ) → IsOfConsolidation (is_some asked) text fault)
       → KeepsStores shelf bench {X = Written} old new b b (Err fault)
       → ConsolidatesProject shelf bench leave project binding handle asked events old new b b (Err fault)
   refused asked events own stores = record {
@@ -87,7 +88,7 @@ module _ {S B : Type 0} (shelf : source.Ghosts S) (bench : output.Ghosts B) (lea
 -- a plan whose outputs are whole sounds as its list
 abbrev SoundsWhenWhole : MediaPlan → Type 0
 SoundsWhenWhole plan = (text : List ℕ) (leave : Leaving) (project : ListProject) (binding : Binding) (handle : ℕ)
-    (asked : Option (List ℕ)) (sources written : Files) → IsAccepted text sources project binding
+    (asked : Option AskedReport) (sources written : Files) → IsAccepted text sources project binding
     → IsPlanOf leave project binding handle asked true sources plan → AreThere sources plan.sounds
     → HoldJobs (job_plan plan) sources written → HoldLast (job_plan plan) sources written
     → SoundsTheSame text sources written
@@ -95,7 +96,7 @@ SoundsWhenWhole plan = (text : List ℕ) (leave : Leaving) (project : ListProjec
 -- and is a consolidation
 abbrev IsMadeWhenWhole : MediaPlan → Written → Type 0
 IsMadeWhenWhole plan counts = (leave : Leaving) (project : ListProject) (binding : Binding) (handle : ℕ)
-    (asked : Option (List ℕ)) (sources old written : Files)
+    (asked : Option AskedReport) (sources old written : Files)
     → IsPlanOf leave project binding handle asked true sources plan → AreThere sources plan.sounds
     → HoldJobs (job_plan plan) sources written → HoldLast (job_plan plan) sources written
     → ((n : List ℕ) → IsForeign (job_plan plan) n → written n ≡ old n)
@@ -108,7 +109,7 @@ if_both (Ok progress) P Q p q = λ finished. (p finished, q finished)
 if_both (Err of) P Q p q = tt
 
 module _ {S B : Type 0} (shelf : source.Ghosts S) (bench : output.Ghosts B) (leave : Leaving) (project : ListProject)
-    (binding : Binding) (handle : ℕ) (asked : Option (List ℕ)) (plan : MediaPlan) (counts : Written) (old mid new : S)
+    (binding : Binding) (handle : ℕ) (asked : Option AskedReport) (plan : MediaPlan) (counts : Written) (old mid new : S)
     (before after : B) (board : Board) (events : ℕ → List BoardEvent) (untouched : Type 0)
     (ended : Result Progress ExecutionFault)
     (planned : IsPlanOf leave project binding handle asked (shelf.honest old) (shelf.stored old) plan)

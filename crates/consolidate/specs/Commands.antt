@@ -25,6 +25,7 @@ use Rattle.markfile.specs.Started.{NoneStarted}
 use Rattle.rendering.specs.Marked.{IsOther}
 use Rattle.rendering.specs.declared.cutting.JobLength.{JobLength}
 use Rattle.rendering.specs.Rendering as rendering
+use Rattle.provenance.specs.Asked.{AskedReport}
 use Rattle.consolidation.specs.Consolidated as consolidation
 use Rattle.consolidation.specs.Consolidated.{AreDurable, IsElsewhere, IsWorkOf, Work, work_fault}
 use Rattle.consolidation.specs.Work.{SoundsTheSame}
@@ -101,9 +102,9 @@ range_refusal values (Ok project) = rendering.render_fault project values
 abbrev pub render_refusal : List ℕ → OptionValues → Files → Option Refusal
 render_refusal text values files = first_fault (project_fault text files) (range_refusal values (text_value text))
 
--- The list is accepted, the media of what passes leave of it are written and the list over them, with the report that a
--- program of this version asks for, and no other file has changed.
-pub record IsConsolidated (leave : Leaving) (text : List ℕ) (handle : ℕ) (asked : Option (List ℕ))
+-- The list is accepted, the media of what passes leave of it are written and the list over them, with the report that is
+-- asked for, and no other file has changed.
+pub record IsConsolidated (leave : Leaving) (text : List ℕ) (handle : ℕ) (asked : Option AskedReport)
     (sources old new : Files) (told : Written) : Type 0 where
   pub project : ListProject
   pub binding : Binding
@@ -177,9 +178,9 @@ module _ {S B : Type 0} (shelf : source.Ghosts S) (bench : output.Ghosts B) wher
         (output_view bench bench_old) (output_view bench bench_new) ended
     pub stores : KeepsStores shelf_old shelf_new bench_old bench_new result
 
-  -- the list was consolidated over these stores by what passes leave of it, with the report that a program of this
-  -- version asks for, with this outcome
-  pub record IsConsolidation (leave : Leaving) (list : List ℕ) (handle : ℕ) (asked : Option (List ℕ))
+  -- the list was consolidated over these stores by what passes leave of it, with the report that is asked for,
+  -- with this outcome
+  pub record IsConsolidation (leave : Leaving) (list : List ℕ) (handle : ℕ) (asked : Option AskedReport)
       (shelf_old shelf_new : S) (bench_old bench_new : B) (result : Result Written Fault) : Type 0 where
     pub same_sound : IsTrue (shelf.honest shelf_old) → IsTrue (bench.honest bench_old)
         → OnOk result (SoundsTheSame list (shelf.stored shelf_old) (bench.stored bench_new))

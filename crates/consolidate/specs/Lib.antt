@@ -1,3 +1,5 @@
+pub mod Asked
+pub mod Clipping
 pub mod Commands
 pub mod CompareFault
 pub mod Comparing

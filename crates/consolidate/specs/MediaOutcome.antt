@@ -17,6 +17,7 @@ use Rattle.execution.specs.Filled.{AreApart}
 use Rattle.execution.specs.Plan.{AreBlank, SourcesFit}
 use Rattle.execution.specs.declared.fault.ExecutionFault.{ExecutionFault}
 use Rattle.execution.specs.declared.fault.ExecutionFault.TheVariants as execution
+use Rattle.provenance.specs.Asked.{AskedReport}
 use Rattle.consolidation.specs.Jobs.{work_of}
 use Rattle.consolidation.specs.Outputs.{job_plan, whole_output}
 use Rattle.consolidation.specs.Planned.{IsPlanOf, MediaPlan}
@@ -48,9 +49,9 @@ consolidation_fault media reported (execution.Output number) = fault.Output (out
 
 -- From its first write on a call executed these events, so many for so many pieces, of the media of a project: the
 -- pieces, which lie apart and are parts of the media, are handed out each in its turn, and what comes last is the report,
--- where a program of this version asks for one, and the list. What the call answers is how that ended.
+-- where one is asked for, and the list. What the call answers is how that ended.
 pub record ConsolidatesMedia {X : Type 0} (leave : Leaving) (project : ListProject) (binding : Binding) (handle : ℕ)
-    (asked : Option (List ℕ)) (events : ℕ → List BoardEvent) (Reports : X → Progress → Type 0)
+    (asked : Option AskedReport) (events : ℕ → List BoardEvent) (Reports : X → Progress → Type 0)
     (source_old source_new : SourceView) (output_old output_new : OutputView) (result : Result X Fault) : Type 0 where
   pub plan : MediaPlan
   pub planned : IsPlanOf leave project binding handle asked true source_old.files plan
@@ -65,7 +66,7 @@ pub record ConsolidatesMedia {X : Type 0} (leave : Leaving) (project : ListProje
       source_old output_old) (λ _. Nothing) (snapshot_of (job_plan plan) board 0 source_new output_new) ⊤ ended
 
 -- of the project of an accepted list
-pub record ConsolidatesList {X : Type 0} (leave : Leaving) (text : List ℕ) (handle : ℕ) (asked : Option (List ℕ))
+pub record ConsolidatesList {X : Type 0} (leave : Leaving) (text : List ℕ) (handle : ℕ) (asked : Option AskedReport)
     (events : ℕ → List BoardEvent) (Reports : X → Progress → Type 0) (source_old source_new : SourceView)
     (output_old output_new : OutputView) (result : Result X Fault) : Type 0 where
   pub project : ListProject

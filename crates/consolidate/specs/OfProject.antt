@@ -11,6 +11,7 @@ use Rattle.list_terms.specs.Binding.{Binding}
 use Rattle.list_terms.specs.Heard.{IsAccepted}
 use Rattle.list_terms.specs.Project.{ListProject}
 use Rattle.passes.specs.Left.{Leaving}
+use Rattle.provenance.specs.Asked.{AskedReport}
 use Rattle.consolidation.specs.Consolidated.{AreDurable, IsConsolidated, IsElsewhere, IsWorkOf, Work, work_fault}
 use Rattle.consolidation.specs.Work.{SoundsTheSame}
 use Rattle.consolidation.specs.declared.written.Written.{Written}
@@ -27,7 +28,7 @@ use Rattle.consolidate.specs.declared.fault.OutputFile.TheVariants as file
 module _ {S B : Type 0} (shelf : source.Ghosts S) (bench : output.Ghosts B) where
   -- its consolidation, whose execution does all jobs by so many events for so many pieces
   pub record ConsolidatesProject (leave : Leaving) (project : ListProject) (binding : Binding) (handle : ℕ)
-      (asked : Option (List ℕ)) (events : ℕ → List BoardEvent) (shelf_old shelf_new : S) (bench_old bench_new : B)
+      (asked : Option AskedReport) (events : ℕ → List BoardEvent) (shelf_old shelf_new : S) (bench_old bench_new : B)
       (result : Result Written Fault) : Type 0 where
     pub same_sound : IsTrue (shelf.honest shelf_old) → IsTrue (bench.honest bench_old) → (text : List ℕ)
         → IsAccepted text (shelf.stored shelf_old) project binding

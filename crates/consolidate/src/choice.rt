@@ -1,9 +1,20 @@
-// What a command renders.
+// What a command renders, and what of it was clipped.
+use clipping::Clips;
 use rendering::{JobLength, Options};
+use sampletime::SampleTime;
 
 /// What is rendered of a list, and how long the jobs are. The file is the same for each length.
 #[derive(Clone, Copy, Debug, PartialEq, Eq)]
 pub struct RenderChoice {
     pub options: Options,
     pub jobs: JobLength,
+}
+
+/// What was clipped of a rendering: the tally of its exact sums, of which the first stands at the first frame on channel 1,
+/// then that on channel 2, and so on; the time of that frame, and how many channels there are, 1 to 64.
+#[derive(Clone, Copy, Debug, PartialEq, Eq)]
+pub struct Clipping {
+    pub clips: Clips,
+    pub start: SampleTime,
+    pub channels: u8,
 }

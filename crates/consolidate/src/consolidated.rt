@@ -4,6 +4,8 @@ ghost use Rattle.job_terms.specs.Workers.{rounds};
 ghost use Rattle.passes.specs.Left.{left_by};
 ghost use Rattle.passes.specs.Standard.{AreStandard};
 ghost use Rattle.sound_terms.specs.Passes.{standard_groups};
+ghost use Rattle.provenance.specs.Asked.{asked_of};
+ghost use Rattle.consolidate.specs.Asked.{asked_on};
 ghost use Rattle.consolidate.specs.Commands.{IsConsolidation};
 ghost use Rattle.consolidate.specs.MediaOutcome.{consolidation_fault};
 ghost use Rattle.consolidate.specs.OfProject.{ConsolidatesProject};
@@ -12,6 +14,7 @@ ghost use Rattle.consolidate.specs.Outcomes.{AnswersAs};
 use crate::Fault;
 use crate::media::execution_of;
 use crate::opened::{Opened, open};
+use crate::report::{ReportChoice, report_on};
 use consolidation::{Consolidation, MediaChoice, Sizes};
 use devices::{Bench, Shelf, Unwatched, Watch};
 use execution::ExecutionFault;
@@ -19,6 +22,7 @@ use job_terms::Progress;
 use list_terms::Notice;
 use passes::Pass;
 use projectcheck::Checked;
+use provenance::ReportOn;
 use std::alloc::Global;
 
 /// What was written: so many media, and a list of so many entries; how many bytes that took; and what the given list's
@@ -51,19 +55,16 @@ fn consolidate_checked<S: Shelf, B: Bench, W: Watch>(
     checked: Checked,
     handle: u64,
     passes: Vec<Box<dyn Pass>>,
-    report: Option<&str>,
+    report: Option<ReportOn<'_>>,
     shelf: &mut S,
     bench: &mut B,
     watch: &mut W,
 ) -> Result<consolidation::Written, Fault>
     ensures { ConsolidatesProject S.Shelf B.Bench (left_by (λ pass. looking pass) (λ pass. gives pass) passes.items)
-        checked.project checked.bound handle (option_map (λ version. version.now) report.entry)
+        checked.project checked.bound handle (option_map asked_of report.entry)
         (λ count. rounds (3 * count)) shelf.old shelf.new bench.old bench.new result }
 {
-    let choice = MediaChoice {
-        handle,
-        version: report,
-    };
+    let choice = MediaChoice { handle, report };
     let consolidation = match Consolidation::plan(alloc, &checked, choice, passes, shelf, watch) {
         Ok(consolidation) => consolidation,
         Err(fault) => return Err(Fault::of_consolidation(checked, fault)),
@@ -116,28 +117,51 @@ pub fn consolidate<S: Shelf, B: Bench>(
     )
 }
 
-/// The same with a report, where a program asks for one, by its version, and with a watch: `consolidated.json` says where
-/// each medium and each entry comes from, and `SHA256SUMS` has the checksums of all files, as `sha256sum -c` takes them. A
-/// report is made before the first write, by one more reading of the kept frames (52 where a source fails, 56 where no
-/// memory was left), and written after the media, before the list. The watch is notified how many frames are looked at for
-/// silence, and then after each job how many frames of all media are there.
+/// The same with a report, where one is asked for, and with a watch: `consolidated.json` says where each medium and each
+/// entry comes from, with the digests of this list and of the new one, and `SHA256SUMS` has the checksums of all files, as
+/// `sha256sum -c` takes them. A report is made before the first write, by one more reading of the kept frames, and of each
+/// source as a whole, where it has the digests of these (52 where a source fails, 56 where no memory was left), and
+/// written after the media, before the list. The watch is notified how many frames are looked at for silence, and then
+/// after each job how many frames of all media are there.
 pub fn consolidate_watched<S: Shelf, B: Bench, W: Watch>(
     alloc: Global,
     list: &[u8],
     handle: u64,
     passes: Vec<Box<dyn Pass>>,
-    report: Option<&str>,
+    report: Option<ReportChoice<'_>>,
     shelf: &mut S,
     bench: &mut B,
     watch: &mut W,
 ) -> Result<Written, Fault>
     ensures consolidated { IsConsolidation S.Shelf B.Bench
         (left_by (λ pass. looking pass) (λ pass. gives pass) passes.items)
-        list.now handle (option_map (λ version. version.now) report.entry) shelf.old shelf.new bench.old bench.new
+        list.now handle (option_map (asked_on list.now) report.entry) shelf.old shelf.new bench.old bench.new
         result }
     ensures standard { AreStandard (λ pass. looking pass) (λ pass. gives pass) passes.items
         → IsConsolidation S.Shelf B.Bench standard_groups list.now handle
-        (option_map (λ version. version.now) report.entry) shelf.old shelf.new bench.old bench.new result }
+        (option_map (asked_on list.now) report.entry) shelf.old shelf.new bench.old bench.new result }
+{
+    let report = report_on(list, report);
+    consolidate_reported(alloc, list, handle, passes, report, shelf, bench, watch)
+}
+
+/// The same with the report that is asked for with its list.
+fn consolidate_reported<S: Shelf, B: Bench, W: Watch>(
+    alloc: Global,
+    list: &[u8],
+    handle: u64,
+    passes: Vec<Box<dyn Pass>>,
+    report: Option<ReportOn<'_>>,
+    shelf: &mut S,
+    bench: &mut B,
+    watch: &mut W,
+) -> Result<Written, Fault>
+    ensures consolidated { IsConsolidation S.Shelf B.Bench
+        (left_by (λ pass. looking pass) (λ pass. gives pass) passes.items)
+        list.now handle (option_map asked_of report.entry) shelf.old shelf.new bench.old bench.new result }
+    ensures standard { AreStandard (λ pass. looking pass) (λ pass. gives pass) passes.items
+        → IsConsolidation S.Shelf B.Bench standard_groups list.now handle (option_map asked_of report.entry)
+        shelf.old shelf.new bench.old bench.new result }
 {
     let Opened { checked, notices } = open(alloc, list, shelf)?;
     let written = consolidate_checked(alloc, checked, handle, passes, report, shelf, bench, watch)?;

@@ -1,22 +1,35 @@
 // The jobs of a rendering whose blocks are marked.
-ghost use Rattle.std.specs.Prelude.{◌≡◌, IfErr, IfOk, IsTrue, List, None, OnOk, Some, true, ℕ};
+ghost use Rattle.std.specs.Prelude.{◌≡◌, Bool, IfErr, IfOk, IsTrue, List, None, OnOk, Some, true, ℕ};
+ghost use Rattle.std.specs.List.{All};
+ghost use Rattle.list_terms.specs.Steps.{ok_map};
 ghost use Rattle.work_terms.specs.Disk.{LeavesOnly};
 ghost use Rattle.work_terms.specs.Refusals.{IsDue};
 ghost use Rattle.markfile.specs.Format.{marks_name};
+ghost use Rattle.rendering.specs.Clipping.{ClipsUnmarked};
+ghost use Rattle.rendering.specs.Cut.{IsUniform};
 ghost use Rattle.rendering.specs.Maker.{HasSoundJobs, IsMarkedWork, marks_of};
 ghost use Rattle.rendering.specs.Marked.{HoldsMarked};
+ghost use Rattle.rendering.specs.Work.{heard};
 ghost use Rattle.consolidate.specs.Fault.{refusal_of};
 ghost use Rattle.consolidate.specs.Own.{IsOfRenderSchedule, IsOfRendering};
 ghost use Rattle.consolidate.specs.RenderOutcome.{in_rounds};
 ghost use Rattle.consolidate.specs.RenderWorks.{BeginsWork, GoesOnWithWork, IsAllDone, IsPrepared, IsTakenUp, IsUnbegun, StandsAsMarked};
 
 use crate::Fault;
+use clipping::Clips;
 use devices::{Bench, Shelf, Unwatched, Watch};
 use execution::{Execution, ExecutionFault};
 use job_terms::{BoardEvent, Progress};
 use projectcheck::Checked;
 use rendering::{Order, RenderingWork};
 use std::alloc::Global;
+
+/// How far the jobs of a rendering are, and what was clipped of those that were done just now.
+#[derive(Clone, Copy)]
+pub(crate) struct Worked {
+    pub progress: Progress,
+    pub clips: Clips,
+}
 
 /// An execution of this work, of which nothing is begun. Want of memory is the only error.
 fn prepared<'a>(
@@ -73,11 +86,16 @@ pub(crate) fn render_anew<S: Shelf, B: Bench, W: Watch>(
     shelf: &mut S,
     bench: &mut B,
     watch: &mut W,
-) -> Result<Progress, Fault>
+) -> Result<Worked, Fault>
     requires whole { IsMarkedWork work }
     requires jobs { HasSoundJobs work }
-    ensures does { BeginsWork S.Shelf B.Bench in_rounds work.entry shelf.old shelf.new bench.old bench.new result }
-    ensures finished { IfOk result IsAllDone }
+    ensures does { BeginsWork S.Shelf B.Bench in_rounds work.entry shelf.old shelf.new bench.old bench.new
+        (ok_map (λ worked. worked.progress) result) }
+    ensures clips { IsTrue (S.honest shelf.old) → (marked : List Bool)
+        → All (IsUniform marked) work.entry.work.stretches → IfOk result (λ worked. ClipsUnmarked marked
+        work.entry.work.planned.range (heard work.entry.work.planned work.entry.work.sounds (S.stored shelf.old))
+        worked.clips) }
+    ensures finished { IfOk result (λ worked. IsAllDone worked.progress) }
     ensures own { (text : List ℕ) → IfErr result (IsOfRendering text) }
     ensures due { IfErr result (λ fault. IsDue (refusal_of fault) None) }
 {
@@ -86,7 +104,10 @@ pub(crate) fn render_anew<S: Shelf, B: Bench, W: Watch>(
         Err(fault) => return Err(fault),
     };
     match execution.execute(shelf, bench, watch) {
-        Ok(progress) => return Ok(progress),
+        Ok(progress) => {
+            let clips = execution.work().clips();
+            return Ok(Worked { progress, clips });
+        }
         Err(fault) => return Err(Fault::of_execution(fault)),
     }
 }
@@ -128,16 +149,21 @@ pub(crate) fn go_on_marked<S: Shelf, B: Bench, W: Watch>(
     shelf: &mut S,
     bench: &mut B,
     watch: &mut W,
-) -> Result<Progress, Fault>
+) -> Result<Worked, Fault>
     requires whole { IsMarkedWork work }
     requires jobs { HasSoundJobs work }
-    ensures does { GoesOnWithWork S.Shelf B.Bench work.entry shelf.old shelf.new bench.old bench.new result }
+    ensures does { GoesOnWithWork S.Shelf B.Bench work.entry shelf.old shelf.new bench.old bench.new
+        (ok_map (λ worked. worked.progress) result) }
     ensures keeps { IsTrue (S.honest shelf.old) → IsTrue (B.honest bench.old)
         → StandsAsMarked work.entry (S.stored shelf.old) (B.stored bench.old) (B.may_leave bench.old)
         → (marks : List ℕ) → B.stored bench.old marks_name ≡ Some marks
         → LeavesOnly B.moment B.left_since bench.old bench.new
         (HoldsMarked (marks_of work.entry (S.stored shelf.old)) marks) }
-    ensures finished { IfOk result IsAllDone }
+    ensures clips { IsTrue (S.honest shelf.old) → (marked : List Bool)
+        → All (IsUniform marked) work.entry.work.stretches → IfOk result (λ worked. ClipsUnmarked marked
+        work.entry.work.planned.range (heard work.entry.work.planned work.entry.work.sounds (S.stored shelf.old))
+        worked.clips) }
+    ensures finished { IfOk result (λ worked. IsAllDone worked.progress) }
     ensures own { (text : List ℕ) → IfErr result (IsOfRendering text) }
     ensures due { IfErr result (λ fault. IsDue (refusal_of fault) None) }
 {
@@ -146,7 +172,10 @@ pub(crate) fn go_on_marked<S: Shelf, B: Bench, W: Watch>(
         Err(fault) => return Err(fault),
     };
     match execution.resume(shelf, bench, watch) {
-        Ok(progress) => return Ok(progress),
+        Ok(progress) => {
+            let clips = execution.work().clips();
+            return Ok(Worked { progress, clips });
+        }
         Err(fault) => return Err(Fault::of_execution(fault)),
     }
 }

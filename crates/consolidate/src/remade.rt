@@ -44,7 +44,7 @@ fn schedule_consolidation<S: Shelf, B: Bench>(
 {
     let choice = MediaChoice {
         handle,
-        version: None,
+        report: None,
     };
     let watch = &mut Unwatched;
     let consolidation = match Consolidation::plan(alloc, &checked, choice, passes, shelf, watch) {

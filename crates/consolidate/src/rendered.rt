@@ -1,13 +1,16 @@
 // Renders a list to one sound file.
-ghost use Rattle.std.specs.Prelude.{◌≡◌, IfErr, IfOk, List, true, ℕ, ℤ, ⊤};
+ghost use Rattle.std.specs.Prelude.{◌≡◌, IfErr, IfOk, IsTrue, List, [], true, ℕ, ℤ, ⊤};
 ghost use Rattle.devices.specs.Views.{output_view, source_view};
 ghost use Rattle.work_terms.specs.Refusals.{Answers};
 ghost use Rattle.sound_terms.specs.Render.{ReadsBack, rendering_of};
 ghost use Rattle.list_terms.specs.Accepted.{range_of};
+ghost use Rattle.list_terms.specs.Heard.{project_mix};
+ghost use Rattle.list_terms.specs.Steps.{ok_map};
 ghost use Rattle.markfile.specs.Started.{NoneStarted};
 ghost use Rattle.rendering.specs.Marked.{run_of};
 ghost use Rattle.rendering.specs.Rendering.{HasRange, HaveChannels, render_fault, values_of};
 ghost use Rattle.rendering.specs.declared.cutting.JobLength.TheVariants.{OneBlock};
+ghost use Rattle.consolidate.specs.Clipping.{ClipsList, IsClipping};
 ghost use Rattle.consolidate.specs.Commands.{IsRendering};
 ghost use Rattle.consolidate.specs.Fault.{refusal_of};
 ghost use Rattle.consolidate.specs.Marks.{list_marking};
@@ -16,7 +19,7 @@ ghost use Rattle.consolidate.specs.RenderOutcome.{RendersBound, in_rounds};
 ghost use Rattle.consolidate.specs.RenderWorks.{DoesWork};
 
 use crate::Fault;
-use crate::choice::RenderChoice;
+use crate::choice::{Clipping, RenderChoice};
 use crate::marked::render_anew;
 use crate::opened::{Opened, open};
 use devices::{Bench, Shelf, Unwatched, Watch};
@@ -33,6 +36,20 @@ pub struct Rendered {
     pub notices: Vec<Notice>,
 }
 
+/// What a rendering reports, and what of it was clipped.
+#[derive(Debug, Drop)]
+pub struct RenderedSound {
+    pub rendered: Rendered,
+    pub clipping: Clipping,
+}
+
+/// The same of an opened project.
+#[derive(Clone, Copy)]
+struct Made {
+    rendered: rendering::Rendered,
+    clipping: Clipping,
+}
+
 /// Renders an opened project of this list.
 fn render_checked<S: Shelf, B: Bench, W: Watch>(
     alloc: Global,
@@ -42,7 +59,7 @@ fn render_checked<S: Shelf, B: Bench, W: Watch>(
     shelf: &mut S,
     bench: &mut B,
     watch: &mut W,
-) -> Result<rendering::Rendered, Fault>
+) -> Result<Made, Fault>
     requires { HaveChannels choice.now.options }
     ensures does { DoesWork S.Shelf B.Bench (λ _. ⊤) (λ _ progress. progress.finished ≡ true)
         (list_marking list.now (values_of choice.now.options) (S.stored shelf.old) checked.now.project checked.now.bound)
@@ -54,7 +71,10 @@ fn render_checked<S: Shelf, B: Bench, W: Watch>(
         → ReadsBack (range_of checked.now.project (values_of choice.now.options)) mix
         (rendering_of (range_of checked.now.project (values_of choice.now.options)) mix)) }
     ensures report { IfOk result
-        (λ rendered. HasRange rendered (range_of checked.now.project (values_of choice.now.options))) }
+        (λ made. HasRange made.rendered (range_of checked.now.project (values_of choice.now.options))) }
+    ensures clips { IsTrue (S.honest shelf.old) → IfOk result (λ made. IsClipping []
+        (range_of checked.now.project (values_of choice.now.options))
+        (project_mix (S.stored shelf.old) checked.now.project checked.now.bound) made.clipping) }
     ensures refusals { Answers refusal_of result (render_fault checked.now.project (values_of choice.now.options)) }
     ensures own { (text : List ℕ) → IfErr result (IsOfRendering text) }
 {
@@ -63,6 +83,7 @@ fn render_checked<S: Shelf, B: Bench, W: Watch>(
         Err(fault) => return Err(Fault::of_rendering(fault)),
     };
     let rendered = work.rendered();
+    let start = work.start();
     match render_anew(
         alloc,
         work,
@@ -72,7 +93,14 @@ fn render_checked<S: Shelf, B: Bench, W: Watch>(
         bench,
         watch,
     ) {
-        Ok(_) => return Ok(rendered),
+        Ok(worked) => {
+            let clipping = Clipping {
+                clips: worked.clips,
+                start,
+                channels: rendered.channels,
+            };
+            return Ok(Made { rendered, clipping });
+        }
         Err(fault) => return Err(fault),
     }
 }
@@ -104,10 +132,14 @@ pub fn render<S: Shelf, B: Bench>(
         options: *options,
         jobs: JobLength::OneBlock,
     };
-    render_watched(alloc, list, &choice, shelf, bench, &mut Unwatched)
+    match render_watched(alloc, list, &choice, shelf, bench, &mut Unwatched) {
+        Ok(made) => Ok(made.rendered),
+        Err(fault) => Err(fault),
+    }
 }
 
-/// The same in jobs of a chosen length, with a watch, which is notified after each job of how many frames are there.
+/// The same in jobs of a chosen length, with a watch, which is notified after each job of how many frames are there. It
+/// reports what was clipped.
 pub fn render_watched<S: Shelf, B: Bench, W: Watch>(
     alloc: Global,
     list: &[u8],
@@ -115,16 +147,22 @@ pub fn render_watched<S: Shelf, B: Bench, W: Watch>(
     shelf: &mut S,
     bench: &mut B,
     watch: &mut W,
-) -> Result<Rendered, Fault>
+) -> Result<RenderedSound, Fault>
     requires { HaveChannels choice.now.options }
-    ensures { IsRendering S.Shelf B.Bench choice.now.jobs list.now
-        (values_of choice.now.options) shelf.old shelf.new bench.old bench.new result }
+    ensures renders { IsRendering S.Shelf B.Bench choice.now.jobs list.now
+        (values_of choice.now.options) shelf.old shelf.new bench.old bench.new (ok_map (λ made. made.rendered) result) }
+    ensures clips { IsTrue (S.honest shelf.old) → IfOk result (λ made.
+        ClipsList list.now (values_of choice.now.options) (S.stored shelf.old) (λ _. []) made.clipping) }
 {
     let Opened { checked, notices } = open(alloc, list, shelf)?;
-    let rendered = render_checked(alloc, list, &checked, choice, shelf, bench, watch)?;
-    Ok(Rendered {
-        frames: rendered.frames,
-        channels: u32::from(rendered.channels),
+    let made = render_checked(alloc, list, &checked, choice, shelf, bench, watch)?;
+    let rendered = Rendered {
+        frames: made.rendered.frames,
+        channels: u32::from(made.rendered.channels),
         notices,
+    };
+    Ok(RenderedSound {
+        rendered,
+        clipping: made.clipping,
     })
 }

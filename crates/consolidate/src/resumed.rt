@@ -5,12 +5,16 @@ ghost use Rattle.work_terms.specs.Disk.{LeavesOnly};
 ghost use Rattle.work_terms.specs.Refusals.{Answers};
 ghost use Rattle.sound_terms.specs.Render.{ReadsBack, rendering_of};
 ghost use Rattle.list_terms.specs.Accepted.{first_fault, range_of};
+ghost use Rattle.list_terms.specs.Heard.{project_mix};
+ghost use Rattle.list_terms.specs.Steps.{ok_map};
 ghost use Rattle.markfile.specs.Format.{marks_name};
 ghost use Rattle.markfile.specs.Opened.{opened_of};
 ghost use Rattle.markfile.specs.Started.{is_started};
+ghost use Rattle.rendering.specs.Clipping.{marked_in};
 ghost use Rattle.rendering.specs.Marked.{HoldsMarked, IsLeftByRun, run_of};
 ghost use Rattle.rendering.specs.Rendering.{HaveChannels, render_fault, values_of};
 ghost use Rattle.rendering.specs.declared.cutting.JobLength.TheVariants.{OneBlock};
+ghost use Rattle.consolidate.specs.Clipping.{ClipsList, IsClipping};
 ghost use Rattle.consolidate.specs.Fault.{refusal_of};
 ghost use Rattle.consolidate.specs.Marks.{count_in, fault_in, list_marking};
 ghost use Rattle.consolidate.specs.Own.{IsOfResuming};
@@ -19,7 +23,7 @@ ghost use Rattle.consolidate.specs.RenderWorks.{DoesWork};
 ghost use Rattle.consolidate.specs.Resuming.{IsResuming};
 
 use crate::Fault;
-use crate::choice::RenderChoice;
+use crate::choice::{Clipping, RenderChoice};
 use crate::marked::{go_on_marked, render_anew};
 use crate::opened::{Opened, open};
 use devices::{Bench, Shelf, Unwatched, Watch};
@@ -37,11 +41,19 @@ pub struct Resumed {
     pub notices: Vec<Notice>,
 }
 
-/// How much was found.
+/// What going on with a rendering reports, and what was clipped of the blocks that weren't marked before.
+#[derive(Debug, Drop)]
+pub struct ResumedSound {
+    pub resumed: Resumed,
+    pub clipping: Clipping,
+}
+
+/// How much was found, and what was clipped of the rest.
 #[derive(Clone, Copy)]
 struct Found {
     frames: u64,
     marked: u32,
+    clipping: Clipping,
 }
 
 /// Goes on with the rendering of an opened project of this list.
@@ -71,6 +83,10 @@ fn resume_checked<S: Shelf, B: Bench, W: Watch>(
         (rendering_of (range_of checked.now.project (values_of choice.now.options)) mix)) }
     ensures marked { IsTrue (B.honest bench.old) → IfOk result (λ found. found.marked ≡ count_in (opened_of
         (run_of list.now (range_of checked.now.project (values_of choice.now.options))) (B.stored bench.old))) }
+    ensures clips { IsTrue (S.honest shelf.old) → IsTrue (B.honest bench.old) → IfOk result (λ found. IsClipping
+        (marked_in (opened_of (run_of list.now (range_of checked.now.project (values_of choice.now.options)))
+        (B.stored bench.old))) (range_of checked.now.project (values_of choice.now.options))
+        (project_mix (S.stored shelf.old) checked.now.project checked.now.bound) found.clipping) }
     ensures keeps { IsTrue (S.honest shelf.old) → IsTrue (B.honest bench.old)
         → IsLeftByRun (list_marking list.now (values_of choice.now.options) (S.stored shelf.old) checked.now.project
         checked.now.bound) (B.may_leave bench.old)
@@ -90,7 +106,9 @@ fn resume_checked<S: Shelf, B: Bench, W: Watch>(
         Ok(work) => work,
         Err(fault) => return Err(Fault::of_rendering(fault)),
     };
-    let frames = work.rendered().frames;
+    let rendered = work.rendered();
+    let channels = rendered.channels;
+    let start = work.start();
     let found = match work.open(alloc, choice.jobs, bench) {
         Ok(found) => found,
         Err(fault) => return Err(Fault::Marks(fault)),
@@ -98,11 +116,35 @@ fn resume_checked<S: Shelf, B: Bench, W: Watch>(
     let order = choice.options.order;
     match found {
         None => match render_anew(alloc, work, checked, order, shelf, bench, watch) {
-            Ok(_) => return Ok(Found { frames, marked: 0 }),
+            Ok(worked) => {
+                let clips = worked.clips;
+                let clipping = Clipping {
+                    clips,
+                    start,
+                    channels,
+                };
+                return Ok(Found {
+                    frames: rendered.frames,
+                    marked: 0,
+                    clipping,
+                });
+            }
             Err(fault) => return Err(fault),
         },
         Some(marked) => match go_on_marked(alloc, work, checked, order, shelf, bench, watch) {
-            Ok(_) => return Ok(Found { frames, marked }),
+            Ok(worked) => {
+                let clips = worked.clips;
+                let clipping = Clipping {
+                    clips,
+                    start,
+                    channels,
+                };
+                return Ok(Found {
+                    frames: rendered.frames,
+                    marked,
+                    clipping,
+                });
+            }
             Err(fault) => return Err(fault),
         },
     }
@@ -131,11 +173,15 @@ pub fn resume<S: Shelf, B: Bench>(
         options: *options,
         jobs: JobLength::OneBlock,
     };
-    resume_watched(alloc, list, &choice, shelf, bench, &mut Unwatched)
+    match resume_watched(alloc, list, &choice, shelf, bench, &mut Unwatched) {
+        Ok(made) => Ok(made.resumed),
+        Err(fault) => Err(fault),
+    }
 }
 
 /// The same in jobs of at most a chosen length, with a watch, which is notified after each job of how many frames are
-/// there. An earlier run may have had jobs of another length.
+/// there. An earlier run may have had jobs of another length. It reports what was clipped of the blocks that it rendered
+/// itself.
 pub fn resume_watched<S: Shelf, B: Bench, W: Watch>(
     alloc: Global,
     list: &[u8],
@@ -143,16 +189,23 @@ pub fn resume_watched<S: Shelf, B: Bench, W: Watch>(
     shelf: &mut S,
     bench: &mut B,
     watch: &mut W,
-) -> Result<Resumed, Fault>
+) -> Result<ResumedSound, Fault>
     requires { HaveChannels choice.now.options }
-    ensures { IsResuming S.Shelf B.Bench choice.now.jobs list.now
-        (values_of choice.now.options) shelf.old shelf.new bench.old bench.new result }
+    ensures resumes { IsResuming S.Shelf B.Bench choice.now.jobs list.now
+        (values_of choice.now.options) shelf.old shelf.new bench.old bench.new (ok_map (λ made. made.resumed) result) }
+    ensures clips { IsTrue (S.honest shelf.old) → IsTrue (B.honest bench.old) → IfOk result (λ made.
+        ClipsList list.now (values_of choice.now.options) (S.stored shelf.old)
+        (λ range. marked_in (opened_of (run_of list.now range) (B.stored bench.old))) made.clipping) }
 {
     let Opened { checked, notices } = open(alloc, list, shelf)?;
     let found = resume_checked(alloc, list, &checked, choice, shelf, bench, watch)?;
-    Ok(Resumed {
+    let resumed = Resumed {
         frames: found.frames,
         marked: found.marked,
         notices,
+    };
+    Ok(ResumedSound {
+        resumed,
+        clipping: found.clipping,
     })
 }

@@ -1,5 +1,5 @@
 -- The checksums of a report are those of the files that stand.
-use Rattle.std.proofs.Common.{◌≡◌, ◌∙◌, ℕ, zero, suc, ◌+◌, List, [], ◌∷◌, ◌++◌, Option, None, Some, ap, arith, codes, refl, subst, sym}
+use Rattle.std.proofs.Common.{◌≡◌, ◌∙◌, ℕ, zero, suc, ◌+◌, Bool, List, [], ◌∷◌, ◌++◌, Option, None, Some, ap, arith, codes, refl, subst, sym}
 use Rattle.std.specs.Prelude.{unwrap_or}
 use Rattle.std.specs.List.{flat_map, slice_get}
 use Rattle.sha2.specs.Sha256.{sha256}
@@ -17,6 +17,7 @@ use Rattle.list_terms.specs.Project.{ListProject}
 use Rattle.list_terms.specs.Renewed.{consolidated_project, media_name, numbered}
 use Rattle.list_terms.specs.WrittenText.{text_of_project}
 use Rattle.mediacopy.specs.Pieces.{content}
+use Rattle.provenance.specs.Asked.{AskedReport}
 use Rattle.provenance.specs.Media.{medium_by, medium_bytes}
 use Rattle.provenance.specs.Report.{report_json}
 use Rattle.provenance.specs.Sums.{medium_line, sum_line}
@@ -29,14 +30,14 @@ stands : (files : Files) (name bytes : List ℕ) → files name ≡ Some bytes �
 stands files name bytes there = sym (ap (λ o. unwrap_or o []) there)
 
 -- the lines of media that stand
-module _ (sounds : List SoundFacts) (homes : List Home) (sources written : Files) where
+module _ (digests : Bool) (sounds : List SoundFacts) (homes : List Home) (sources written : Files) where
   abbrev bytes_of : Run → List ℕ
   bytes_of run = medium_bytes sources sounds homes run
 
   media_lines : (number : ℕ) (runs : List Run)
       → ((k : ℕ) (run : Run) → slice_get runs k ≡ Some run
       → written (media_name (number + k)) ≡ Some (bytes_of run))
-      → flat_map medium_line (numbered (medium_by sources sounds homes) number runs)
+      → flat_map medium_line (numbered (medium_by digests sources sounds homes) number runs)
       ≡ flat_map (checked_line written) (numbered (λ n run. media_name n) number runs)
   media_lines number [] stand = refl
   media_lines number (run ∷ runs) stand =
@@ -46,7 +47,7 @@ module _ (sounds : List SoundFacts) (homes : List Home) (sources written : Files
       let counted : number + suc k ≡ suc number + k = omega arith in
       subst (λ (n : ℕ). written (media_name n) ≡ Some (bytes_of other)) counted (stand (suc k) other there)) in
       ap (λ (b : List ℕ). sum_line (sha256 b) (media_name number)
-      ++ flat_map medium_line (numbered (medium_by sources sounds homes) (suc number) runs))
+      ++ flat_map medium_line (numbered (medium_by digests sources sounds homes) (suc number) runs))
       (stands written (media_name number) (bytes_of run) here)
       ∙ ap (λ (lines : List ℕ). checked_line written (media_name number) ++ lines) rest
 
@@ -76,17 +77,17 @@ behind_media front written list json list_there json_there =
     ++ (checked_line written (codes "consolidated.adl") ++ sum_line (sha256 b) (codes "consolidated.json")))
     (stands written (codes "consolidated.json") json json_there)
 
-pub checks_files : (asked : Option (List ℕ)) (sources written : Files) (project : ListProject) (binding : Binding)
+pub checks_files : (asked : Option AskedReport) (sources written : Files) (project : ListProject) (binding : Binding)
     (handle : ℕ) (groups : List (List Piece)) (runs : List Run)
     → HoldsReport asked sources (told_of project binding handle groups runs) written
     → written (codes "consolidated.adl")
     ≡ Some (text_of_project (consolidated_project project (homes_of binding) groups runs))
     → HoldAll (HoldsMedium binding sources written) runs → ChecksFiles asked runs written
 checks_files None sources written project binding handle groups runs report list media = tt
-checks_files (Some version) sources written project binding handle groups runs report list media =
+checks_files (Some asked) sources written project binding handle groups runs report list media =
     let text = text_of_project (consolidated_project project (homes_of binding) groups runs) in
-    let json = report_json sources (told_of project binding handle groups runs version) in
-    let lines = media_lines (sounds_of binding) (homes_of binding) sources written 1 runs
+    let json = report_json sources (told_of project binding handle groups runs asked) in
+    let lines = media_lines asked.digests (sounds_of binding) (homes_of binding) sources written 1 runs
     (λ k run there. medium_stands binding sources written (1 + k) run (media k run there)) in
     report.0
     ∙ ap (λ (front : List ℕ). Some (front

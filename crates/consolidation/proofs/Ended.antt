@@ -17,6 +17,7 @@ use Rattle.consolidation.specs.Jobs.{HoldsMedia}
 use Rattle.consolidation.specs.Media.{IsLaidOut}
 use Rattle.consolidation.specs.Planned.{IsMediaPlan, IsPlanOf, MediaPlan}
 use Rattle.consolidation.specs.Sizes.{sizes_of, written_of}
+use Rattle.provenance.specs.Asked.{AskedReport}
 use Rattle.consolidation.specs.Reported.{IsReportThere, told_of}
 use Rattle.consolidation.specs.There.{AreThere}
 use Rattle.consolidation.specs.Work.{SoundsTheSame}
@@ -52,7 +53,7 @@ module _ (plan : MediaPlan) (is : IsMediaPlan plan) where
         omega (arith, one, front)) ∙ before k front run there
     by_place (inr last) = let same : i ≡ k = omega (arith, last, below) in subst (IsLaidOut plan new) same now
 
-  module _ (leave : Leaving) (project : ListProject) (binding : Binding) (handle : ℕ) (asked : Option (List ℕ))
+  module _ (leave : Leaving) (project : ListProject) (binding : Binding) (handle : ℕ) (asked : Option AskedReport)
       (sources written : Files) (of : IsPlanOf leave project binding handle asked true sources plan) (there : AreThere
       sources plan.sounds)
       (holds : HoldsMedia plan sources written) (list : written (codes "consolidated.adl") ≡ Some plan.text) where

@@ -9,6 +9,7 @@ use Rattle.list_terms.specs.Project.{ListProject}
 use Rattle.list_terms.specs.Renewed.{consolidated_project, media_name}
 use Rattle.list_terms.specs.WrittenText.{text_of_project}
 use Rattle.mediaset.specs.Runs.{HomedRuns}
+use Rattle.provenance.specs.Asked.{AskedReport}
 use Rattle.provenance.specs.Report.{IsReportOf, Told}
 use Rattle.provenance.specs.declared.report.Report.{Report}
 use Rattle.consolidation.specs.Reported.{HasReport, HoldsReport, IsNoReport, IsReportThere, told_of}
@@ -32,32 +33,32 @@ pub media_no_report : (number : ℕ) (reported : Bool) → IsNoReport reported (
 media_no_report number reported told = (medium_no_sums number, medium_no_json number)
 
 -- what stands in its files is what it was made of
-pub report_holds : (asked : Option (List ℕ)) (sources : Files) (told : List ℕ → Told) (report : Option Report)
+pub report_holds : (asked : Option AskedReport) (sources : Files) (told : AskedReport → Told) (report : Option Report)
     (written : Files) → HasReport asked sources told report → IsReportThere report written
     → HoldsReport asked sources told written
 report_holds None sources told report written is there = tt
-report_holds (Some version) sources told None written is there = absurd is
-report_holds (Some version) sources told (Some report) written is there =
+report_holds (Some asked) sources told None written is there = absurd is
+report_holds (Some asked) sources told (Some report) written is there =
     (there.0 ∙ ap Some is.sums, there.1 ∙ ap Some is.json)
 
 -- what a report is made of, as a plan has it
-pub told_by_plan : (asked : Option (List ℕ)) (sources : Files) (project : ListProject) (binding : Binding) (handle : ℕ)
+pub told_by_plan : (asked : Option AskedReport) (sources : Files) (project : ListProject) (binding : Binding) (handle : ℕ)
     (groups : List (List Piece)) (kept : HomedRuns) (list : ListProject) (text : List ℕ) (report : Option Report)
     → kept.homes ≡ homes_of binding → list ≡ consolidated_project project kept.homes groups kept.runs
     → text ≡ text_of_project (consolidated_project project kept.homes groups kept.runs)
-    → HasReport asked sources (λ version. record {
+    → HasReport asked sources (λ asked. record {
       project = project;
       binding = binding;
       kept = kept;
       events = list.events;
       text = text;
       handle = handle;
-      version = version;
+      asked = asked;
     }) report
     → HasReport asked sources (told_of project binding handle groups kept.runs) report
 told_by_plan None sources project binding handle groups kept list text report homes is spelled has = has
-told_by_plan (Some version) sources project binding handle groups kept list text None homes is spelled has = absurd has
-told_by_plan (Some version) sources project binding handle groups kept list text (Some report) homes is spelled has =
+told_by_plan (Some asked) sources project binding handle groups kept list text None homes is spelled has = absurd has
+told_by_plan (Some asked) sources project binding handle groups kept list text (Some report) homes is spelled has =
     subst (λ (h : List Home). IsReportOf sources (made h (consolidated_project project h groups kept.runs)
     (text_of_project (consolidated_project project h groups kept.runs))) report) homes
     (subst (λ (p : ListProject). IsReportOf sources (made kept.homes p
@@ -72,5 +73,5 @@ told_by_plan (Some version) sources project binding handle groups kept list text
       events = p.events;
       text = t;
       handle = handle;
-      version = version;
+      asked = asked;
     }

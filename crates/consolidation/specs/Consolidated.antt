@@ -18,6 +18,7 @@ use Rattle.list_terms.specs.Accepted.{first_fault}
 use Rattle.list_terms.specs.Heard.{reading_of, sounds_of}
 use Rattle.list_terms.specs.Renewed.{consolidated_project, media_name}
 use Rattle.list_terms.specs.WrittenText.{text_of_project}
+use Rattle.provenance.specs.Asked.{AskedReport}
 use Rattle.consolidation.specs.Media.{IsNoMedium}
 use Rattle.consolidation.specs.Numbered.{HoldAll}
 use Rattle.consolidation.specs.Reported.{ChecksFiles, HoldsReport, IsNoReport, IsReportDurable, told_of}
@@ -66,10 +67,10 @@ pub record IsBehind (reported : Bool) (name : List ℕ) : Type 0 where
 abbrev pub list_of : ListProject → Binding → Work → List ℕ
 list_of project binding work = text_of_project (consolidated_project project (homes_of binding) work.groups work.runs)
 
--- The media of the runs are written and the list over them, with the report that a program of this version asks for,
--- and no other file has changed.
+-- The media of the runs are written and the list over them, with the report that is asked for, and no other file has
+-- changed.
 pub record IsConsolidated (leave : Leaving) (project : ListProject) (binding : Binding) (handle : ℕ)
-    (asked : Option (List ℕ)) (sources old new : Files) (told : Written) : Type 0 where
+    (asked : Option AskedReport) (sources old new : Files) (told : Written) : Type 0 where
   pub work : Work
   pub is_work : IsWorkOf leave project binding handle sources work
   pub list : new (codes "consolidated.adl") ≡ Some (list_of project binding work)

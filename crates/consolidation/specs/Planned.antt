@@ -24,6 +24,7 @@ use Rattle.interval.specs.AtHome.{IsAtHome}
 use Rattle.wavwrite.specs.Info.{Fits}
 use Rattle.mediacopy.specs.Copied.{HasFrames, IsMedium}
 use Rattle.mediaset.specs.Runs.{HomedRuns}
+use Rattle.provenance.specs.Asked.{AskedReport}
 use Rattle.provenance.specs.declared.report.Report.{Report}
 use Rattle.consolidation.specs.Reported.{HasReport, told_of}
 use Rattle.consolidation.specs.Work.{IsLinked, run_info}
@@ -103,9 +104,9 @@ pub record IsPlanned (project : ListProject) (binding : Binding) (handle : ℕ) 
   pub entries : plan.entries ≡ length groups
   pub linked : IsLinked project (sounds_of binding) (homes_of binding) groups plan.runs
 
--- planned round the groups that passes leave of the project, with the report that a program of this version asks for
+-- planned round the groups that passes leave of the project, with the report that is asked for
 pub record IsPlanOf (leave : Leaving) (project : ListProject) (binding : Binding) (handle : ℕ)
-    (asked : Option (List ℕ)) (honest : Bool) (sources : Files) (plan : MediaPlan) : Type 0 where
+    (asked : Option AskedReport) (honest : Bool) (sources : Files) (plan : MediaPlan) : Type 0 where
   pub groups : List (List Piece)
   pub planned : IsPlanned project binding handle groups plan
   pub left : IsTrue honest → SoundsAsGiven leave project binding sources groups

@@ -11,13 +11,14 @@ use Rattle.list_terms.specs.Project.{ListProject}
 use Rattle.list_terms.specs.Renewed.{consolidated_project, media_name, numbered}
 use Rattle.list_terms.specs.WrittenText.{text_of_project}
 use Rattle.mediacopy.specs.Pieces.{content}
+use Rattle.provenance.specs.Asked.{AskedReport}
 use Rattle.provenance.specs.Report.{IsReportOf, Told, report_json, report_sums}
 use Rattle.provenance.specs.Sums.{sum_line}
 use Rattle.provenance.specs.declared.report.Report.{Report}
 
 -- what a report is made of, by the groups and the runs of a consolidation
-abbrev pub told_of : ListProject → Binding → ℕ → List (List Piece) → List Run → (version : List ℕ) → Told
-told_of project binding handle groups runs version =
+abbrev pub told_of : ListProject → Binding → ℕ → List (List Piece) → List Run → AskedReport → Told
+told_of project binding handle groups runs asked =
     let list = consolidated_project project (homes_of binding) groups runs in record {
       project = project;
       binding = binding;
@@ -25,14 +26,14 @@ told_of project binding handle groups runs version =
       events = list.events;
       text = text_of_project list;
       handle = handle;
-      version = version;
+      asked = asked;
     }
 
--- the report that a program of this version asks for, and none where none is asked for
-abbrev pub HasReport : Option (List ℕ) → Files → (List ℕ → Told) → Option Report → Type 0
+-- the report that is asked for, and none where none is asked for
+abbrev pub HasReport : Option AskedReport → Files → (AskedReport → Told) → Option Report → Type 0
 HasReport None sources told report = report ≡ None
-HasReport (Some version) sources told None = ⊥
-HasReport (Some version) sources told (Some report) = IsReportOf sources (told version) report
+HasReport (Some asked) sources told None = ⊥
+HasReport (Some asked) sources told (Some report) = IsReportOf sources (told asked) report
 
 -- the report stands in its files, where there is one
 abbrev pub IsReportThere : Option Report → Files → Type 0
@@ -42,11 +43,11 @@ IsReportThere (Some report) written =
     report.json.items)
 
 -- the files of the report that is asked for, and by what it is made
-abbrev pub HoldsReport : Option (List ℕ) → Files → (List ℕ → Told) → Files → Type 0
+abbrev pub HoldsReport : Option AskedReport → Files → (AskedReport → Told) → Files → Type 0
 HoldsReport None sources told written = ⊤
-HoldsReport (Some version) sources told written =
-    (written (codes "SHA256SUMS") ≡ Some (report_sums sources (told version)))
-    × (written (codes "consolidated.json") ≡ Some (report_json sources (told version)))
+HoldsReport (Some asked) sources told written =
+    (written (codes "SHA256SUMS") ≡ Some (report_sums sources (told asked)))
+    × (written (codes "consolidated.json") ≡ Some (report_json sources (told asked)))
 
 -- a line with the checksum of a file as it stands
 abbrev pub checked_line : Files → (name : List ℕ) → List ℕ
@@ -57,9 +58,9 @@ abbrev pub media_names : List Run → List (List ℕ)
 media_names runs = numbered (λ number run. media_name number) 1 runs
 
 -- the checksums are those of the media of these runs, of the list and of the report, as they stand
-abbrev pub ChecksFiles : Option (List ℕ) → List Run → Files → Type 0
+abbrev pub ChecksFiles : Option AskedReport → List Run → Files → Type 0
 ChecksFiles None runs written = ⊤
-ChecksFiles (Some version) runs written =
+ChecksFiles (Some asked) runs written =
     written (codes "SHA256SUMS") ≡ Some (flat_map (checked_line written) (media_names runs)
     ++ (checked_line written (codes "consolidated.adl") ++ checked_line written (codes "consolidated.json")))
 

@@ -4,9 +4,14 @@ use devices::{Bench, DeviceFault, Shelf};
 use execution::{JobMaker, OutputFault, PlaceFault};
 
 impl<'a> JobMaker for Consolidation<'a> {
+    ghost use Rattle.std.specs.Prelude.{⊤};
     ghost use Rattle.consolidation.specs.Outputs.{job_plan};
 
     ghost plan = { job_plan };
+
+    ghost remains = { λ _ _. ⊤ };
+
+    ghost noted = { λ _ _ _. ⊤ };
 
     fn count(&self) -> u32 {
         Consolidation::count(self)

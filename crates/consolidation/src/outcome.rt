@@ -6,6 +6,7 @@ ghost use Rattle.list_terms.specs.Binding.{Binding};
 ghost use Rattle.list_terms.specs.Heard.{IsAccepted};
 ghost use Rattle.list_terms.specs.Project.{ListProject};
 ghost use Rattle.execution.specs.Plan.{HoldJobs, HoldLast, IsForeign};
+ghost use Rattle.provenance.specs.Asked.{AskedReport};
 ghost use Rattle.consolidation.specs.Consolidated.{IsConsolidated};
 ghost use Rattle.consolidation.specs.Outputs.{AreNamedOutputs, job_plan};
 ghost use Rattle.consolidation.specs.Planned.{IsPlanOf};
@@ -22,12 +23,12 @@ impl<'a> Consolidation<'a> {
     pub fn outcome(&self) -> Written
         ensures value { result ≡ written_of self.now }
         ensures same_sound { (text : List ℕ) (leave : Leaving) (project : ListProject) (binding : Binding) (handle : ℕ)
-            (asked : Option (List ℕ)) (sources written : Files) → IsAccepted text sources project binding
+            (asked : Option AskedReport) (sources written : Files) → IsAccepted text sources project binding
             → IsPlanOf leave project binding handle asked true sources self.now → AreThere sources self.now.sounds
             → HoldJobs (job_plan self.now) sources written → HoldLast (job_plan self.now) sources written
             → SoundsTheSame text sources written }
         ensures consolidated { (leave : Leaving) (project : ListProject) (binding : Binding) (handle : ℕ)
-            (asked : Option (List ℕ)) (sources old written : Files)
+            (asked : Option AskedReport) (sources old written : Files)
             → IsPlanOf leave project binding handle asked true sources self.now → AreThere sources self.now.sounds
             → HoldJobs (job_plan self.now) sources written → HoldLast (job_plan self.now) sources written
             → ((n : List ℕ) → IsForeign (job_plan self.now) n → written n ≡ old n)

@@ -6,6 +6,7 @@ ghost use Rattle.list_terms.specs.Bound.{binding_of};
 ghost use Rattle.list_terms.specs.Heard.{sounds_of};
 ghost use Rattle.passes.specs.Left.{left_by};
 ghost use Rattle.devices.specs.Frame.{OnlyReads};
+ghost use Rattle.provenance.specs.Asked.{asked_of};
 ghost use Rattle.consolidation.specs.Consolidated.{IsWorkOf, Work, work_fault};
 ghost use Rattle.consolidation.specs.Fault.{FailsAt, IsSource, refusal_of};
 ghost use Rattle.consolidation.specs.Outputs.{FitsSources};
@@ -20,17 +21,17 @@ use interval::from_checked;
 use mediaset::Runs;
 use passes::Pass;
 use projectcheck::Checked;
-use provenance::Report;
+use provenance::{Report, ReportOn};
 use sourceindex::Bound;
 use std::alloc::Global;
 use std::marker::Model;
 
 /// What may be chosen of a consolidation beside its passes: how many frames are kept on either side of what is played,
-/// and which version of a program asks for the report, if any does.
+/// and with what the report is asked for, if it is.
 #[derive(Clone, Copy, Debug)]
 pub struct MediaChoice<'v> {
     pub handle: u64,
-    pub version: Option<&'v str>,
+    pub report: Option<ReportOn<'v>>,
 }
 
 /// A consolidation before its first write: the runs of bound files that become media, with the home of each file; how
@@ -81,8 +82,9 @@ impl<'a> Consolidation<'a> {
     /// CodingHistory of its source and the time of its first frame as TimeReference; `consolidated.adl` is the list over
     /// these media. Whatever the passes, it sounds as the given project does, sample for sample.
     ///
-    /// Where a program of a version asks for it, the report of all this and the checksums of all files are made here
-    /// too, by one more reading of the frames that are kept.
+    /// Where it is asked for, the report of all this and the checksums of all files are made here too, by one more
+    /// reading of the frames that are kept; where the report has the digests of whole sources, by one of each of these,
+    /// too.
     ///
     /// All memory that the consolidation needs is taken here. `Intervals`, `Pass`, `Runs` and `Relink`, in this turn; where
     /// no memory was left for where the jobs of the runs end, `Runs`, and for the report, `Relink`. The watch is told how far the
@@ -98,7 +100,7 @@ impl<'a> Consolidation<'a> {
     ) -> Result<Self, ConsolidationFault>
         ensures planned { IfOk result (IsPlanOf (left_by (λ pass. looking pass) (λ pass. gives pass) passes.items)
             checked.now.project checked.now.bound choice.entry.handle
-            (option_map (λ version. version.now) choice.entry.version)
+            (option_map asked_of choice.entry.report)
             (S.honest shelf.old) (S.stored shelf.old)) }
         ensures refusals { IsTrue (S.honest shelf.old) → (work : Work)
             → IsWorkOf (left_by (λ pass. looking pass) (λ pass. gives pass) passes.items)

@@ -10,6 +10,7 @@ ghost use Rattle.list_terms.specs.BoundHomes.{homes_of};
 ghost use Rattle.list_terms.specs.Heard.{sounds_of};
 ghost use Rattle.list_terms.specs.Renewed.{consolidated_project};
 ghost use Rattle.list_terms.specs.WrittenText.{text_of_project};
+ghost use Rattle.provenance.specs.Asked.{asked_of};
 ghost use Rattle.consolidation.specs.Consolidated.{Work, work_fault};
 ghost use Rattle.consolidation.specs.Fault.{FailsAt, IsSource, refusal_of};
 ghost use Rattle.consolidation.specs.Own.{IsOfLinking, IsOfReport};
@@ -114,7 +115,7 @@ fn text_over(
     })
 }
 
-/// The report of a consolidation to these runs, where a program of a version asks for it.
+/// The report of a consolidation to these runs, where it is asked for.
 fn report_for<S: Shelf>(
     alloc: Global,
     checked: &Checked,
@@ -125,7 +126,7 @@ fn report_for<S: Shelf>(
 ) -> Result<Option<Report>, ConsolidationFault>
     requires { All (IsRunOf (sounds_of checked.now.bound)) runs.now.runs }
     ensures report { IsTrue (S.honest shelf.old)
-        → IfOk result (HasReport (option_map (λ version. version.now) choice.entry.version) (S.stored shelf.old) (λ version.
+        → IfOk result (HasReport (option_map asked_of choice.entry.report) (S.stored shelf.old) (λ asked.
         record {
           project = checked.now.project;
           binding = checked.now.bound;
@@ -133,14 +134,14 @@ fn report_for<S: Shelf>(
           events = list.now.project.events;
           text = list.now.text.items;
           handle = choice.entry.handle;
-          version = version;
+          asked = asked;
         })) }
     ensures is_asked { IfOk result
-        (λ report. is_some report ≡ is_some (option_map (λ version. version.now) choice.entry.version)) }
+        (λ report. is_some report ≡ is_some (option_map asked_of choice.entry.report)) }
     ensures own { IfErr result IsOfReport }
     ensures only_reads { OnlyReads S.Shelf shelf.old shelf.new result IsSource (FailsAt (sounds_of checked.now.bound)) }
 {
-    let Some(version) = choice.version else {
+    let Some(asked) = choice.report else {
         return Ok(None);
     };
     match report_of(
@@ -151,7 +152,7 @@ fn report_for<S: Shelf>(
         list.project.events(),
         &list.text,
         choice.handle,
-        version,
+        asked,
         shelf,
     ) {
         Ok(report) => Ok(Some(report)),
@@ -180,10 +181,10 @@ pub fn plan_of<'a, S: Shelf>(
         work.runs
         → Answers refusal_of result (work_fault work) }
     ensures report { IsTrue (S.honest shelf.old)
-        → IfOk result (λ plan. HasReport (option_map (λ version. version.now) choice.entry.version) (S.stored shelf.old)
+        → IfOk result (λ plan. HasReport (option_map asked_of choice.entry.report) (S.stored shelf.old)
         (told_of checked.now.project checked.now.bound choice.entry.handle intervals plan.runs) plan.report) }
     ensures is_asked { IfOk result
-        (λ plan. is_some plan.report ≡ is_some (option_map (λ version. version.now) choice.entry.version)) }
+        (λ plan. is_some plan.report ≡ is_some (option_map asked_of choice.entry.report)) }
     ensures only_reads { OnlyReads S.Shelf shelf.old shelf.new result IsSource (FailsAt (sounds_of checked.now.bound)) }
 {
     let runs = kept_runs(alloc, checked, choice.handle, &intervals)?;

@@ -12,6 +12,7 @@ use Rattle.job_terms.specs.Board.{Board, accepted, can_give, faulted, given_out,
 use Rattle.job_terms.specs.Workers as w
 use Rattle.job_terms.specs.Workers.{Jobs, Hand, State, DeliverStep, Delivers, CantWrite, CantMark, IsStale, HasNoBytes, after_fault}
 use Rattle.execution.specs.Marking.{done_of}
+use Rattle.execution.specs.Worlds.{state_of}
 use Rattle.execution.proofs.Firsts.{givable-there}
 use Rattle.execution.proofs.Marked.{current-there, done-accepted, fault-done}
 use Rattle.execution.proofs.Rests.{open-not_done}
@@ -116,6 +117,20 @@ reclaim-done old k new s j = ap (λ (x : State). done_of x.board j) s ∙ go (is
     go true e = put-same old.board k (record (job_at old.board k) { standing = Open }) (there e) refl
         (out-not (job_at old.board k).standing e) j
     go false e = refl
+
+-- a job that is taken back
+pub reopened-done : (board board' : Board) (k : ℕ) → board' ≡ cond (is_out (job_at board k).standing) (reopened board k)
+    board → (j : ℕ) → done_of board' j ≡ done_of board j
+reopened-done board board' k is j = ap (λ (b : Board). done_of b j) is ∙ go (is_out (job_at board k).standing)
+    ∙ reclaim-done old k (cond (is_out (job_at board k).standing) (record old { board = reopened board k }) old) refl j
+  where
+    old : State
+    old = state_of board (λ _. None) 0 0 0 None
+
+    go : (b : Bool) → done_of (cond b (reopened board k) board) j
+        ≡ done_of (cond b (record old { board = reopened board k }) old).board j
+    go true = refl
+    go false = refl
 
 pub fault-same : (old new : State) (hand now : Hand) → w.FaultStep old hand new now → (j : ℕ) → done_of new.board j ≡
     done_of old.board j

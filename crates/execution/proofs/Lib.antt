@@ -6,6 +6,7 @@ mod Laws
 mod LeadLaws
 mod MarkSteps
 mod Marked
+mod Notes
 mod Orders
 mod Outcomes
 mod Rests

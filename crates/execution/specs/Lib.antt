@@ -10,6 +10,7 @@ pub mod Laws
 pub mod Maker
 pub mod Marking
 pub mod MarkingLaws
+pub mod Noted
 pub mod Outcome
 pub mod OutcomeLaws
 pub mod Plan

@@ -6,6 +6,7 @@ ghost use Rattle.execution.specs.Alone.{AtRest};
 ghost use Rattle.execution.specs.Ends.{IsMemory};
 ghost use Rattle.execution.specs.Boards.{board_with, fresh_board};
 ghost use Rattle.execution.specs.Marking.{done_of};
+ghost use Rattle.execution.specs.Noted.{KeepsNotes};
 ghost use Rattle.execution.specs.View.{hands_at};
 ghost use Rattle.execution.specs.Outcome.{Executed, Resumed};
 ghost use Rattle.execution.specs.EventRun.{snapshot_of};
@@ -145,6 +146,10 @@ impl<W: JobMaker> Execution<W> {
         bench: &mut B,
         watch: &mut T,
     ) -> Result<Progress, ExecutionFault>
+        ensures notes { IsTrue (S.honest shelf.old)
+            → KeepsNotes (λ first. W.remains first self.old.work) (λ first. W.remains first self.new.work)
+            (W.noted self.old.work (S.stored shelf.old)) (W.noted self.new.work (S.stored shelf.old))
+            (done_of self.old.board) (done_of self.new.board) (hands_at self.old) (hands_at self.new) }
         ensures executed { Executed (rounds (3 * (W.plan self.old.work).jobs.count))
             (snapshot_of (W.plan self.old.work) self.old.board 0 (source_view S.Shelf shelf.old)
             (output_view B.Bench bench.old)) (hands_at self.old)
@@ -168,6 +173,10 @@ impl<W: JobMaker> Execution<W> {
         bench: &mut B,
         watch: &mut T,
     ) -> Result<Progress, ExecutionFault>
+        ensures notes { IsTrue (S.honest shelf.old)
+            → KeepsNotes (λ first. W.remains first self.old.work) (λ first. W.remains first self.new.work)
+            (W.noted self.old.work (S.stored shelf.old)) (W.noted self.new.work (S.stored shelf.old))
+            (done_of self.old.board) (done_of self.new.board) (hands_at self.old) (hands_at self.new) }
         ensures executed { Executed events.now (snapshot_of (W.plan self.old.work) self.old.board 0 (source_view S.Shelf shelf.old)
             (output_view B.Bench bench.old)) (hands_at self.old)
             (snapshot_of (W.plan self.new.work) self.new.board 0 (source_view S.Shelf shelf.new)
@@ -184,6 +193,10 @@ impl<W: JobMaker> Execution<W> {
         bench: &mut B,
         watch: &mut T,
     ) -> Result<Progress, ExecutionFault>
+        ensures notes { IsTrue (S.honest shelf.old)
+            → KeepsNotes (λ first. W.remains first self.old.work) (λ first. W.remains first self.new.work)
+            (W.noted self.old.work (S.stored shelf.old)) (W.noted self.new.work (S.stored shelf.old))
+            (done_of self.old.board) (done_of self.new.board) (hands_at self.old) (hands_at self.new) }
         ensures resumed { Resumed (rounds (3 * (W.plan self.old.work).jobs.count))
             (snapshot_of (W.plan self.old.work) self.old.board 0 (source_view S.Shelf shelf.old)
             (output_view B.Bench bench.old)) (hands_at self.old)
@@ -206,6 +219,10 @@ impl<W: JobMaker> Execution<W> {
         bench: &mut B,
         watch: &mut T,
     ) -> Result<Progress, ExecutionFault>
+        ensures notes { IsTrue (S.honest shelf.old)
+            → KeepsNotes (λ first. W.remains first self.old.work) (λ first. W.remains first self.new.work)
+            (W.noted self.old.work (S.stored shelf.old)) (W.noted self.new.work (S.stored shelf.old))
+            (done_of self.old.board) (done_of self.new.board) (hands_at self.old) (hands_at self.new) }
         ensures resumed { Resumed events.now (snapshot_of (W.plan self.old.work) self.old.board 0 (source_view S.Shelf shelf.old)
             (output_view B.Bench bench.old)) (hands_at self.old)
             (snapshot_of (W.plan self.new.work) self.new.board 0 (source_view S.Shelf shelf.new)

@@ -6,6 +6,8 @@ ghost use Rattle.job_terms.specs.Workers.{Nothing};
 ghost use Rattle.execution.specs.Alone.{AtRest};
 ghost use Rattle.execution.specs.EventRun.{listed, snapshot_of};
 ghost use Rattle.execution.specs.Held.{IsReady, hands_in};
+ghost use Rattle.execution.specs.Marking.{done_of};
+ghost use Rattle.execution.specs.Noted.{KeepsNotes};
 ghost use Rattle.execution.specs.Outcome.{Executed, Resumed};
 ghost use Rattle.execution.specs.declared.fault.ExecutionFault.TheVariants as execution_fault;
 
@@ -33,6 +35,10 @@ pub fn resume<W: JobMaker, S: Shelf, B: Bench, T: Watch>(
     ensures finished { in_rounds ≡ true → AtRest shop.old.board → hands_in shop.old.hands 1 ≡ Nothing
         → OnOk result (is_finished shop.new.board ≡ true) }
     ensures reported { IfOk result (λ progress. progress.finished ≡ is_finished shop.new.board) }
+    ensures notes { IsTrue (S.honest shelf.old)
+        → KeepsNotes (λ first. W.remains first shop.old.work) (λ first. W.remains first shop.new.work)
+        (W.noted shop.old.work (S.stored shelf.old)) (W.noted shop.new.work (S.stored shelf.old))
+        (done_of shop.old.board) (done_of shop.new.board) (hands_in shop.old.hands) (hands_in shop.new.hands) }
     ensures ready { IsReady (W.plan shop.new.work).jobs shop.new.board shop.new.hands }
     ensures memory { IsErrOf result execution_fault.Memory → in_rounds ≡ false }
     ensures job_memory { IsErrOf result execution_fault.JobMemory → in_rounds ≡ false }
@@ -68,6 +74,10 @@ pub fn execute<W: JobMaker, S: Shelf, B: Bench, T: Watch>(
     ensures finished { in_rounds ≡ true → AtRest shop.old.board → hands_in shop.old.hands 1 ≡ Nothing
         → OnOk result (is_finished shop.new.board ≡ true) }
     ensures reported { IfOk result (λ progress. progress.finished ≡ is_finished shop.new.board) }
+    ensures notes { IsTrue (S.honest shelf.old)
+        → KeepsNotes (λ first. W.remains first shop.old.work) (λ first. W.remains first shop.new.work)
+        (W.noted shop.old.work (S.stored shelf.old)) (W.noted shop.new.work (S.stored shelf.old))
+        (done_of shop.old.board) (done_of shop.new.board) (hands_in shop.old.hands) (hands_in shop.new.hands) }
     ensures ready { IsReady (W.plan shop.new.work).jobs shop.new.board shop.new.hands }
     ensures memory { IsErrOf result execution_fault.Memory → in_rounds ≡ false }
     ensures job_memory { IsErrOf result execution_fault.JobMemory → in_rounds ≡ false }

@@ -1,8 +1,10 @@
 // One event.
-ghost use Rattle.std.specs.Prelude.{◌≡◌, ◌≢◌, ◌<◌, ◌≤◌, ◌+◌, ◌^◌, ◌∷◌, [], ℕ, IsErr, IsErrOf, IsOk, None, OnOk, length};
+ghost use Rattle.std.specs.Prelude.{◌≡◌, ◌≢◌, ◌<◌, ◌≤◌, ◌+◌, ◌^◌, ◌∷◌, [], ℕ, IsErr, IsErrOf, IsOk, IsTrue, None, OnOk, length};
 ghost use Rattle.job_terms.specs.Workers.{jobs_over};
 ghost use Rattle.execution.specs.Ends.{NeedsPlace, NeedsRoom, end_of, ended_of, events_of};
 ghost use Rattle.execution.specs.Held.{IsAtWork, IsReady, hands_in};
+ghost use Rattle.execution.specs.Marking.{done_of};
+ghost use Rattle.execution.specs.Noted.{KeepsNotes, alone};
 ghost use Rattle.execution.specs.EventRun.{ActionStep, EventRun, WorkerStep, event_of, snapshot_of};
 ghost use Rattle.execution.specs.Desks.{FitsHand, FitsRoom};
 ghost use Rattle.execution.specs.Turns.{ActionTurn};
@@ -41,6 +43,10 @@ fn turn<W: JobMaker, S: Shelf, B: Bench>(
         worker.old.hand
         (snapshot_of (W.plan maker.new) board.new stale.new (source_view S.Shelf shelf.new) (output_view B.Bench bench.new))
         worker.new.hand (ended_of result) }
+    ensures notes { IsTrue (S.honest shelf.old)
+        → KeepsNotes (λ first. W.remains first maker.old) (λ first. W.remains first maker.new)
+        (W.noted maker.old (S.stored shelf.old)) (W.noted maker.new (S.stored shelf.old))
+        (done_of board.old) (done_of board.new) (alone worker.old.hand) (alone worker.new.hand) }
     ensures fits { FitsHand (W.plan maker.old).jobs worker.new.hand }
     ensures same_room { worker.new.room ≡ worker.old.room }
     ensures counted { stale.new ≤ stale.old + 1 }
@@ -114,6 +120,10 @@ fn act<W: JobMaker, S: Shelf, B: Bench>(
         (hands_in shop.old.hands) (events_of result (event_of action number))
         (snapshot_of (W.plan shop.new.work) shop.new.board stale.new (source_view S.Shelf shelf.new) (output_view B.Bench bench.new))
         (hands_in shop.new.hands) (end_of result) }
+    ensures notes { IsTrue (S.honest shelf.old)
+        → KeepsNotes (λ first. W.remains first shop.old.work) (λ first. W.remains first shop.new.work)
+        (W.noted shop.old.work (S.stored shelf.old)) (W.noted shop.new.work (S.stored shelf.old))
+        (done_of shop.old.board) (done_of shop.new.board) (hands_in shop.old.hands) (hands_in shop.new.hands) }
     ensures ready { IsReady (W.plan shop.old.work).jobs shop.new.board shop.new.hands }
     ensures counted { stale.new ≤ stale.old + 1 }
     ensures place { IsErrOf result execution_fault.Memory → number ≢ 1 }
@@ -164,6 +174,10 @@ pub fn step<W: JobMaker, S: Shelf, B: Bench>(
         (hands_in shop.old.hands) (events_of result event)
         (snapshot_of (W.plan shop.new.work) shop.new.board stale.new (source_view S.Shelf shelf.new) (output_view B.Bench bench.new))
         (hands_in shop.new.hands) (end_of result) }
+    ensures notes { IsTrue (S.honest shelf.old)
+        → KeepsNotes (λ first. W.remains first shop.old.work) (λ first. W.remains first shop.new.work)
+        (W.noted shop.old.work (S.stored shelf.old)) (W.noted shop.new.work (S.stored shelf.old))
+        (done_of shop.old.board) (done_of shop.new.board) (hands_in shop.old.hands) (hands_in shop.new.hands) }
     ensures ready { IsReady (W.plan shop.old.work).jobs shop.new.board shop.new.hands }
     ensures counted { stale.new ≤ stale.old + 1 }
     ensures place { IsErrOf result execution_fault.Memory → NeedsPlace event }

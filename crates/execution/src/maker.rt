@@ -16,6 +16,12 @@ pub trait JobMaker {
     /// Its jobs, its marks, and all bytes of its outputs.
     ghost plan: { Self → JobPlan };
 
+    /// It is the work that another one was, whatever it has noted since.
+    ghost remains: { Self → Self → Type 0 };
+
+    /// It has noted of a job what these sources make of it, whatever it wants to know of its jobs in the end.
+    ghost noted: { Self → Files → ℕ → Type 0 };
+
     /// How many jobs there are.
     fn count(&self) -> u32
         ensures { result ≡ (plan self.now).jobs.count };
@@ -41,6 +47,10 @@ pub trait JobMaker {
         ensures made { IsTrue (S.honest shelf.old)
             → OnOk result (bytes.new ≡ (plan self.old).jobs.bytes (S.stored shelf.old) job) }
         ensures same { plan self.new ≡ plan self.old }
+        ensures remains { (first : Self) → remains first self.old → remains first self.new }
+        ensures notes { IsTrue (S.honest shelf.old) → OnOk result (noted self.new (S.stored shelf.old) job) }
+        ensures keeps { IsTrue (S.honest shelf.old) → (k : ℕ) → noted self.old (S.stored shelf.old) k
+            → noted self.new (S.stored shelf.old) k }
         ensures only_reads { OnlyReads S.Shelf shelf.old shelf.new result (λ _. ⊤) (λ _ failed. ⊤) };
 
     /// Writes the bytes of the job at its place, and marks it.
@@ -50,6 +60,8 @@ pub trait JobMaker {
         ensures placed { IsTrue (B.honest bench.old) → IsPlaced (plan self.old).jobs (plan self.old).marks job bytes.now
             (B.stored bench.old) (B.stored bench.new) result }
         ensures same { plan self.new ≡ plan self.old }
+        ensures remains { (first : Self) → remains first self.old → remains first self.new }
+        ensures keeps { (sources : Files) (k : ℕ) → noted self.old sources k → noted self.new sources k }
         ensures marks { IsTrue (B.honest bench.old) → (sources : Files) (done : ℕ → Bool)
             → bytes.now ≡ (plan self.old).jobs.bytes sources job → done job ≡ false
             → IsRunningBy ((plan self.old).marking sources) done (B.may_leave bench.old)
@@ -65,6 +77,8 @@ pub trait JobMaker {
     fn lay_out<B: Bench>(&mut self, bench: &mut B) -> Result<(), OutputFault>
         ensures lays_out { LaysOut (plan self.old) (output_view B.Bench bench.old) (output_view B.Bench bench.new) result }
         ensures same { plan self.new ≡ plan self.old }
+        ensures remains { (first : Self) → remains first self.old → remains first self.new }
+        ensures keeps { (sources : Files) (k : ℕ) → noted self.old sources k → noted self.new sources k }
         ensures only_writes { OnlyWrites B.Bench (Stays (plan self.old)) bench.old bench.new result (λ _. ⊤)
             (λ fault failed. IsAt (plan self.old) fault.file failed) };
 
@@ -73,6 +87,8 @@ pub trait JobMaker {
     fn finish<B: Bench>(&mut self, bench: &mut B) -> Result<(), OutputFault>
         ensures finishes { Finishes (plan self.old) (output_view B.Bench bench.old) (output_view B.Bench bench.new) result }
         ensures same { plan self.new ≡ plan self.old }
+        ensures remains { (first : Self) → remains first self.old → remains first self.new }
+        ensures keeps { (sources : Files) (k : ℕ) → noted self.old sources k → noted self.new sources k }
         ensures only_writes { OnlyWrites B.Bench (IsForeign (plan self.old)) bench.old bench.new result (λ _. ⊤)
             (λ fault failed. IsAt (plan self.old) fault.file failed) };
 }

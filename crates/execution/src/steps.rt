@@ -3,6 +3,7 @@ ghost use Rattle.std.specs.Prelude.{◌≡◌, ◌<◌, ◌+◌, ◌^◌, ◌≤
 ghost use Rattle.work_terms.specs.Disk.{Files};
 ghost use Rattle.devices.specs.Frame.{OnlyReads};
 ghost use Rattle.execution.specs.Marking.{IsRight, IsRunningBy, MarksOn, done_of};
+ghost use Rattle.execution.specs.Noted.{KeepsNotes, alone};
 ghost use Rattle.job_terms.specs.Workers.{JobsBy, DeliverStep, FaultStep, GiveStep, Nothing, State, WorkStep, after_fault, jobs_over};
 ghost use Rattle.job_terms.specs.Board.{accepted, is_current};
 ghost use Rattle.execution.specs.Ends.{ended_of};
@@ -72,6 +73,10 @@ fn make_in_front<W: JobMaker, S: Shelf>(
     ensures size { IfOk result (λ size. size ≡ (W.plan maker.old).jobs.size job) }
     ensures length { length bytes.new ≡ length bytes.old }
     ensures same { W.plan maker.new ≡ W.plan maker.old }
+    ensures remains { (first : W) → W.remains first maker.old → W.remains first maker.new }
+    ensures notes { IsTrue (S.honest shelf.old) → IfOk result (λ _. W.noted maker.new (S.stored shelf.old) job) }
+    ensures keeps { IsTrue (S.honest shelf.old) → (k : ℕ) → W.noted maker.old (S.stored shelf.old) k
+        → W.noted maker.new (S.stored shelf.old) k }
     ensures only_reads { OnlyReads S.Shelf shelf.old shelf.new result (λ _. ⊤) (λ _ failed. ⊤) }
 {
     let size = maker.size(job);
@@ -97,6 +102,10 @@ pub fn make<W: JobMaker, S: Shelf>(
     ensures turned { ended_of result ≡ None → WorkTurn board.old worker.old.hand board.new worker.new.hand }
     ensures fits { FitsHand (W.plan maker.old).jobs worker.new.hand }
     ensures same { W.plan maker.new ≡ W.plan maker.old }
+    ensures notes { IsTrue (S.honest shelf.old)
+        → KeepsNotes (λ first. W.remains first maker.old) (λ first. W.remains first maker.new)
+        (W.noted maker.old (S.stored shelf.old)) (W.noted maker.new (S.stored shelf.old))
+        (done_of board.old) (done_of board.new) (alone worker.old.hand) (alone worker.new.hand) }
     ensures source { Reads (source_view S.Shelf shelf.old) (source_view S.Shelf shelf.new) }
     ensures no_mark { IsErrOf result fault.Mark → ⊥ }
     ensures same_room { worker.new.room ≡ worker.old.room }
@@ -153,6 +162,9 @@ pub fn deliver<W: JobMaker, B: Bench>(
     ensures turned { ended_of result ≡ None → DeliverTurn board.old worker.old.hand board.new worker.new.hand }
     ensures fits { FitsHand (W.plan maker.old).jobs worker.new.hand }
     ensures same { W.plan maker.new ≡ W.plan maker.old }
+    ensures notes { (sources : Files) → KeepsNotes (λ first. W.remains first maker.old) (λ first. W.remains first maker.new)
+        (W.noted maker.old sources) (W.noted maker.new sources)
+        (done_of board.old) (done_of board.new) (alone worker.old.hand) (alone worker.new.hand) }
     ensures output { Writes (Stays (W.plan maker.old)) (output_view B.Bench bench.old) (output_view B.Bench bench.new) }
     ensures mark { IsErrOf result fault.Mark → MarkFails (W.plan maker.old) (output_view B.Bench bench.old)
         (output_view B.Bench bench.new) }

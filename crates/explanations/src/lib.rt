@@ -2,6 +2,7 @@
 #![tactic(auto)]
 
 mod changed;
+mod clipped;
 mod column;
 mod comparison_report;
 mod differing;
@@ -22,6 +23,7 @@ mod saved;
 mod shown;
 
 pub use changed::ChangedSources;
+pub use clipped::{ClippedLine, Rendering};
 pub use comparison_report::ComparisonReport;
 pub use differing::{Agreement, DifferingSamples, ExactSample, NamedList, SoundingEntries};
 pub use explanation::{Explanation, FoundCause, FoundFolder, FurtherExplanation};

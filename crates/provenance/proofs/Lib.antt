@@ -2,3 +2,4 @@ mod Grouping
 mod InTurn
 mod NoFloats
 mod Numbering
+mod WholeSources

@@ -12,7 +12,7 @@ use Rattle.list_terms.specs.Heard.{sounds_of}
 use Rattle.list_terms.specs.Project.{Source}
 use Rattle.provenance.specs.declared.medium.Medium.{Medium}
 use Rattle.provenance.specs.Groups.{Shown, grouped_in}
-use Rattle.provenance.specs.Report.{Told, count, entry_data, given_of, group_data, groups_told, home_source, medium_told, news_of, origin_data, text_data, told, told_data}
+use Rattle.provenance.specs.Report.{Told, count, entry_data, given_of, group_data, groups_told, home_source, known_digest, medium_told, news_of, origin_data, text_data, told, told_data}
 
 items_without : {X : Type 0} (f : X → Data) → ((x : X) → has_float (f x) ≡ false) → (xs : List X)
     → items_have_float (items_of (map f xs)) ≡ false
@@ -30,12 +30,17 @@ told_without : (tell : Source → Data) → ((source : Source) → has_float (te
 told_without tell none None = refl
 told_without tell none (Some source) = none source
 
-origin_without : (facts : SoundFacts) (first : ℕ) (source : Option Source)
-    → has_float (origin_data facts first source) ≡ false
-origin_without facts first source =
+known_without : (digest : Option (List ℕ)) → has_float (known_digest digest) ≡ false
+known_without None = refl
+known_without (Some digest) = refl
+
+origin_without : (facts : SoundFacts) (first : ℕ) (source : Option Source) (digest : Option (List ℕ))
+    → has_float (origin_data facts first source digest) ≡ false
+origin_without facts first source digest =
     rw (
       told_without (λ s. text_data s.uid) (λ s. text_without s.uid) source,
       told_without (λ s. count s.number) (λ s. refl) source,
+      known_without digest,
       told_without (λ s. text_data s.url) (λ s. text_without s.url) source,
     ) refl
 
@@ -43,7 +48,7 @@ medium_without : (sources : List Source) (indexes : List BoundIndex) (sounds : L
     (medium : Medium) → has_float (medium_told sources indexes sounds homes medium) ≡ false
 medium_without sources indexes sounds homes medium =
     let file = medium.run.file in
-    rw (origin_without (sound_at sounds file) medium.run.first (home_source sources indexes homes file)) refl
+    rw (origin_without (sound_at sounds file) medium.run.first (home_source sources indexes homes file) medium.source) refl
 
 group_without : (group : Shown) → has_float (group_data group) ≡ false
 group_without group = rw (items_without count (λ n. refl) group.0) refl

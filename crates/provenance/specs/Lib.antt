@@ -1,3 +1,4 @@
+pub mod Asked
 pub mod Fault
 pub mod Groups
 pub mod Media

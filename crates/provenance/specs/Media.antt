@@ -1,5 +1,5 @@
 -- The media of a consolidation, with their checksums.
-use Rattle.std.specs.Prelude.{ℕ, ◌≡◌, ◌*◌, ◌++◌, List, length}
+use Rattle.std.specs.Prelude.{ℕ, ◌≡◌, ◌*◌, ◌++◌, Bool, List, length, Option, None, Some, if◌then◌else◌}
 use Rattle.sha2.specs.declared.Sha256.{Sha256}
 use Rattle.sha2.specs.Hashers.{Holds256}
 use Rattle.sha2.specs.Sha256.{sha256}
@@ -19,14 +19,27 @@ abbrev pub medium_bytes : Files → List SoundFacts → List Home → Run → Li
 medium_bytes sources sounds homes run =
     medium_of (sound_at sounds run.file) (content sources (sound_at sounds run.file).name) (base_by homes run.file) run
 
+-- the digest of the whole source of a run, where digests are asked for
+abbrev pub source_digest : (digests : Bool) → Files → List SoundFacts → Run → Option (List ℕ)
+source_digest digests sources sounds run =
+    if digests then Some (sha256 (content sources (sound_at sounds run.file).name)) else None
+
 -- the medium of a run, under this number
-abbrev pub medium_by : Files → List SoundFacts → List Home → ℕ → Run → Medium
-medium_by sources sounds homes number run =
-    record { number = number; run = run; digest = sha256 (medium_bytes sources sounds homes run) }
+abbrev pub medium_by : (digests : Bool) → Files → List SoundFacts → List Home → ℕ → Run → Medium
+medium_by digests sources sounds homes number run = record {
+  number = number;
+  run = run;
+  digest = sha256 (medium_bytes sources sounds homes run);
+  source = source_digest digests sources sounds run;
+}
 
 -- the media of runs, numbered from 1 on
-abbrev pub media_of : Files → List SoundFacts → List Home → List Run → List Medium
-media_of sources sounds homes runs = numbered (medium_by sources sounds homes) 1 runs
+abbrev pub media_of : (digests : Bool) → Files → List SoundFacts → List Home → List Run → List Medium
+media_of digests sources sounds homes runs = numbered (medium_by digests sources sounds homes) 1 runs
+
+-- the medium has the digest of its source that is asked for
+abbrev pub HasSource : (digests : Bool) → Files → List SoundFacts → Medium → Type 0
+HasSource digests sources sounds medium = medium.source ≡ source_digest digests sources sounds medium.run
 
 -- so many frames of a file, from this one on, are hashed behind these bytes, and none of them is missing
 pub record IsHashed (facts : SoundFacts) (sources : Files) (from count : ℕ) (before : List ℕ) (hasher : Sha256)

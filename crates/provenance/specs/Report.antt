@@ -23,6 +23,7 @@ use Rattle.provenance.specs.declared.shared.GroupedEntry.{GroupedEntry}
 use Rattle.provenance.specs.declared.played.Played.{Played}
 use Rattle.provenance.specs.declared.report.Report.{Report}
 use Rattle.provenance.specs.declared.medium.Medium.{Medium}
+use Rattle.provenance.specs.Asked.{AskedReport}
 use Rattle.provenance.specs.Media.{media_of}
 use Rattle.provenance.specs.Groups.{Shown, grouped_in, groups_of}
 use Rattle.provenance.specs.Played.{given_entries, new_entries}
@@ -39,6 +40,10 @@ text_data bytes = if is_utf8 bytes then string bytes else null
 abbrev pub digest_data : List ℕ → Data
 digest_data digest = string (encode_lower digest)
 
+-- where it is known
+abbrev pub known_digest : Option (List ℕ) → Data
+known_digest digest = unwrap_or (option_map digest_data digest) null
+
 -- the line of the source index that the home index of a file is of
 abbrev pub home_source : List Source → List BoundIndex → List Home → ℕ → Option Source
 home_source sources indexes homes file =
@@ -49,14 +54,16 @@ home_source sources indexes homes file =
 abbrev pub told : (Source → Data) → Option Source → Data
 told tell source = unwrap_or (option_map tell source) null
 
--- where a medium comes from: this file from its frame `first` on, by a line of the source index
-abbrev pub origin_data : SoundFacts → ℕ → Option Source → Data
-origin_data facts first source =
+-- where a medium comes from: this file from its frame `first` on, by a line of the source index, and the digest of the
+-- whole file
+abbrev pub origin_data : SoundFacts → ℕ → Option Source → Option (List ℕ) → Data
+origin_data facts first source digest =
     object (member (codes "file") (string facts.name)
     (member (codes "first") (count first)
     (member (codes "identifier") (told (λ s. text_data s.uid) source)
     (member (codes "index") (told (λ s. count s.number) source)
-    (member (codes "url") (told (λ s. text_data s.url) source) no_members)))))
+    (member (codes "sha256") (known_digest digest)
+    (member (codes "url") (told (λ s. text_data s.url) source) no_members))))))
 
 -- a medium of an opened file, whose first frame stands at `base` in the day
 abbrev pub medium_data : SoundFacts → (base : ℕ) → Data → Medium → Data
@@ -73,7 +80,7 @@ abbrev pub medium_told : List Source → List BoundIndex → List SoundFacts →
 medium_told sources indexes sounds homes medium =
     let file = medium.run.file in
     medium_data (sound_at sounds file) (base_by homes file + medium.run.first)
-    (origin_data (sound_at sounds file) medium.run.first (home_source sources indexes homes file)) medium
+    (origin_data (sound_at sounds file) medium.run.first (home_source sources indexes homes file) medium.source) medium
 
 -- a group of given entries
 abbrev pub group_data : Shown → Data
@@ -86,18 +93,21 @@ abbrev pub entry_data : GroupedEntry → Data
 entry_data entry =
     object (member (codes "entry") (count entry.number) (member (codes "group") (count entry.group) no_members))
 
--- a consolidation with this handle by a program of this version, with the digest of its list
-abbrev pub report_data : (handle : ℕ) (version list : List ℕ) (media groups entries : List Data) → Data
-report_data handle version list media groups entries =
+-- a consolidation with this handle by the program that asks for the report, with the digests of the given list and of
+-- the new one, whose text this is
+abbrev pub report_data : (handle : ℕ) (asked : AskedReport) (text : List ℕ) (media groups entries : List Data) → Data
+report_data handle asked text media groups entries =
     object (member (codes "entries") (array (items_of entries))
+    (member (codes "given_list_sha256") (digest_data (sha256 asked.list))
     (member (codes "groups") (array (items_of groups))
     (member (codes "handle") (count handle)
-    (member (codes "list_sha256") (digest_data list)
     (member (codes "media") (array (items_of media))
-    (member (codes "version") (string version) no_members))))))
+    (member (codes "new_list_sha256") (digest_data (sha256 text))
+    (member (codes "program") (string asked.program)
+    (member (codes "version") (string asked.version) no_members))))))))
 
 -- what a report is made of: the given project with what it is bound to; the runs that become media; the entries and the
--- text of the list over them; the handle, and the version of the program
+-- text of the list over them; the handle, and with what the report is asked
 pub record Told : Type 0 where
   pub project : ListProject
   pub binding : Binding
@@ -105,7 +115,7 @@ pub record Told : Type 0 where
   pub events : List Event
   pub text : List ℕ
   pub handle : ℕ
-  pub version : List ℕ
+  pub asked : AskedReport
 
 -- the given entries and the new ones, by what they play
 abbrev pub given_of : Told → List Played
@@ -119,7 +129,7 @@ abbrev pub groups_told : Told → List Shown
 groups_told t = groups_of (given_of t) (news_of t)
 
 abbrev pub told_data : Told → List Medium → Data
-told_data t media = report_data t.handle t.version (sha256 t.text)
+told_data t media = report_data t.handle t.asked t.text
     (map (medium_told t.project.sources t.binding.indexes (sounds_of t.binding) t.kept.homes) media)
     (map group_data (groups_told t))
     (map entry_data (map (grouped_in (groups_told t) (given_of t)) (news_of t)))
@@ -130,7 +140,7 @@ json_of t media = compact_text (told_data t media) ++ 10 ∷ []
 
 -- the media over these sources
 abbrev pub media_over : Files → Told → List Medium
-media_over sources t = media_of sources (sounds_of t.binding) t.kept.homes t.kept.runs
+media_over sources t = media_of t.asked.digests sources (sounds_of t.binding) t.kept.homes t.kept.runs
 
 -- the report over these sources, and the checksums of all that is written
 abbrev pub report_json : Files → Told → List ℕ

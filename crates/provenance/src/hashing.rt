@@ -8,8 +8,9 @@ ghost use Rattle.mediacopy.specs.Pieces.{content};
 ghost use Rattle.mediaset.specs.Runs.{EndsInDay};
 ghost use Rattle.devices.specs.Frame.{OnlyReads};
 ghost use Rattle.provenance.specs.Fault.{FailsAt, IsDevice};
-ghost use Rattle.provenance.specs.Media.{IsHashed, IsTellable, media_of, medium_by};
+ghost use Rattle.provenance.specs.Media.{IsHashed, IsTellable, media_of, medium_bytes};
 
+use crate::wholes::source_digest;
 use crate::{Medium, ReportFault};
 use devices::{DeviceFault, Shelf};
 use mediacopy::{info_of, reads_back};
@@ -20,7 +21,7 @@ use std::alloc::Global;
 use wavread::Sound;
 
 /// The bytes of the longest header, that with 65,536 bytes of CodingHistory; no more are read at once.
-const ROOM: usize = 66_226;
+pub(crate) const ROOM: usize = 66_226;
 
 /// The bytes of a frame: 2 to 256. The frames have a number of 64 bits.
 fn frame_of(sound: &Sound) -> usize
@@ -110,20 +111,26 @@ fn digest_of<S: Shelf>(
     Ok(hasher.finalize())
 }
 
-/// The medium of this number.
+/// The medium of this number, whose source has this digest.
 fn hashed_medium<S: Shelf>(
     shelf: &mut S,
     sounds: &[Sound],
     homes: &Homes,
     number: u32,
     run: &Run,
+    source: Option<[u8; 32]>,
     room: &mut [u8],
 ) -> Result<Medium, ReportFault>
     requires of_file { IsRunOf sounds.now run.now }
     requires in_day { EndsInDay homes.now run.now }
     requires room { length room.old ≡ 66226 }
-    ensures medium { IsTrue (S.honest shelf.old)
-        → IfOk result (λ medium. medium ≡ medium_by (S.stored shelf.old) sounds.now homes.now number run.now) }
+    ensures medium { IsTrue (S.honest shelf.old) → IfOk result (λ medium. medium
+        ≡ record {
+          number = number;
+          run = run.now;
+          digest = sha256 (medium_bytes (S.stored shelf.old) sounds.now homes.now run.now);
+          source = source;
+        }) }
     ensures tellable { IfOk result (IsTellable sounds.now homes.now) }
     ensures only_reads { OnlyReads S.Shelf shelf.old shelf.new result IsDevice (FailsAt sounds.now) }
 {
@@ -133,22 +140,25 @@ fn hashed_medium<S: Shelf>(
             number,
             run: *run,
             digest,
+            source,
         }),
         Err(_) => Err(ReportFault::Device { file: run.file }),
     }
 }
 
-/// The media of runs, which are numbered from 1 on, each with its SHA-256, by one reading of the frames that they have.
-/// `Device` where a source fails, `Memory` where no memory was left.
+/// The media of runs, which are numbered from 1 on, each with its SHA-256, by one reading of the frames that they have;
+/// where digests are asked for, each with that of its whole source, by one reading of each file, whose runs follow one
+/// another. `Device` where a source fails, `Memory` where no memory was left.
 pub fn hashed_media<S: Shelf>(
     alloc: Global,
     sounds: &[Sound],
     runs: &Runs,
+    digests: bool,
     shelf: &mut S,
 ) -> Result<Vec<Medium>, ReportFault>
     requires { All (IsRunOf sounds.now) runs.now.runs }
     ensures media { IsTrue (S.honest shelf.old) → IfOk result (λ media. media.items
-        ≡ media_of (S.stored shelf.old) sounds.now runs.now.homes runs.now.runs) }
+        ≡ media_of digests (S.stored shelf.old) sounds.now runs.now.homes runs.now.runs) }
     ensures tellable { IfOk result (λ media. All (IsTellable sounds.now runs.now.homes) media.items) }
     ensures only_reads { OnlyReads S.Shelf shelf.old shelf.new result IsDevice (FailsAt sounds.now) }
 {
@@ -157,7 +167,9 @@ pub fn hashed_media<S: Shelf>(
     let mut room = [0; ROOM];
     let mut media = Vec::with_capacity(alloc, list.len())?;
     for (place, run) in list.iter().enumerate() {
-        let medium = hashed_medium(shelf, sounds, homes, place as u32 + 1, run, &mut room)?;
+        let source = source_digest(shelf, sounds, run, media.last(), digests, &mut room)?;
+        let number = place as u32 + 1;
+        let medium = hashed_medium(shelf, sounds, homes, number, run, source, &mut room)?;
         media.push(medium)?;
     }
     Ok(media)

@@ -2,6 +2,7 @@
 //! checksums of all that it writes.
 #![tactic(auto)]
 
+mod asked;
 mod entries;
 mod fault;
 mod hashing;
@@ -11,7 +12,9 @@ mod played;
 mod report;
 mod shared;
 mod sums;
+mod wholes;
 
+pub use asked::ReportOn;
 pub use fault::ReportFault;
 pub use medium::Medium;
 pub use played::Played;

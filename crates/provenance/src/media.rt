@@ -4,7 +4,7 @@ ghost use Rattle.std.specs.List.{All};
 ghost use Rattle.serde_json.specs.View.{view};
 ghost use Rattle.provenance.specs.Media.{IsTellable};
 ghost use Rattle.provenance.specs.Report as spec;
-ghost use Rattle.provenance.specs.Report.{medium_data, medium_told, origin_data, text_data};
+ghost use Rattle.provenance.specs.Report.{known_digest, medium_data, medium_told, origin_data, text_data};
 
 use crate::Medium;
 use adlmodel::Source;
@@ -22,6 +22,19 @@ fn text_value(alloc: Global, bytes: &[u8]) -> Result<Value, AllocError>
     match str::from_utf8(bytes) {
         Ok(text) => Value::try_from_str(alloc, text),
         Err(_) => Ok(Value::Null),
+    }
+}
+
+/// A digest as 64 hexadecimal digits, and else null.
+fn digest_value(alloc: Global, digest: &Option<[u8; 32]>) -> Result<Value, AllocError>
+    ensures { IfOk result (λ value. view value ≡ known_digest digest.now) }
+{
+    match digest {
+        Some(digest) => {
+            let digits = hex::encode(alloc, digest)?;
+            Value::try_from_str(alloc, digits.as_str())
+        }
+        None => Ok(Value::Null),
     }
 }
 
@@ -51,16 +64,20 @@ fn origin_value(
     sound: &Sound,
     first: u64,
     source: Option<&Source>,
+    digest: &Option<[u8; 32]>,
 ) -> Result<Value, AllocError>
-    ensures { IfOk result (λ value. view value ≡ origin_data sound.now first (option_copied source.entry)) }
+    ensures { IfOk result (λ value. view value
+        ≡ origin_data sound.now first (option_copied source.entry) digest.now) }
 {
     let file = sound.name();
+    let sha256 = digest_value(alloc, digest)?;
     let Some(source) = source else {
         return json!(in alloc; {
             "file": file,
             "first": first,
             "identifier": null,
             "index": null,
+            "sha256": sha256,
             "url": null
         });
     };
@@ -72,6 +89,7 @@ fn origin_value(
         "first": first,
         "identifier": identifier,
         "index": index,
+        "sha256": sha256,
         "url": url
     })
 }
@@ -118,7 +136,7 @@ fn told_value(
     let file = medium.run.file;
     let sound = &sounds[file as usize];
     let source = home_source(sources, indexes, homes, file);
-    let origin = origin_value(alloc, sound, medium.run.first, source)?;
+    let origin = origin_value(alloc, sound, medium.run.first, source, &medium.source)?;
     let base = homes.base(file) + medium.run.first;
     medium_value(alloc, sound, base, origin, medium)
 }

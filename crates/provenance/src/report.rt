@@ -1,10 +1,10 @@
 // The report of a consolidation.
 ghost use Rattle.std.specs.Prelude.{◌≡◌, All, IfOk, IsTrue, map};
 ghost use Rattle.serde_json.specs.View.{view};
-ghost use Rattle.sha2.specs.Sha256.{sha256};
 ghost use Rattle.sound_terms.specs.Media.{IsRunOf};
 ghost use Rattle.list_terms.specs.Heard.{sounds_of};
 ghost use Rattle.devices.specs.Frame.{OnlyReads};
+ghost use Rattle.provenance.specs.Asked.{asked_of};
 ghost use Rattle.provenance.specs.Fault.{FailsAt, IsDevice};
 ghost use Rattle.provenance.specs.Media.{IsTellable};
 ghost use Rattle.provenance.specs.Report as spec;
@@ -16,7 +16,7 @@ use crate::media::media_values;
 use crate::played::{given_entries, new_entries};
 use crate::shared::group_entries;
 use crate::sums::sums_text;
-use crate::{Medium, ReportFault};
+use crate::{Medium, ReportFault, ReportOn};
 use adlmodel::Project;
 use devices::Shelf;
 use mediaset::Runs;
@@ -34,26 +34,32 @@ pub struct Report {
     pub sums: Vec<u8>,
 }
 
-/// A consolidation with this handle by a program of this version, with the digest of its list.
+/// A consolidation with this handle by the program that asks for the report, with the digests of the given list and of
+/// the new one, whose text this is.
 fn report_value(
     alloc: Global,
     handle: u64,
-    version: &str,
+    asked: ReportOn<'_>,
     text: &[u8],
     media: Vec<Value>,
     groups: Vec<Value>,
     entries: Vec<Value>,
 ) -> Result<Value, AllocError>
-    ensures { IfOk result (λ value. view value ≡ report_data handle version.now (sha256 text.now)
+    ensures { IfOk result (λ value. view value ≡ report_data handle (asked_of asked.entry) text.now
         (map view media.items) (map view groups.items) (map view entries.items)) }
 {
-    let digits = hex::encode(alloc, &Sha256::digest(text))?;
+    let given = hex::encode(alloc, &Sha256::digest(asked.list))?;
+    let new = hex::encode(alloc, &Sha256::digest(text))?;
+    let program = asked.program;
+    let version = asked.version;
     json!(in alloc; {
         "entries": entries,
+        "given_list_sha256": given,
         "groups": groups,
         "handle": handle,
-        "list_sha256": digits,
         "media": media,
+        "new_list_sha256": new,
+        "program": program,
         "version": version
     })
 }
@@ -67,7 +73,7 @@ fn json_text(
     events: &[Event],
     text: &[u8],
     handle: u64,
-    version: &str,
+    asked: ReportOn<'_>,
     media: &[Medium],
 ) -> Result<Vec<u8>, AllocError>
     requires { All (IsTellable (sounds_of bound.now) runs.now.homes) media.now }
@@ -78,7 +84,7 @@ fn json_text(
       events = events.now;
       text = text.now;
       handle = handle;
-      version = version.now;
+      asked = asked_of asked.entry;
     }) media.now) }
 {
     let media = media_values(
@@ -94,16 +100,17 @@ fn json_text(
     let grouped = group_entries(alloc, &given, &entries)?;
     let groups = group_values(alloc, grouped.groups.as_slice())?;
     let entries = entry_values(alloc, &grouped.entries)?;
-    let report = report_value(alloc, handle, version, text, media, groups, entries)?;
+    let report = report_value(alloc, handle, asked, text, media, groups, entries)?;
     let line = report.to_string(alloc)?;
     let mut json = line.into_bytes();
     json.push(b'\n')?;
     Ok(json)
 }
 
-/// The report of a consolidation of a project to these runs, with this handle, by a program of this version: `events`
-/// and `text` are the entries and the text of the list over their media. The sources are read once, frame by frame, as
-/// they are copied. `Device` where one fails, `Memory` where no memory was left.
+/// The report of a consolidation of a project to these runs, with this handle, as it is asked for: `events` and `text`
+/// are the entries and the text of the list over their media. The kept frames of the sources are read once, as they are
+/// copied, and where digests are asked for, each source that has a medium once more from its first byte to its last.
+/// `Device` where one fails, `Memory` where no memory was left.
 pub fn report_of<S: Shelf>(
     alloc: Global,
     project: &Project,
@@ -112,7 +119,7 @@ pub fn report_of<S: Shelf>(
     events: &[Event],
     text: &[u8],
     handle: u64,
-    version: &str,
+    asked: ReportOn<'_>,
     shelf: &mut S,
 ) -> Result<Report, ReportFault>
     requires { All (IsRunOf (sounds_of bound.now)) runs.now.runs }
@@ -123,13 +130,13 @@ pub fn report_of<S: Shelf>(
       events = events.now;
       text = text.now;
       handle = handle;
-      version = version.now;
+      asked = asked_of asked.entry;
     })) }
     ensures only_reads { OnlyReads S.Shelf shelf.old shelf.new result IsDevice (FailsAt (sounds_of bound.now)) }
 {
-    let media = hashed_media(alloc, bound.sounds(), runs, shelf)?;
+    let media = hashed_media(alloc, bound.sounds(), runs, asked.digests, shelf)?;
     let json = json_text(
-        alloc, project, bound, runs, events, text, handle, version, &media,
+        alloc, project, bound, runs, events, text, handle, asked, &media,
     )?;
     let sums = sums_text(alloc, &media, text, &json)?;
     Ok(Report { json, sums })

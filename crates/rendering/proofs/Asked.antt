@@ -54,6 +54,8 @@ asked jobs project binding values work is whole =
       fresh = even_fresh (job_blocks jobs work.planned.range) (block_count work.planned.range) work.stretches is.even;
       parts = λ sources. are_parts work sources whole;
       apart = λ sources. are_apart work sources whole;
+      heard_as = λ sources channel time. ap (λ (sounds : List SoundFacts).
+          sum_of (reading_by sources sounds) work.planned.pieces channel time) is.sounds ∙ is.mixes sources channel time;
       whole = λ sources. whole_asked jobs project binding values work sources is;
       reads_back = is.reads_back;
     }

@@ -5,8 +5,10 @@ mod BlockMarks
 mod Both
 mod Resuming
 mod Chosen
+mod Clipped
 mod Cuts
 mod Frames
+mod Noted
 mod Parts
 mod Ranges
 mod Steps

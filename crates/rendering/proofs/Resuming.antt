@@ -111,15 +111,16 @@ same_run was is marks_run same run = record {
 module _ (was is : RenderWork) (marks_run : RunId) (sources : Files) (whole : IsRenderWork is)
     (run_before : IsRunOf was marks_run) (same_plan : is.planned ≡ was.planned) (same_sounds : is.sounds ≡ was.sounds) where
   abbrev before : Marking
-  before = marks_of (record { work = was; run = marks_run }) sources
+  before = marks_of (record { work = was; run = marks_run; clips = [] }) sources
 
   abbrev now : Marking
-  now = marks_of (record { work = is; run = marks_run }) sources
+  now = marks_of (record { work = is; run = marks_run; clips = [] }) sources
 
   abbrev by_parts : Planned → List SoundFacts → Marking
   by_parts planned sounds = marks_of (record {
     work = record { planned = planned; sounds = sounds; stretches = is.stretches };
     run = marks_run;
+    clips = [];
   }) sources
 
   holds_now : (marks : ℕ → Bool) (file : Option (List ℕ)) → HoldsIn before marks file → HoldsIn now marks file

@@ -1,6 +1,7 @@
 -- A marked rendering as an execution sees it: its jobs, the file as it is laid out, and its marks.
 use Rattle.std.proofs.Common.{◌≡◌, ◌≢◌, ◌∙◌, ℕ, ◌-◌, ◌/◌, ◌<◌, ◌≤◌, Bool, true, false, Option, Some, List, length, get_or, refl, sym, ap, subst, arith}
 use Rattle.std.specs.Prelude.{⊤, Result, Ok, Err, map}
+use Rattle.clipping.specs.declared.tally.Clips.{Clips}
 use Rattle.std.proofs.lemmas.List.{get_or-append_right, get_or-map, length-map}
 use Rattle.sound_terms.specs.Blocks.{block_start}
 use Rattle.sound_terms.specs.Depth.{bits_of}
@@ -53,15 +54,15 @@ sound_jobs marked is = record {
 }
 
 -- its blocks are cut anew
-pub reopened_as : (was is : RenderWork) (run : RunId) → IsRunOf was run → is.planned ≡ was.planned
-    → is.sounds ≡ was.sounds → IsRenderWork is
-    → IsReopened (record { work = was; run = run }) (record { work = is; run = run })
-reopened_as was is run of planned sounds whole = record {
+pub reopened_as : (was is : RenderWork) (run : RunId) (noted clips : List Clips) → IsRunOf was run
+    → is.planned ≡ was.planned → is.sounds ≡ was.sounds → IsRenderWork is
+    → IsReopened (record { work = was; run = run; clips = noted }) (record { work = is; run = run; clips = clips })
+reopened_as was is run noted clips of planned sounds whole = record {
   planned = planned;
   sounds = sounds;
   run = refl;
   whole = record { work = whole; run = same_run was is run planned of };
-  jobs = sound_jobs (record { work = is; run = run }) whole;
+  jobs = sound_jobs (record { work = is; run = run; clips = clips }) whole;
 }
 
 -- ---- its files

@@ -1,3 +1,5 @@
+pub mod Clipping
+pub mod ClippingLaws
 pub mod Cut
 pub mod CutLaws
 pub mod Fault

@@ -1,11 +1,13 @@
 -- A marked rendering as a work of an execution.
-use Rattle.std.specs.Prelude.{◌≡◌, ◌==◌, true, cond, Some, length}
+use Rattle.std.specs.Prelude.{◌≡◌, ◌==◌, ℕ, true, cond, None, Some, length, slice_index_or}
+use Rattle.clipping.specs.declared.tally.Clips.{Clips}
 use Rattle.work_terms.specs.Disk.{Files}
 use Rattle.job_terms.specs.Workers.{jobs_over}
 use Rattle.markfile.specs.Format.{head_of, marks_name, sound_name}
 use Rattle.execution.specs.Filled.{AreApart}
 use Rattle.execution.specs.Marking.{Marking}
 use Rattle.execution.specs.Plan.{JobPlan, SourcesFit}
+use Rattle.rendering.specs.Clipping.{ClipsJob}
 use Rattle.rendering.specs.Marked.{IsRunOf, MarkedWork, block_end, block_place}
 use Rattle.rendering.specs.Work.{IsRenderWork, stretch_at, whole_of, work_of}
 
@@ -35,6 +37,14 @@ plan_of marked = record {
   last = 2;
   outputs = 2;
 }
+
+-- nothing is clipped
+abbrev pub no_clips : Clips
+no_clips = record { samples = 0; first = None; peak = 0; channels = 0 }
+
+-- it has noted what is clipped of this job, over these sources
+abbrev pub HasClips : MarkedWork → Files → ℕ → Type 0
+HasClips marked sources k = ClipsJob marked.work sources k (slice_index_or marked.clips k no_clips)
 
 -- its jobs are all its blocks, of which its run has as many
 pub record IsMarkedWork (marked : MarkedWork) : Type 0 where

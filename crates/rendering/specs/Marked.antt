@@ -2,6 +2,7 @@
 use Rattle.std.specs.Prelude.{◌≡◌, ◌≢◌, ℕ, ◌+◌, ◌-◌, ◌*◌, ◌%◌, ◌<◌, Bool, true, List, ◌∷◌, ◌++◌, Option, None, Some, Result, Ok, Err, IsOk, length, replicate, ⊤}
 use Rattle.std.specs.List.{count_by}
 use Rattle.sha2.specs.Sha256.{sha256}
+use Rattle.clipping.specs.declared.tally.Clips.{Clips}
 use Rattle.sound_terms.specs.Blocks.{block_count, block_length}
 use Rattle.sound_terms.specs.Render.{Range, render_info}
 use Rattle.sound_terms.specs.Waves.{header_of, zeros}
@@ -15,10 +16,11 @@ use Rattle.execution.specs.Marking.{AreTrueMarks, HoldsIn, Marking, is_marked}
 use Rattle.rendering.specs.Work.{RenderWork, bytes_for}
 use Rattle.rendering.specs.Written.{frames_before}
 
--- its jobs, and the run that its marks belong to
+-- its jobs, the run that its marks belong to, and what was clipped of each job when it was made last
 pub record MarkedWork : Type 0 where
   pub work : RenderWork
   pub run : RunId
+  pub clips : List Clips
 
 -- where a block begins in the rendered file, and where it ends
 abbrev pub block_place : Range → ℕ → ℕ

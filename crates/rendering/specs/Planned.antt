@@ -13,7 +13,7 @@ use Rattle.execution.specs.Filled.{AreApart, AreParts}
 use Rattle.rendering.specs.Cut.{AreEven, IsCut}
 use Rattle.rendering.specs.declared.cutting.JobLength.{JobLength}
 use Rattle.sound_terms.specs.Blocks.{block_count}
-use Rattle.rendering.specs.Work.{RenderWork, done_before, job_blocks, whole_of, work_of}
+use Rattle.rendering.specs.Work.{RenderWork, done_before, heard, job_blocks, whole_of, work_of}
 
 -- the pieces sound like the bound project, over any files
 abbrev pub MixAs : ListProject → Binding → List Piece → Type 0
@@ -41,6 +41,8 @@ pub record IsRenderingOf (jobs : JobLength) (project : ListProject) (binding : B
   pub fresh : (k : ℕ) → done_before work k ≡ false
   pub parts : (sources : Files) → AreParts (jobs_over (work_of work) sources) (λ _. whole_of work sources)
   pub apart : (sources : Files) → AreApart (jobs_over (work_of work) sources)
+  pub heard_as : (sources : Files) (channel time : ℕ)
+      → heard work.planned work.sounds sources channel time ≡ project_mix sources project binding channel time
   pub whole : (sources : Files) → whole_of work sources
       ≡ rendering_of (range_of project values) (project_mix sources project binding)
   pub reads_back : (mix : ℕ → ℕ → ℤ)

@@ -5,6 +5,7 @@ ghost use Rattle.sampletime.specs.TimeCode.{day};
 ghost use Rattle.sound_terms.specs.Blocks.{block_count, block_frames};
 ghost use Rattle.sound_terms.specs.Media.{IsPieceOf};
 ghost use Rattle.devices.specs.Frame.{OnlyReads};
+ghost use Rattle.rendering.specs.Clipping.{Clip, sums_of_blocks};
 ghost use Rattle.rendering.specs.Work.{CanPlay, HasRoom, IsInRange, bytes_for, heard, stretch_frames};
 ghost use Rattle.rendering.specs.Written.{block_bytes, bytes_of_blocks};
 ghost use Rattle.rendering.specs.declared.fault.RenderFault.TheVariants.{Memory};
@@ -12,6 +13,7 @@ ghost use Rattle.rendering.specs.declared.fault.RenderFault.TheVariants.{Memory}
 use crate::RenderFault;
 use crate::stretch::Stretch;
 use blockmachine::Machine;
+use clipping::Clips;
 use devices::{DeviceFault, Shelf};
 use renderplan::{Plan, Program};
 use std::alloc::Global;
@@ -20,6 +22,13 @@ use wavread::Sound;
 
 /// The most frames of a block.
 pub const BLOCK_LENGTH: usize = 4096;
+
+/// Where the samples of a block end, and what was clipped of it.
+#[derive(Clone, Copy)]
+struct Played {
+    end: usize,
+    clips: Clips,
+}
 
 /// The blocks of a plan over opened files: a machine that sums them, and room for the program and the samples of any
 /// one. A clause sees the plan and the files.
@@ -46,8 +55,8 @@ impl<'a> Model for Blocks<'a> {
         × (length b.samples.items ≡ 4096 * b.plan.range.channels) };
 }
 
-/// Sums block k and writes its samples over `bytes`, which has room for just these. There is room for the program and
-/// the samples of any block. A file that can't be read fails it.
+/// Sums block k and writes its samples over `bytes`, which has room for just these; gives what was clipped of it. There
+/// is room for the program and the samples of any block. A file that can't be read fails it.
 fn play_block<S: Shelf>(
     plan: &Plan,
     k: u64,
@@ -57,12 +66,14 @@ fn play_block<S: Shelf>(
     program: &mut Program,
     samples: &mut [i32],
     bytes: &mut [u8],
-) -> Result<(), DeviceFault>
+) -> Result<Clips, DeviceFault>
     requires ready { CanPlay (record { planned = plan.now; sounds = sounds.now }) machine.old program.old.room
         (length samples.old) }
     requires room { HasRoom plan.now.range k (length bytes.old) }
     ensures played { IsTrue (S.honest shelf.old) → OnOk result
         (bytes.new ≡ block_bytes plan.now.range (heard plan.now sounds.now (S.stored shelf.old)) k) }
+    ensures clips { IsTrue (S.honest shelf.old) → IfOk result (Clip plan.now.range
+        (sums_of_blocks plan.now.range (heard plan.now sounds.now (S.stored shelf.old)) k (k + 1))) }
     ensures ready { machine.new ≡ machine.old }
     ensures room { program.new.room ≡ program.old.room }
     ensures only_reads { OnlyReads S.Shelf shelf.old shelf.new result (λ _. ⊤) (λ _ failed. ⊤) }
@@ -70,9 +81,10 @@ fn play_block<S: Shelf>(
     let format = plan.format();
     let count = plan.frames_of(k) as usize * usize::from(format.channels);
     let samples = &mut samples[..count];
+    plan.sums_exactly();
     plan.fill(k, program);
     match machine.run_packed(program, format.depth, sounds, shelf, samples, bytes) {
-        Ok(()) => Ok(()),
+        Ok(clips) => Ok(clips),
         Err(_) => Err(DeviceFault),
     }
 }
@@ -147,13 +159,20 @@ impl<'a> Blocks<'a> {
         None
     }
 
-    /// Sums block k and writes its samples over `bytes`, which has room for just these. A file that can't be read
-    /// fails it.
-    fn play<S: Shelf>(&mut self, k: u64, shelf: &mut S, bytes: &mut [u8]) -> Result<(), DeviceFault>
+    /// Sums block k and writes its samples over `bytes`, which has room for just these; gives what was clipped of it. A
+    /// file that can't be read fails it.
+    fn play<S: Shelf>(
+        &mut self,
+        k: u64,
+        shelf: &mut S,
+        bytes: &mut [u8],
+    ) -> Result<Clips, DeviceFault>
         requires { HasRoom self.old.planned.range k (length bytes.old) }
         ensures played { IsTrue (S.honest shelf.old) → OnOk result
             (bytes.new ≡ block_bytes self.old.planned.range
             (heard self.old.planned self.old.sounds (S.stored shelf.old)) k) }
+        ensures clips { IsTrue (S.honest shelf.old) → IfOk result (Clip self.old.planned.range (sums_of_blocks
+            self.old.planned.range (heard self.old.planned self.old.sounds (S.stored shelf.old)) k (k + 1))) }
         ensures ready { self.new ≡ self.old }
         ensures only_reads { OnlyReads S.Shelf shelf.old shelf.new result (λ _. ⊤) (λ _ failed. ⊤) }
     {
@@ -173,52 +192,62 @@ impl<'a> Blocks<'a> {
     }
 
     /// Sums block k and writes its samples over `bytes` from `at` on, where there is room for them; gives where they
-    /// end. A file that can't be read fails it.
+    /// end, and what was clipped of them. A file that can't be read fails it.
     fn play_at<S: Shelf>(
         &mut self,
         k: u64,
         shelf: &mut S,
         bytes: &mut [u8],
         at: usize,
-    ) -> Result<usize, DeviceFault>
+    ) -> Result<Played, DeviceFault>
         requires there { k < block_count self.old.planned.range }
         requires room { at + bytes_for self.old.planned.range (block_frames self.old.planned.range k)
             ≤ length bytes.old }
-        ensures played { IsTrue (S.honest shelf.old) → IfOk result (λ end. take end bytes.new ≡ take at bytes.old
-            ++ block_bytes self.old.planned.range
+        ensures played { IsTrue (S.honest shelf.old) → IfOk result (λ block. take block.end bytes.new
+            ≡ take at bytes.old ++ block_bytes self.old.planned.range
             (heard self.old.planned self.old.sounds (S.stored shelf.old)) k) }
+        ensures clips { IsTrue (S.honest shelf.old) → IfOk result (λ block. Clip self.old.planned.range (sums_of_blocks
+            self.old.planned.range (heard self.old.planned self.old.sounds (S.stored shelf.old)) k (k + 1)) block.clips) }
         ensures ended { IfOk result
-            (λ end. end ≡ at + bytes_for self.old.planned.range (block_frames self.old.planned.range k)) }
+            (λ block. block.end ≡ at + bytes_for self.old.planned.range (block_frames self.old.planned.range k)) }
         ensures ready { self.new ≡ self.old }
         ensures only_reads { OnlyReads S.Shelf shelf.old shelf.new result (λ _. ⊤) (λ _ failed. ⊤) }
     {
         let frames = self.plan.frames_of(k) as usize;
         let end = at + self.length_of(frames);
-        self.play(k, shelf, &mut bytes[at..end])?;
-        Ok(end)
+        let clips = self.play(k, shelf, &mut bytes[at..end])?;
+        Ok(Played { end, clips })
     }
 
-    /// Sums the blocks of a stretch and writes their samples over `bytes`, which has room for just these. A file that
-    /// can't be read fails it.
+    /// Sums the blocks of a stretch and writes their samples over `bytes`, which has room for just these; gives what was
+    /// clipped of them. A file that can't be read fails it.
     pub fn play_stretch<S: Shelf>(
         &mut self,
         stretch: &Stretch,
         shelf: &mut S,
         bytes: &mut [u8],
-    ) -> Result<(), DeviceFault>
+    ) -> Result<Clips, DeviceFault>
         requires inside { IsInRange self.old.planned.range stretch.now }
         requires room { length bytes.old
             ≡ bytes_for self.old.planned.range (stretch_frames self.old.planned.range stretch.now) }
         ensures played { IsTrue (S.honest shelf.old) → OnOk result (bytes.new
             ≡ bytes_of_blocks self.old.planned.range
             (heard self.old.planned self.old.sounds (S.stored shelf.old)) stretch.now.first stretch.now.behind) }
+        ensures clips { IsTrue (S.honest shelf.old) → IfOk result (Clip self.old.planned.range (sums_of_blocks
+            self.old.planned.range (heard self.old.planned self.old.sounds (S.stored shelf.old))
+            stretch.now.first stretch.now.behind)) }
         ensures ready { self.new ≡ self.old }
         ensures only_reads { OnlyReads S.Shelf shelf.old shelf.new result (λ _. ⊤) (λ _ failed. ⊤) }
     {
+        let channels = u64::from(self.plan.format().channels);
         let mut end = 0;
+        let mut clips = Clips::none();
         for k in stretch.first as u64..stretch.behind as u64 {
-            end = self.play_at(k, shelf, bytes, end)?;
+            let played = self.play_at(k, shelf, bytes, end)?;
+            let before = (k - stretch.first as u64) * BLOCK_LENGTH as u64 * channels;
+            clips = clips.joined(played.clips, before);
+            end = played.end;
         }
-        Ok(())
+        Ok(clips)
     }
 }

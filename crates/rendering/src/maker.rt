@@ -1,6 +1,6 @@
 // A marked rendering as a work of an execution.
-ghost use Rattle.std.specs.Prelude.{◌≡◌, ◌<◌, ℕ, Bool, IfOk, IfSome, IsTrue, List, None, Ok, Some, false, length, slice_index_or, ⊤};
-ghost use Rattle.std.specs.List.{range_with_len};
+ghost use Rattle.std.specs.Prelude.{◌≡◌, ◌<◌, ◌*◌, ℕ, Bool, IfOk, IfSome, IsTrue, List, [], None, Ok, Some, false, length, slice_index_or, ⊤};
+ghost use Rattle.std.specs.List.{All, range_with_len};
 ghost use Rattle.work_terms.specs.Disk.{Files, IsUntouched};
 ghost use Rattle.work_terms.specs.Refusals.{Answers};
 ghost use Rattle.devices.specs.Frame.{OnlyWrites};
@@ -15,20 +15,27 @@ ghost use Rattle.execution.specs.Maker.{LaysOut};
 ghost use Rattle.execution.specs.Marking.{AreLeftBy, IsRunningBy, NoneStartedBy};
 ghost use Rattle.execution.specs.Plan.{IsAt, Stays};
 ghost use Rattle.rendering.specs.Fault.{refusal_of};
-ghost use Rattle.rendering.specs.Maker.{HasSoundJobs, IsMarkedWork, IsReopened, plan_of};
+ghost use Rattle.rendering.specs.Clipping.{ClipsIn, ClipsUnmarked};
+ghost use Rattle.rendering.specs.Cut.{IsUniform};
+ghost use Rattle.rendering.specs.Maker.{HasClips, HasSoundJobs, IsMarkedWork, IsReopened, plan_of};
 ghost use Rattle.rendering.specs.Marked.{IsFoundAs, run_of};
 ghost use Rattle.rendering.specs.Planned.{IsRenderingOf};
 ghost use Rattle.rendering.specs.Rendering.{HasRange, HaveChannels, render_fault, values_of};
-ghost use Rattle.rendering.specs.Work.{AreCutBy, done_before, work_of};
+ghost use Rattle.rendering.specs.Work.{AreCutBy, IsInRange, done_before, heard, stretch_at, work_of};
+ghost use Rattle.rendering.specs.Written.{frames_before};
 
+use crate::blocks::BLOCK_LENGTH;
 use crate::cutting::JobLength;
 use crate::marked::count_of;
 use crate::marking::place_marked;
+use crate::stretch::Stretch;
 use crate::{Options, Order, RenderFault, Rendered, Rendering};
+use clipping::Clips;
 use devices::{Bench, DeviceFault, Shelf};
 use execution::{JobMaker, OutputFault, PlaceFault};
 use markfile::{FreshMarks, MARKS, MarkFault, RunId, SOUND, open_marks, start_fresh};
 use projectcheck::Checked;
+use sampletime::SampleTime;
 use std::alloc::{AllocError, Global};
 use std::marker::Model;
 
@@ -40,25 +47,27 @@ const MARKS_OUTPUT: u32 = 1;
 
 /// A rendering whose blocks are marked, as an execution does it: the rendered file is laid out and its marks are begun,
 /// each job's bytes are written and synced before its blocks are marked, and both files are synced at the end. Another
-/// run of the same list goes on where this one stopped. It holds its marks as they are begun, so that no memory is taken
-/// once it is planned and its marks are opened.
+/// run of the same list goes on where this one stopped. It notes what is clipped of each job. It holds its marks as they
+/// are begun, so that no memory is taken once it is planned and its marks are opened.
 #[derive(Drop)]
 pub struct RenderingWork<'a> {
     rendering: Rendering<'a>,
     run: RunId,
     fresh: FreshMarks,
+    clips: Vec<Clips>,
 }
 
 impl<'a> Model for RenderingWork<'a> {
-    ghost use Rattle.std.specs.Prelude.{◌≡◌};
+    ghost use Rattle.std.specs.Prelude.{◌≡◌, length};
     ghost use Rattle.rendering.specs.Marked.{IsRunOf, MarkedWork};
     ghost use Rattle.rendering.specs.Work.{IsRenderWork};
 
     ghost Value = { MarkedWork };
 
-    ghost view = { λ m. record { work = m.rendering; run = m.run } };
+    ghost view = { λ m. record { work = m.rendering; run = m.run; clips = m.clips.items } };
 
-    ghost invariant = { λ m. IsRenderWork m.rendering × IsRunOf m.rendering m.run × (m.fresh ≡ m.run) };
+    ghost invariant = { λ m. IsRenderWork m.rendering × IsRunOf m.rendering m.run × ((m.fresh ≡ m.run)
+        × (length m.clips.items ≡ length m.rendering.stretches)) };
 }
 
 impl<'a> Rendering<'a> {
@@ -79,6 +88,15 @@ impl<'a> Rendering<'a> {
         self.blocks.length_of(frames)
     }
 
+    /// How many samples come before this stretch, frame by frame.
+    fn samples_before(&self, stretch: &Stretch) -> u64
+        requires { IsInRange self.now.planned.range stretch.now }
+        ensures { result ≡ frames_before self.now.planned.range stretch.now.first * self.now.planned.range.channels }
+    {
+        let frames = u64::from(stretch.first) * BLOCK_LENGTH as u64;
+        frames * u64::from(self.rendered.channels)
+    }
+
     /// How many frames this job has.
     fn job_frames(&self, job: u32) -> u64
         requires { job < (work_of self.now).count }
@@ -88,18 +106,26 @@ impl<'a> Rendering<'a> {
     }
 }
 
+/// Nothing is clipped of so many jobs.
+fn unclipped(alloc: Global, count: usize) -> Result<Vec<Clips>, AllocError>
+    ensures { IfOk result (λ clips. length clips.items ≡ count) }
+{
+    let clips = vec![in alloc; Clips::none(); count]?;
+    Ok(clips)
+}
+
 /// Makes the rendered file at its full length, with every sample zero, and syncs it; then these marks of it.
 fn lay_out_marked<B: Bench>(
     rendering: &Rendering,
     fresh: &FreshMarks,
     bench: &mut B,
 ) -> Result<(), OutputFault>
-    requires { IsMarkedWork (record { work = rendering.now; run = fresh.now }) }
-    ensures lays_out { LaysOut (plan_of (record { work = rendering.now; run = fresh.now }))
+    requires { IsMarkedWork (record { work = rendering.now; run = fresh.now; clips = [] }) }
+    ensures lays_out { LaysOut (plan_of (record { work = rendering.now; run = fresh.now; clips = [] }))
         (output_view B.Bench bench.old) (output_view B.Bench bench.new) result }
-    ensures only_writes { OnlyWrites B.Bench (Stays (plan_of (record { work = rendering.now; run = fresh.now })))
+    ensures only_writes { OnlyWrites B.Bench (Stays (plan_of (record { work = rendering.now; run = fresh.now; clips = [] })))
         bench.old bench.new result (λ _. ⊤)
-        (λ fault failed. IsAt (plan_of (record { work = rendering.now; run = fresh.now })) fault.file failed) }
+        (λ fault failed. IsAt (plan_of (record { work = rendering.now; run = fresh.now; clips = [] })) fault.file failed) }
 {
     match rendering.lay_out_synced(bench) {
         Ok(()) => {}
@@ -113,6 +139,10 @@ fn lay_out_marked<B: Bench>(
 
 impl<'a> JobMaker for RenderingWork<'a> {
     ghost plan = { plan_of };
+
+    ghost remains = { λ first now. now.work ≡ first.work };
+
+    ghost noted = { HasClips };
 
     fn count(&self) -> u32 {
         self.rendering.job_count()
@@ -132,7 +162,13 @@ impl<'a> JobMaker for RenderingWork<'a> {
         shelf: &mut S,
         bytes: &mut [u8],
     ) -> Result<(), DeviceFault> {
-        self.rendering.play(job, shelf, bytes)
+        match self.rendering.play(job, shelf, bytes) {
+            Ok(clips) => {
+                self.clips[job as usize] = clips;
+                return Ok(());
+            }
+            Err(fault) => return Err(fault),
+        }
     }
 
     fn place<B: Bench>(&mut self, job: u32, bytes: &[u8], bench: &mut B) -> Result<(), PlaceFault> {
@@ -179,12 +215,17 @@ impl<'a> RenderingWork<'a> {
             Ok(rendering) => rendering,
             Err(fault) => return Err(fault),
         };
+        let clips = match unclipped(alloc, rendering.job_count() as usize) {
+            Ok(clips) => clips,
+            Err(_) => return Err(RenderFault::Memory),
+        };
         let run = rendering.run(list);
         match FreshMarks::of(alloc, &run) {
             Ok(fresh) => Ok(RenderingWork {
                 rendering,
                 run,
                 fresh,
+                clips,
             }),
             Err(_) => Err(RenderFault::MarksMemory),
         }
@@ -195,6 +236,13 @@ impl<'a> RenderingWork<'a> {
         ensures { HasRange result self.now.work.planned.range }
     {
         self.rendering.rendered()
+    }
+
+    /// The time of its first frame.
+    pub fn start(&self) -> SampleTime
+        ensures { result ≡ self.now.work.planned.range.from }
+    {
+        self.rendering.range.from
     }
 
     /// Opens the marks that an earlier run left, once the rendered file and the marks are synced. Where they are this
@@ -234,10 +282,46 @@ impl<'a> RenderingWork<'a> {
         let Some(marks) = found else {
             return Ok(None);
         };
-        match self.rendering.cut_by(alloc, marks.marked.as_slice(), jobs) {
-            Ok(()) => return Ok(Some(count_of(marks.marked.as_slice()))),
+        let cut = match self.rendering.cut_by(alloc, marks.marked.as_slice(), jobs) {
+            Ok(cut) => cut,
             Err(_) => return Err(MarkFault::Memory),
+        };
+        self.clips = match unclipped(alloc, cut.len()) {
+            Ok(clips) => clips,
+            Err(_) => return Err(MarkFault::Memory),
+        };
+        self.rendering.take_up(cut);
+        Ok(Some(count_of(marks.marked.as_slice())))
+    }
+
+    /// What was clipped of this job, as it was made last; nothing where it was done before.
+    fn clips_in(&self, job: u32) -> Clips
+        requires { job < (plan_of self.now).jobs.count }
+        ensures { (sources : Files) (marked : List Bool) → All (IsUniform marked) self.now.work.stretches
+            → (done_before self.now.work job ≡ false → HasClips self.now sources job)
+            → ClipsIn marked self.now.work sources (stretch_at self.now.work.stretches job) result }
+    {
+        let stretch = self.rendering.stretch(job);
+        if stretch.done {
+            return Clips::none();
         }
+        self.clips[job as usize]
+    }
+
+    /// What was clipped of all jobs that weren't done before, as they were made last.
+    pub fn clips(&self) -> Clips
+        ensures { (sources : Files) (marked : List Bool) → All (IsUniform marked) self.now.work.stretches
+            → ((k : ℕ) → k < (plan_of self.now).jobs.count → done_before self.now.work k ≡ false
+            → HasClips self.now sources k) → ClipsUnmarked marked self.now.work.planned.range
+            (heard self.now.work.planned self.now.work.sounds sources) result }
+    {
+        let mut clips = Clips::none();
+        for job in 0..self.rendering.job_count() {
+            let stretch = self.rendering.stretch(job);
+            let before = self.rendering.samples_before(&stretch);
+            clips = clips.joined(self.clips_in(job), before);
+        }
+        clips
     }
 
     /// The order in which its jobs are handed out, of the project that it was planned of: by time, or by the source of

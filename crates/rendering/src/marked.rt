@@ -7,6 +7,7 @@ ghost use Rattle.work_terms.specs.Disk.{IsDurable, LeavesOthers};
 ghost use Rattle.devices.specs.Frame.{OnlyReads};
 ghost use Rattle.markfile.specs.Format.{run_bytes, sound_name};
 ghost use Rattle.rendering.specs.Marked.{file_length, laid_file};
+ghost use Rattle.rendering.specs.Clipping.{ClipsJob};
 ghost use Rattle.rendering.specs.Work.{AreCutBy, IsInRange, IsRenderWork, place_of, stretch_at, work_of};
 ghost use Rattle.rendering.specs.Written.{WritesRendering};
 
@@ -14,6 +15,7 @@ use crate::Rendering;
 use crate::blocks::BLOCK_LENGTH;
 use crate::cutting::{JobLength, blocks_in_job, stretches_of};
 use crate::stretch::Stretch;
+use clipping::Clips;
 use devices::{Bench, DeviceFault, Shelf};
 use markfile::RunId;
 use std::alloc::{AllocError, Global};
@@ -29,17 +31,19 @@ impl<'a> Rendering<'a> {
         self.stretches[job as usize]
     }
 
-    /// Makes the bytes of this job.
+    /// Makes the bytes of this job; gives what was clipped of them.
     pub(crate) fn play<S: Shelf>(
         &mut self,
         job: u32,
         shelf: &mut S,
         bytes: &mut [u8],
-    ) -> Result<(), DeviceFault>
+    ) -> Result<Clips, DeviceFault>
         requires there { job < (work_of self.old).count }
         requires room { length bytes.old ≡ (work_of self.old).size job }
         ensures made { IsTrue (S.honest shelf.old)
             → OnOk result (bytes.new ≡ (work_of self.old).bytes (S.stored shelf.old) job) }
+        ensures clips { IsTrue (S.honest shelf.old)
+            → IfOk result (ClipsJob self.old (S.stored shelf.old) job) }
         ensures same { self.new ≡ self.old }
         ensures only_reads { OnlyReads S.Shelf shelf.old shelf.new result (λ _. ⊤) (λ _ failed. ⊤) }
     {
@@ -86,28 +90,28 @@ impl<'a> Rendering<'a> {
         }
     }
 
-    /// Cuts its blocks into jobs of this length by these marks, one for each block: the marked ones are done.
+    /// Its blocks, cut into jobs of this length by these marks, one for each block: the marked ones are done.
     pub(crate) fn cut_by(
-        &mut self,
+        &self,
         alloc: Global,
         marked: &[bool],
         jobs: JobLength,
-    ) -> Result<(), AllocError>
-        requires { length marked.now ≡ block_count self.old.planned.range }
-        ensures planned { self.new.planned ≡ self.old.planned }
-        ensures sounds { self.new.sounds ≡ self.old.sounds }
-        ensures cut { OnOk result (AreCutBy jobs marked.now self.new) }
-        ensures whole { IsRenderWork self.new }
+    ) -> Result<Vec<Stretch>, AllocError>
+        requires { length marked.now ≡ block_count self.now.planned.range }
+        ensures cut { IfOk result (λ cut. AreCutBy jobs marked.now (record self.now { stretches = cut.items })) }
+        ensures whole { IfOk result (λ cut. IsRenderWork (record self.now { stretches = cut.items })) }
     {
         let block = self.blocks.length_of(BLOCK_LENGTH) as u32;
         let most = blocks_in_job(jobs, self.blocks.count(), block);
-        match stretches_of(alloc, marked, most) {
-            Ok(stretches) => {
-                self.stretches = stretches;
-                return Ok(());
-            }
-            Err(fault) => return Err(fault),
-        }
+        stretches_of(alloc, marked, most)
+    }
+
+    /// Has these jobs from now on.
+    pub(crate) fn take_up(&mut self, cut: Vec<Stretch>)
+        requires { IsRenderWork (record self.old { stretches = cut.items }) }
+        ensures { self.new ≡ record self.old { stretches = cut.items } }
+    {
+        self.stretches = cut;
     }
 
     /// Which of its jobs are done.

@@ -36,9 +36,14 @@ fn write_list<B: Bench>(bench: &mut B) -> Result<(), DeviceFault>
 }
 
 impl JobMaker for Listed {
+    ghost use Rattle.std.specs.Prelude.{⊤};
     ghost use Rattle.trials_execution.specs.Listed.{plan_of};
 
     ghost plan = { λ _. plan_of };
+
+    ghost remains = { λ _ _. ⊤ };
+
+    ghost noted = { λ _ _ _. ⊤ };
 
     fn count(&self) -> u32 {
         64

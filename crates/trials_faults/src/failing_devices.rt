@@ -217,13 +217,16 @@ const CONSOLIDATED: [Part; 13] = [
     LIST,
 ];
 
-/// The calls of the sources where a report is asked for: the frames of both media are read for it.
-const REPORTED_FROM: [Part; 12] = [
+/// The calls of the sources where a report is asked for: the frames of the first medium are read for it, then the length
+/// and the bytes of the source as a whole, and then the frames of the second.
+const REPORTED_FROM: [Part; 14] = [
     Part::Open,
     Part::Open,
     Part::Open,
     Part::Open,
     Part::Open,
+    Part::Hear,
+    Part::Hear,
     Part::Hear,
     Part::Hear,
     Part::Hear,

@@ -3,8 +3,8 @@ ghost use Rattle.rendering.specs.Rendering.{HaveChannels};
 
 use crate::recorded::Recorded;
 use consolidate::{
-    BoardEvent, Depth, Fault, JobLength, Options, Order, Progress, RenderChoice, Resumed, Work,
-    consolidate_watched, render_watched, resume_watched, run_schedule,
+    BoardEvent, Depth, Fault, JobLength, Options, Order, Progress, RenderChoice, ReportChoice,
+    Resumed, Work, consolidate_watched, render_watched, resume_watched, run_schedule,
 };
 use passes::{DropSilent, JoinCuts, Pass, Regroup, SplitFades};
 use shelf::{Bench, MemoryBench, MemoryShelf, Shelf, Unwatched};
@@ -92,19 +92,27 @@ pub(crate) const CONSOLIDATED: &[u8] = b"<ADL>\r
 </ADL>\r
 ";
 
-/// The version of a program that asks for a report of this.
-const VERSION: &str = "1.2";
+/// The program that asks for a report of this.
+const ASKED: ReportChoice<'static> = ReportChoice {
+    program: "trials",
+    version: "1.2",
+    digests: true,
+};
 
-/// The report, in which the SHA-256 of both media and of the list are those of another program.
+/// The report, in which the SHA-256 of the media, of their source and of both lists are those of another program.
 const REPORT: &[u8] = b"{\"entries\":[{\"entry\":1,\"group\":0},{\"entry\":2,\"group\":0}],\
-\"groups\":[{\"given\":[1],\"more\":0}],\"handle\":0,\"list_sha256\":\"4691bb81a5d74d115e04cb7c0977f93e64725e1ee50e4cec69e7d525ddca8832\",\
+\"given_list_sha256\":\"b58928c762d83f96f5d166d1012337a63e022741b949beca6d2555c0955e3f1a\",\
+\"groups\":[{\"given\":[1],\"more\":0}],\"handle\":0,\
 \"media\":[{\"base\":0,\"channels\":2,\"depth\":16,\"file\":\"M00001.wav\",\"frames\":4,\
 \"sha256\":\"c375e3651a9458f0dc99102df3b6a7d54a9b733b3ace72081d2010a3b508a958\",\
-\"source\":{\"file\":\"A.wav\",\"first\":0,\"identifier\":\"_\",\"index\":1,\"url\":\"URL:file://localhost/A.wav\"}},\
+\"source\":{\"file\":\"A.wav\",\"first\":0,\"identifier\":\"_\",\"index\":1,\
+\"sha256\":\"65ff694fd8eb4f15e72c67a4da08f8a5f451343afc2fad0ac92a9f20cdf7a0a8\",\"url\":\"URL:file://localhost/A.wav\"}},\
 {\"base\":8,\"channels\":2,\"depth\":16,\"file\":\"M00002.wav\",\"frames\":4,\
 \"sha256\":\"8e81d770610a480fd7fd16e43074903a8adff6822f43a41b24f881b00da2d3ec\",\
-\"source\":{\"file\":\"A.wav\",\"first\":8,\"identifier\":\"_\",\"index\":1,\"url\":\"URL:file://localhost/A.wav\"}}],\
-\"version\":\"1.2\"}
+\"source\":{\"file\":\"A.wav\",\"first\":8,\"identifier\":\"_\",\"index\":1,\
+\"sha256\":\"65ff694fd8eb4f15e72c67a4da08f8a5f451343afc2fad0ac92a9f20cdf7a0a8\",\"url\":\"URL:file://localhost/A.wav\"}}],\
+\"new_list_sha256\":\"4691bb81a5d74d115e04cb7c0977f93e64725e1ee50e4cec69e7d525ddca8832\",\
+\"program\":\"trials\",\"version\":\"1.2\"}
 ";
 
 /// The checksums of all that, as `sha256sum` prints them.
@@ -112,7 +120,7 @@ const SUMS: &[u8] = b"\
 c375e3651a9458f0dc99102df3b6a7d54a9b733b3ace72081d2010a3b508a958  M00001.wav
 8e81d770610a480fd7fd16e43074903a8adff6822f43a41b24f881b00da2d3ec  M00002.wav
 4691bb81a5d74d115e04cb7c0977f93e64725e1ee50e4cec69e7d525ddca8832  consolidated.adl
-17e9194ccac041a324a6ae92777175c308d9df35a066d7bb0078ace5414a58c3  consolidated.json
+571c2ad114829ef53a289167ba8ffc9b7f085e961fbe9ecda47f135c2b3a9eed  consolidated.json
 ";
 
 /// All files that these works write.
@@ -421,20 +429,23 @@ impl Job {
         shelf: &mut S,
         bench: &mut MemoryBench,
     ) -> Result<Resumed, Fault> {
-        resume_watched(
+        match resume_watched(
             self.alloc,
             self.list,
             &self.choice(),
             shelf,
             bench,
             &mut Unwatched,
-        )
+        ) {
+            Ok(made) => Ok(made.resumed),
+            Err(fault) => Err(fault),
+        }
     }
 
     fn consolidate<S: Shelf>(
         &self,
         passes: Vec<Box<dyn Pass>>,
-        report: Option<&str>,
+        report: Option<ReportChoice<'_>>,
         shelf: &mut S,
         bench: &mut MemoryBench,
     ) -> Result<(), Fault> {
@@ -507,7 +518,7 @@ impl Job {
             }
             Call::Report => {
                 let passes = standard(self.alloc)?;
-                Ok(self.consolidate(passes, Some(VERSION), shelf, bench))
+                Ok(self.consolidate(passes, Some(ASKED), shelf, bench))
             }
             Call::Schedule {
                 is_rendering: true,

@@ -1,10 +1,11 @@
-use Rattle.std.proofs.Common.{◌≡◌, ◌≢◌, ◌⊎◌, ◌∙◌, ℕ, Bool, List, [], Option, Some, Result, Ok, Err, ap, arith, codes, refl, subst, sym}
+use Rattle.std.proofs.Common.{◌≡◌, ◌≢◌, ◌⊎◌, ◌∙◌, ℕ, List, [], Option, Some, Result, Ok, Err, ap, arith, codes, refl, subst, sym}
 use Rattle.std.specs.Io.KnownBytes.{Appends}
 use Rattle.shelf.specs.Folder.{OutputFolder, SourceFolder, folder_named}
 use Rattle.shelf.specs.declared.Overwrite.TheVariants.{Never}
 use Rattle.devices.specs.declared.source.Shelf as source
 use Rattle.devices.specs.declared.bench.Bench as output
 use Rattle.sound_terms.specs.Passes.{standard_groups}
+use Rattle.commandline.specs.declared.choice.MediaReport.{MediaReport}
 use Rattle.consolidate.specs.Commands.{IsConsolidation}
 use Rattle.console.specs.declared.console.Console as console
 use Rattle.console.specs.declared.lines.ListOfTwo.TheVariants.{Second}
@@ -34,10 +35,10 @@ appended : (old new : Option (List ℕ)) (held text : List ℕ) → old ≡ Some
 appended old new held text nothing all appends = rw (nothing, all) at appends
 
 ends : {O H : Type 0} (shelf : source.Ghosts SourceFolder) (bench : output.Ghosts OutputFolder) (out : console.Ghosts O)
-    (hold : console.Ghosts H) (list media target held : List ℕ) (handle : ℕ) (report : Bool)
+    (hold : console.Ghosts H) (list media target held : List ℕ) (handle : ℕ) (report : MediaReport)
     (before after : SourceFolder) (empty full : OutputFolder) (begun ended : H) (old new : O) (answer status : ℕ)
     → before.folder ≡ folder_named media → empty.folder ≡ folder_named target → empty.overwrite ≡ Never
-    → IsAnswered (IsConsolidation shelf bench standard_groups list handle (asking report) before after empty full)
+    → IsAnswered (IsConsolidation shelf bench standard_groups list handle (asking report list) before after empty full)
     written_lines hold begun ended answer
     → hold.contents begun ≡ Some [] → hold.contents ended ≡ Some held
     → hold.failures begun ≡ 0 → hold.failures ended ≡ 0

@@ -1,6 +1,8 @@
-use Rattle.std.proofs.Common.{◌∙◌, ℕ, Bool, List, Option, Some, ap, subst, sym}
+use Rattle.std.proofs.Common.{◌∙◌, ℕ, Option, Some, ap, subst, sym}
 use Rattle.passes.specs.Left.{Leaving, left_by, standard_left}
+use Rattle.provenance.specs.Asked.{AskedReport}
 use Rattle.consolidate.specs.Commands.{IsConsolidation}
+use Rattle.commandline.specs.declared.choice.MediaReport.{MediaReport}
 use Rattle.commandline.specs.Request.{asked_of}
 use Rattle.list_terms.specs.Text.{rate_of}
 use Rattle.answers.specs.Answers.{IsAnswered, asking, written_lines}
@@ -16,23 +18,23 @@ returns-in-Consolidate-clause-consolidated g c place media target handle report 
     let fields = consolidate_fields _ _ _ c.in-Consolidate.handle c.in-Consolidate.report place media target handle
     report
     (ap Some (ap asked_of (sym c.in-Consolidate.is) ∙ request)) in
-    subst (λ (told : Bool). IsAnswered (IsConsolidation g.S.Shelf g.B.Bench leave c.args.list.now handle (asking told)
+    subst (λ (told : MediaReport). IsAnswered (IsConsolidation g.S.Shelf g.B.Bench leave c.args.list.now handle (asking told c.args.list.now)
     c.args.shelf.now c.answer_consolidate.new.shelf c.args.bench.now c.answer_consolidate.new.bench) written_lines
     g.O.Console c.args.out.now c.answer_consolidate.new.out c.answer_consolidate.result) fields.4
     (subst (λ (frames : ℕ). IsAnswered (IsConsolidation g.S.Shelf g.B.Bench leave c.args.list.now frames
-    (asking c.in-Consolidate.report)
+    (asking c.in-Consolidate.report c.args.list.now)
     c.args.shelf.now c.answer_consolidate.new.shelf c.args.bench.now c.answer_consolidate.new.bench) written_lines
     g.O.Console c.args.out.now c.answer_consolidate.new.out c.answer_consolidate.result)
-    fields.3 (subst (λ (asked : Option (List ℕ)). IsAnswered (IsConsolidation g.S.Shelf g.B.Bench leave
+    fields.3 (subst (λ (asked : Option AskedReport). IsAnswered (IsConsolidation g.S.Shelf g.B.Bench leave
     c.args.list.now c.in-Consolidate.handle asked
     c.args.shelf.now c.answer_consolidate.new.shelf c.args.bench.now c.answer_consolidate.new.bench) written_lines
     g.O.Console c.args.out.now c.answer_consolidate.new.out c.answer_consolidate.result)
-    c.asked_for-asked.ensures c.answer_consolidate.ensures.answered))
+    (c.asked_for-asked.ensures c.args.list.now) c.answer_consolidate.ensures.answered))
 
 pub returns-in-Consolidate-clause-standard : goal.returns-in-Consolidate-clause-standard
 returns-in-Consolidate-clause-standard g c are place media target handle report request =
     subst (λ (leave : Leaving). IsAnswered (IsConsolidation g.S.Shelf g.B.Bench leave c.args.list.now handle
-    (asking report) c.args.shelf.now c.answer_consolidate.new.shelf c.args.bench.now c.answer_consolidate.new.bench)
+    (asking report c.args.list.now) c.args.shelf.now c.answer_consolidate.new.shelf c.args.bench.now c.answer_consolidate.new.bench)
     written_lines
     g.O.Console c.args.out.now c.answer_consolidate.new.out c.answer_consolidate.result)
     (standard_left _ _ c.args.passes.items are)

@@ -3,8 +3,8 @@ use Rattle.answers.proofs.requests.answer_resume.Goals as goal
 
 pub returns-in-Ok-clause-answered : goal.returns-in-Ok-clause-answered
 returns-in-Ok-clause-answered g c = record {
-  outcome = Ok c.in-Ok.resumed;
-  called = c.in-Ok.ensures;
+  outcome = Ok c.in-Ok.made.resumed;
+  called = c.in-Ok.ensures.resumes;
   status_is = refl;
   printed = search rules;
 }

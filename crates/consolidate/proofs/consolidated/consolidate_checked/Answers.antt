@@ -6,6 +6,7 @@ use Rattle.job_terms.specs.Workers.{rounds}
 use Rattle.list_terms.specs.Heard.{sounds_of}
 use Rattle.passes.specs.Left.{Leaving, left_by}
 use Rattle.execution.specs.View.{hands_at}
+use Rattle.provenance.specs.Asked.{AskedReport, asked_of}
 use Rattle.consolidation.specs.Consolidated.{work_fault}
 use Rattle.consolidation.specs.Planned.{MediaPlan}
 use Rattle.consolidation.specs.declared.written.Written.{Written}
@@ -40,7 +41,7 @@ pub returns : goal.returns
 returns g c =
     let leave : Leaving = left_by (λ pass. (goal.Pass-dyn g (pass.vtable, pass.value)).looking pass.value)
     (λ pass. (goal.Pass-dyn g (pass.vtable, pass.value)).gives pass.value) c.args.passes.items in
-    let asked : Option (List ℕ) = option_map (λ (v : _). v.now) c.args.report in
+    let asked : Option AskedReport = option_map asked_of c.args.report in
     let mid = c.plan.new.shelf in
     let new = c.execute-ended.new.shelf in
     let before = c.args.bench.now in
@@ -65,4 +66,4 @@ returns g c =
     (λ is. executed.job_memory is)
     (answers_for Written _ c.answer_of.result ended c.outcome-written.result.media (length plan.runs) c.is_some.result
     (is_some asked) (ap (λ (w : Written). w.media) whole.value)
-    (c.is_some.ensures ∙ sym (asked_some (λ (v : _). v.now) c.args.report)) c.answer_of.ensures)
+    (c.is_some.ensures ∙ sym (asked_some asked_of c.args.report)) c.answer_of.ensures)

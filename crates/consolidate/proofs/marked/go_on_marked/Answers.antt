@@ -1,7 +1,10 @@
-use Rattle.std.proofs.Common.{◌∙◌, Ok, Err, subst, sym}
+use Rattle.std.proofs.Common.{◌∙◌, ℕ, ◌<◌, Ok, Err, ap, cond, length, subst, sym}
+use Rattle.std.proofs.lemmas.List.{length-map}
+use Rattle.job_terms.specs.Board.{Board, done_job, fresh_job}
 use Rattle.consolidate.specs.RenderWorks.{GoesOnWithWork}
 use Rattle.consolidate.specs.declared.fault.Fault.{Fault}
 use Rattle.consolidate.proofs.RenderWorks.{goes_on_work, keeps_work, not_taken_keeps, not_taken_up}
+use Rattle.consolidate.proofs.Clipped.{clips_of}
 use Rattle.consolidate.proofs.marked.go_on_marked.Goals as goal
 
 pub returns-in-Err-clause-does : goal.returns-in-Err-clause-does
@@ -38,3 +41,12 @@ pub returns-in-Err-resume-clause-keeps : goal.returns-in-Err-resume-clause-keeps
 returns-in-Err-resume-clause-keeps g c = keeps_work g.S.Shelf g.B.Bench g.met.B.Bench.reads_now c.in-Ok.execution
     c.args.shelf.now c.resume.new.shelf c.args.bench.now c.resume.new.bench c.args.work c.in-Ok.ensures.taken_up
     c.requires.whole _ _ (Err c.in-Err-resume.fault) c.in-Err-resume.ensures.resumed
+
+pub returns-in-Ok-resume-clause-clips : goal.returns-in-Ok-resume-clause-clips
+returns-in-Ok-resume-clause-clips g c honest marked uniform =
+    let p = c.in-Ok.ensures.taken_up in
+    clips_of c.args.work c.in-Ok.execution c.resume.new.self (g.S.Shelf.stored c.args.shelf.now) marked c.clips-clips.result
+    p.work p.idle (ap (λ (b : Board). length b.jobs) p.board ∙ length-map p.done (λ d. cond d done_job fresh_job) ∙ p.count)
+    (λ k below off. let there = subst (λ (n : ℕ). k < n) (sym p.count) below in p.agrees k there ∙ p.each k there ∙ off)
+    (c.in-Ok-resume.ensures.notes honest) (c.in-Ok-resume.ensures.finished p.rest (p.idle 1))
+    c.in-Ok-resume.ensures.resumed.bounded.size uniform (rw c.work.ensures at c.clips-clips.ensures)

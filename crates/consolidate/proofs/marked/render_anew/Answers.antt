@@ -1,8 +1,13 @@
-use Rattle.std.proofs.Common.{◌∙◌, Ok, Err, subst, sym}
+use Rattle.std.proofs.Common.{◌∙◌, Ok, Err, ap, length, subst, sym}
+use Rattle.std.proofs.lemmas.List.{length-replicate}
+use Rattle.job_terms.specs.Board.{Board, fresh_job}
+use Rattle.job_terms.specs.declared.Job.{Job}
+use Rattle.rendering.specs.Work.{work_of}
 use Rattle.consolidate.specs.RenderOutcome.{in_rounds}
 use Rattle.consolidate.specs.RenderWorks.{BeginsWork}
 use Rattle.consolidate.specs.declared.fault.Fault.{Fault}
 use Rattle.consolidate.proofs.RenderWorks.{begins_work, not_prepared}
+use Rattle.consolidate.proofs.Clipped.{clips_of}
 use Rattle.consolidate.proofs.marked.render_anew.Goals as goal
 
 pub returns-in-Err-clause-does : goal.returns-in-Err-clause-does
@@ -24,3 +29,12 @@ returns-in-Err-execute-clause-does g c = subst (λ (f : Fault). BeginsWork g.S.S
     (begins_work g.S.Shelf g.B.Bench g.met.B.Bench.reads_now c.in-Ok.execution
     c.args.shelf.now c.execute.new.shelf c.args.bench.now c.execute.new.bench c.args.work c.in-Ok.ensures.prepared
     c.requires.whole c.requires.jobs in_rounds _ _ _ (Err c.in-Err-execute.fault) c.in-Err-execute.ensures.executed)
+
+pub returns-in-Ok-execute-clause-clips : goal.returns-in-Ok-execute-clause-clips
+returns-in-Ok-execute-clause-clips g c honest marked uniform =
+    let p = c.in-Ok.ensures.prepared in
+    clips_of c.args.work c.in-Ok.execution c.execute.new.self (g.S.Shelf.stored c.args.shelf.now) marked c.clips-clips.result
+    p.work p.idle (ap (λ (b : Board). length b.jobs) p.board ∙ length-replicate {A = Job} (work_of c.args.work.work).count fresh_job)
+    (λ k below off. p.undone k below)
+    (c.in-Ok-execute.ensures.notes honest) (c.in-Ok-execute.ensures.finished p.rest (p.idle 1))
+    c.in-Ok-execute.ensures.executed.bounded.size uniform (rw c.work.ensures at c.clips-clips.ensures)

@@ -1,4 +1,5 @@
-use Rattle.std.proofs.Common.{◌≡◌, true}
+use Rattle.std.proofs.Common.{◌≡◌, ◌∙◌, [], ap, true}
+use Rattle.sound_terms.specs.Render.{Range}
 use Rattle.std.specs.Prelude.{⊤}
 use Rattle.devices.specs.Views.{output_view, source_view}
 use Rattle.list_terms.specs.Accepted.{range_of}
@@ -9,6 +10,8 @@ use Rattle.consolidate.specs.Marks.{list_marking}
 use Rattle.consolidate.specs.RenderOutcome.{IsRenderedWork, RendersBound, in_rounds}
 use Rattle.consolidate.proofs.Listed.{marked_for, none_left}
 use Rattle.consolidate.proofs.RenderProjects.{project_err, project_ok, renders_bound, unplanned}
+use Rattle.consolidate.proofs.Clipped.{listed_clips}
+use Rattle.rendering.specs.ClippingLaws.{fresh_uniform}
 use Rattle.consolidate.proofs.rendered.render_checked.Goals as goal
 
 pub returns-in-Err-clause-does : goal.returns-in-Err-clause-does
@@ -68,3 +71,13 @@ returns-in-Err-render_anew-clause-does g c =
 
 pub returns-in-Ok-render_anew-clause-reads_back : goal.returns-in-Ok-render_anew-clause-reads_back
 returns-in-Ok-render_anew-clause-reads_back g c mix = c.in-Ok.ensures.planned.reads_back mix
+
+pub returns-in-Ok-render_anew-clause-clips : goal.returns-in-Ok-render_anew-clause-clips
+returns-in-Ok-render_anew-clause-clips g c honest = record {
+  clips = listed_clips c.args.choice.now.jobs c.args.checked.now.project c.args.checked.now.bound
+      (values_of c.args.choice.now.options) c.in-Ok.work (g.S.Shelf.stored c.args.shelf.now) []
+      c.in-Ok-render_anew.worked.clips c.in-Ok.ensures.planned
+      (c.in-Ok-render_anew.ensures.clips honest [] (fresh_uniform c.in-Ok.work.work c.in-Ok.ensures.planned.fresh));
+  start = c.start-start.ensures ∙ ap (λ (r : Range). r.from) c.in-Ok.ensures.planned.range;
+  channels = c.rendered-rendered.ensures.channels ∙ ap (λ (r : Range). r.channels) c.in-Ok.ensures.planned.range;
+}

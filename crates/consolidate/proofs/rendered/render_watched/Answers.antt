@@ -1,7 +1,7 @@
 use Rattle.std.proofs.Common.{◌∙◌, IsTrue, Ok, Err, Some, ap, rules, subst, sym}
 use Rattle.std.proofs.lemmas.Result.{err_from_is_err_and}
 use Rattle.rendering.specs.Rendering.{values_of}
-use Rattle.rendering.specs.declared.work.Rendered as rendering
+use Rattle.consolidate.specs.declared.rendered.Made.{Made}
 use Rattle.consolidate.specs.Fault.{refusal_of}
 use Rattle.consolidate.specs.RenderOutcome.{in_rounds}
 use Rattle.consolidate.specs.declared.rendered.Rendered.{Rendered}
@@ -17,8 +17,8 @@ use Rattle.consolidate.proofs.Crashes.{idle}
 use Rattle.consolidate.proofs.Listed.{left_list, moments_list, rendered_file, same_spelt, unstarted_left, unstarted_outcomes}
 use Rattle.consolidate.proofs.rendered.render_watched.Goals as goal
 
-pub returns-in_err-checked : goal.returns-in_err-checked
-returns-in_err-checked g c =
+pub returns-in_err-checked-clause-renders : goal.returns-in_err-checked-clause-renders
+returns-in_err-checked-clause-renders g c =
     let p = err_from_is_err_and c.from_residual.result c.from_residual.ensures.1 in
     let fault = c.in_err-checked.field-0.0 in
     let told = c.in_err-checked.ensures in
@@ -45,12 +45,12 @@ returns-in_err-checked g c =
           (g.met.B.Bench.only_now c.args.bench.now) told.only_reads (search rules);
     })
 
-pub returns-in_err-rendered : goal.returns-in_err-rendered
-returns-in_err-rendered g c =
-    let p = err_from_is_err_and c.from_residual-in_err-rendered.result c.from_residual-in_err-rendered.ensures.1 in
-    let fault = c.in_err-rendered.field-0.0 in
+pub returns-in_err-made-clause-renders : goal.returns-in_err-made-clause-renders
+returns-in_err-made-clause-renders g c =
+    let p = err_from_is_err_and c.from_residual-in_err-made.result c.from_residual-in_err-made.ensures.1 in
+    let fault = c.in_err-made.field-0.0 in
     let opened = c.in_ok-checked.ensures in
-    let told = c.in_err-rendered.ensures in
+    let told = c.in_err-made.ensures in
     let checked = c.in_ok-checked.field-0.checked in
     let values = values_of c.args.choice.now.options in
     rw (p.1, p.2) (record {
@@ -89,14 +89,14 @@ returns-in_err-rendered g c =
           );
       stores = opened_before g.S.Shelf g.B.Bench c.args.shelf.now c.open.new.shelf c.render_checked.new.shelf
           c.args.bench.now c.render_checked.new.bench (Err fault) opened.only_reads
-          (refused_as g.S.Shelf g.B.Bench rendering.Rendered Rendered c.open.new.shelf c.render_checked.new.shelf
+          (refused_as g.S.Shelf g.B.Bench Made Rendered c.open.new.shelf c.render_checked.new.shelf
           c.args.bench.now c.render_checked.new.bench fault told.does.stores);
     })
 
-pub returns : goal.returns
-returns g c =
+pub returns-clause-renders : goal.returns-clause-renders
+returns-clause-renders g c =
     let opened = c.in_ok-checked.ensures in
-    let told = c.in_ok-rendered.ensures in
+    let told = c.in_ok-made.ensures in
     let checked = c.in_ok-checked.field-0.checked in
     let values = values_of c.args.choice.now.options in
     record {
@@ -144,6 +144,19 @@ returns g c =
           );
       stores = opened_before g.S.Shelf g.B.Bench c.args.shelf.now c.open.new.shelf c.render_checked.new.shelf
           c.args.bench.now c.render_checked.new.bench (Ok _) opened.only_reads
-          (answered_as g.S.Shelf g.B.Bench rendering.Rendered Rendered c.open.new.shelf c.render_checked.new.shelf
+          (answered_as g.S.Shelf g.B.Bench Made Rendered c.open.new.shelf c.render_checked.new.shelf
           c.args.bench.now c.render_checked.new.bench _ _ told.does.stores);
+    }
+
+pub returns-clause-clips : goal.returns-clause-clips
+returns-clause-clips g c honest =
+    let opened = c.in_ok-checked.ensures in
+    let told = c.in_ok-made.ensures in
+    let checked = c.in_ok-checked.field-0.checked in
+    record {
+      project = checked.project;
+      binding = checked.bound;
+      accepted = opened.accepted honest;
+      clipped = rw (← opened.only_reads.same)
+          (told.clips (subst IsTrue (sym opened.only_reads.honest_same) honest));
     }

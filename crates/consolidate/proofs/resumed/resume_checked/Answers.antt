@@ -1,4 +1,4 @@
-use Rattle.std.proofs.Common.{◌≡◌, ◌∙◌, ℕ, Bool, true, Option, None, Some, Ok, Err, IsTrue, List, ap, subst, sym}
+use Rattle.std.proofs.Common.{◌≡◌, ◌∙◌, ℕ, Bool, true, Option, None, Some, Ok, Err, IsTrue, List, [], ap, subst, sym}
 use Rattle.std.specs.Prelude.{IfSome, ⊤}
 use Rattle.work_terms.specs.Disk.{Files}
 use Rattle.work_terms.specs.Refusals.{IsDue, Refusal}
@@ -23,6 +23,13 @@ use Rattle.consolidate.proofs.Crashes.{idle, joined, weaker}
 use Rattle.consolidate.proofs.Listed.{marked_for}
 use Rattle.consolidate.proofs.RenderProjects.{anew_after_open, marked_after_open, project_err, project_ok, unopened, unplanned}
 use Rattle.consolidate.proofs.Resumes.{found_due, from_list, holds_list, left_holds, none_counted, of_resuming, open_due, plan_due_as, reopened, some_counted, started_found}
+use Rattle.std.specs.List.{All}
+use Rattle.sound_terms.specs.Render.{Range}
+use Rattle.list_terms.specs.Heard.{project_mix}
+use Rattle.rendering.specs.Clipping.{ClipsUnmarked, marked_in}
+use Rattle.rendering.specs.ClippingLaws.{fresh_uniform}
+use Rattle.rendering.specs.Cut.{IsUniform}
+use Rattle.consolidate.proofs.Clipped.{reopened_clips}
 use Rattle.consolidate.proofs.resumed.resume_checked.Goals as goal
 
 pub returns-in-Err-clause-does : goal.returns-in-Err-clause-does
@@ -495,3 +502,58 @@ returns-in-Err-render_anew-clause-own g c text = of_resuming text c.in-Err-rende
 pub returns-in-Err-go_on_marked-clause-own : goal.returns-in-Err-go_on_marked-clause-own
 returns-in-Err-go_on_marked-clause-own g c text = of_resuming text c.in-Err-go_on_marked.fault
     (c.in-Err-go_on_marked.ensures.own text)
+
+pub returns-in-Ok-render_anew-clause-clips : goal.returns-in-Ok-render_anew-clause-clips
+returns-in-Ok-render_anew-clause-clips g c honest right =
+    let list = c.args.list.now in
+    let project = c.args.checked.now.project in
+    let binding = c.args.checked.now.bound in
+    let values = values_of c.args.choice.now.options in
+    let sources = g.S.Shelf.stored c.args.shelf.now in
+    let run = run_of list (range_of project values) in
+    let found = opened_of run (g.B.Bench.stored c.args.bench.now) in
+    let was = marked_for c.args.choice.now.jobs list project binding values c.in-Ok.work c.in-Ok.ensures.planned c.in-Ok.ensures.run in
+    let back = c.in-Ok-open.ensures.reopened in
+    let none : found ≡ Ok None =
+    subst (λ (r : RunId). opened_of r (g.B.Bench.stored c.args.bench.now) ≡ Ok None) was.run
+    (subst (λ (f : Option ℕ). IsFoundAs (Ok f) (opened_of c.in-Ok.work.run (g.B.Bench.stored c.args.bench.now)))
+    c.in-None.is (c.in-Ok-open.ensures.found right)) in
+    let same : c.open.new.self ≡ c.in-Ok.work = c.in-Ok-open.ensures.unchanged c.in-None.is in
+    record {
+      clips = subst (λ (x : List Bool). ClipsUnmarked x (range_of project values) (project_mix sources project binding)
+          c.in-Ok-render_anew.worked.clips) (sym (ap marked_in none))
+          (reopened_clips c.args.choice.now.jobs project binding values c.in-Ok.work c.open.new.self sources []
+          c.in-Ok-render_anew.worked.clips c.in-Ok.ensures.planned back
+          (c.in-Ok-render_anew.ensures.clips honest []
+          (subst (λ (w : MarkedWork). All (IsUniform []) w.work.stretches) (sym same)
+          (fresh_uniform c.in-Ok.work.work c.in-Ok.ensures.planned.fresh))));
+      start = c.start-start.ensures ∙ ap (λ (r : Range). r.from) c.in-Ok.ensures.planned.range;
+      channels = c.rendered-rendered.ensures.channels ∙ ap (λ (r : Range). r.channels) c.in-Ok.ensures.planned.range;
+    }
+
+pub returns-in-Ok-go_on_marked-clause-clips : goal.returns-in-Ok-go_on_marked-clause-clips
+returns-in-Ok-go_on_marked-clause-clips g c honest right =
+    let list = c.args.list.now in
+    let project = c.args.checked.now.project in
+    let binding = c.args.checked.now.bound in
+    let values = values_of c.args.choice.now.options in
+    let sources = g.S.Shelf.stored c.args.shelf.now in
+    let run = run_of list (range_of project values) in
+    let found = opened_of run (g.B.Bench.stored c.args.bench.now) in
+    let was = marked_for c.args.choice.now.jobs list project binding values c.in-Ok.work c.in-Ok.ensures.planned c.in-Ok.ensures.run in
+    let back = c.in-Ok-open.ensures.reopened in
+    let cut = subst (λ (r : RunId). (marked : List Bool)
+    × (opened_of r (g.B.Bench.stored c.args.bench.now) ≡ Ok (Some marked))
+    × AreCutBy c.args.choice.now.jobs marked c.open.new.self.work) was.run
+    (subst (λ (f : Option ℕ). IfSome f (λ _. (marked : List Bool)
+    × (opened_of c.in-Ok.work.run (g.B.Bench.stored c.args.bench.now) ≡ Ok (Some marked))
+    × AreCutBy c.args.choice.now.jobs marked c.open.new.self.work)) c.in-Some.is (c.in-Ok-open.ensures.cut right)) in
+    record {
+      clips = subst (λ (x : List Bool). ClipsUnmarked x (range_of project values) (project_mix sources project binding)
+          c.in-Ok-go_on_marked.worked.clips) (sym (ap marked_in cut.1))
+          (reopened_clips c.args.choice.now.jobs project binding values c.in-Ok.work c.open.new.self sources cut.0
+          c.in-Ok-go_on_marked.worked.clips c.in-Ok.ensures.planned back
+          (c.in-Ok-go_on_marked.ensures.clips honest cut.0 cut.2.uniform));
+      start = c.start-start.ensures ∙ ap (λ (r : Range). r.from) c.in-Ok.ensures.planned.range;
+      channels = c.rendered-rendered.ensures.channels ∙ ap (λ (r : Range). r.channels) c.in-Ok.ensures.planned.range;
+    }

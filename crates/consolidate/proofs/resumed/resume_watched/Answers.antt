@@ -17,8 +17,8 @@ use Rattle.consolidate.proofs.Resumes.{left_holds, opening_due_of_resuming, resu
 use Rattle.consolidate.proofs.Stores.{answered_as, late_not_early, opened_before, refused_as, stopped_early}
 use Rattle.consolidate.proofs.resumed.resume_watched.Goals as goal
 
-pub returns-in_err-checked : goal.returns-in_err-checked
-returns-in_err-checked g c =
+pub returns-in_err-checked-clause-resumes : goal.returns-in_err-checked-clause-resumes
+returns-in_err-checked-clause-resumes g c =
     let p = err_from_is_err_and c.from_residual.result c.from_residual.ensures.1 in
     let fault = c.in_err-checked.field-0.0 in
     let told = c.in_err-checked.ensures in
@@ -53,8 +53,8 @@ returns-in_err-checked g c =
           (g.met.B.Bench.only_now c.args.bench.now) told.only_reads (search rules);
     })
 
-pub returns-in_err-found : goal.returns-in_err-found
-returns-in_err-found g c =
+pub returns-in_err-found-clause-resumes : goal.returns-in_err-found-clause-resumes
+returns-in_err-found-clause-resumes g c =
     let p = err_from_is_err_and c.from_residual-in_err-found.result c.from_residual-in_err-found.ensures.1 in
     let fault = c.in_err-found.field-0.0 in
     let opened = c.in_ok-checked.ensures in
@@ -122,8 +122,8 @@ returns-in_err-found g c =
           c.args.bench.now c.resume_checked.new.bench fault told.does.stores);
     })
 
-pub returns : goal.returns
-returns g c =
+pub returns-clause-resumes : goal.returns-clause-resumes
+returns-clause-resumes g c =
     let opened = c.in_ok-checked.ensures in
     let told = c.in_ok-found.ensures in
     let checked = c.in_ok-checked.field-0.checked in
@@ -209,4 +209,17 @@ returns g c =
           c.args.bench.now c.resume_checked.new.bench (Ok _) opened.only_reads
           (answered_as g.S.Shelf g.B.Bench Found Resumed c.open.new.shelf c.resume_checked.new.shelf
           c.args.bench.now c.resume_checked.new.bench _ _ told.does.stores);
+    }
+
+pub returns-clause-clips : goal.returns-clause-clips
+returns-clause-clips g c honest right =
+    let opened = c.in_ok-checked.ensures in
+    let told = c.in_ok-found.ensures in
+    let checked = c.in_ok-checked.field-0.checked in
+    record {
+      project = checked.project;
+      binding = checked.bound;
+      accepted = opened.accepted honest;
+      clipped = rw (← opened.only_reads.same)
+          (told.clips (subst IsTrue (sym opened.only_reads.honest_same) honest) right);
     }

@@ -2,6 +2,7 @@ use Rattle.std.proofs.Common.{ap}
 use Rattle.job_terms.specs.declared.Progress.{Progress}
 use Rattle.execution.proofs.Outcomes.{finish-failed, finished-all, not-false, not-true, stopped, stopped-early, wrote}
 use Rattle.execution.proofs.RoundCounts.{in-rounds-finished}
+use Rattle.execution.proofs.Notes.{notes-after}
 use Rattle.execution.proofs.course.resume.Goals as goal
 
 pub returns-in-Err-clause-resumed : goal.returns-in-Err-clause-resumed
@@ -36,3 +37,11 @@ returns-then-not-progress-clause-reported g c = ap (λ (p : Progress). p.finishe
 
 pub returns-in-Ok-finish-clause-reported : goal.returns-in-Ok-finish-clause-reported
 returns-in-Ok-finish-clause-reported g c = ap (λ (p : Progress). p.finished) c.in-Ok.ensures.performed.stops.0
+
+pub returns-in-Ok-finish-clause-notes : goal.returns-in-Ok-finish-clause-notes
+returns-in-Ok-finish-clause-notes g c honest = notes-after _ _ _ _ _ _ _ _ _ _
+    c.in-Ok-finish.ensures.remains (c.in-Ok-finish.ensures.keeps (g.S.Shelf.stored c.args.shelf.now)) (c.in-Ok.ensures.notes honest)
+
+pub returns-in-Err-finish-clause-notes : goal.returns-in-Err-finish-clause-notes
+returns-in-Err-finish-clause-notes g c honest = notes-after _ _ _ _ _ _ _ _ _ _
+    c.in-Err-finish.ensures.remains (c.in-Err-finish.ensures.keeps (g.S.Shelf.stored c.args.shelf.now)) (c.in-Ok.ensures.notes honest)

@@ -1,10 +1,11 @@
-use Rattle.std.proofs.Common.{◌∙◌, ◌==◌, cond, None, Err, ap}
+use Rattle.std.proofs.Common.{◌∙◌, ◌==◌, cond, None, Err, ap, refl}
 use Rattle.job_terms.specs.Workers.{Hand}
 use Rattle.execution.specs.Ends.{ended_of}
 use Rattle.execution.specs.Held.{hands_in}
 use Rattle.execution.specs.EventRun.{event_of}
 use Rattle.execution.proofs.Runs.{hand-after, hand-back}
 use Rattle.execution.proofs.EventRuns.{run-none, run-outcome, run-step}
+use Rattle.execution.proofs.Notes.{notes-as, notes-of}
 use Rattle.execution.proofs.events.act.Goals as goal
 
 pub returns-in-Err-clause-ran : goal.returns-in-Err-clause-ran
@@ -35,3 +36,30 @@ returns-in-Err-outcome-clause-ran g c = run-outcome _ _ _ _ (event_of c.args.act
     c.put-2.ensures.hands v
     ∙ ap (λ (h : Hand). cond (v == c.args.number) c.turn-outcome.new.worker.hand h) (c.make_place.ensures.hands v))
     c.in-Err-outcome.ensures.went)
+
+pub returns-in-Err-clause-notes : goal.returns-in-Err-clause-notes
+returns-in-Err-clause-notes g c honest = notes-as _ _ _ _ _ _ _ _ (λ f is. is) (λ k p. p) (λ k. refl) c.make_place.ensures.hands
+
+pub returns-in-Err-get_ready-clause-notes : goal.returns-in-Err-get_ready-clause-notes
+returns-in-Err-get_ready-clause-notes g c honest = notes-as _ _ _ _ _ _ _ _ (λ f is. is) (λ k p. p) (λ k. refl)
+    (λ v. hand-back (hands_in c.make_place.new.self) (hands_in c.put.new.self) c.args.number c.get_ready.new.worker.hand
+    (hand-after _ _ _ c.args.number c.get_ready.new.worker.hand c.take-worker.ensures.others c.put.ensures.hands)
+    (c.get_ready.ensures.same ∙ c.take-worker.ensures.hand) v ∙ c.make_place.ensures.hands v)
+
+pub returns-in-Ok-outcome-clause-notes : goal.returns-in-Ok-outcome-clause-notes
+returns-in-Ok-outcome-clause-notes g c honest = notes-of _ _ _ _ _ _ _ _ c.args.number c.get_ready.new.worker.hand
+    c.turn-outcome.new.worker.hand
+    (c.get_ready.ensures.same ∙ c.take-worker.ensures.hand ∙ c.make_place.ensures.hands c.args.number)
+    (λ v. hand-after _ _ _ c.args.number c.turn-outcome.new.worker.hand c.take-worker.ensures.others
+    c.put-2.ensures.hands v
+    ∙ ap (λ (h : Hand). cond (v == c.args.number) c.turn-outcome.new.worker.hand h) (c.make_place.ensures.hands v))
+    (c.in-Ok-outcome.ensures.notes honest)
+
+pub returns-in-Err-outcome-clause-notes : goal.returns-in-Err-outcome-clause-notes
+returns-in-Err-outcome-clause-notes g c honest = notes-of _ _ _ _ _ _ _ _ c.args.number c.get_ready.new.worker.hand
+    c.turn-outcome.new.worker.hand
+    (c.get_ready.ensures.same ∙ c.take-worker.ensures.hand ∙ c.make_place.ensures.hands c.args.number)
+    (λ v. hand-after _ _ _ c.args.number c.turn-outcome.new.worker.hand c.take-worker.ensures.others
+    c.put-2.ensures.hands v
+    ∙ ap (λ (h : Hand). cond (v == c.args.number) c.turn-outcome.new.worker.hand h) (c.make_place.ensures.hands v))
+    (c.in-Err-outcome.ensures.notes honest)

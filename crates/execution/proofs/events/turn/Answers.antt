@@ -1,4 +1,4 @@
-use Rattle.std.proofs.Common.{◌≡◌, None, refl}
+use Rattle.std.proofs.Common.{◌≡◌, None, refl, subst, sym}
 use Rattle.job_terms.specs.Workers.{FaultStep, GiveStep, Hand, Nothing, State, WorkStep, jobs_over}
 use Rattle.devices.specs.ViewLaws.{reads_none}
 use Rattle.execution.specs.declared.action.Action.TheVariants.{Deliver, Fault, Give, Lose, Work}
@@ -9,6 +9,8 @@ use Rattle.execution.proofs.Keeps.{fault-same, give-done, work-done}
 use Rattle.execution.proofs.EventRuns.{step-as, step-quiet}
 use Rattle.execution.specs.Turns.{ActionTurn, GiveTurn, WorkTurn}
 use Rattle.execution.proofs.TurnLaws.{given-turn}
+use Rattle.execution.specs.Noted.{IsNoted}
+use Rattle.execution.proofs.Notes.{give-noted, notes-quiet}
 use Rattle.execution.proofs.events.turn.Goals as goal
 
 pub returns-in-Give-clause-went : goal.returns-in-Give-clause-went
@@ -57,3 +59,22 @@ returns-in-Lose-clause-went g c = step-as c.args.action Lose _ _ _ _ _ _ _ c.in-
     step-quiet (λ (old : State) (_ : Hand) (new : State) (now : Hand). (new ≡ old) × (now ≡ Nothing)) (ActionTurn Lose)
     _ _ _ _ _ _ _ _ _ _ _ None refl refl (reads_none _) (g.met.B.Bench.only_now c.args.bench.now) (λ e. cc)
     (λ honest. (refl, c.lose.ensures.nothing)) (λ step k. refl) (λ none. tt))
+
+pub returns-in-Give-clause-notes : goal.returns-in-Give-clause-notes
+returns-in-Give-clause-notes g c honest = notes-quiet _ _ _ _ _ _ _ _ (λ f is. is) (λ k p. p)
+    (give-done _ _ _ _ (c.hand_out.ensures.step (λ _. None) 0 0 0))
+    (λ w. give-noted _ _ _ _ _ (c.hand_out.ensures.step (λ _. None) 0 0 0))
+
+pub returns-in-Deliver-clause-notes : goal.returns-in-Deliver-clause-notes
+returns-in-Deliver-clause-notes g c honest = c.deliver.ensures.notes (g.S.Shelf.stored c.args.shelf.now)
+
+pub returns-in-Fault-clause-notes : goal.returns-in-Fault-clause-notes
+returns-in-Fault-clause-notes g c honest = notes-quiet _ _ _ _ _ _ _ _ (λ f is. is) (λ k p. p)
+    (fault-same _ _ c.args.worker.now.hand _ (c.fail.ensures.step (λ _. None) 0 0 0))
+    (λ w h. subst (IsNoted (g.W.JobMaker.noted c.args.maker.now (g.S.Shelf.stored c.args.shelf.now)))
+    (sym c.fail.ensures.nothing) tt)
+
+pub returns-in-Lose-clause-notes : goal.returns-in-Lose-clause-notes
+returns-in-Lose-clause-notes g c honest = notes-quiet _ _ _ _ _ _ _ _ (λ f is. is) (λ k p. p) (λ k. refl)
+    (λ w h. subst (IsNoted (g.W.JobMaker.noted c.args.maker.now (g.S.Shelf.stored c.args.shelf.now)))
+    (sym c.lose.ensures.nothing) tt)

@@ -9,6 +9,7 @@ use Rattle.execution.specs.Marking.{done_of}
 use Rattle.execution.proofs.MarkSteps.{marks-broken, marks-placed, marks-quiet, marks-unwritten}
 use Rattle.execution.proofs.Marked.{current-open, current-there, done-accepted, fault-done, right-made}
 use Rattle.execution.proofs.Firsts.{no-mark}
+use Rattle.execution.proofs.Notes.{notes-done, notes-quiet}
 use Rattle.execution.proofs.steps.deliver.Goals as goal
 
 pub returns-then-not-is_current-clause-step : goal.returns-then-not-is_current-clause-step
@@ -100,3 +101,32 @@ returns-in-Err-Mark-clause-marks g c honest sources right run = marks-broken _ _
     (jobs_over (g.W.JobMaker.plan c.args.maker.now).jobs sources) _ c.in-Some.ticket _
     (worker-hand _ _ c.in-Some.ticket _ true _ _ c.worker.view_is c.in-Some.is c.if-not-worker.false) right)
     (current-open c.args.board.now c.in-Some.ticket (sym c.is_current.ensures ∙ c.if-not-is_current.false)) run)
+
+pub returns-in_default-clause-notes : goal.returns-in_default-clause-notes
+returns-in_default-clause-notes g c sources = notes-quiet _ _ _ _ _ _ _ _ (λ f is. is) (λ k p. p) (λ k. refl) (λ w h. h)
+
+pub returns-then-not-worker-clause-notes : goal.returns-then-not-worker-clause-notes
+returns-then-not-worker-clause-notes g c sources = notes-quiet _ _ _ _ _ _ _ _ (λ f is. is) (λ k p. p) (λ k. refl) (λ w h. h)
+
+pub returns-then-not-is_current-clause-notes : goal.returns-then-not-is_current-clause-notes
+returns-then-not-is_current-clause-notes g c sources = notes-quiet _ _ _ _ _ _ _ _ (λ f is. is) (λ k p. p) (λ k. refl) (λ w h. tt)
+
+pub returns-in-Ok-clause-notes : goal.returns-in-Ok-clause-notes
+returns-in-Ok-clause-notes g c sources = notes-done _ _ _ _ _ _ _ _ c.in-Some.ticket _
+    (worker-hand _ _ c.in-Some.ticket _ true _ _ c.worker.view_is c.in-Some.is c.if-not-worker.false) refl
+    c.in-Ok.ensures.remains (c.in-Ok.ensures.keeps sources) (λ j. done-accepted c.args.board.now c.in-Some.ticket.job
+    (current-there c.args.board.now c.in-Some.ticket (sym c.is_current.ensures ∙ c.if-not-is_current.false)) j
+    ∙ ap (λ (b : Board). done_of b j) (sym c.accept.ensures.done))
+
+pub returns-in-Err-Mark-clause-notes : goal.returns-in-Err-Mark-clause-notes
+returns-in-Err-Mark-clause-notes g c sources = notes-done _ _ _ _ _ _ _ _ c.in-Some.ticket _
+    (worker-hand _ _ c.in-Some.ticket _ true _ _ c.worker.view_is c.in-Some.is c.if-not-worker.false) refl
+    c.in-Err-Mark.ensures.remains (c.in-Err-Mark.ensures.keeps sources) (λ j. done-accepted c.args.board.now c.in-Some.ticket.job
+    (current-there c.args.board.now c.in-Some.ticket (sym c.is_current.ensures ∙ c.if-not-is_current.false)) j
+    ∙ ap (λ (b : Board). done_of b j) (sym c.accept-in-Err-Mark.ensures.done))
+
+pub returns-in-Err-Write-clause-notes : goal.returns-in-Err-Write-clause-notes
+returns-in-Err-Write-clause-notes g c sources = notes-quiet _ _ _ _ _ _ _ _ c.in-Err-Write.ensures.remains (c.in-Err-Write.ensures.keeps sources)
+    (λ j. ap (λ (s : State). done_of s.board j) (c.failed.ensures.step (λ _. None) 0 0 0)
+    ∙ fault-done (state_of c.args.board.now (λ _. None) 0 0 0 None) c.in-Some.ticket
+    (sym c.is_current.ensures ∙ c.if-not-is_current.false) j) (λ w h. tt)

@@ -1,8 +1,11 @@
-use Rattle.std.proofs.Common.{◌≡◌, ◌∙◌, ◌++◌, ℕ, List, take, drop, length, refl, ap, arith, None, true, false}
+use Rattle.std.proofs.Common.{◌≡◌, ◌∙◌, ◌++◌, ℕ, List, take, drop, length, refl, ap, sym, subst, arith, None, true, false}
 use Rattle.job_terms.specs.Workers.{Makes, CantMake, Made, State, Hand}
 use Rattle.execution.specs.Worlds.{state_of}
 use Rattle.execution.proofs.Firsts.{hand-is, raised, take_front, worker-hand}
 use Rattle.execution.proofs.TurnLaws.{makes-work}
+use Rattle.execution.specs.Noted.{IsNoted}
+use Rattle.execution.proofs.Keeps.{work-done}
+use Rattle.execution.proofs.Notes.{notes-quiet}
 use Rattle.execution.proofs.steps.make.Goals as goal
 
 pub returns-in-Ok-clause-step : goal.returns-in-Ok-clause-step
@@ -30,3 +33,19 @@ returns-in-Err-clause-step g c honest files stale bench = CantMake c.in-Some.tic
     (worker-hand _ _ c.in-Some.ticket _ false _ _ c.worker.view_is c.in-Some.is c.if-worker.false)
     (raised _ _ _ _ c.in-Err.ensures.only_reads.cause tt)
     (c.failed.ensures.step files stale (g.S.Shelf.failures c.make_in_front.new.shelf) bench) refl
+
+pub returns-in_default-clause-notes : goal.returns-in_default-clause-notes
+returns-in_default-clause-notes g c honest = notes-quiet _ _ _ _ _ _ _ _ (λ f is. is) (λ k p. p) (λ k. refl) (λ w h. h)
+
+pub returns-then-worker-clause-notes : goal.returns-then-worker-clause-notes
+returns-then-worker-clause-notes g c honest = notes-quiet _ _ _ _ _ _ _ _ (λ f is. is) (λ k p. p) (λ k. refl) (λ w h. h)
+
+pub returns-in-Ok-clause-notes : goal.returns-in-Ok-clause-notes
+returns-in-Ok-clause-notes g c honest = notes-quiet _ _ _ _ _ _ _ _ c.in-Ok.ensures.remains (c.in-Ok.ensures.keeps honest) (λ k. refl)
+    (λ w h. subst (IsNoted (g.W.JobMaker.noted c.make_in_front.new.maker (g.S.Shelf.stored c.args.shelf.now)))
+    (sym (hand-is c.worker.inside.ticket c.in-Some.ticket true true _ c.in-Some.is refl))
+    (c.in-Ok.ensures.notes honest))
+
+pub returns-in-Err-clause-notes : goal.returns-in-Err-clause-notes
+returns-in-Err-clause-notes g c honest = notes-quiet _ _ _ _ _ _ _ _ c.in-Err.ensures.remains (c.in-Err.ensures.keeps honest)
+    (work-done _ _ _ _ _ (returns-in-Err-clause-step g c honest (λ _. None) 0 0)) (λ w h. tt)

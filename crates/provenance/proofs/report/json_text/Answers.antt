@@ -1,9 +1,9 @@
 use Rattle.std.proofs.Common.{◌≡◌, ◌∙◌, ◌++◌, ◌∷◌, [], ℕ, List, Vec, Global, ap, map, string_bytes}
 use Rattle.serde_json.specs.Data.{Data}
 use Rattle.serde_json.specs.View.{view}
-use Rattle.sha2.specs.Sha256.{sha256}
 use Rattle.list_terms.specs.Heard.{sounds_of}
 use Rattle.provenance.specs.declared.shared.Group.{Group}
+use Rattle.provenance.specs.Asked.{asked_of}
 use Rattle.provenance.specs.Groups.{IsGrouped, grouped_in, seen}
 use Rattle.provenance.specs.Report.{Told, entry_data, given_of, group_data, groups_told, medium_told, news_of, report_data, told_data}
 use Rattle.provenance.proofs.NoFloats.{text_of_report}
@@ -18,7 +18,7 @@ returns c =
       events = c.args.events.now;
       text = c.args.text.now;
       handle = c.args.handle;
-      version = c.args.version.now;
+      asked = asked_of c.args.asked;
     } in
     let media : map view c.in_ok-media.media.items
     ≡ map (medium_told t.project.sources t.binding.indexes (sounds_of t.binding) t.kept.homes) c.args.media.now =
@@ -37,12 +37,12 @@ returns c =
     ∙ ap (map entry_data) (c.deref-3.ensures.value ∙ grouped.entries_are) in
     let same : view c.in_ok-report.report ≡ told_data t c.args.media.now =
     c.in_ok-report.ensures
-    ∙ ap (λ (values : List Data). report_data t.handle t.version (sha256 t.text) values
+    ∙ ap (λ (values : List Data). report_data t.handle t.asked t.text values
     (map view c.in_ok-groups.groups.items) (map view c.in_ok-entries-2.entries.items)) media
-    ∙ ap (λ (values : List Data). report_data t.handle t.version (sha256 t.text)
+    ∙ ap (λ (values : List Data). report_data t.handle t.asked t.text
     (map (medium_told t.project.sources t.binding.indexes (sounds_of t.binding) t.kept.homes) c.args.media.now)
     values (map view c.in_ok-entries-2.entries.items)) groups
-    ∙ ap (λ (values : List Data). report_data t.handle t.version (sha256 t.text)
+    ∙ ap (λ (values : List Data). report_data t.handle t.asked t.text
     (map (medium_told t.project.sources t.binding.indexes (sounds_of t.binding) t.kept.homes) c.args.media.now)
     (map group_data (groups_told t)) values) entries in
     let line = text_of_report t c.args.media.now (view c.in_ok-report.report) (string_bytes c.in_ok-line.line) same

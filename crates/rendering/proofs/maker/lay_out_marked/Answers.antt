@@ -1,9 +1,10 @@
-use Rattle.std.proofs.Common.{arith}
+use Rattle.std.proofs.Common.{[], arith}
 use Rattle.rendering.proofs.Both.{lays_both, lays_none, writes_marks, writes_sound}
 use Rattle.rendering.proofs.maker.lay_out_marked.Goals as goal
 
 pub returns-in-Err-clause-lays_out : goal.returns-in-Err-clause-lays_out
-returns-in-Err-clause-lays_out g c = lays_none g.B.Bench _ _ c.in-Err.ensures.beside
+returns-in-Err-clause-lays_out g c = lays_none g.B.Bench
+    (record { work = c.args.rendering.now; run = c.args.fresh.now; clips = [] }) _ c.in-Err.ensures.beside
 
 pub returns-in-Ok-start_fresh-clause-lays_out : goal.returns-in-Ok-start_fresh-clause-lays_out
 returns-in-Ok-start_fresh-clause-lays_out g c = lays_both g.B.Bench _ _ c.requires c.in-Ok.ensures.laid

@@ -1,4 +1,4 @@
-use Rattle.std.proofs.Common.{◌≡◌, ℕ, ◌+◌, ◌-◌, ◌*◌, [], ◌∷◌, length, refl, sym, ap, ◌∙◌}
+use Rattle.std.proofs.Common.{◌≡◌, ℕ, ◌+◌, ◌-◌, ◌*◌, [], ◌∷◌, length, refl, sym, ap, ◌∙◌, subst}
 use Rattle.std.proofs.lemmas.List.Elements.{All-weaker}
 use Rattle.std.specs.Prelude.{ℤ, pos, slice_index_or}
 use Rattle.sound_terms.specs.declared.block.Instruction.TheVariants.{Emit}
@@ -8,6 +8,7 @@ use Rattle.sound_terms.specs.Mix.{Reading}
 use Rattle.sound_terms.specs.Blocks.{BlockState, IsFormed, block_samples, executed_all}
 use Rattle.sound_terms.specs.BlockLaws.{executed_all-append, frames_kept}
 use Rattle.sound_terms.specs.Sounds.{reading_by}
+use Rattle.clipping.specs.Clips.{IsClippingOf, block_sums}
 use Rattle.blockmachine.specs.Lines.{CanAdd}
 use Rattle.blockmachine.specs.Sums.{Extent}
 use Rattle.blockmachine.proofs.Fits.{fits_block}
@@ -49,3 +50,22 @@ returns-clause-fit g c =
     c.requires.whole.2 ∙ ap (λ n. c.requires.whole.0 * n) (sym told) in
     rw (c.emit.ensures all (λ i channel room first there. refl) c.requires.whole.0 long)
     (fits_block c.args.depth all channels 0 c.requires.whole.0)
+
+pub returns-clause-clips : goal.returns-clause-clips
+returns-clause-clips g c = λ honest frames start long.
+    let reading : Reading = reading_by (g.S.Shelf.stored c.args.shelf.now) c.args.sounds.now in
+    let bits = bits_of c.args.depth in
+    let channels = c.args.self.now.channels in
+    let lines = c.args.lines.now in
+    let begun : BlockState = record start { frames = frames; sums = λ i channel. pos 0 } in
+    let added : BlockState = executed_all reading channels lines begun in
+    let sums = c.in_ok-add_all.ensures.added honest channels begun c.clear.ensures.zero in
+    let told : c.add_all.new.sums.extent.channels ≡ channels =
+    ap (λ (e : Extent). e.channels) (c.add_all.ensures.same_extent ∙ c.clear.ensures.same_extent ∙ c.self.view_is) in
+    let room = long ∙ ap (λ n. frames * n) (sym told) in
+    let found : IsClippingOf bits c.add_all.new.sums.extent.channels
+    (block_sums added.sums c.add_all.new.sums.extent.channels 0 frames) c.clips.result =
+    c.clips.ensures added.sums sums frames (c.emit.auto.out ∙ room) (c.emit.ensures added.sums sums frames room) in
+    let here = subst (λ (n : ℕ). IsClippingOf bits n (block_sums added.sums n 0 frames) c.clips.result) told found in
+    subst (λ (state : BlockState). IsClippingOf bits channels (block_sums state.sums channels 0 frames) c.clips.result)
+    (sym (executed_all-append reading channels lines (Emit c.args.depth ∷ []) begun)) here

@@ -1,4 +1,4 @@
-use Rattle.std.proofs.Common.{◌≡◌, ℕ, ◌*◌, ◌/◌, ◌≤◌, List, [], ◌∷◌, ◌++◌, Ok, Err, Result, OnOk, length, rules, sym, ap, ◌∙◌, subst}
+use Rattle.std.proofs.Common.{◌≡◌, ℕ, ◌*◌, ◌/◌, ◌≤◌, List, [], ◌∷◌, ◌++◌, length, rules, sym, ap, ◌∙◌, subst}
 use Rattle.std.specs.Prelude.{ℤ}
 use Rattle.std.specs.List.{flat_map}
 use Rattle.std.proofs.Math.Nat.{mul-div_left}
@@ -11,18 +11,16 @@ use Rattle.sound_terms.specs.Mix.{Reading}
 use Rattle.sound_terms.specs.Blocks.{executed_all}
 use Rattle.sound_terms.specs.Sounds.{reading_by}
 use Rattle.sound_terms.specs.Waves.{sample_bytes}
+use Rattle.clipping.specs.Clips.{IsClippingOf, block_sums}
 use Rattle.pcm.specs.Laws.{AreBytes, all_fit, bytes_again, length-samples_in}
 use Rattle.pcm.specs.Samples.{samples_in}
 use Rattle.blockmachine.specs.Alone.{filling}
 use Rattle.blockmachine.specs.Playing.{Plays}
 use Rattle.blockmachine.specs.Sums.{Extent}
 use Rattle.blockmachine.proofs.Filled.{hands_itself_out}
-use Rattle.blockmachine.proofs.Ran.{between_ends}
+use Rattle.blockmachine.proofs.FilledSums.{filled_unclipped}
+use Rattle.blockmachine.proofs.Ran.{added_between, between_ends}
 use Rattle.blockmachine.proofs.machine.Machine.run_packed.Goals as goal
-
-on_ok : {X E P Q : Type 0} (result : Result X E) → OnOk result P → (P → Q) → OnOk result Q
-on_ok (Ok x) p further = further p
-on_ok (Err e) p further = tt
 
 -- a whole number of frames, by the channels of the machine
 count_of : (samples frames n channels : ℕ) → samples ≡ frames * n → channels ≡ n → 1 ≤ channels → samples / channels ≡ frames
@@ -47,7 +45,8 @@ read_stored-requires-clause-whole g c = λ facts there.
     rw (long, wide, deep) (c.requires.room ∙ ap (λ m. m * (bits_of c.args.depth / 8)) c.requires.fits.3)
 
 pub returns-in-Some-clause-ran : goal.returns-in-Some-clause-ran
-returns-in-Some-clause-ran g c = λ honest. on_ok c.read_stored.result (c.read_stored.ensures.plays honest) (λ plays start.
+returns-in-Some-clause-ran g c = λ honest start.
+    let plays = c.in_ok-read_stored.ensures.plays honest in
     let fills = c.in-Some.ensures in
     let block = c.requires.fits.2 in
     let depth = c.args.depth in
@@ -83,4 +82,72 @@ returns-in-Some-clause-ran g c = λ honest. on_ok c.read_stored.result (c.read_s
     (c.as_slice-instructions.ensures ∙ block.whole) in
     sym (bytes_again depth (frames * n) bytes small room) ∙ ap (flat_map (sample_bytes bits)) (handed
     ∙ ap (λ (l : List Instruction). (executed_all reading n (Start frames ∷ (l ++ Emit depth ∷ [])) start).out) lines
-    ∙ ap (λ (p : List Instruction). (executed_all reading n p start).out) (sym block.whole)))
+    ∙ ap (λ (p : List Instruction). (executed_all reading n p start).out) (sym block.whole))
+
+pub returns-in-Some-clause-clips : goal.returns-in-Some-clause-clips
+returns-in-Some-clause-clips g c = λ honest frames start whole.
+    let plays = c.in_ok-read_stored.ensures.plays honest in
+    let fills = c.in-Some.ensures in
+    let block = c.requires.fits.2 in
+    let depth = c.args.depth in
+    let bits = bits_of depth in
+    let bytes = c.read_stored.new.bytes in
+    let channels = c.lanes-lanes.result.channels in
+    let n = c.args.self.now.channels in
+    let reading : Reading = reading_by (g.S.Shelf.stored c.args.shelf.now) c.args.sounds.now in
+    let told : channels ≡ n = c.lanes-lanes.ensures.channels ∙ ap (λ (e : Extent). e.channels) c.self.view_is in
+    let count =
+    count_of (length c.args.samples.now) frames n channels whole told c.lanes-lanes.result.some_channels in
+    let stretch : c.in-Some.stretch ≡ filling c.in-Some.stretch.file c.in-Some.stretch.frame frames n =
+    fills.whole
+    ∙ ap (λ m. filling c.in-Some.stretch.file c.in-Some.stretch.frame m channels) count
+    ∙ ap (λ m. filling c.in-Some.stretch.file c.in-Some.stretch.frame frames m) told in
+    let long : c.in-Some.stretch.length ≡ frames = ap (λ (s : Stretch). s.length) stretch in
+    let out : List ℤ = samples_in bits (frames * n) bytes in
+    let played : Plays reading c.in-Some.stretch n bits out =
+    subst (λ m. Plays reading c.in-Some.stretch n bits (samples_in bits (m * n) bytes)) long
+    (rw (fills.channels_alike ∙ told, ap bits_of fills.depth_alike) at (plays fills.facts fills.there)) in
+    let small : AreBytes bytes = λ k. search rules in
+    let none =
+    filled_unclipped reading c.in-Some.stretch.file c.in-Some.stretch.frame frames n depth out
+    (subst (λ (s : Stretch). Plays reading s n bits out) stretch played) (all_fit depth (frames * n) bytes small)
+    (length-samples_in bits (frames * n) bytes) in
+    let lines : Flat (filling c.in-Some.stretch.file c.in-Some.stretch.frame frames n) ∷ [] ≡ block.lines =
+    sym (fills.alone ∙ ap (λ (s : Stretch). Flat s ∷ []) stretch)
+    ∙ between_ends c.as_slice-instructions.result.now block.lines (Start c.requires.fits.0) (Emit depth)
+    (c.as_slice-instructions.ensures ∙ block.whole) in
+    let program : Start c.requires.fits.0 ∷ ((Flat (filling c.in-Some.stretch.file c.in-Some.stretch.frame frames n) ∷ [])
+    ++ Emit depth ∷ []) ≡ c.args.program.now.lines =
+    ap (λ (l : List Instruction). Start c.requires.fits.0 ∷ (l ++ Emit depth ∷ [])) lines ∙ sym block.whole in
+    subst (λ (p : List Instruction).
+    IsClippingOf bits n (block_sums (executed_all reading n p start).sums n 0 frames) c.none.result) program
+    (c.none.ensures bits n _ none)
+
+pub run_lines-requires-clause-lines : goal.run_lines-requires-clause-lines
+run_lines-requires-clause-lines g c =
+    let fits = c.requires.fits in
+    added_between c.args.sounds.now c.args.self.now fits.0 c.args.depth c.as_slice-instructions.result.now
+    c.args.program.now.lines fits.1 fits.2 c.as_slice-instructions.ensures c.requires.inside
+
+pub returns-clause-clips : goal.returns-clause-clips
+returns-clause-clips g c = λ honest frames start whole.
+    let fits = c.requires.fits in
+    let block = fits.2 in
+    let depth = c.args.depth in
+    let bits = bits_of depth in
+    let channels = c.lanes-lanes.result.channels in
+    let n = c.args.self.now.channels in
+    let reading : Reading = reading_by (g.S.Shelf.stored c.args.shelf.now) c.args.sounds.now in
+    let told : channels ≡ n = c.lanes-lanes.ensures.channels ∙ ap (λ (e : Extent). e.channels) c.self.view_is in
+    let some = c.lanes-lanes.result.some_channels in
+    let same : frames ≡ fits.0 =
+    sym (count_of (length c.args.samples.now) frames n channels whole told some)
+    ∙ count_of (length c.args.samples.now) fits.0 n channels fits.3 told some in
+    let lines =
+    between_ends c.as_slice-instructions.result.now block.lines (Start fits.0) (Emit depth)
+    (c.as_slice-instructions.ensures ∙ block.whole) in
+    subst (λ (p : List Instruction).
+    IsClippingOf bits n (block_sums (executed_all reading n p start).sums n 0 frames) c.in_ok-clips.clips)
+    (ap (λ (l : List Instruction). Start frames ∷ (l ++ Emit depth ∷ [])) lines
+    ∙ ap (λ m. Start m ∷ (block.lines ++ Emit depth ∷ [])) same ∙ sym block.whole)
+    (c.in_ok-clips.ensures.clips honest frames start whole)

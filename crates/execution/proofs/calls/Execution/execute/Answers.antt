@@ -6,3 +6,6 @@ returns-clause-executed g c = rw (← c.self.view_is) c.execute.ensures.executed
 
 pub returns-clause-finished : goal.returns-clause-finished
 returns-clause-finished g c = rw (← c.self.view_is) (c.execute.ensures.finished refl)
+
+pub returns-clause-notes : goal.returns-clause-notes
+returns-clause-notes g c = rw (← c.self.view_is) c.execute.ensures.notes

@@ -1,5 +1,6 @@
 use Rattle.std.proofs.Common.{◌≡◌, ◌-◌, IsTrue, take}
 use Rattle.devices.specs.Frame.{IsQuiet}
+use Rattle.rendering.specs.Clipping.{Clip, sums_of_blocks}
 use Rattle.rendering.specs.Work.{bytes_for, heard}
 use Rattle.rendering.specs.Written.{bytes_of_blocks, frames_before}
 use Rattle.rendering.proofs.blocks.Blocks.play_stretch.Given as goal
@@ -13,4 +14,6 @@ invariant-loop-k g l = record {
   sources : IsQuiet g.S.Shelf l.initial.shelf l.shelf;
   played : IsTrue (g.S.Shelf.honest l.initial.shelf) → take l.end l.bytes ≡ bytes_of_blocks l.fn.self.planned.range
       (heard l.fn.self.planned l.fn.self.sounds (g.S.Shelf.stored l.initial.shelf)) l.stretch.first l.k;
+  clips : IsTrue (g.S.Shelf.honest l.initial.shelf) → Clip l.fn.self.planned.range (sums_of_blocks l.fn.self.planned.range
+      (heard l.fn.self.planned l.fn.self.sounds (g.S.Shelf.stored l.initial.shelf)) l.stretch.first l.k) l.clips;
 }

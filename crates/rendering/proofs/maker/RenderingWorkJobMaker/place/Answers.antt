@@ -1,3 +1,4 @@
+use Rattle.std.proofs.Common.{[]}
 use Rattle.rendering.proofs.BlockMarks.{placed_stretch}
 use Rattle.rendering.proofs.Works.{placed_as, places_as}
 use Rattle.rendering.proofs.maker.RenderingWorkJobMaker.place.Goals as goal
@@ -17,5 +18,5 @@ returns-clause-placed g c honest =
 
 pub returns-clause-only_writes : goal.returns-clause-only_writes
 returns-clause-only_writes g c = rw (← c.self.view_is) (places_as g.B.Bench
-    (record { work = c.self.inside.rendering; run = c.self.inside.run }) c.place_marked.result c.self.invariant.0
+    (record { work = c.self.inside.rendering; run = c.self.inside.run; clips = [] }) c.place_marked.result c.self.invariant.0
     c.place_marked.ensures.only_writes)

@@ -1,0 +1,10 @@
+use Rattle.std.proofs.Common.{Ok, refl, rules}
+use Rattle.answers.proofs.requests.answer_render.Goals as goal
+
+pub returns-in-Ok-clause-answered : goal.returns-in-Ok-clause-answered
+returns-in-Ok-clause-answered g c = record {
+  outcome = Ok c.in-Ok.made.rendered;
+  called = c.in-Ok.ensures.renders;
+  status_is = refl;
+  printed = search rules;
+}

@@ -1,0 +1,83 @@
+// What is clipped of the sums of a block.
+ghost use Rattle.std.specs.Prelude.{◌≡◌, ◌*◌, ◌≤◌, ◌<◌, ◌≤ℤ◌, ℕ, ℤ, pos, false, length, slice_index_or, take};
+ghost use Rattle.std.specs.List.{All};
+ghost use Rattle.sound_terms.specs.Depth.{bits_of};
+ghost use Rattle.sound_terms.specs.Blocks.{block_samples};
+ghost use Rattle.clipping.specs.Clips.{IsClippingOf, block_sums};
+ghost use Rattle.blockmachine.specs.Clipped.{IsBetween};
+ghost use Rattle.blockmachine.specs.Sums.{AreSums};
+
+use crate::layers::at_full_scale;
+use crate::sums::Sums;
+use clipping::Clips;
+use sound_terms::Depth;
+
+/// The least and the greatest of these samples.
+fn bounds_of(samples: &[i32]) -> (i32, i32)
+    ensures { All (λ sample. (result.0 ≤ℤ sample) × (sample ≤ℤ result.1)) samples.now }
+{
+    let mut least = i32::MAX;
+    let mut greatest = i32::MIN;
+    for k in 0..samples.len() {
+        least = least.min(samples[k]);
+        greatest = greatest.max(samples[k]);
+    }
+    (least, greatest)
+}
+
+/// Whether one of these samples is the least or the greatest of the depth, as each clipped one is.
+fn may_be_clipped(samples: &[i32], depth: Depth) -> bool
+    ensures { result ≡ false → All (IsBetween (bits_of depth)) samples.now }
+{
+    let (least, greatest) = bounds_of(samples);
+    match depth {
+        Depth::Sixteen => least <= -(1 << 15) || greatest >= (1 << 15) - 1,
+        Depth::TwentyFour => least <= -(1 << 23) || greatest >= (1 << 23) - 1,
+        Depth::ThirtyTwo => least == i32::MIN || greatest == i32::MAX,
+    }
+}
+
+impl Sums {
+    /// The sum of this index at full scale.
+    fn sum_at(&self, k: usize) -> i64
+        requires { k < self.now.extent.frames * self.now.extent.channels }
+        ensures { result ≡ slice_index_or self.now.values k (pos 0) }
+    {
+        if self.at_depth {
+            at_full_scale(self.layers[k], self.depth)
+        } else {
+            self.values[k]
+        }
+    }
+
+    /// What is clipped of the first sums, so many, one by one.
+    fn counted(&self, depth: Depth, count: usize) -> Clips
+        requires { count ≤ self.now.extent.frames * self.now.extent.channels }
+        ensures clips { IsClippingOf (bits_of depth) self.now.extent.channels (take count self.now.values) result }
+        ensures whole { length self.now.values ≡ self.now.extent.frames * self.now.extent.channels }
+    {
+        let mut clips = Clips::none();
+        let channels = self.lanes.channels;
+        for k in 0..count {
+            clips.note(self.sum_at(k), depth, k as u64, (k % channels) as u32);
+        }
+        clips
+    }
+
+    /// What is clipped of the first sums, which were handed out at this depth as these samples.
+    pub fn clips(&self, depth: Depth, samples: &[i32]) -> Clips
+        requires { (frames : ℕ) × (frames ≤ self.now.extent.frames)
+            × (length samples.now ≡ frames * self.now.extent.channels) }
+        ensures { (all : ℕ → ℕ → ℤ) → AreSums self.now all → (frames : ℕ)
+            → length samples.now ≡ frames * self.now.extent.channels
+            → samples.now ≡ block_samples (bits_of depth) all self.now.extent.channels 0 frames
+            → IsClippingOf (bits_of depth) self.now.extent.channels (block_sums all self.now.extent.channels 0 frames)
+            result }
+    {
+        if may_be_clipped(samples, depth) {
+            self.counted(depth, samples.len())
+        } else {
+            Clips::none()
+        }
+    }
+}

@@ -1,0 +1,22 @@
+-- What a work notes of its jobs, and that a run loses nothing of it.
+use Rattle.std.specs.Prelude.{◌≡◌, ◌⊎◌, ℕ, Bool, true, ⊤}
+use Rattle.job_terms.specs.Workers.{Hand, Holds, Made, Nothing}
+
+-- a job whose bytes were made is noted
+abbrev pub IsNoted : (ℕ → Type 0) → Hand → Type 0
+IsNoted noted Nothing = ⊤
+IsNoted noted (Holds ticket) = ⊤
+IsNoted noted (Made ticket bytes) = noted ticket.job
+
+-- one worker's hand, by any number
+abbrev pub alone : Hand → ℕ → Hand
+alone hand w = hand
+
+-- A work that was another one still is. Each job that was noted still is. Where each job that was made and isn't delivered
+-- was noted, so it is afterwards, and so is each job that became done.
+pub record KeepsNotes {W : Type 0} (was is : W → Type 0) (before after : ℕ → Type 0) (was_done is_done : ℕ → Bool)
+    (had has : ℕ → Hand) : Type 0 where
+  pub same : (first : W) → was first → is first
+  pub kept : (k : ℕ) → before k → after k
+  pub hands : ((w : ℕ) → IsNoted before (had w)) → (w : ℕ) → IsNoted after (has w)
+  pub done : ((w : ℕ) → IsNoted before (had w)) → (k : ℕ) → is_done k ≡ true → (was_done k ≡ true) ⊎ after k
