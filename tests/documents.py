@@ -5,8 +5,10 @@ import shlex
 import shutil
 import subprocess
 import sys
+from functools import lru_cache
 from pathlib import Path
 
+import citing
 from harness import LIST, MEDIA, OUT, Mismatch, Scene, Skipped, Suite, same, same_bytes
 from tables import FIRST_LIST, wave
 
@@ -160,6 +162,143 @@ def named_files(_: Scene) -> None:
                 raise Mismatch(f"{page.relative_to(TOP)} names {name}, which isn't there")
 
 
+@lru_cache(None)
+def code_of(folder: str, kind: str) -> str:
+    """The code of a folder of all crates or of one, without its remarks."""
+    pages = sorted((TOP / "crates").glob(f"{folder}/**/*.{kind}"))
+    return "\n".join(re.sub(r"(?m)^\s*(//|--).*", "", page.read_text()) for page in pages)
+
+
+@lru_cache(None)
+def words_of_code() -> set:
+    """Each word of contracts, code and definitions, and the names of the crates."""
+    code = "\n".join((code_of("*/src", "rt"), code_of("*/specs", "antt")))
+    return {*re.findall(r"\w+", code), *citing.edges(), *sum(citing.edges().values(), [])}
+
+
+@lru_cache(None)
+def blocks_of_code(head: str) -> list:
+    """All blocks of code that begin with one of these words."""
+    return re.findall(rf"^(?:pub(?:\(\w+\))? )?(?:{head})\b.*?^\}}", code_of("*/src", "rt"), re.M | re.S)
+
+
+def blocks_named(head: str, name: str) -> str:
+    """Those that have this name before their brace."""
+    return "".join(block for block in blocks_of_code(head) if re.search(rf"\b{name}\b", block.partition("{")[0]))
+
+
+def has_part(owner: str, part: str) -> bool:
+    """Whether a crate or a type has such a function, or the type such a variant."""
+    if owner in citing.edges():
+        return bool(re.search(rf"\b(fn|struct|enum|trait|pub use [^;]*)\s*\b{part}\b", code_of(f"{owner}/src", "rt")))
+    return bool(re.search(rf"\bfn {part}\b", blocks_named("impl|trait", owner))
+                or re.search(rf"^    {part}\b", blocks_named("enum", owner), re.M))
+
+
+@lru_cache(None)
+def is_there(name: str) -> bool:
+    """Whether what a page names is in the tree: a file, an edit, a part of a crate or of a type, words of the code."""
+    crate, _, rest = name.partition("/")
+    if rest:
+        paths = [TOP / name, TOP / "crates" / name, TOP / "crates" / crate / "must-fail" / rest,
+                 TOP / "tests/wrong" / crate / rest, TOP / "crates" / crate / "specs" / f"{rest}.antt"]
+        return any(path.exists() for path in paths) or any((TOP / "crates").glob(f"*/{name}"))
+    owner, _, part = name.partition("::")
+    if part:
+        return has_part(owner, part)
+    if re.fullmatch(r"[\w-]+\.\w+", name):
+        return any(TOP.glob(f"**/{name}")) or name in code_of("*/src", "rt") + code_of("*/specs", "antt")
+    if (TOP / name).exists():
+        return True
+    return set(re.findall(r"\w+", name)) <= words_of_code()
+
+
+def names_in_code(_: Scene) -> None:
+    """Each name that MAP.md and PROVED.md quote is in the tree."""
+    for page in (DOCS / "MAP.md", DOCS / "PROVED.md"):
+        text = re.sub(r"(?m)^    .*", "", page.read_text())
+        for name in re.findall(r"`([^`]+)`", text):
+            if not is_there(name) and name not in files_in(text):
+                raise Mismatch(f"{page.name} names {name}, which isn't there")
+
+
+def names_in_crates(_: Scene) -> None:
+    """CRATES.md has a part for each crate but those of tests. Each name that it quotes is in the tree, and each clause in
+    parentheses is in that crate."""
+    parts = re.split(r"(?m)^## (\w+)\n", (DOCS / "CRATES.md").read_text())[1:]
+    same("the crates of CRATES.md", parts[::2], citing.program_crates())
+    for crate, part in zip(parts[::2], parts[1::2]):
+        text = " ".join(part.split())
+        for name in re.findall(r"`((?:\w+::)?\w+|[\w.-]+/[\w./-]+)`", text):
+            if not is_there(name):
+                raise Mismatch(f"CRATES.md names {name} of {crate}, which isn't there")
+        has = set(re.findall(r"\w+", code_of(f"{crate}/src", "rt") + code_of(f"{crate}/specs", "antt")))
+        for clauses in re.findall(r"\((`[a-z_]+`(?:, `[a-z_]+`)*)\)", text):
+            lacks = [name for name in re.findall(r"`(\w+)`", clauses) if name not in has]
+            same(f"the clauses that CRATES.md names of {crate} and it lacks", lacks, [])
+
+
+def files_in(text: str) -> set:
+    """The names without a crate in the first cells of the table of definitions, which follow one with it."""
+    if "\n## The definitions\n" not in text:
+        return set()
+    return {stem for row in citing.rows(text) for _, stem in citing.files_of(row[0])}
+
+
+def clauses_of(name: str) -> list:
+    """The clauses of a function `crate::name`, or the parts of a record of the definitions."""
+    crate, _, function = name.partition("::")
+    if not function:
+        end = r"(?=^\S|^ *(?:pub|abbrev) (?:record|data|pub)\b|\Z)"
+        record = re.search(rf"^ *pub record {name}\b.*?\bwhere\n(.*?){end}", code_of("*/specs", "antt"), re.M | re.S)
+        return re.findall(r"^ *pub (\w+) :", record[1], re.M) if record else []
+    head = re.search(rf"\bfn {function}\b.*?\{{$", code_of(f"{crate}/src", "rt"), re.M | re.S)
+    return re.findall(r"\bensures (\w+) \{", head[0]) if head else []
+
+
+def promises(_: Scene) -> None:
+    """Each clause of a promise is one of each record and call of its row."""
+    rows = [row[2:-2].split(" | ") for row in re.findall(r"^\| .* \|$", (DOCS / "PROVED.md").read_text(), re.M)]
+    rows = [row for row in rows if row[0] != "What" and len(row) == 3]
+    for _, owners, clauses in rows:
+        for owner in re.findall(r"`([^`]+)`", owners) or [owners]:
+            named = re.findall(r"`(\w+)`", clauses) or [clauses]
+            lacks = [clause for clause in named if clause not in clauses_of(owner)]
+            same(f"the clauses that PROVED.md names and {owner} lacks", lacks, [])
+    if len(rows) < 20:
+        raise Mismatch(f"PROVED.md has {len(rows)} promises in its tables")
+
+
+def tables_of_crates(_: Scene) -> None:
+    """README.md and MAP.md list each crate, with types and calls that it has, and no other; MAP.md draws no other."""
+    for page, head in ((TOP / "README.md", "Where each promise is kept"), (DOCS / "MAP.md", "The crates")):
+        table = page.read_text().partition(f"\n## {head}\n")[2].partition("\n## ")[0]
+        rows = [row[2:-2].split(" | ") for row in re.findall(r"^\| [a-z].* \|$", table, re.M)]
+        listed = [name for row in rows for name in row[0].split(", ")]
+        same(f"the crates of {page.name}", sorted(listed), sorted(citing.program_crates()))
+        for crates, *_, names in rows:
+            has = "".join(code_of(f"{crate}/src", "rt") for crate in crates.split(", "))
+            for name in re.findall(r"\w+", " ".join(re.findall(r"`([^`]+)`", names))):
+                if not re.search(rf"\b{name}\b", has):
+                    raise Mismatch(f"{page.name} names {name} of {crates}, which isn't there")
+    drawn = set(re.findall(r"(?<!`)\[(\w+)\]", (DOCS / "MAP.md").read_text()))
+    same("what MAP.md draws that is no crate", sorted(drawn - set(citing.edges())), [])
+
+
+def map_of_definitions(_: Scene) -> None:
+    """MAP.md lists each file of definitions once, with definitions that it has, and which crates cite it."""
+    text = citing.MAP.read_text()
+    for files, defined, *_ in citing.rows(text):
+        pages = [TOP / "crates" / crate / "specs" / f"{stem}.antt" for crate, stem in citing.files_of(files)]
+        has = {word for page in pages if page.exists() for word in re.findall(r"[^\s(){}:]+", page.read_text())}
+        named = re.findall(r"`([^`]+)`", " ".join(re.findall(r"\([^()]*\)", defined)))
+        same(f"the definitions that {files} lack", [name for name in named if name not in has], [])
+    files = [file for row in citing.rows(text) for file in citing.files_of(row[0])]
+    same("the files of definitions", sorted(files), citing.definitions())
+    for row, wanted in zip(citing.rows(text), citing.rows(citing.cited(text))):
+        same(f"the crates that cite {row[0]} (tests/citing.py writes them)", row[-1], wanted[-1])
+
+
 def worked_sum(_: Scene) -> None:
     """The crossfade that PROOF.md works out is that of its rules: a sound of 5 at 16 bits, over three samples."""
     rows = re.findall(r"^\| (\d) \|[^=]*= ([\d,]+) \|[^=]*= ([\d,]+) \| ([\d,]+) \| (\d+) \|$",
@@ -196,5 +335,10 @@ def run(suite: Suite) -> None:
     suite.case("man shows the page", man_shows_page)
     suite.case("the completion", completion)
     suite.case("the files that pages name", named_files)
+    suite.case("the names of MAP.md and PROVED.md", names_in_code)
+    suite.case("the names of CRATES.md", names_in_crates)
+    suite.case("the promises of PROVED.md", promises)
+    suite.case("the crates of README.md and MAP.md", tables_of_crates)
+    suite.case("the definitions of MAP.md", map_of_definitions)
     suite.case("the sum of PROOF.md", worked_sum)
     suite.case("the wrong bodies beside the gate", wrong_bodies)
