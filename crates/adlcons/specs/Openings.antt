@@ -25,7 +25,7 @@ use Rattle.adlcons.specs.declared.reading.ReadFault.{ReadFault}
 use Rattle.adlcons.specs.declared.reading.ReadFault.TheVariants.{Unreadable, Endless, Memory}
 
 abbrev early : ℕ → Where → Refusal
-early number place = record { number = number; place = place; late = false }
+early number place = record { number = number; location = place; late = false }
 
 -- the refusal of the list of this path, which isn't read
 abbrev pub refusal_of_read : ReadFault → List ℕ → Refusal
@@ -57,7 +57,7 @@ pub record IsReportKeptOut {O : Type 0} (out : console.Ghosts O) (list : List �
   pub fault : OpenFault
   pub status_is : status ≡ 1
   pub unread : PrintsUnread out old new (refusal_of_opening fault list []).number
-      (refusal_of_opening fault list []).place
+      (refusal_of_opening fault list []).location
 
 -- the path of one of two lists
 abbrev pub path_of : ListOfTwo → (list other : List ℕ) → List ℕ

@@ -67,7 +67,7 @@ impl OpenFault {
     /// The refusal of a command over this list that writes to this folder.
     pub fn refusal<'a>(self, list: &'a str, out: &'a str) -> Refusal<'a>
         ensures number { result.number ≡ (refusal_of_opening self list.entry.now out.entry.now).number }
-        ensures place { where_of result.place ≡ (refusal_of_opening self list.entry.now out.entry.now).place }
+        ensures location { where_of result.location ≡ (refusal_of_opening self list.entry.now out.entry.now).location }
     {
         match self {
             OpenFault::List(fault) => fault.refusal(list),
@@ -79,7 +79,7 @@ impl OpenFault {
             OpenFault::Memory => Refusal::MEMORY,
             OpenFault::Passes => Refusal {
                 number: 51,
-                place: Place::Nowhere,
+                location: Place::Nowhere,
             },
         }
     }

@@ -54,7 +54,7 @@ fn report_unread<O: Console, E: Console>(
     let refusal = fault.refusal(list, "");
     let explanation = explanation_of(fault, refusal.number, None);
     err.print_line(explanation);
-    let Place::File(name) = refusal.place else {
+    let Place::File(name) = refusal.location else {
         return put_no_memory(out);
     };
     match String::from_str(alloc, name) {

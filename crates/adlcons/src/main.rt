@@ -58,13 +58,13 @@ fn run_words(rt: &HostRuntime, words: &[String]) -> io::Result<u8> {
 /// Tells why the words can't be read: which one isn't UTF-8, or what the system said.
 fn tell_unread(rt: &HostRuntime, error: io::Error) -> io::Result<()> {
     let mut buffer = [0; 4096];
-    for place in 1..MOST_WORDS {
-        match rt.arg(place, &mut buffer) {
+    for position in 1..MOST_WORDS {
+        match rt.arg(position, &mut buffer) {
             Ok(length) => {
                 let word = &buffer[..length];
                 if str::from_utf8(word).is_err() {
                     let word = Shown(word, WORD_BYTES);
-                    return rt.eprintln(format_args!("error: word {place} isn't UTF-8: {word}"));
+                    return rt.eprintln(format_args!("error: word {position} isn't UTF-8: {word}"));
                 }
             }
             Err(FillError::NotPresent) => break,

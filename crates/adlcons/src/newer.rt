@@ -125,10 +125,10 @@ fn add_name(
     names: &mut Vec<String>,
     known: &mut BTreeSet<String>,
 ) -> Result<(), AllocError> {
-    let Some(place) = place_of(alloc, source.url())? else {
+    let Some(location) = place_of(alloc, source.url())? else {
         return Ok(());
     };
-    let name = place.name();
+    let name = location.name();
     if known.contains(name) {
         return Ok(());
     }

@@ -176,8 +176,8 @@ fn source_at<R: Files + AllocGlobal>(
 ) -> Result<Option<String>, AllocError> {
     let folder = listed(media);
     for source in project.sources().as_slice() {
-        if let Some(place) = place_of(rt.alloc(), source.url())? {
-            let name = place.name();
+        if let Some(location) = place_of(rt.alloc(), source.url())? {
+            let name = location.name();
             let path = format!(in rt.alloc(); "{folder}/{name}")?;
             if is_found_at(rt, found, &path) {
                 return Ok(Some(path));

@@ -41,7 +41,7 @@ impl ReadFault {
     /// The refusal of the list of this path.
     pub fn refusal<'a>(self, path: &'a str) -> Refusal<'a>
         ensures number { result.number ≡ (refusal_of_read self path.entry.now).number }
-        ensures place { where_of result.place ≡ (refusal_of_read self path.entry.now).place }
+        ensures location { where_of result.location ≡ (refusal_of_read self path.entry.now).location }
     {
         match self {
             ReadFault::Unreadable(_) | ReadFault::Endless => Refusal::of_file(21, path),

@@ -55,7 +55,7 @@ impl Place {
 /// hexadecimal digits behind it standing for a byte. `None` where it is no such URL, or its last component is no media
 /// name.
 pub fn place_of(alloc: Global, url: &[u8]) -> Result<Option<Place>, AllocError>
-    ensures { IfOk result (λ place. place ≡ place_of_url url.now) }
+    ensures { IfOk result (λ location. location ≡ place_of_url url.now) }
 {
     let Some(path) = path_of(url) else {
         return Ok(None);
@@ -65,7 +65,7 @@ pub fn place_of(alloc: Global, url: &[u8]) -> Result<Option<Place>, AllocError>
 
 /// The place of a path that isn't decoded yet.
 fn place_of_path(alloc: Global, path: &[u8]) -> Result<Option<Place>, AllocError>
-    ensures { IfOk result (λ place. place ≡ spec.place_of_path path.now) }
+    ensures { IfOk result (λ location. location ≡ spec.place_of_path path.now) }
 {
     let name = decoded(alloc, behind_last_slash(path))?;
     let Some(name) = media_name(name) else {

@@ -13,7 +13,7 @@ use Rattle.adlread.specs.declared.fault.LineFault.TheVariants as line
 
 abbrev pub refusal : AdlFault → Refusal
 refusal (Text fault location stood) = text_refusal (record { fault = fault; location = location })
-refusal Memory = record { number = 18; place = Nowhere; late = false }
+refusal Memory = record { number = 18; location = Nowhere; late = false }
 
 abbrev pub line_of_location : Location → ℕ
 line_of_location (location.Line line) = line

@@ -55,13 +55,13 @@ pub fn source_fields(
 #[tactic(auto, unfolding(list_terms::specs::Forms::value_at))]
 fn url_field<'a>(alloc: Global, tokens: &mut Tokens<'a>) -> Result<&'a [u8], LineFault>
     ensures value { Says (λ url. (url.now, tokens.new.rest.now)) result (value_at form.Url tokens.old.rest.now) }
-    ensures place { IfOk result (λ url. IsTrue (is_some (place_of_url url.now))) }
+    ensures location { IfOk result (λ url. IsTrue (is_some (place_of_url url.now))) }
     ensures span { reached tokens.new ≡ next_from tokens.old }
     ensures long { line_length tokens.new ≡ line_length tokens.old }
 {
     let token = field(tokens)?;
-    let place = place_of(alloc, token.content)?;
-    if place.is_some() {
+    let location = place_of(alloc, token.content)?;
+    if location.is_some() {
         Ok(token.content)
     } else {
         Err(LineFault::Text(TextFault::BadUrl))
@@ -307,10 +307,10 @@ fn frame_rate_field(tokens: &mut Tokens<'_>, rate: Rate) -> Result<(), TextFault
 /// Whether a text tells this rate of frames.
 fn tells_rate(text: &[u8], rate: Rate) -> bool
     ensures { result
-        ≡ unwrap_or (option_map (λ told. told == frames_per_second rate) (told_rate text.now)) false }
+        ≡ unwrap_or (option_map (λ stated. stated == frames_per_second rate) (told_rate text.now)) false }
 {
     match told_rate(text) {
-        Some(told) => told.frames_per_second() == rate.frames_per_second(),
+        Some(stated) => stated.frames_per_second() == rate.frames_per_second(),
         None => false,
     }
 }

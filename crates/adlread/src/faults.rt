@@ -41,7 +41,7 @@ impl<'a> Faults<'a> {
 
     /// The faults of this text behind its first one, which [`crate::read`] told. The line of that one isn't read again,
     /// and where it ends them no line is.
-    pub fn behind(alloc: Global, text: &'a [u8], first: AdlFault) -> Result<Self, AllocError> {
+    pub fn after(alloc: Global, text: &'a [u8], first: AdlFault) -> Result<Self, AllocError> {
         if is_of_its_own(first) {
             let mut faults = Faults::new(alloc, text)?;
             faults.go_behind(alloc, first);
@@ -73,7 +73,7 @@ impl<'a> Faults<'a> {
         'lines: while let Some(line) = self.lines.next_line() {
             self.last = line;
             if self.lines.number() == first.line() {
-                let _ = self.told(Some(first), line);
+                let _ = self.reported(Some(first), line);
                 return;
             }
             if self.fault_of(alloc, line).is_some() {
@@ -107,7 +107,7 @@ impl<'a> Faults<'a> {
             self.last = line;
             let fault = self.fault_of(alloc, line);
             if fault.is_some() || self.is_over {
-                return self.told(fault, line);
+                return self.reported(fault, line);
             }
         }
         self.cut_short();
@@ -137,7 +137,7 @@ impl<'a> Faults<'a> {
 
     /// A fault that this line has, if it has one. What stands behind it can be told where it is a fault of a line of its
     /// own.
-    fn told(&mut self, fault: Option<AdlFault>, line: &[u8]) -> Option<AdlFault> {
+    fn reported(&mut self, fault: Option<AdlFault>, line: &[u8]) -> Option<AdlFault> {
         let fault = fault?;
         if is_of_its_own(fault) {
             self.is_in_faulty_entry = opens_entry(line);

@@ -40,11 +40,11 @@ pub fn has_rate_keyword(text: &[u8]) -> bool
     ensures { result ≡ has_word (codes "SEQ_FRAME_RATE") text.now }
 {
     let mut rest = from_first_letter(text);
-    while let [_, behind @ ..] = rest {
+    while let [_, after @ ..] = rest {
         if starts_in_any_case(b"SEQ_FRAME_RATE", rest) {
             return true;
         }
-        rest = from_first_letter(behind);
+        rest = from_first_letter(after);
     }
     false
 }
@@ -55,7 +55,7 @@ fn from_first_letter(text: &[u8]) -> &[u8]
     ensures shorter { length result.now ≤ length text.now }
 {
     match memchr2(b'S', b's', text) {
-        Some(place) => text.split_at(place).1,
+        Some(position) => text.split_at(position).1,
         None => &[],
     }
 }

@@ -115,14 +115,14 @@ fn has_word(word: &[u8], name: &[u8]) -> bool
     ensures { result ≡ text.has_word word.now name.now }
 {
     let mut rest = name;
-    while let [_, behind @ ..] = rest {
+    while let [_, after @ ..] = rest {
         if rest.len() < word.len() {
             return false;
         }
         if starts_in_any_case(word, rest) {
             return true;
         }
-        rest = behind;
+        rest = after;
     }
     false
 }

@@ -83,16 +83,16 @@ fn first_line(text: &[u8]) -> (&[u8], &[u8])
 /// How many bytes the first line of a text has before its line feed. Eight are looked at together, as long as none of
 /// them is one.
 fn line_length(text: &[u8]) -> usize
-    ensures place { result ≡ position_or_len (λ byte. byte == 10) text.now }
+    ensures position { result ≡ position_or_len (λ byte. byte == 10) text.now }
     ensures inside { result ≤ length text.now }
 {
     let mut rest = text;
     let mut before = 0;
-    while let [a, b, c, d, e, f, g, h, behind @ ..] = rest {
+    while let [a, b, c, d, e, f, g, h, after @ ..] = rest {
         if has_line_feed([*a, *b, *c, *d, *e, *f, *g, *h]) {
             break;
         }
-        rest = behind;
+        rest = after;
         before += 8;
     }
     before + length_before(b'\n', rest)

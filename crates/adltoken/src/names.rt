@@ -27,7 +27,7 @@ pub fn behind_byte(sought: u8, text: &[u8]) -> Option<&[u8]>
 
 /// How many bytes stand before the first such byte; all where there is none.
 pub fn length_before(sought: u8, text: &[u8]) -> usize
-    ensures place { result ≡ position_or_len (λ byte. byte == sought) text.now }
+    ensures position { result ≡ position_or_len (λ byte. byte == sought) text.now }
     ensures inside { result ≤ length text.now }
 {
     text.iter().take_while(|byte| **byte != sought).count()

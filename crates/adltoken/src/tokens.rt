@@ -100,7 +100,7 @@ impl<'a> Tokens<'a> {
         ensures shorter { IfOk result (λ next. IfSome next (λ token.
             length self.new.rest.now < length self.old.rest.now)) }
         ensures whole { IfOk result (λ next. IfSome next (λ token. token.text.now ≡ token_text (token_view token))) }
-        ensures place { IfOk result (λ next. IfSome next (λ token.
+        ensures position { IfOk result (λ next. IfSome next (λ token.
             (token.at + length token.text.now ≡ self.new.at)
             × (self.new.last ≡ Some (record { at = token.at; length = length token.text.now })))) }
         ensures line { self.new.at + length self.new.rest.now ≡ self.old.at + length self.old.rest.now }
@@ -121,7 +121,7 @@ impl<'a> Tokens<'a> {
         ensures shorter { IfOk result (λ next. IfSome next (λ token.
             length self.new.rest.now < length self.old.rest.now)) }
         ensures whole { IfOk result (λ next. IfSome next (λ token. token.text.now ≡ token_text (token_view token))) }
-        ensures place { IfOk result (λ next. IfSome next (λ token.
+        ensures position { IfOk result (λ next. IfSome next (λ token.
             (token.at + length token.text.now ≡ self.new.at)
             × (self.new.last ≡ Some (record { at = token.at; length = length token.text.now })))) }
         ensures line { self.new.at + length self.new.rest.now ≡ self.old.at + length self.old.rest.now }

@@ -65,7 +65,7 @@ written_lines told = (notices_text told.notices.items ++ written_text told.media
 
 -- the line of a refusal
 abbrev pub refusal_line : Refusal → List ℕ
-refusal_line refusal = refusal_text refusal.number refusal.place ++ 10 ∷ []
+refusal_line refusal = refusal_text refusal.number refusal.location ++ 10 ∷ []
 
 -- the lines of an outcome
 abbrev pub lines_of : {X : Type 0} → (X → List ℕ) → Result X Fault → List ℕ
@@ -79,7 +79,7 @@ status_of (Err fault) = 1
 
 -- the line of a refusal of one of two lists
 abbrev pub list_refusal_line : ListOfTwo → Refusal → List ℕ
-list_refusal_line list refusal = (refusal_text refusal.number refusal.place ++ in_list list) ++ 10 ∷ []
+list_refusal_line list refusal = (refusal_text refusal.number refusal.location ++ in_list list) ++ 10 ∷ []
 
 -- of a comparison, which is refused by one of them, or since no sample was chosen
 abbrev pub comparison_refusal_line : CompareFault → List ℕ

@@ -65,7 +65,7 @@ fn tell_further_lines<E: Console>(
     most: usize,
     err: &mut E,
 ) {
-    let Ok(mut faults) = Faults::behind(alloc, list, first) else {
+    let Ok(mut faults) = Faults::after(alloc, list, first) else {
         return;
     };
     let mut lines = ListLines::new(list);

@@ -281,7 +281,7 @@ pub fn put_comparison<O: Console>(
             let words = Counts {
                 before: "same ",
                 between: " frames ",
-                behind: " channels",
+                after: " channels",
             };
             put_counts(out, words, frames, u64::from(channels));
         }
@@ -300,8 +300,14 @@ fn put_refusal_of_two<O: Console>(fault: &CompareFault, out: &mut O)
         CompareFault::First(fault) => put_refusal_in(ListOfTwo::First, fault, out),
         CompareFault::Second(fault) => put_refusal_in(ListOfTwo::Second, fault, out),
         CompareFault::EmptyRange => {
-            let place = Place::Nowhere;
-            put_refusal(out, Refusal { number: 58, place });
+            let location = Place::Nowhere;
+            put_refusal(
+                out,
+                Refusal {
+                    number: 58,
+                    location,
+                },
+            );
             out.end_line();
         }
     }

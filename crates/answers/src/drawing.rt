@@ -136,10 +136,10 @@ fn bad_files_of<S: Shelf>(
         }
     }
     for source in project.sources().as_slice() {
-        let Ok(Some(place)) = place_of(alloc, source.url()) else {
+        let Ok(Some(location)) = place_of(alloc, source.url()) else {
             continue;
         };
-        if let Some(number) = names.get(place.name()) {
+        if let Some(number) = names.get(location.name()) {
             bad_files.insert(source.number(), *number)?;
         }
     }

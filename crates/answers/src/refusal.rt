@@ -102,16 +102,16 @@ fn look_at_project<A: Asides>(
 /// Prints the refusal of one of two lists, without its line's end.
 pub fn put_list_fault<C: Console>(fault: &ListFault, console: &mut C)
     ensures { Prints C.contents C.failures console.old console.new
-        (refusal_text (comparing.refusal_of fault.now).number (comparing.refusal_of fault.now).place) }
+        (refusal_text (comparing.refusal_of fault.now).number (comparing.refusal_of fault.now).location) }
 {
     let number = fault.number();
-    let place = list_place(fault);
-    put_refusal(console, Refusal { number, place });
+    let location = list_place(fault);
+    put_refusal(console, Refusal { number, location });
 }
 
 /// The place of a fault of one of two lists.
 fn list_place(fault: &ListFault) -> Place<'_>
-    ensures { where_of result ≡ (comparing.refusal_of fault.now).place }
+    ensures { where_of result ≡ (comparing.refusal_of fault.now).location }
 {
     match fault {
         ListFault::Project(fault) => project_place(fault),
@@ -123,16 +123,16 @@ fn list_place(fault: &ListFault) -> Place<'_>
 /// Prints the refusal of a list by a command, without its line's end.
 pub fn put_fault<C: Console>(fault: &Fault, console: &mut C)
     ensures { Prints C.contents C.failures console.old console.new
-        (refusal_text (refusal_of fault.now).number (refusal_of fault.now).place) }
+        (refusal_text (refusal_of fault.now).number (refusal_of fault.now).location) }
 {
     let number = fault.number();
-    let place = fault_place(fault);
-    put_refusal(console, Refusal { number, place });
+    let location = fault_place(fault);
+    put_refusal(console, Refusal { number, location });
 }
 
 /// The place of a fault of a command.
 fn fault_place(fault: &Fault) -> Place<'_>
-    ensures { where_of result ≡ (refusal_of fault.now).place }
+    ensures { where_of result ≡ (refusal_of fault.now).location }
 {
     match fault {
         Fault::Project(fault) => project_place(fault),
@@ -183,7 +183,7 @@ fn marks_place(fault: MarkFault) -> Place<'static>
 
 /// The place of a fault of the list, of a file that it names, or of an entry.
 pub fn project_place(fault: &opening::Fault) -> Place<'_>
-    ensures { where_of result ≡ (project.refusal_of fault.now).place }
+    ensures { where_of result ≡ (project.refusal_of fault.now).location }
 {
     match fault {
         opening::Fault::List(fault) => text_place(fault),
@@ -208,7 +208,7 @@ fn file_place(index: u32, name: &Option<String>) -> Place<'_>
 
 /// The place of a fault of the text.
 fn text_place(fault: &AdlFault) -> Place<'static>
-    ensures { where_of result ≡ (text.refusal fault.now).place }
+    ensures { where_of result ≡ (text.refusal fault.now).location }
 {
     match fault {
         AdlFault::Text { location, .. } => match *location {

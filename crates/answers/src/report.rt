@@ -21,7 +21,7 @@ pub fn tell_done<C: Console>(
 )
     ensures { Prints C.contents C.failures console.old console.new
         ((notices_text notices.now
-        ++ counts_text words.entry.before.now words.entry.between.now words.entry.behind.now first second)
+        ++ counts_text words.entry.before.now words.entry.between.now words.entry.after.now first second)
         ++ 10 ∷ []) }
 {
     put_notices(console, notices);

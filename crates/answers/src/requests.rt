@@ -79,37 +79,37 @@ pub fn answer_request<
     asides: &A,
 ) -> u8
     // A command was called over the list, and its answer is printed.
-    ensures checked { (place media : Text) → asked_of request.entry ≡ asked.Check place media
+    ensures checked { (path media : Text) → asked_of request.entry ≡ asked.Check path media
         → IsAnswered (IsChecked S.Shelf list.now shelf.old shelf.new) accepted_lines O.Console out.old out.new result }
-    ensures reported { (place media : Text) → asked_of request.entry ≡ asked.Report place media
+    ensures reported { (path media : Text) → asked_of request.entry ≡ asked.Report path media
         → IsTrue (S.honest shelf.old) → IsReported list.now (S.stored shelf.old) O.Console out.old out.new result }
-    ensures rendered { (place media target : Text) (chosen : asked.Chosen)
-        → asked_of request.entry ≡ asked.Render place media target chosen → result ≢ 2
+    ensures rendered { (path media target : Text) (chosen : asked.Chosen)
+        → asked_of request.entry ≡ asked.Render path media target chosen → result ≢ 2
         → IsAnswered (RendersBy S.Shelf B.Bench jobs chosen list.now shelf.old shelf.new bench.old bench.new)
         rendered_lines O.Console out.old out.new result }
-    ensures resumed { (place media target : Text) (chosen : asked.Chosen)
-        → asked_of request.entry ≡ asked.Resume place media target chosen → result ≢ 2
+    ensures resumed { (path media target : Text) (chosen : asked.Chosen)
+        → asked_of request.entry ≡ asked.Resume path media target chosen → result ≢ 2
         → IsAnswered (ResumesBy S.Shelf B.Bench jobs chosen list.now shelf.old shelf.new bench.old bench.new)
         resumed_lines O.Console out.old out.new result }
-    ensures consolidated { (place media target : Text) (handle : ℕ) (report : choice.MediaReport)
-        → asked_of request.entry ≡ asked.Consolidate place media target handle report
+    ensures consolidated { (path media target : Text) (handle : ℕ) (report : choice.MediaReport)
+        → asked_of request.entry ≡ asked.Consolidate path media target handle report
         → IsAnswered (IsConsolidation S.Shelf B.Bench
         (left_by (λ pass. looking pass) (λ pass. gives pass) passes.items)
         list.now handle (asking report list.now) shelf.old shelf.new bench.old bench.new)
         written_lines O.Console out.old out.new result }
     ensures standard { AreStandard (λ pass. looking pass) (λ pass. gives pass) passes.items
-        → (place media target : Text) (handle : ℕ) (report : choice.MediaReport)
-        → asked_of request.entry ≡ asked.Consolidate place media target handle report → IsAnswered
+        → (path media target : Text) (handle : ℕ) (report : choice.MediaReport)
+        → asked_of request.entry ≡ asked.Consolidate path media target handle report → IsAnswered
         (IsConsolidation S.Shelf B.Bench standard_groups list.now handle (asking report list.now) shelf.old shelf.new bench.old
         bench.new)
         written_lines O.Console out.old out.new result }
     // It names a time that can't be read.
-    ensures bad_time { (place media target : Text) (chosen : asked.Chosen) (option : Text)
-        → asked_of request.entry ≡ asked.Render place media target chosen
+    ensures bad_time { (path media target : Text) (chosen : asked.Chosen) (option : Text)
+        → asked_of request.entry ≡ asked.Render path media target chosen
         → values_of (rate_at list.now) chosen ≡ Err option
         → (result ≡ 2) × Prints E.contents E.failures err.old err.new (bad_time_line option) }
-    ensures bad_time_resumed { (place media target : Text) (chosen : asked.Chosen) (option : Text)
-        → asked_of request.entry ≡ asked.Resume place media target chosen
+    ensures bad_time_resumed { (path media target : Text) (chosen : asked.Chosen) (option : Text)
+        → asked_of request.entry ≡ asked.Resume path media target chosen
         → values_of (rate_at list.now) chosen ≡ Err option
         → (result ≡ 2) × Prints E.contents E.failures err.old err.new (bad_time_line option) }
     ensures explained { (number : Option Text) → asked_of request.entry ≡ asked.Explain number
@@ -119,16 +119,16 @@ pub fn answer_request<
     ensures statuses { result ≤ 2 }
     ensures mistake { result ≡ 2 → MayBeMistaken (rate_at list.now) (asked_of request.entry) }
     ensures two { result ≡ 2 → (shelf.new ≡ shelf.old) × (bench.new ≡ bench.old) × (out.new ≡ out.old) }
-    ensures check_writes_nothing { (place media : Text) → asked_of request.entry ≡ asked.Check place media
+    ensures check_writes_nothing { (path media : Text) → asked_of request.entry ≡ asked.Check path media
         → bench.new ≡ bench.old }
-    ensures report_writes_nothing { (place media : Text) → asked_of request.entry ≡ asked.Report place media
+    ensures report_writes_nothing { (path media : Text) → asked_of request.entry ≡ asked.Report path media
         → bench.new ≡ bench.old }
-    ensures bad_time_shown { (place media : Text) (handle : ℕ) (drawn : asked.Drawn) (option : Text)
-        → asked_of request.entry ≡ asked.Show place media handle drawn
+    ensures bad_time_shown { (path media : Text) (handle : ℕ) (drawn : asked.Drawn) (option : Text)
+        → asked_of request.entry ≡ asked.Show path media handle drawn
         → part_of (rate_at list.now) drawn ≡ Err option
         → (result ≡ 2) × Prints E.contents E.failures err.old err.new (bad_time_line option) }
-    ensures picture_writes_nothing { (place media : Text) (handle : ℕ) (drawn : asked.Drawn)
-        → asked_of request.entry ≡ asked.Show place media handle drawn → bench.new ≡ bench.old }
+    ensures picture_writes_nothing { (path media : Text) (handle : ℕ) (drawn : asked.Drawn)
+        → asked_of request.entry ≡ asked.Show path media handle drawn → bench.new ≡ bench.old }
 {
     match request {
         Request::Check(_, _) => answer_check(alloc, list, shelf, out, err, asides),
@@ -183,7 +183,7 @@ fn answer_check<S: Shelf + Reasons, O: Console, E: Console, A: Asides>(
             let words = Counts {
                 before: "accepted ",
                 between: " entries ",
-                behind: " indexes",
+                after: " indexes",
             };
             let notices = accepted.notices.as_slice();
             tell_done(
@@ -239,7 +239,7 @@ fn answer_render<
             let words = Counts {
                 before: "rendered ",
                 between: " frames ",
-                behind: " channels",
+                after: " channels",
             };
             let notices = rendered.notices.as_slice();
             let channels = u64::from(rendered.channels);
@@ -291,7 +291,7 @@ fn answer_resume<
             let words = Counts {
                 before: "resumed ",
                 between: " frames ",
-                behind: " blocks were marked",
+                after: " blocks were marked",
             };
             let notices = resumed.notices.as_slice();
             let marked = u64::from(resumed.marked);
@@ -360,7 +360,7 @@ fn answer_consolidate<
             let words = Counts {
                 before: "written ",
                 between: " media ",
-                behind: " entries",
+                after: " entries",
             };
             let notices = written.notices.as_slice();
             tell_done(
@@ -393,7 +393,7 @@ pub fn refuse_two_lists<E: Console>(err: &mut E) -> u8
 /// Prints which option's time can't be read, and answers the status.
 pub fn refuse_time<E: Console>(bad: BadTime, err: &mut E) -> u8
     ensures status { result ≡ 2 }
-    ensures told { Prints E.contents E.failures err.old err.new (bad_time_line (name_of bad)) }
+    ensures printed { Prints E.contents E.failures err.old err.new (bad_time_line (name_of bad)) }
 {
     tell_bad_time(bad, err);
     MISTAKE

@@ -39,16 +39,16 @@ pub fn answer_standard<
     meter: &mut M,
     asides: &A,
 ) -> Result<u8, AllocError>
-    ensures rendered { (place media target : Text) (chosen : asked.Chosen)
-        → asked_of request.entry ≡ asked.Render place media target chosen → IfOk result (λ status. status ≢ 2
+    ensures rendered { (path media target : Text) (chosen : asked.Chosen)
+        → asked_of request.entry ≡ asked.Render path media target chosen → IfOk result (λ status. status ≢ 2
         → IsAnswered (RendersBy S.Shelf B.Bench Longer chosen list.now shelf.old shelf.new bench.old bench.new)
         rendered_lines O.Console out.old out.new status) }
-    ensures resumed { (place media target : Text) (chosen : asked.Chosen)
-        → asked_of request.entry ≡ asked.Resume place media target chosen → IfOk result (λ status. status ≢ 2
+    ensures resumed { (path media target : Text) (chosen : asked.Chosen)
+        → asked_of request.entry ≡ asked.Resume path media target chosen → IfOk result (λ status. status ≢ 2
         → IsAnswered (ResumesBy S.Shelf B.Bench Longer chosen list.now shelf.old shelf.new bench.old bench.new)
         resumed_lines O.Console out.old out.new status) }
-    ensures consolidated { (place media target : Text) (handle : ℕ) (report : choice.MediaReport)
-        → asked_of request.entry ≡ asked.Consolidate place media target handle report
+    ensures consolidated { (path media target : Text) (handle : ℕ) (report : choice.MediaReport)
+        → asked_of request.entry ≡ asked.Consolidate path media target handle report
         → IfOk result (λ status. IsAnswered (IsConsolidation S.Shelf B.Bench standard_groups list.now handle
         (asking report list.now) shelf.old shelf.new bench.old bench.new)
         written_lines O.Console out.old out.new status) }

@@ -36,19 +36,19 @@ pub fn answer<S: Shelf + Reasons, B: Bench + Reasons, O: Console, E: Console>(
     err: &mut E,
 ) -> u8
     // A command was called over the list, and its answer is printed.
-    ensures checked { (place media : Text) → request_of (texts words.now) ≡ Some (asked.Check place media)
+    ensures checked { (path media : Text) → request_of (texts words.now) ≡ Some (asked.Check path media)
         → result ≢ 2
         → IsAnswered (IsChecked S.Shelf list.now shelf.old shelf.new) accepted_lines O.Console out.old out.new result }
-    ensures rendered { (place media target : Text) (chosen : asked.Chosen)
-        → request_of (texts words.now) ≡ Some (asked.Render place media target chosen) → result ≢ 2
+    ensures rendered { (path media target : Text) (chosen : asked.Chosen)
+        → request_of (texts words.now) ≡ Some (asked.Render path media target chosen) → result ≢ 2
         → IsAnswered (RendersBy S.Shelf B.Bench OneBlock chosen list.now shelf.old shelf.new bench.old bench.new)
         rendered_lines O.Console out.old out.new result }
-    ensures resumed { (place media target : Text) (chosen : asked.Chosen)
-        → request_of (texts words.now) ≡ Some (asked.Resume place media target chosen) → result ≢ 2
+    ensures resumed { (path media target : Text) (chosen : asked.Chosen)
+        → request_of (texts words.now) ≡ Some (asked.Resume path media target chosen) → result ≢ 2
         → IsAnswered (ResumesBy S.Shelf B.Bench OneBlock chosen list.now shelf.old shelf.new bench.old bench.new)
         resumed_lines O.Console out.old out.new result }
-    ensures consolidated { (place media target : Text) (handle : ℕ) (report : choice.MediaReport)
-        → request_of (texts words.now) ≡ Some (asked.Consolidate place media target handle report) → result ≢ 2
+    ensures consolidated { (path media target : Text) (handle : ℕ) (report : choice.MediaReport)
+        → request_of (texts words.now) ≡ Some (asked.Consolidate path media target handle report) → result ≢ 2
         → IsAnswered (IsConsolidation S.Shelf B.Bench
         (left_by (λ pass. looking pass) (λ pass. gives pass) passes.items)
         list.now handle (asking report list.now) shelf.old shelf.new bench.old bench.new)

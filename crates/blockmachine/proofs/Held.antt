@@ -26,7 +26,7 @@ small_front (suc n) (byte ∷ bytes) small (suc place) = small_front n bytes (λ
 
 module _ (files : Files) (sounds : List SoundFacts) (facts : SoundFacts) (part : Stretch) (bytes : List ℕ)
     (there : slice_get sounds part.file ≡ Some facts)
-    (range : IsRange (files facts.name) (facts.place + part.frame * frame_length facts) bytes)
+    (range : IsRange (files facts.name) (facts.offset + part.frame * frame_length facts) bytes)
     (whole : length bytes ≡ part.length * facts.channels * (bits_of facts.depth / 8)) (first : 1 ≤ part.first)
     (last : part.first + part.width ≤ facts.channels + 1) (inside : part.frame + part.length ≤ facts.frames)
   where
@@ -36,7 +36,7 @@ module _ (files : Files) (sounds : List SoundFacts) (facts : SoundFacts) (part :
     held_plays =
         let bits = bits_of facts.depth in
         let n = part.length * facts.channels in
-        let place = facts.place + part.frame * frame_length facts in
+        let place = facts.offset + part.frame * frame_length facts in
         let same : bytes ≡ take (n * (bits / 8)) (drop place range.file) =
         range.same ∙ ap (λ m. take m (drop place range.file)) whole in
         plays_sound files sounds facts part range.file (samples_in bits n bytes) there range.there
@@ -55,12 +55,12 @@ module _ (files : Files) (sounds : List SoundFacts) (facts : SoundFacts) (part :
 pub holds_read : (honest : Bool) (files : Files) (sounds : List SoundFacts) (facts : SoundFacts) (held : Held)
     (bytes rest : List ℕ) → slice_get sounds held.file ≡ Some facts
     → length bytes ≡ held.length * frame_length facts
-    → (IsTrue honest → IsRange (files facts.name) (facts.place + held.frame * frame_length facts) bytes)
+    → (IsTrue honest → IsRange (files facts.name) (facts.offset + held.frame * frame_length facts) bytes)
     → Holds honest files sounds (Some held) (bytes ++ rest)
 holds_read honest files sounds facts held bytes rest there whole read = λ sure others found.
     let same : facts ≡ others = same_Some facts others (sym there ∙ found) in
     let front = take_at bytes rest (held.length * frame_length facts) whole in
-    subst (λ (f : SoundFacts). IsRange (files f.name) (f.place + held.frame * frame_length f)
+    subst (λ (f : SoundFacts). IsRange (files f.name) (f.offset + held.frame * frame_length f)
     (take (held.length * frame_length f) (bytes ++ rest))) same
-    (subst (λ (l : List ℕ). IsRange (files facts.name) (facts.place + held.frame * frame_length facts) l) (sym front)
+    (subst (λ (l : List ℕ). IsRange (files facts.name) (facts.offset + held.frame * frame_length facts) l) (sym front)
     (read sure))

@@ -29,7 +29,7 @@ heard_sample : (files : Files) (sounds : List SoundFacts) (facts : SoundFacts) (
     → channel ≤ facts.channels
     → reading_by files sounds n channel frame
     ≡ full_scale (bits_of facts.depth) (sample_of (bits_of facts.depth)
-    (drop (facts.place + (frame * facts.channels + (channel - 1)) * ((bits_of facts.depth) / 8)) file))
+    (drop (facts.offset + (frame * facts.channels + (channel - 1)) * ((bits_of facts.depth) / 8)) file))
 heard_sample files sounds facts n channel frame file there stored inside first last =
     let frames : nat_lt frame facts.frames ≡ true = grind (arith, nat_tests) in
     let low : nat_le 1 channel ≡ true = grind (arith, nat_tests) in
@@ -39,7 +39,7 @@ heard_sample files sounds facts n channel frame file there stored inside first l
 pub plays_sound : (files : Files) (sounds : List SoundFacts) (facts : SoundFacts) (part : Stretch) (file : List ℕ)
     (frames : List ℤ)
     → slice_get sounds part.file ≡ Some facts → files facts.name ≡ Some file
-    → AreFrames file (facts.place + part.frame * frame_length facts) (bits_of facts.depth) frames
+    → AreFrames file (facts.offset + part.frame * frame_length facts) (bits_of facts.depth) frames
     → length frames ≡ part.length * facts.channels
     → 1 ≤ part.first → part.first + part.width ≤ facts.channels + 1 → part.frame + part.length ≤ facts.frames
     → Plays (reading_by files sounds) part facts.channels (bits_of facts.depth) frames
@@ -47,8 +47,8 @@ plays_sound files sounds facts part file frames there stored are whole first las
     let row : (i + 1) * facts.channels ≤ part.length * facts.channels = grind arith in
     let k = i * facts.channels + (part.first - 1 + j) in
     let within : k < length frames = omega arith in
-    let place : facts.place + part.frame * frame_length facts + k * ((bits_of facts.depth) / 8)
-    ≡ facts.place + ((part.frame + i) * facts.channels + (part.first + j - 1)) * ((bits_of facts.depth) / 8) =
+    let place : facts.offset + part.frame * frame_length facts + k * ((bits_of facts.depth) / 8)
+    ≡ facts.offset + ((part.frame + i) * facts.channels + (part.first + j - 1)) * ((bits_of facts.depth) / 8) =
     let channel : part.first - 1 + j ≡ part.first + j - 1 = omega arith in rw channel (omega arith) in
     ap (full_scale (bits_of facts.depth)) (are k within ∙ ap (λ m. sample_of (bits_of facts.depth) (drop m file)) place)
     ∙ sym (heard_sample files sounds facts part.file (part.first + j) (part.frame + i) file there stored (omega arith)

@@ -8,7 +8,7 @@ use Rattle.blockmachine.specs.declared.buffer.Held.{Held}
 -- the bytes begin with these frames, as they stand in their file
 abbrev pub AreHeld : Files → List SoundFacts → Held → List ℕ → Type 0
 AreHeld files sounds held bytes = (facts : SoundFacts) → slice_get sounds held.file ≡ Some facts
-    → IsRange (files facts.name) (facts.place + held.frame * frame_length facts)
+    → IsRange (files facts.name) (facts.offset + held.frame * frame_length facts)
     (take (held.length * frame_length facts) bytes)
 
 -- so they do, if it holds any and what is read are the stored bytes

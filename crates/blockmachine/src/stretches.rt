@@ -180,7 +180,7 @@ pub fn add_stretch<S: Shelf>(
     while done < stretch.length {
         let count = most.min(stretch.length - done);
         let part = part_of(stretch, done, count);
-        let shape = shape.behind(done as u64);
+        let shape = shape.after(done as u64);
         let bytes = buffer.bytes.as_mut_slice();
         let samples = buffer.samples.as_mut_slice();
         let held = &mut buffer.held;

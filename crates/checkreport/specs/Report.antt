@@ -131,7 +131,7 @@ fault_of entry explained file index line refusal =
 
 abbrev pub fault_data : Refusal → Data → Data
 fault_data refusal explained =
-    fault_of (entry_in refusal.place) explained (file_in refusal.place) (index_in refusal.place) (line_in refusal.place)
+    fault_of (entry_in refusal.location) explained (file_in refusal.location) (index_in refusal.location) (line_in refusal.location)
     refusal.number
 
 -- a fault of a list, and what explains it
@@ -164,4 +164,4 @@ refused_data first further media_error are_all =
 -- a list that isn't read, or a report for which there is no memory: nothing more is looked for
 abbrev pub unread_data : ℕ → (place : Where) (explained : Data) → Data
 unread_data which place explained =
-    refused_of (fault_data (record { number = which; place = place; late = false }) explained ∷ []) null false
+    refused_of (fault_data (record { number = which; location = place; late = false }) explained ∷ []) null false

@@ -167,10 +167,10 @@ fn put_index<O: Console>(out: &mut O, index: &BoundIndex, sounds: &[Sound], noti
 }
 
 /// The file at this place.
-fn sound_at(sounds: &[Sound], place: u32) -> Option<&Sound>
-    ensures { option_map (λ sound. sound.now) result ≡ slice_get sounds.now place }
+fn sound_at(sounds: &[Sound], position: u32) -> Option<&Sound>
+    ensures { option_map (λ sound. sound.now) result ≡ slice_get sounds.now position }
 {
-    sounds.get(place as usize)
+    sounds.get(position as usize)
 }
 
 /// Prints an index of this file.

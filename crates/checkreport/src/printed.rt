@@ -128,7 +128,7 @@ fn put_lines<X: Explains, O: Console>(
     ensures printed { OnOk result (PrintsRefused O.Console out.old out.new first.now (λ _. ⊤)) }
     ensures unprinted { OnErr result (out.new ≡ out.old) }
 {
-    let mut faults = Faults::behind(alloc, list, fault)?;
+    let mut faults = Faults::after(alloc, list, fault)?;
     put_first(alloc, first, explains, out)?;
     let are_all = put_of_text(alloc, &mut faults, explains, out);
     let media_error = explains.media_error(alloc);

@@ -199,7 +199,7 @@ pub fn put_end<O: Console>(media_error: &Option<String>, are_all: bool, out: &mu
 
 /// The line of a fault.
 fn line_of(fault: &Fault) -> Option<u64>
-    ensures { result ≡ line_in (refusal_of fault.now).place }
+    ensures { result ≡ line_in (refusal_of fault.now).location }
 {
     match fault {
         Fault::List(AdlFault::Text { location, .. }) => match *location {
@@ -213,7 +213,7 @@ fn line_of(fault: &Fault) -> Option<u64>
 
 /// The entry of a fault.
 fn entry_of(fault: &Fault) -> Option<u64>
-    ensures { result ≡ entry_in (refusal_of fault.now).place }
+    ensures { result ≡ entry_in (refusal_of fault.now).location }
 {
     match fault {
         Fault::List(AdlFault::Text { location, .. }) => match *location {
@@ -227,7 +227,7 @@ fn entry_of(fault: &Fault) -> Option<u64>
 
 /// The index of a fault.
 fn index_of(fault: &Fault) -> Option<u64>
-    ensures { result ≡ index_in (refusal_of fault.now).place }
+    ensures { result ≡ index_in (refusal_of fault.now).location }
 {
     match fault {
         Fault::List(AdlFault::Text { location, .. }) => match *location {
@@ -242,7 +242,7 @@ fn index_of(fault: &Fault) -> Option<u64>
 
 /// The name of the file of a fault.
 fn file_of(alloc: Global, fault: &Fault) -> Result<Option<String>, AllocError>
-    ensures { IfOk result (λ name. text_in (option_map string_bytes name) ≡ file_in (refusal_of fault.now).place) }
+    ensures { IfOk result (λ name. text_in (option_map string_bytes name) ≡ file_in (refusal_of fault.now).location) }
 {
     match fault {
         Fault::Media {

@@ -65,7 +65,7 @@ heard_sample : (files : Files) (sounds : List SoundFacts) (facts : SoundFacts) (
     → channel ≤ facts.channels
     → reading_by files sounds n channel frame
     ≡ full_scale (bits_of facts.depth) (sample_of (bits_of facts.depth)
-    (drop (facts.place + (frame * facts.channels + (channel - 1)) * (bits_of facts.depth / 8)) file))
+    (drop (facts.offset + (frame * facts.channels + (channel - 1)) * (bits_of facts.depth / 8)) file))
 heard_sample files sounds facts n channel frame file there stored inside first last =
     let frames : nat_lt frame facts.frames ≡ true = grind (arith, nat_tests) in
     let low : nat_le 1 channel ≡ true = grind (arith, nat_tests) in
@@ -86,21 +86,21 @@ zero_full depth =
 -- the bytes that were read are these frames
 pub read_held : (files : Files) (sounds : List SoundFacts) (facts : SoundFacts) (file from n : ℕ) (bytes : List ℕ)
     → slice_get sounds file ≡ Some facts
-    → IsRange (files facts.name) (facts.place + from * frame_length facts) bytes
+    → IsRange (files facts.name) (facts.offset + from * frame_length facts) bytes
     → length bytes ≡ n * facts.channels * (bits_of facts.depth / 8) → from + n ≤ facts.frames → AreBytes bytes
     → HoldFrames (reading_by files sounds) facts.channels (bits_of facts.depth) file from n bytes
 read_held files sounds facts file from n bytes there range whole inside small channel i first last below =
     let bits = bits_of facts.depth in
     let total = n * facts.channels in
     let samples = samples_in bits total bytes in
-    let start = facts.place + from * frame_length facts in
+    let start = facts.offset + from * frame_length facts in
     let k = i * facts.channels + (channel - 1) in
     let row : (i + 1) * facts.channels ≤ n * facts.channels = grind arith in
     let within : k < total = omega arith in
     let stored : bytes ≡ take (total * (bits / 8)) (drop start range.file) =
     range.same ∙ ap (λ m. take m (drop start range.file)) whole in
     let position : start + k * (bits / 8)
-    ≡ facts.place + ((from + i) * facts.channels + (channel - 1)) * (bits / 8) = omega arith in
+    ≡ facts.offset + ((from + i) * facts.channels + (channel - 1)) * (bits / 8) = omega arith in
     let heard : reading_by files sounds file channel (from + i) ≡ full_scale bits (get_or samples k (pos 0)) =
     heard_sample files sounds facts file channel (from + i) range.file there range.there (omega arith) first last
     ∙ sym (ap (full_scale bits) (get_or-samples_in_file bits total k start range.file bytes (pos 0) stored within

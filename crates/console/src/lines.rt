@@ -11,10 +11,10 @@ use list_terms::Notice;
 /// Prints a refusal as a line, without the line's end.
 pub fn put_refusal<C: Console>(console: &mut C, refusal: Refusal<'_>)
     ensures { Prints C.contents C.failures console.old console.new
-        (refusal_text refusal.entry.number (where_of refusal.entry.place)) }
+        (refusal_text refusal.entry.number (where_of refusal.entry.location)) }
 {
     put_refused(console, refusal.number);
-    put_place(console, refusal.place);
+    put_place(console, refusal.location);
 }
 
 /// Prints the number of a refusal, before its place.
@@ -103,12 +103,12 @@ fn put_notice_text<C: Console>(console: &mut C, notice: Notice)
     ensures { Prints C.contents C.failures console.old console.new (notice_text notice) }
 {
     put_counted(console, "notice ", u64::from(notice.kind));
-    let place = if notice.kind <= 2 {
+    let words = if notice.kind <= 2 {
         " at line "
     } else {
         " at index "
     };
-    put_counted(console, place, notice.at);
+    put_counted(console, words, notice.at);
 }
 
 /// Words round two counts.
@@ -116,15 +116,15 @@ fn put_notice_text<C: Console>(console: &mut C, notice: Notice)
 pub struct Counts<'a> {
     pub before: &'a str,
     pub between: &'a str,
-    pub behind: &'a str,
+    pub after: &'a str,
 }
 
 /// Prints what was done as two counts between words, without the line's end.
 pub fn put_counts<C: Console>(console: &mut C, words: Counts<'_>, first: u64, second: u64)
     ensures { Prints C.contents C.failures console.old console.new
-        (counts_text words.entry.before.now words.entry.between.now words.entry.behind.now first second) }
+        (counts_text words.entry.before.now words.entry.between.now words.entry.after.now first second) }
 {
     put_counted(console, words.before, first);
     put_counted(console, words.between, second);
-    console.put(words.behind.as_bytes());
+    console.put(words.after.as_bytes());
 }

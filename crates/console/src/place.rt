@@ -30,23 +30,23 @@ pub enum Place<'a> {
 #[derive(Clone, Copy, Debug, PartialEq, Eq)]
 pub struct Refusal<'a> {
     pub number: u8,
-    pub place: Place<'a>,
+    pub location: Place<'a>,
 }
 
 impl<'a> Refusal<'a> {
     /// There was no memory before there was a list.
     pub const MEMORY: Refusal<'static> = Refusal {
         number: 18,
-        place: Place::Nowhere,
+        location: Place::Nowhere,
     };
 
     /// A refusal that names a file or a folder.
     pub fn of_file(number: u8, name: &'a str) -> Refusal<'a>
-        ensures { result ≡ record { number = number; place = place.File name.entry } }
+        ensures { result ≡ record { number = number; location = place.File name.entry } }
     {
         Refusal {
             number,
-            place: Place::File(name),
+            location: Place::File(name),
         }
     }
 }
@@ -120,10 +120,10 @@ fn zeros_before(digits: usize) -> &'static [u8]
 }
 
 /// Prints the place of a refusal, behind its number.
-pub fn put_place<C: Console>(console: &mut C, place: Place<'_>)
-    ensures { Prints C.contents C.failures console.old console.new (place_text (where_of place.entry)) }
+pub fn put_place<C: Console>(console: &mut C, location: Place<'_>)
+    ensures { Prints C.contents C.failures console.old console.new (place_text (where_of location.entry)) }
 {
-    match place {
+    match location {
         Place::Nowhere => {}
         Place::Line(line) => put_counted(console, " at line ", line),
         Place::LineEntry { line, entry } => {

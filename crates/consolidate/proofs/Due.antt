@@ -69,7 +69,7 @@ first_late (Some due) later first_turn later_turn = first_turn
 empty_turn : (range : Range) → IfSome (empty_fault range) (λ due. 3 ≤ turn_of due)
 empty_turn range = by_test (nat_le range.to range.from) where
   by_test : (empty : Bool)
-      → IfSome (cond empty (Some (record { number = 58; place = Nowhere; late = false })) None)
+      → IfSome (cond empty (Some (record { number = 58; location = Nowhere; late = false })) None)
       (λ (due : Refusal). 3 ≤ turn_of due)
   by_test true = omega arith
   by_test false = tt

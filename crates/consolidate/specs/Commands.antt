@@ -55,7 +55,7 @@ IsSource fault = IsTrue ((refusal_of fault).number == 22 || (refusal_of fault).n
 
 -- this holds of the name of the source whose device failed
 abbrev pub HoldsOfSource : Fault → (List ℕ → Type 0) → Type 0
-HoldsOfSource (fault.Project of) P = opening.HoldsOfFile P (opening_faults.refusal_of of).place
+HoldsOfSource (fault.Project of) P = opening.HoldsOfFile P (opening_faults.refusal_of of).location
 HoldsOfSource (fault.Silence name) P = P (string_bytes name)
 HoldsOfSource _ P = ⊥
 
@@ -69,7 +69,7 @@ IsOutput fault = (refusal_of fault).number ≡ 62
 
 -- this holds of the name of the output whose device failed
 abbrev pub HoldsOfOutput : Fault → (List ℕ → Type 0) → Type 0
-HoldsOfOutput fault P = opening.HoldsOfFile P (refusal_of fault).place
+HoldsOfOutput fault P = opening.HoldsOfFile P (refusal_of fault).location
 
 -- a call that changes no output that stays: 62 tells that their device failed, at the file that is named
 abbrev pub WritesOutputs : {B X : Type 0} → output.Ghosts B → (List ℕ → Type 0) → B → B → Result X Fault → Type 0

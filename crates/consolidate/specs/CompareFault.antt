@@ -17,7 +17,7 @@ use Rattle.consolidate.specs.declared.compare_fault.CompareFault.{CompareFault}
 use Rattle.consolidate.specs.declared.compare_fault.CompareFault.TheVariants.{EmptyRange, First, Second}
 
 abbrev early : ℕ → Where → Refusal
-early number place = record { number = number; place = place; late = false }
+early number place = record { number = number; location = place; late = false }
 
 abbrev pub refusal_of : ListFault → Refusal
 refusal_of (Project fault) = opening_faults.refusal_of fault
@@ -31,7 +31,7 @@ IsDevice fault = (refusal_of fault).number ≡ 22
 
 -- this holds of the name of the source whose device failed
 abbrev pub HoldsOfDevice : ListFault → (List ℕ → Type 0) → Type 0
-HoldsOfDevice fault P = opening.HoldsOfFile P (refusal_of fault).place
+HoldsOfDevice fault P = opening.HoldsOfFile P (refusal_of fault).location
 
 -- a fault of the sums of a list, which comes when both lists are open
 abbrev pub IsOfSums : ListFault → Type 0

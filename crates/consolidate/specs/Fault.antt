@@ -20,11 +20,11 @@ use Rattle.consolidate.specs.declared.fault.Fault.TheVariants.{Project, Interval
 
 -- before the first write
 abbrev early : ℕ → Refusal
-early number = record { number = number; place = Nowhere; late = false }
+early number = record { number = number; location = Nowhere; late = false }
 
 -- after it: what is written is unfinished
 abbrev late : ℕ → Where → Refusal
-late number place = record { number = number; place = place; late = true }
+late number place = record { number = number; location = place; late = true }
 
 -- the name of an output
 abbrev pub name_of_output : OutputFile → bytes.List ℕ
@@ -44,7 +44,7 @@ place_of_marks (marks.Device file) = File (name_of (marks.Device file))
 
 -- of marks that an earlier rendering left
 abbrev pub refusal_of_marks : MarkFault → Refusal
-refusal_of_marks fault = record { number = number_of fault; place = place_of_marks fault; late = false }
+refusal_of_marks fault = record { number = number_of fault; location = place_of_marks fault; late = false }
 
 abbrev pub refusal_of : Fault → Refusal
 refusal_of (Project fault) = opening.refusal_of fault

@@ -161,7 +161,7 @@ impl Fault {
 
     /// A fault of the execution of a rendering. It comes after the first write.
     pub(crate) fn of_execution(cause: ExecutionFault) -> Fault
-        ensures told { result ≡ rendering_fault cause }
+        ensures reported { result ≡ rendering_fault cause }
         ensures late { (refusal_of result).late ≡ true }
         ensures due { IsDue (refusal_of result) None }
         ensures scheduled { (text : List ℕ) → IsOfRenderSchedule text result }

@@ -35,7 +35,7 @@ fn schedule_checked<S: Shelf, B: Bench>(
     bench: &mut B,
 ) -> Result<Progress, Fault>
     requires { HaveChannels choice.now.options }
-    ensures does { DoesWork S.Shelf B.Bench IsAllDone (λ told progress. told ≡ progress)
+    ensures does { DoesWork S.Shelf B.Bench IsAllDone (λ reported progress. reported ≡ progress)
         (list_marking list.now (values_of choice.now.options) (S.stored shelf.old) checked.now.project checked.now.bound)
         (run_of list.now (range_of checked.now.project (values_of choice.now.options))) ⊤ (NoneStarted (B.may_leave bench.old))
         (RendersBound choice.now.jobs (λ _. events.now) list.now (values_of choice.now.options) checked.now.project checked.now.bound

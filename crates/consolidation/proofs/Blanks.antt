@@ -71,7 +71,7 @@ module _ (plan : MediaPlan) (is : IsMediaPlan plan) (sources : Files) where
       let few : length (frames_in facts (content sources facts.name) (run.first + p * 65536) n) ≤ n * width =
       omega (
         arith,
-        length-take (n * width) (drop (facts.place + (run.first + p * 65536) * width) (content sources facts.name)),
+        length-take (n * width) (drop (facts.offset + (run.first + p * 65536) * width) (content sources facts.name)),
       ) in
       let most : (p * 65536 + n) * width ≤ run.length * width = mul-le-mul_right width (omega (arith, below)) in
       let from = at.0 in

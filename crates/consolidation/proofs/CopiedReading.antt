@@ -22,7 +22,7 @@ read_there : (files : Files) (sounds : List SoundFacts) (file channel frame : �
     → reading_by files sounds file channel frame
     ≡ (if nat_le 1 channel && nat_le channel facts.channels
     then full_scale (bits_of facts.depth)
-    (sample_at bytes facts.place facts.channels (bits_of facts.depth) frame channel) else pos 0)
+    (sample_at bytes facts.offset facts.channels (bits_of facts.depth) frame channel) else pos 0)
 read_there files sounds file channel frame facts bytes opened there below =
     let within = lt-ltb frame facts.frames below in
     rw (opened, there, within) refl

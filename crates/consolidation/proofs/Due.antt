@@ -46,7 +46,7 @@ module _ (work : Work) where
       in_turn refusal (nat_lt 32767 (length work.runs)) (nat_lt 32767 (length work.groups)) early
 
   pub too_many_runs : 32767 < length work.runs
-      → work_fault work ≡ Some (record { number = 53; place = Nowhere; late = false })
+      → work_fault work ≡ Some (record { number = 53; location = Nowhere; late = false })
   too_many_runs many = rw (above (length work.runs) 32767 many) refl
 
   -- what comes before the groups are counted comes in turn behind the runs
@@ -56,7 +56,7 @@ module _ (work : Work) where
       rw (below (length work.runs) 32767 few) (in_seventh refusal (nat_lt 32767 (length work.groups)) early)
 
   pub too_many_groups : length work.runs ≤ 32767 → 32767 < length work.groups
-      → work_fault work ≡ Some (record { number = 55; place = Nowhere; late = false })
+      → work_fault work ≡ Some (record { number = 55; location = Nowhere; late = false })
   too_many_groups few many = rw (below (length work.runs) 32767 few, above (length work.groups) 32767 many) refl
 
   pub nothing_due : length work.runs ≤ 32767 → length work.groups ≤ 32767 → work_fault work ≡ None

@@ -127,7 +127,7 @@ module _ (plan : MediaPlan) (is : IsMediaPlan plan) where
       omega (
         arith,
         length-take (n * width)
-            (drop (facts.place + (run.first + p * 65536) * width) (content sources facts.name)),
+            (drop (facts.offset + (run.first + p * 65536) * width) (content sources facts.name)),
       ) in
       let most : (p * 65536 + n) * width ≤ (q * 65536) * width = mul-le-mul_right width (omega (arith, less)) in
       omega (arith, few, most)
@@ -176,7 +176,7 @@ module _ (plan : MediaPlan) (is : IsMediaPlan plan) where
     source_of_run run = content sources (source_at run).name
 
     abbrev at_of : Run → ℕ
-    at_of run = (source_at run).place + run.first * frame_length (source_at run)
+    at_of run = (source_at run).offset + run.first * frame_length (source_at run)
 
     -- the sources hold all frames of each run
     abbrev pub AreFull : Type 0
@@ -202,10 +202,10 @@ module _ (plan : MediaPlan) (is : IsMediaPlan plan) where
         let found_run : run_at plan.runs i ≡ run = ap (λ o. unwrap_or o no_run) there in
         let piece : job_of plan.runs (jobs_before plan.runs i + p) ≡ piece_from i run p =
         piece_there plan.runs i run p there below in
-        let long : length (take (n * frame_length facts) (drop (facts.place + (run.first + p * 65536) * frame_length facts)
+        let long : length (take (n * frame_length facts) (drop (facts.offset + (run.first + p * 65536) * frame_length facts)
         (source_of_run run))) ≡ n * frame_length facts =
         rw (piece, found_run) at (pieces (jobs_before plan.runs i + p) (job_within plan.runs i run p there below)) in
-        to_the_end (frame_length facts) facts.place run.first (p * 65536) n run.length (source_of_run run) last
+        to_the_end (frame_length facts) facts.offset run.first (p * 65536) n run.length (source_of_run run) last
         (omega (arith, some)) long
 
     -- which job has a byte of the samples of a medium
@@ -239,8 +239,8 @@ module _ (plan : MediaPlan) (is : IsMediaPlan plan) where
         mul-le-mul_right width (omega (arith, below)) in
         let inside : at_of run + run.length * width ≤ length (source_of_run run) =
         whole_inside (source_of_run run) (at_of run) (run.length * width) (omega (arith, behind, before)) (full i run there) in
-        let from_is : at_of run + p * 65536 * width ≡ facts.place + (run.first + p * 65536) * width = omega arith in
-        let long : length (take (n * width) (drop (facts.place + (run.first + p * 65536) * width) (source_of_run run)))
+        let from_is : at_of run + p * 65536 * width ≡ facts.offset + (run.first + p * 65536) * width = omega arith in
+        let long : length (take (n * width) (drop (facts.offset + (run.first + p * 65536) * width) (source_of_run run)))
         ≡ n * width =
         subst (λ (k : ℕ). length (take (n * width) (drop k (source_of_run run))) ≡ n * width) from_is
         (length-stretch (source_of_run run) (at_of run) (run.length * width) inside (p * 65536 * width) (n * width) (omega (arith, few))) in
@@ -342,7 +342,7 @@ module _ (plan : MediaPlan) (is : IsMediaPlan plan) where
 
       -- where the run's frames begin and end in it
       run_inside : (i : ℕ) (run : Run) → slice_get plan.runs i ≡ Some run
-          → ((source_at run).place + run.first * frame_length (source_at run))
+          → ((source_at run).offset + run.first * frame_length (source_at run))
           + run.length * frame_length (source_at run) ≤ length (source_of_run run)
       run_inside i run there =
           let of_file = (medium_run i run there).addressed.of_file in
@@ -376,8 +376,8 @@ module _ (plan : MediaPlan) (is : IsMediaPlan plan) where
           let head_is : length head + p * 65536 * width
           ≡ data_place (run_info plan.sounds plan.homes run) + p * 65536 * width =
           ap (λ (k : ℕ). k + p * 65536 * width) (medium_run i run there).head in
-          let from_is : at_of run + p * 65536 * width ≡ facts.place + (run.first + p * 65536) * width = omega arith in
-          rw own (subst (λ (k : ℕ). StandsIn k (take (n * width) (drop (facts.place + (run.first + p * 65536) * width)
+          let from_is : at_of run + p * 65536 * width ≡ facts.offset + (run.first + p * 65536) * width = omega arith in
+          rw own (subst (λ (k : ℕ). StandsIn k (take (n * width) (drop (facts.offset + (run.first + p * 65536) * width)
           (source_of_run run))) (medium_by plan.sounds plan.homes sources run)) head_is
           (subst (λ (k : ℕ). StandsIn (length head + p * 65536 * width) (take (n * width) (drop k (source_of_run run)))
           (medium_by plan.sounds plan.homes sources run)) from_is stands))
@@ -406,7 +406,7 @@ module _ (plan : MediaPlan) (is : IsMediaPlan plan) where
           let n : ℕ = min 65536 (run.length - p * 65536) in
           let few : (p * 65536 + n) * width ≤ run.length * width =
           mul-le-mul_right width (omega (arith, below)) in
-          let from_is : at_of run + p * 65536 * width ≡ facts.place + (run.first + p * 65536) * width = omega arith in
+          let from_is : at_of run + p * 65536 * width ≡ facts.offset + (run.first + p * 65536) * width = omega arith in
           rw found_run (subst (λ (k : ℕ). length (take (n * width) (drop k (source_of_run run))) ≡ n * width) from_is
           (length-stretch (source_of_run run) (at_of run) (run.length * width) (run_inside i run there)
           (p * 65536 * width) (n * width) (omega (arith, few))))

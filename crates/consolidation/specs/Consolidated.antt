@@ -38,7 +38,7 @@ pub record IsWorkOf (leave : Leaving) (project : ListProject) (binding : Binding
 
 -- 53: more runs than a list has indexes; 55: more groups than it has entries
 abbrev pub refused_if : Bool → ℕ → Option Refusal
-refused_if faulty number = if faulty then Some (record { number = number; place = Nowhere; late = false }) else None
+refused_if faulty number = if faulty then Some (record { number = number; location = Nowhere; late = false }) else None
 
 abbrev pub work_fault : Work → Option Refusal
 work_fault work =

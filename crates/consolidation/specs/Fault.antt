@@ -17,7 +17,7 @@ number_of (Relink fault) = relink.number_of fault
 
 -- each comes before the first write
 abbrev pub refusal_of : ConsolidationFault → Refusal
-refusal_of fault = record { number = number_of fault; place = Nowhere; late = false }
+refusal_of fault = record { number = number_of fault; location = Nowhere; late = false }
 
 -- this holds of the name of the file of this place
 abbrev pub HoldsOfSound : List SoundFacts → ℕ → (List ℕ → Type 0) → Type 0

@@ -28,25 +28,25 @@ fn run_of(runs: &[Run], ends: &[u32], job: u32) -> usize
 }
 
 /// How many jobs the runs before this place have, where the runs' jobs end so.
-fn before(ends: &[u32], place: usize) -> u32
-    requires { place ≤ length ends.now }
-    ensures { (runs : List run.Run) → AreEnds runs ends.now → result ≡ jobs_before runs place }
+fn before(ends: &[u32], position: usize) -> u32
+    requires { position ≤ length ends.now }
+    ensures { (runs : List run.Run) → AreEnds runs ends.now → result ≡ jobs_before runs position }
 {
-    if place == 0 {
+    if position == 0 {
         return 0;
     }
-    ends[place - 1]
+    ends[position - 1]
 }
 
 /// The piece of a run that begins behind so many others.
-fn piece_of(run: &Run, place: u32, number: u32) -> CopyJob
+fn piece_of(run: &Run, position: u32, number: u32) -> CopyJob
     requires { number < spec.pieces_in run.now }
-    ensures { result ≡ spec.piece_from place run.now number }
+    ensures { result ≡ spec.piece_from position run.now number }
 {
     let from = u64::from(number) * PIECE;
     let left = run.length - from;
     CopyJob {
-        run: place,
+        run: position,
         from,
         frames: left.min(PIECE) as u32,
     }
@@ -69,9 +69,9 @@ impl<'a> Consolidation<'a> {
     {
         let runs = self.runs.as_slice();
         let ends = self.ends.as_slice();
-        let place = run_of(runs, ends, job);
-        let number = job - before(ends, place);
-        piece_of(&runs[place], place as u32, number)
+        let position = run_of(runs, ends, job);
+        let number = job - before(ends, position);
+        piece_of(&runs[position], position as u32, number)
     }
 
     /// How many bytes a piece has.
@@ -99,7 +99,7 @@ impl<'a> Consolidation<'a> {
     }
 
     /// Writes the bytes of a piece at their place in the medium of its run.
-    pub(crate) fn place<B: Bench>(
+    pub(crate) fn write<B: Bench>(
         &self,
         piece: CopyJob,
         bytes: &[u8],

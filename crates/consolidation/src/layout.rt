@@ -12,21 +12,21 @@ impl<'a> Consolidation<'a> {
     /// Makes the medium of the run at this place at its full length, all samples zero. Its header is made in `room`.
     pub(crate) fn blank_medium<B: Bench>(
         &self,
-        place: usize,
+        position: usize,
         room: &mut [u8; LONGEST_HEADER],
         bench: &mut B,
     ) -> Result<(), DeviceFault>
-        requires { place < length self.now.runs }
-        ensures laid { IsTrue (B.honest bench.old) → OnOk result (IsLaidOut self.now (B.stored bench.new) place) }
-        ensures only_writes { OnlyWrites B.Bench (λ n. n ≢ media_name (place + 1)) bench.old bench.new result (λ _. ⊤)
-            (λ _ failed. failed (media_name (place + 1))) }
+        requires { position < length self.now.runs }
+        ensures laid { IsTrue (B.honest bench.old) → OnOk result (IsLaidOut self.now (B.stored bench.new) position) }
+        ensures only_writes { OnlyWrites B.Bench (λ n. n ≢ media_name (position + 1)) bench.old bench.new result (λ _. ⊤)
+            (λ _ failed. failed (media_name (position + 1))) }
         ensures later { B.moment bench.old ≤ B.moment bench.new }
     {
-        let run = &self.runs.as_slice()[place];
+        let run = &self.runs.as_slice()[position];
         let sound = &self.bound.sounds()[run.file as usize];
         let base = self.runs.homes().base(run.file);
         let info = info_of(sound, base, run);
-        let name = medium_name(place as u64 + 1);
+        let name = medium_name(position as u64 + 1);
         lay_out_in(bench, name.as_str(), &info, room)
     }
 }

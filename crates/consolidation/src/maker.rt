@@ -40,9 +40,9 @@ impl<'a> JobMaker for Consolidation<'a> {
         }
     }
 
-    fn place<B: Bench>(&mut self, job: u32, bytes: &[u8], bench: &mut B) -> Result<(), PlaceFault> {
+    fn write<B: Bench>(&mut self, job: u32, bytes: &[u8], bench: &mut B) -> Result<(), PlaceFault> {
         let piece = self.piece(job);
-        match Consolidation::place(self, piece, bytes, bench) {
+        match Consolidation::write(self, piece, bytes, bench) {
             Ok(()) => Ok(()),
             Err(_) => Err(PlaceFault::Write),
         }

@@ -126,7 +126,7 @@ fn act<W: JobMaker, S: Shelf, B: Bench>(
         (done_of shop.old.board) (done_of shop.new.board) (hands_in shop.old.hands) (hands_in shop.new.hands) }
     ensures ready { IsReady (W.plan shop.old.work).jobs shop.new.board shop.new.hands }
     ensures counted { stale.new ≤ stale.old + 1 }
-    ensures place { IsErrOf result execution_fault.Memory → number ≢ 1 }
+    ensures memory { IsErrOf result execution_fault.Memory → number ≢ 1 }
     ensures room { IsErrOf result execution_fault.JobMemory → (action ≡ action_kind.Work) × (number ≢ 1) }
     ensures no_output { (file : ℕ) → IsErrOf result (execution_fault.Output file) → ⊥ }
 {
@@ -180,7 +180,7 @@ pub fn step<W: JobMaker, S: Shelf, B: Bench>(
         (done_of shop.old.board) (done_of shop.new.board) (hands_in shop.old.hands) (hands_in shop.new.hands) }
     ensures ready { IsReady (W.plan shop.old.work).jobs shop.new.board shop.new.hands }
     ensures counted { stale.new ≤ stale.old + 1 }
-    ensures place { IsErrOf result execution_fault.Memory → NeedsPlace event }
+    ensures memory { IsErrOf result execution_fault.Memory → NeedsPlace event }
     ensures room { IsErrOf result execution_fault.JobMemory → NeedsRoom event }
     ensures no_output { (file : ℕ) → IsErrOf result (execution_fault.Output file) → ⊥ }
 {

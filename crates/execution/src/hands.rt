@@ -32,7 +32,7 @@ impl Hands {
     /// Makes a place for the worker. Only this takes memory.
     pub fn make_place(&mut self, alloc: Global, number: u32) -> Result<(), AllocError>
         ensures hands { (v : ℕ) → hands_in self.new v ≡ hands_in self.old v }
-        ensures place { OnOk result (has_place self.new number ≡ true) }
+        ensures slot { OnOk result (has_place self.new number ≡ true) }
         ensures first { self.new.first ≡ self.old.first }
         ensures needed { IsErr result → number ≢ 1 }
     {
@@ -49,7 +49,7 @@ impl Hands {
     pub fn take(&mut self, alloc: Global, number: u32) -> Worker
         requires { has_place self.old number ≡ true }
         ensures hand { result.hand ≡ hands_in self.old number }
-        ensures place { has_place self.new number ≡ true }
+        ensures slot { has_place self.new number ≡ true }
         ensures others { (v : ℕ) → v ≢ number → hands_in self.new v ≡ hands_in self.old v }
         ensures first { number ≡ 1 → result.room ≡ self.old.first.room }
         ensures same_first { number ≢ 1 → self.new.first ≡ self.old.first }

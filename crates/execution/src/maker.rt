@@ -54,7 +54,7 @@ pub trait JobMaker {
         ensures only_reads { OnlyReads S.Shelf shelf.old shelf.new result (λ _. ⊤) (λ _ failed. ⊤) };
 
     /// Writes the bytes of the job at its place, and marks it.
-    fn place<B: Bench>(&mut self, job: u32, bytes: &[u8], bench: &mut B) -> Result<(), PlaceFault>
+    fn write<B: Bench>(&mut self, job: u32, bytes: &[u8], bench: &mut B) -> Result<(), PlaceFault>
         requires there { job < (plan self.old).jobs.count }
         requires room { length bytes.now ≡ (plan self.old).jobs.size job }
         ensures placed { IsTrue (B.honest bench.old) → IsPlaced (plan self.old).jobs (plan self.old).marks job bytes.now

@@ -183,7 +183,7 @@ pub fn deliver<W: JobMaker, B: Bench>(
         *stale += 1;
         return Ok(());
     }
-    match maker.place(ticket.job, &worker.bytes[..worker.size], bench) {
+    match maker.write(ticket.job, &worker.bytes[..worker.size], bench) {
         Ok(()) => {
             accept(board, ticket);
             return Ok(());

@@ -87,8 +87,8 @@ fn path_in(stood: &[u8]) -> Option<&[u8]> {
     if !starts_in_any_case(b"file://", file) {
         return None;
     }
-    let place = file.get(7..)?;
-    let mut parts = place.splitn(2, |byte| *byte == b'/');
+    let address = file.get(7..)?;
+    let mut parts = address.splitn(2, |byte| *byte == b'/');
     parts.next()?;
     parts.next()
 }

@@ -72,14 +72,14 @@ impl<'a> ListLines<'a> {
 
     /// The line of this number, counted from 1, without its end. A byte order mark in front of the list is no part of it.
     fn line(&mut self, number: u64) -> Option<&'a [u8]> {
-        let place = usize::try_from(number.checked_sub(1)?).ok()?;
-        if place <= self.ends {
+        let position = usize::try_from(number.checked_sub(1)?).ok()?;
+        if position <= self.ends {
             self.rest = without_mark(self.list);
             self.ends = 0;
         }
-        let (near, left) = behind_blocks(self.rest, place.saturating_sub(self.ends));
+        let (near, left) = behind_blocks(self.rest, position.saturating_sub(self.ends));
         self.rest = near;
-        self.ends = place.saturating_sub(left);
+        self.ends = position.saturating_sub(left);
         let line = near.split(|byte| *byte == b'\n').nth(left)?;
         Some(line.strip_suffix(b"\r").unwrap_or(line))
     }

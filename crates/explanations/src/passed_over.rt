@@ -50,7 +50,7 @@ impl<'a> PassedLines<'a> {
                 break;
             }
             let passed = words_in(section, text);
-            section = section.behind(text);
+            section = section.after(text);
             if let Some(words) = passed {
                 self.section = section;
                 let line = self.lines.number();
@@ -111,7 +111,7 @@ impl Section {
     }
 
     /// The section in which the line behind this one stands.
-    fn behind(self, line: &[u8]) -> Section {
+    fn after(self, line: &[u8]) -> Section {
         match named_by(line) {
             Some(name) => Section::of(name),
             None if line.starts_with(b"</") => Section::Other,
@@ -135,9 +135,9 @@ fn words_in(section: Section, line: &[u8]) -> Option<&[u8]> {
     }
     let sought = Sought::of(section, line)?;
     let mut tokens = Tokens::new(line);
-    for place in 1..=line.len() {
+    for position in 1..=line.len() {
         match tokens.next_token() {
-            Ok(Some(token)) if sought.is_at(place, token) => {
+            Ok(Some(token)) if sought.is_at(position, token) => {
                 return match sought {
                     Sought::CrossfadeLength => Some(line),
                     _ => from_token(line, token, tokens.rest),
@@ -190,11 +190,11 @@ impl Sought {
     }
 
     /// Whether it stands at this place of the line, counted from 1.
-    fn is_at(self, place: usize, token: Token<'_>) -> bool {
+    fn is_at(self, position: usize, token: Token<'_>) -> bool {
         match self {
             Sought::TrackSetting => is_track_setting(token),
-            Sought::CrossfadeLength => place == 2 && !is_zero(token.content),
-            Sought::BehindEntry => place > ENTRY_FIELDS && !is_usual(token.content),
+            Sought::CrossfadeLength => position == 2 && !is_zero(token.content),
+            Sought::BehindEntry => position > ENTRY_FIELDS && !is_usual(token.content),
         }
     }
 }

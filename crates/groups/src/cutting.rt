@@ -29,7 +29,7 @@ fn before(piece: &Piece, time: u64) -> Option<Piece>
 }
 
 /// What of a piece lies from this time on.
-fn behind(piece: &Piece, time: u64) -> Option<Piece>
+fn after(piece: &Piece, time: u64) -> Option<Piece>
     requires { IsPiece piece.now }
     ensures { option_to_list result ≡ piece_behind time piece.now }
 {
@@ -44,7 +44,7 @@ fn behind(piece: &Piece, time: u64) -> Option<Piece>
         start: time,
         length: piece.length - cut,
         frame: piece.frame + cut,
-        shape: piece.shape.behind(cut),
+        shape: piece.shape.after(cut),
         ..*piece
     })
 }
@@ -81,7 +81,7 @@ impl Group {
     {
         let mut pieces = Pieces::new(self.allocator());
         for piece in self.pieces() {
-            if let Some(piece) = behind(piece, time) {
+            if let Some(piece) = after(piece, time) {
                 pieces.push(piece)?;
             }
         }

@@ -42,7 +42,7 @@ first_fault None later = later
 first_fault (Some refusal) later = Some refusal
 
 abbrev pub entry_refusal : Event → ℕ → Refusal
-entry_refusal event number = record { number = number; place = Entry event.number; late = false }
+entry_refusal event number = record { number = number; location = Entry event.number; late = false }
 
 -- the first of these faults in the order of the entries
 abbrev pub event_fault : Binding → List Event → Option Refusal

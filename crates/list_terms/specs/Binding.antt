@@ -72,4 +72,4 @@ abbrev pub with_known_file : Binding → Source → Place → ℕ → Option Ope
 with_known_file binding source place file None = Ok binding
 with_known_file binding source place file (Some opened) = if bytes_eq opened.path place.path
     then Ok (with_index binding source file opened.facts false binding.files)
-    else Err (record { number = 30; place = Index source.number; late = false })
+    else Err (record { number = 30; location = Index source.number; late = false })

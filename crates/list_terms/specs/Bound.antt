@@ -18,7 +18,7 @@ sound_under name (Some file) = err_map number_of (sound_of name file)
 
 -- why the file of an index is refused
 abbrev pub file_refusal : Source → Place → ℕ → Refusal
-file_refusal source place number = record { number = number; place = IndexFile source.number place.name; late = false }
+file_refusal source place number = record { number = number; location = IndexFile source.number place.name; late = false }
 
 -- the index bound to a file that isn't opened yet
 abbrev pub bound_to_new : Files → Binding → Source → Place → Result Binding Refusal

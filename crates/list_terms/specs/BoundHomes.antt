@@ -27,7 +27,7 @@ pub record IsBinding (binding : Binding) : Type 0 where
 
 -- what an index tells that stands at this place among those bound
 abbrev pub home_at : ℕ → BoundIndex → Home
-home_at place index = record { base = index.base; addressable = index.addressable; place = place }
+home_at position index = record { base = index.base; addressable = index.addressable; position = position }
 
 -- the earlier of two homes, unless the later one has the lesser base
 abbrev pub earlier_home : Home → Option Home → Home
@@ -43,7 +43,7 @@ home_from place (index ∷ indexes) file =
 
 -- of a file without an index, which no binding has
 abbrev pub no_home : Home
-no_home = record { base = 0; addressable = 0; place = 0 }
+no_home = record { base = 0; addressable = 0; position = 0 }
 
 -- the homes of these files, which stand from this one on
 abbrev pub homes_from : List BoundIndex → ℕ → List OpenedFile → List Home

@@ -424,7 +424,7 @@ where_of (location.Entry line entry) = LineEntry line entry
 where_of (location.Index line index) = LineIndex line index
 
 abbrev pub text_refusal : LocatedFault → Refusal
-text_refusal f = record { number = fault_number f.fault; place = where_of f.location; late = false }
+text_refusal f = record { number = fault_number f.fault; location = where_of f.location; late = false }
 
 -- ---- the rate of frames
 

@@ -40,13 +40,13 @@ abbrev answer : List (List ℕ) → Option Refusal
 answer lines = refused (text_value (text_with (10 ∷ []) lines))
 
 abbrev at_line : ℕ → ℕ → Option Refusal
-at_line number line = Some (record { number = number; place = Line line; late = false })
+at_line number line = Some (record { number = number; location = Line line; late = false })
 
 abbrev at_entry : ℕ → ℕ → ℕ → Option Refusal
-at_entry number line entry = Some (record { number = number; place = LineEntry line entry; late = false })
+at_entry number line entry = Some (record { number = number; location = LineEntry line entry; late = false })
 
 abbrev at_index : ℕ → ℕ → ℕ → Option Refusal
-at_index number line index = Some (record { number = number; place = LineIndex line index; late = false })
+at_index number line index = Some (record { number = number; location = LineIndex line index; late = false })
 
 -- the sample list, with LF and with CR LF, behind a byte order mark, without its last end
 pub accepted : map refused (text_value (text_with (10 ∷ []) (list_of (source ∷ []) (entry ∷ [])))

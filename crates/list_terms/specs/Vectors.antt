@@ -32,7 +32,7 @@ facts frames reference = record {
   channels = 1;
   depth = Sixteen;
   frames = frames;
-  place = 44;
+  offset = 44;
   text = None;
   time_reference = reference;
   history = [];
@@ -109,7 +109,7 @@ abbrev here : ℕ → Source
 here number = source number (codes "URL:file://localhost/A.wav") (Some 0)
 
 abbrev refusal : ℕ → Refusal
-refusal number = record { number = number; place = Entry 7; late = false }
+refusal number = record { number = number; location = Entry 7; late = false }
 
 pub accepted : fault (here 1 ∷ []) (event 1 0 1 0 4 0 0 ∷ []) ≡ None
 unfolding is_utf8 chars encode percent_decode
@@ -140,7 +140,7 @@ default_ranges = refl
 -- a file that isn't there is refused where an entry uses it, before any entry
 pub missing_file : fault (here 1 ∷ source 2 (codes "file:///B.wav") None ∷ [])
     (event 3 0 1 0 4 0 0 ∷ event 2 0 1 0 4 0 0 ∷ [])
-    ≡ Some (record { number = 21; place = IndexFile 2 (codes "B.wav"); late = false })
+    ≡ Some (record { number = 21; location = IndexFile 2 (codes "B.wav"); late = false })
 unfolding is_utf8 chars encode percent_decode
 missing_file = refl
 
@@ -148,6 +148,6 @@ missing_file = refl
 pub two_paths : map (λ events. fault (source 1 (codes "file:///x/A.wav") None ∷ source 2 (codes "file:///y/A.wav") None
     ∷ []) events)
     ((event 1 0 1 0 4 0 0 ∷ event 2 0 1 0 4 0 0 ∷ []) ∷ (event 1 0 1 0 4 0 0 ∷ []) ∷ [])
-    ≡ Some (record { number = 30; place = Index 2; late = false }) ∷ None ∷ []
+    ≡ Some (record { number = 30; location = Index 2; late = false }) ∷ None ∷ []
 unfolding is_utf8 chars encode percent_decode
 two_paths = refl

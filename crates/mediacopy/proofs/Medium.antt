@@ -22,12 +22,12 @@ frames_end width place first count frames end inside whole =
 
 module _ (facts : SoundFacts) (source : List ℕ) (run : Run) where
   abbrev at : ℕ
-  at = facts.place + run.first * frame_length facts
+  at = facts.offset + run.first * frame_length facts
 
   whole : run.first + run.length ≤ facts.frames → HasFrames facts source
       → length (frames_in facts source run.first run.length) ≡ run.length * frame_length facts
   whole inside has =
-      let end = frames_end (frame_length facts) facts.place run.first run.length facts.frames (length source) inside
+      let end = frames_end (frame_length facts) facts.offset run.first run.length facts.frames (length source) inside
       has in
       let left : run.length * frame_length facts ≤ length (drop at source) =
       omega (arith, end, length-drop at source) in

@@ -14,13 +14,13 @@ laid_out info = file_of info (zeros (data_size info))
 
 -- the file has all frames that are told of it
 abbrev pub HasFrames : SoundFacts → List ℕ → Type 0
-HasFrames facts file = facts.place + facts.frames * frame_length facts ≤ length file
+HasFrames facts file = facts.offset + facts.frames * frame_length facts ≤ length file
 
 -- the samples of a file from this place on are those of a run of a source
 abbrev pub HasSamplesOf : SoundFacts → List ℕ → Run → (file : List ℕ) (place : ℕ) → Type 0
 HasSamplesOf facts source run file place = (i channel : ℕ) → i < run.length → 1 ≤ channel → channel ≤ facts.channels
     → sample_at file place facts.channels (bits_of facts.depth) i channel
-    ≡ sample_at source facts.place facts.channels (bits_of facts.depth) (run.first + i) channel
+    ≡ sample_at source facts.offset facts.channels (bits_of facts.depth) (run.first + i) channel
 
 -- the medium of a run of a source with these bytes has all of the run's frames, reads back, and has its samples
 pub record IsMedium (facts : SoundFacts) (source : List ℕ) (base : ℕ) (run : Run) : Type 0 where

@@ -20,7 +20,7 @@ const HEADER: u64 = 690;
 
 /// Where the samples begin in the media of a source.
 fn place_in_media(sound: &Sound) -> u64
-    ensures place { result ≡ 88 + (602 + length sound.now.history + (602 + length sound.now.history) % 2) }
+    ensures offset { result ≡ 88 + (602 + length sound.now.history + (602 + length sound.now.history) % 2) }
     ensures near { result ≤ 66226 }
 {
     let history = sound.history().len() as u64;
@@ -132,9 +132,9 @@ pub fn place_piece<B: Bench>(
     ensures later { B.moment bench.old ≤ B.moment bench.new }
 {
     let sound = source_of(bound, runs, job);
-    let place = place_in_media(sound) + job.from * frame_of(sound);
+    let offset = place_in_media(sound) + job.from * frame_of(sound);
     let name = medium_name(u64::from(job.run) + 1);
-    match bench.write_at(name.as_str(), place, bytes) {
+    match bench.write_at(name.as_str(), offset, bytes) {
         Ok(()) => Ok(()),
         Err(_) => Err(CopyFault::Output),
     }

@@ -47,8 +47,8 @@ same_file homes are s later is other same = by_test (s.file == later.file) refl 
   by_test true test = grind (arith, nat_tests, test)
   by_test false test =
       let apart : s.file ≢ later.file = λ e. grind (arith, nat_tests, test, e) in
-      let one : place_by homes s.file ≡ is.home.place = rw (is.there) refl in
-      let two : place_by homes later.file ≡ other.home.place = rw (other.there) refl in
+      let one : place_by homes s.file ≡ is.home.position = rw (is.there) refl in
+      let two : place_by homes later.file ≡ other.home.position = rw (other.there) refl in
       absurd (are.apart s.file later.file is.home other.home apart is.there other.there (sym one ∙ same ∙ two))
 
 any_all : {X : Type 0} (p : X → Bool) (Q : X → Type 0) (xs : List X) → All Q xs → list_any p xs ≡ true

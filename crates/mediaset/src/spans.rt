@@ -36,7 +36,7 @@ fn span_of(piece: &Piece, homes: &Homes, handle: u64) -> Option<Span>
         return None;
     }
     Some(Span {
-        key: u64::from(home.place) * DAY_ROOM + first,
+        key: u64::from(home.position) * DAY_ROOM + first,
         file: piece.file,
         first,
         end,

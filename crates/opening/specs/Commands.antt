@@ -23,7 +23,7 @@ HoldsOfFile P _ = ⊥
 abbrev pub ReadsSources : {S X : Type 0} → source.Ghosts S → S → S → Result X Fault → Type 0
 ReadsSources shelf old new result =
     OnlyReads shelf old new result (λ fault. (refusal_of fault).number ≡ 22)
-    (λ fault failed. HoldsOfFile failed (refusal_of fault).place)
+    (λ fault failed. HoldsOfFile failed (refusal_of fault).location)
 
 -- a text with a fault is refused, whatever the files are
 abbrev pub RefusesBadText : {X : Type 0} → List ℕ → Result X Fault → Type 0

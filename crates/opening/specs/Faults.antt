@@ -10,7 +10,7 @@ use Rattle.opening.specs.declared.fault.Fault.TheVariants as fault
 
 abbrev pub refusal_of : Fault → Refusal
 refusal_of (fault.List fault) = list.refusal fault
-refusal_of (fault.SameName index) = record { number = 30; place = Index index; late = false }
+refusal_of (fault.SameName index) = record { number = 30; location = Index index; late = false }
 refusal_of (fault.Media index name fault) =
-    record { number = media.number_of fault; place = file_at index name; late = false }
+    record { number = media.number_of fault; location = file_at index name; late = false }
 refusal_of (fault.Entry fault) = entry.refusal_of fault

@@ -59,18 +59,18 @@ fn place_for(ends: &Marks, group: &Group) -> Option<usize>
 /// Adds a group to the end of the one at this place, the first that it may follow.
 fn append(
     output: &mut Output,
-    place: usize,
+    position: usize,
     group: Group,
     end: Option<End>,
 ) -> Result<(), AllocError>
     requires end { end ≡ group_end group }
     requires ends { output.old.ends ≡ map group_end output.old.groups.items }
-    requires first { IsFirst (group_follows group) output.old.ends (Some place) }
+    requires first { IsFirst (group_follows group) output.old.ends (Some position) }
     ensures ends { OnOk result (output.new.ends ≡ map group_end output.new.groups.items) }
     ensures put { OnOk result (output.new.groups.items ≡ spec.put_grouped output.old.groups.items group) }
 {
-    output.groups[place].append(group)?;
-    output.ends.set(place, end)
+    output.groups[position].append(group)?;
+    output.ends.set(position, end)
 }
 
 /// Adds a group to the end of the first one that it may follow, and else puts it behind the others.
@@ -81,7 +81,7 @@ fn put_grouped(output: &mut Output, group: Group) -> Result<(), AllocError>
 {
     let end = end_of(&group);
     match place_for(&output.ends, &group) {
-        Some(place) => append(output, place, group, end),
+        Some(position) => append(output, position, group, end),
         None => output.push(group, end),
     }
 }

@@ -25,17 +25,17 @@ fn flat_alone(group: &Group) -> Option<Piece>
 }
 
 /// Lengthens the group of this place, the first that takes the piece.
-fn lengthen(output: &mut Output, place: usize, piece: Piece) -> Result<(), AllocError>
+fn lengthen(output: &mut Output, position: usize, piece: Piece) -> Result<(), AllocError>
     requires flat { piece.shape ≡ Flat }
     requires sound { IsPiece piece }
     requires ends { output.old.ends ≡ map flat_end output.old.groups.items }
-    requires first { IsFirst (is_end (end_before 1 piece)) output.old.ends (Some place) }
+    requires first { IsFirst (is_end (end_before 1 piece)) output.old.ends (Some position) }
     ensures ends { OnOk result (output.new.ends ≡ map flat_end output.new.groups.items) }
     ensures put { OnOk result (output.new.groups.items
         ≡ put_to_first (lengthened piece) (piece ∷ []) output.old.groups.items) }
 {
-    output.groups[place].lengthen(piece);
-    output.ends.set(place, Some(End::of(&piece)))
+    output.groups[position].lengthen(piece);
+    output.ends.set(position, Some(End::of(&piece)))
 }
 
 /// Puts a flat piece to the first one that it goes on from, and else behind the others.
@@ -48,7 +48,7 @@ fn put_flat(output: &mut Output, piece: Piece) -> Result<(), AllocError>
         ≡ put_to_first (lengthened piece) (piece ∷ []) output.old.groups.items) }
 {
     match output.ends.first(End::before(&piece, FLAT)) {
-        Some(place) => lengthen(output, place, piece),
+        Some(position) => lengthen(output, position, piece),
         None => {
             let alloc = *output.groups.allocator();
             output.push(Group::alone(alloc, piece), Some(End::of(&piece)))

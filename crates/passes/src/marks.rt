@@ -42,29 +42,29 @@ impl Marks {
     pub(crate) fn first(&self, end: End) -> Option<usize>
         ensures { IsFirst (is_end end) self.now result }
     {
-        let mut behind = self.places.range((end, 0)..);
-        let found = behind.next()?;
+        let mut after = self.places.range((end, 0)..);
+        let found = after.next()?;
         if found.0 == end { Some(found.1) } else { None }
     }
 
     /// Puts a mark to a place that has none.
-    fn put(&mut self, place: usize, end: End) -> Result<(), AllocError>
-        requires { slice_get self.old place ≡ Some None }
-        ensures { OnOk result (self.new ≡ slice_set self.old place (Some end)) }
+    fn put(&mut self, position: usize, end: End) -> Result<(), AllocError>
+        requires { slice_get self.old position ≡ Some None }
+        ensures { OnOk result (self.new ≡ slice_set self.old position (Some end)) }
     {
-        self.places.insert((end, place))?;
-        self.marks[place] = Some(end);
+        self.places.insert((end, position))?;
+        self.marks[position] = Some(end);
         Ok(())
     }
 
     /// Takes the mark of a place away.
-    fn clear(&mut self, place: usize)
-        requires { place < length self.old }
-        ensures { self.new ≡ slice_set self.old place None }
+    fn clear(&mut self, position: usize)
+        requires { position < length self.old }
+        ensures { self.new ≡ slice_set self.old position None }
     {
-        if let Some(end) = self.marks[place] {
-            self.places.remove(&(end, place));
-            self.marks[place] = None;
+        if let Some(end) = self.marks[position] {
+            self.places.remove(&(end, position));
+            self.marks[position] = None;
         }
     }
 
@@ -72,22 +72,22 @@ impl Marks {
     pub(crate) fn push(&mut self, mark: Option<End>) -> Result<(), AllocError>
         ensures { OnOk result (self.new ≡ self.old ++ mark ∷ []) }
     {
-        let place = self.marks.len();
+        let position = self.marks.len();
         self.marks.push(None)?;
         match mark {
-            Some(end) => self.put(place, end),
+            Some(end) => self.put(position, end),
             None => Ok(()),
         }
     }
 
     /// Puts a mark, or none, in place of what a place has.
-    pub(crate) fn set(&mut self, place: usize, mark: Option<End>) -> Result<(), AllocError>
-        requires { place < length self.old }
-        ensures { OnOk result (self.new ≡ slice_set self.old place mark) }
+    pub(crate) fn set(&mut self, position: usize, mark: Option<End>) -> Result<(), AllocError>
+        requires { position < length self.old }
+        ensures { OnOk result (self.new ≡ slice_set self.old position mark) }
     {
-        self.clear(place);
+        self.clear(position);
         match mark {
-            Some(end) => self.put(place, end),
+            Some(end) => self.put(position, end),
             None => Ok(()),
         }
     }

@@ -47,7 +47,7 @@ fn put_stretch<W: fmt::Write>(
         return Ok(());
     }
     let scale = Scale::new(span.0, span.1);
-    let left = scale.place(from);
+    let left = scale.position(from);
     let width = scale.width(to - from);
     writeln!(
         f,

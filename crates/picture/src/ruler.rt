@@ -66,7 +66,7 @@ pub fn put_ruler<W: fmt::Write>(
         if samples > to {
             break;
         }
-        let at = scale.place(samples);
+        let at = scale.position(samples);
         writeln!(f, "<line x1='{at}' y1='52' x2='{at}' y2='{bottom}'/>")?;
     }
     writeln!(f, "</g>")?;
@@ -104,7 +104,7 @@ fn put_times<W: fmt::Write>(
         if samples > to {
             break;
         }
-        let at = scale.place(samples);
+        let at = scale.position(samples);
         let time = TimeCode { project, samples };
         writeln!(f, "<text x='{at}' y='46'>{time}</text>")?;
     }

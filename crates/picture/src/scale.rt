@@ -38,13 +38,13 @@ impl Scale {
 
     /// Where so many samples end behind the left edge, in tenths of a pixel.
     pub fn width(self, samples: u64) -> Tenths {
-        let behind = samples.min(self.length).saturating_mul(DRAWN * 10);
-        Tenths(behind.checked_div(self.length).unwrap_or(0))
+        let scaled = samples.min(self.length).saturating_mul(DRAWN * 10);
+        Tenths(scaled.checked_div(self.length).unwrap_or(0))
     }
 
     /// Where a sample stands, in tenths of a pixel.
-    pub fn place(self, sample: u64) -> Tenths {
-        let Tenths(behind) = self.width(sample.saturating_sub(self.from));
-        Tenths(behind.saturating_add(LEFT * 10))
+    pub fn position(self, sample: u64) -> Tenths {
+        let Tenths(width) = self.width(sample.saturating_sub(self.from));
+        Tenths(width.saturating_add(LEFT * 10))
     }
 }

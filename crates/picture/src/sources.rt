@@ -134,7 +134,7 @@ fn put_runs<W: fmt::Write>(
 ) -> fmt::Result {
     for run in runs {
         if run.file as usize == file {
-            let from = scale.place(run.first);
+            let from = scale.position(run.first);
             let width = scale.width(run.length);
             writeln!(
                 f,

@@ -181,10 +181,10 @@ impl<'a> Timeline<'a> {
         if start < self.span.0 || self.span.1 < end {
             return put_cut(f, self.span, event, top);
         }
-        let from = scale.place(start);
-        let risen = scale.place(start.saturating_add(event.rise.length.get()));
-        let falling = scale.place(end.saturating_sub(event.fall.length.get()));
-        let to = scale.place(end);
+        let from = scale.position(start);
+        let risen = scale.position(start.saturating_add(event.rise.length.get()));
+        let falling = scale.position(end.saturating_sub(event.fall.length.get()));
+        let to = scale.position(end);
         let bottom = top.saturating_add(HIGH);
         writeln!(
             f,
@@ -199,9 +199,9 @@ impl<'a> Timeline<'a> {
             "<g text-anchor='middle' stroke='#fff' stroke-width='3' stroke-linejoin='round' paint-order='stroke'>"
         )?;
         let events = self.shown.project.events();
-        for (place, event) in events.iter().enumerate() {
+        for (position, event) in events.iter().enumerate() {
             let before = events
-                .get(place.saturating_sub(BEFORE)..place)
+                .get(position.saturating_sub(BEFORE)..position)
                 .unwrap_or(&[]);
             if self.draws(event) {
                 self.put_name(f, event, row_of(event, before))?;
@@ -218,8 +218,8 @@ impl<'a> Timeline<'a> {
         row: u64,
     ) -> fmt::Result {
         let scale = Scale::new(self.span.0, self.span.1);
-        let Tenths(from) = scale.place(event.dest_in.get());
-        let Tenths(to) = scale.place(event.dest_out.get());
+        let Tenths(from) = scale.position(event.dest_in.get());
+        let Tenths(to) = scale.position(event.dest_out.get());
         let width = to.saturating_sub(from);
         if width < NUMBERED {
             return Ok(());
@@ -268,11 +268,11 @@ fn put_cut<W: fmt::Write>(
     let risen = event.dest_in.get().saturating_add(event.rise.length.get());
     let falling = event.dest_out.get().saturating_sub(event.fall.length.get());
     let bottom = top.saturating_add(HIGH);
-    let left = scale.place(from);
+    let left = scale.position(from);
     write!(f, "<polygon points='{left},{bottom}")?;
     for sample in [from, risen, falling, to] {
         if from <= sample && sample <= to {
-            let at = scale.place(sample);
+            let at = scale.position(sample);
             let high = Tenths(
                 bottom
                     .saturating_mul(10)
@@ -281,7 +281,7 @@ fn put_cut<W: fmt::Write>(
             write!(f, " {at},{high}")?;
         }
     }
-    let right = scale.place(to);
+    let right = scale.position(to);
     writeln!(f, " {right},{bottom}'/>")
 }
 

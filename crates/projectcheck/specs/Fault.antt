@@ -13,4 +13,4 @@ number_of SourceChannel = 44
 number_of SpanOutside = 46
 
 abbrev pub refusal_of : EventFault → Refusal
-refusal_of fault = record { number = number_of fault.fault; place = Entry fault.entry; late = false }
+refusal_of fault = record { number = number_of fault.fault; location = Entry fault.entry; late = false }

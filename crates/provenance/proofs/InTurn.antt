@@ -28,7 +28,7 @@ in_turn bytes place width from n m =
 no_frames : (facts : SoundFacts) (bytes : List ℕ) (from : ℕ) → frames_in facts bytes from 0 ≡ []
 no_frames facts bytes from =
     let none : 0 * frame_length facts ≡ 0 = omega arith in
-    ap (λ (n : ℕ). take n (drop (facts.place + from * frame_length facts) bytes)) none
+    ap (λ (n : ℕ). take n (drop (facts.offset + from * frame_length facts) bytes)) none
 
 module _ (facts : SoundFacts) (sources : Files) (from : ℕ) (before : List ℕ) where
   pub nothing_hashed : (hasher : Sha256) → Holds256 hasher before → IsHashed facts sources from 0 before hasher
@@ -46,7 +46,7 @@ module _ (facts : SoundFacts) (sources : Files) (from : ℕ) (before : List ℕ)
       let more = step (before ++ frames_in facts bytes from n) first.held in
       let whole : frames_in facts bytes from (n + m)
       ≡ frames_in facts bytes from n ++ frames_in facts bytes (from + n) m =
-      in_turn bytes facts.place (frame_length facts) from n m in
+      in_turn bytes facts.offset (frame_length facts) from n m in
       record {
         held = subst (Holds256 new)
             (append_assoc before (frames_in facts bytes from n) (frames_in facts bytes (from + n) m)

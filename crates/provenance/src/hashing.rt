@@ -26,7 +26,7 @@ pub(crate) const ROOM: usize = 66_226;
 /// The bytes of a frame: 2 to 256. The frames have a number of 64 bits.
 fn frame_of(sound: &Sound) -> usize
     ensures value { result ≡ frame_length sound.now }
-    ensures told { sound.now.frames < 2 ^ 64 }
+    ensures bounded { sound.now.frames < 2 ^ 64 }
     ensures some { 1 ≤ result }
     ensures few { result ≤ 256 }
 {
@@ -166,9 +166,9 @@ pub fn hashed_media<S: Shelf>(
     let list = runs.as_slice();
     let mut room = [0; ROOM];
     let mut media = Vec::with_capacity(alloc, list.len())?;
-    for (place, run) in list.iter().enumerate() {
+    for (position, run) in list.iter().enumerate() {
         let source = source_digest(shelf, sounds, run, media.last(), digests, &mut room)?;
-        let number = place as u32 + 1;
+        let number = position as u32 + 1;
         let medium = hashed_medium(shelf, sounds, homes, number, run, source, &mut room)?;
         media.push(medium)?;
     }

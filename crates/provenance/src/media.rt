@@ -54,7 +54,7 @@ fn home_source<'a>(
 ) -> Option<&'a Source>
     ensures { option_copied result ≡ spec.home_source sources.entry.now indexes.now homes.now file }
 {
-    let index = indexes.get(homes.place(file) as usize)?;
+    let index = indexes.get(homes.position(file) as usize)?;
     source_of(sources, index.number)
 }
 

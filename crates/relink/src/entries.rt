@@ -58,8 +58,8 @@ pub(crate) fn entries_of(
         ≡ numbered (run_event runs.now.homes runs.now.runs) 1 groups.now) }
 {
     let mut events = Vec::with_capacity(alloc, groups.len())?;
-    for (place, placed) in groups.iter().enumerate() {
-        let event = entry_of(runs, place as u32 + 1, placed);
+    for (position, placed) in groups.iter().enumerate() {
+        let event = entry_of(runs, position as u32 + 1, placed);
         events.push(event)?;
     }
     Ok(events)

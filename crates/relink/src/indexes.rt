@@ -53,8 +53,8 @@ pub(crate) fn indexes_of(alloc: Global, runs: &Runs) -> Result<Sources, AllocErr
     let homes = runs.homes();
     let list = runs.as_slice();
     let mut sources = Sources::new(alloc);
-    for (place, run) in list.iter().enumerate() {
-        let source = index_of(alloc, homes, place as u32 + 1, run)?;
+    for (position, run) in list.iter().enumerate() {
+        let source = index_of(alloc, homes, position as u32 + 1, run)?;
         sources.push(source)?;
     }
     Ok(sources)

@@ -8,11 +8,11 @@ use mediaset::Runs;
 use sound_terms::{Homes, Run};
 
 /// Whether the run begins no later than this frame of the file whose home index has this place.
-fn is_begun(run: &Run, homes: &Homes, place: u32, frame: u64) -> bool
-    ensures { result ≡ spec.is_begun (place_by homes.now) place frame run.now }
+fn is_begun(run: &Run, homes: &Homes, position: u32, frame: u64) -> bool
+    ensures { result ≡ spec.is_begun (place_by homes.now) position frame run.now }
 {
-    let own = homes.place(run.file);
-    own < place || own == place && run.first <= frame
+    let own = homes.position(run.file);
+    own < position || own == position && run.first <= frame
 }
 
 /// The number, from 1 on, of the run that has this frame of this file.
@@ -21,9 +21,9 @@ pub(crate) fn number_of(runs: &Runs, file: u32, frame: u64) -> u32
     ensures { result ≡ run_number 1 runs.now.runs file frame }
 {
     let homes = runs.homes();
-    let place = homes.place(file);
+    let position = homes.position(file);
     let begun = runs
         .as_slice()
-        .partition_point(|run| is_begun(run, homes, place, frame));
+        .partition_point(|run| is_begun(run, homes, position, frame));
     begun as u32
 }

@@ -102,14 +102,14 @@ module _ (marked : MarkedWork) (sources : Files) (is : IsRenderWork marked.work)
 
     -- where its bytes end
     pub job_end : (k : ℕ) → k < length marked.work.stretches
-        → place_of range (at k) + length (bytes_at k) ≡ head + min ((at k).behind * 4096) all * wide
+        → place_of range (at k) + length (bytes_at k) ≡ head + min ((at k).end * 4096) all * wide
     job_end k below =
         let s = at k in
         let inside = stretch_inside marked.work k is below in
-        let n = frames_before range s.behind - frames_before range s.first in
+        let n = frames_before range s.end - frames_before range s.first in
         let long = length-frames_of (bits_of range.depth) range.channels (block_start range s.first) n
         (heard marked.work.planned marked.work.sounds sources) in
-        let end = stretch_end s.first s.behind all wide n inside.0 refl (omega (arith, inside.0, inside.1)) in
+        let end = stretch_end s.first s.end all wide n inside.0 refl (omega (arith, inside.0, inside.1)) in
         let size : bytes_for range 4096 ≡ 4096 * wide =
         sym (bytes_product 4096 range.channels (bits_of range.depth / 8)) in
         omega (arith, long, end, ap (λ (m : ℕ). s.first * m) size)
@@ -117,7 +117,7 @@ module _ (marked : MarkedWork) (sources : Files) (is : IsRenderWork marked.work)
     -- a byte of it is a block's
     pub job_block : (k i : ℕ) → k < length marked.work.stretches → place_of range (at k) ≤ i
         → i < place_of range (at k) + length (bytes_at k)
-        → (b : ℕ) × (b < marked.run.blocks) × ((at k).first ≤ b) × (b < (at k).behind) × (block_place range b ≤ i)
+        → (b : ℕ) × (b < marked.run.blocks) × ((at k).first ≤ b) × (b < (at k).end) × (block_place range b ≤ i)
         × (i < block_end range b)
     job_block k i below from to =
         let s = at k in
@@ -126,8 +126,8 @@ module _ (marked : MarkedWork) (sources : Files) (is : IsRenderWork marked.work)
         let size : bytes_for range 4096 ≡ 4096 * wide =
         sym (bytes_product 4096 range.channels (bits_of range.depth / 8)) in
         let begun : head + s.first * (4096 * wide) ≤ i = subst (λ (m : ℕ). head + s.first * m ≤ i) size from in
-        let ended : i < head + min (s.behind * 4096) all * wide = subst (λ (m : ℕ). i < m) end to in
-        let block = block_at s.first s.behind all wide (i - head) (omega (arith, begun)) (omega (arith, begun, ended)) in (
+        let ended : i < head + min (s.end * 4096) all * wide = subst (λ (m : ℕ). i < m) end to in
+        let block = block_at s.first s.end all wide (i - head) (omega (arith, begun)) (omega (arith, begun, ended)) in (
           block.block,
           omega (arith, run.blocks, inside.1, block.below),
           block.above,
@@ -139,24 +139,24 @@ module _ (marked : MarkedWork) (sources : Files) (is : IsRenderWork marked.work)
         )
 
     -- a block of it lies in its bytes
-    pub job_own : (k b : ℕ) → k < length marked.work.stretches → (at k).first ≤ b → b < (at k).behind
+    pub job_own : (k b : ℕ) → k < length marked.work.stretches → (at k).first ≤ b → b < (at k).end
         → (place_of range (at k) ≤ block_place range b) × (block_end range b ≤ place_of range (at k) + length (bytes_at k))
     job_own k b below from to =
         let s = at k in
         let first : s.first * bytes_for range 4096 ≤ b * bytes_for range 4096 =
         mul-le-mul_right (bytes_for range 4096) from in
-        let last : min ((b + 1) * 4096) all * wide ≤ min (s.behind * 4096) all * wide =
+        let last : min ((b + 1) * 4096) all * wide ≤ min (s.end * 4096) all * wide =
         mul-le-mul_right wide (omega (arith, to)) in
         let product = bytes_product (min ((b + 1) * 4096) all) range.channels (bits_of range.depth / 8) in (
           omega (arith, first),
           subst (λ (m : ℕ). head + min ((b + 1) * 4096) all * range.channels * (bits_of range.depth / 8) ≤ m)
               (sym (job_end k below))
-              (subst (λ (m : ℕ). head + m ≤ head + min (s.behind * 4096) all * wide) product (omega (arith, last))),
+              (subst (λ (m : ℕ). head + m ≤ head + min (s.end * 4096) all * wide) product (omega (arith, last))),
         )
 
     -- no other job has a block of it
     pub job_others : (k j : ℕ) → k < length marked.work.stretches → j < length marked.work.stretches → j ≢ k
-        → ((at j).behind ≤ (at k).first) ⊎ ((at k).behind ≤ (at j).first)
+        → ((at j).end ≤ (at k).first) ⊎ ((at k).end ≤ (at j).first)
     job_others k j below there other = elim (cases_lt j k) [
       | inl before ↦ inl (cut-apart marked.work.stretches 0 (block_count range) j k no_stretch is.cut before below)
       | inr past ↦ inr (cut-apart marked.work.stretches 0 (block_count range) k j no_stretch is.cut
@@ -171,7 +171,7 @@ module _ (marked : MarkedWork) (sources : Files) (is : IsRenderWork marked.work)
 
     -- its blocks and its bytes
     job_stretch : (k : ℕ) (bytes : List ℕ) → k < length marked.work.stretches → bytes ≡ bytes_at k
-        → IsStretchOf (marks_of marked sources) k (place_of range (at k)) bytes (at k).first (at k).behind
+        → IsStretchOf (marks_of marked sources) k (place_of range (at k)) bytes (at k).first (at k).end
     job_stretch k bytes below right =
         let inside = stretch_inside marked.work k is below in
         let part = are_parts marked.work sources is k below in record {
@@ -194,15 +194,15 @@ pub placed_stretch : (was now : MarkedWork) (k : ℕ) (s : Stretch) (at : ℕ) (
     → was ≡ now → IsRenderWork was.work × IsRunOf was.work was.run → s ≡ stretch_at was.work.stretches k
     → at ≡ place_of was.work.planned.range s → k < length now.work.stretches
     → bytes ≡ (work_of now.work).bytes sources k
-    → IsStretchOf (marks_of now sources) k at bytes s.first s.behind
+    → IsStretchOf (marks_of now sources) k at bytes s.first s.end
 placed_stretch was now k s at bytes sources e is same place = subst (λ (x : MarkedWork). k < length x.work.stretches
-    → bytes ≡ (work_of x.work).bytes sources k → IsStretchOf (marks_of x sources) k at bytes s.first s.behind) e made
+    → bytes ≡ (work_of x.work).bytes sources k → IsStretchOf (marks_of x sources) k at bytes s.first s.end) e made
   where
     made : k < length was.work.stretches → bytes ≡ (work_of was.work).bytes sources k
-        → IsStretchOf (marks_of was sources) k at bytes s.first s.behind
+        → IsStretchOf (marks_of was sources) k at bytes s.first s.end
     made below right =
         let t = stretch_at was.work.stretches k in
-        subst (λ (x : Stretch). IsStretchOf (marks_of was sources) k at bytes x.first x.behind) (sym same)
-        (subst (λ (n : ℕ). IsStretchOf (marks_of was sources) k n bytes t.first t.behind)
+        subst (λ (x : Stretch). IsStretchOf (marks_of was sources) k at bytes x.first x.end) (sym same)
+        (subst (λ (n : ℕ). IsStretchOf (marks_of was sources) k n bytes t.first t.end)
         (sym (place ∙ ap (place_of was.work.planned.range) same))
         (job_stretch was sources is.0 is.1 k bytes below right))

@@ -144,10 +144,10 @@ module _ (range : Range) (mix : ℕ → ℕ → ℤ) (marked : List Bool) (s : S
   -- the sums of a stretch, where another mix is the same in its blocks
   same_there : (other : ℕ → ℕ → ℤ)
       → ((b : Bool) → b ≡ s.done → (channel time : ℕ) → (if b then pos 0 else mix channel time) ≡ other channel time)
-      → sums_of_blocks range (unmarked marked range mix) s.first s.behind ≡ sums_of_blocks range other s.first s.behind
+      → sums_of_blocks range (unmarked marked range mix) s.first s.end ≡ sums_of_blocks range other s.first s.end
   same_there other is =
       let from = block_start range s.first in
-      let n = frames_before range s.behind - frames_before range s.first in
+      let n = frames_before range s.end - frames_before range s.first in
       let shift : 0 + from ≡ from = omega arith in
       block_sums-alike (λ time c. unmarked marked range mix c time) (λ time c. other c time) 0 range.channels from n
       (λ time c low high one few. is (slice_index_or marked ((time - range.from) / block_length) false)
@@ -158,32 +158,32 @@ module _ (range : Range) (mix : ℕ → ℕ → ℤ) (marked : List Bool) (s : S
 
   -- none of its blocks is marked
   pub open_sums : s.done ≡ false
-      → sums_of_blocks range (unmarked marked range mix) s.first s.behind ≡ sums_of_blocks range mix s.first s.behind
+      → sums_of_blocks range (unmarked marked range mix) s.first s.end ≡ sums_of_blocks range mix s.first s.end
   open_sums off = same_there mix (λ b is channel time. ap (λ (x : Bool). if x then pos 0 else mix channel time) (is ∙ off))
 
   -- all of them are
   pub done_kept : s.done ≡ true → All (λ sum. is_clipped (bits_of range.depth) sum ≡ false)
-      (sums_of_blocks range (unmarked marked range mix) s.first s.behind)
+      (sums_of_blocks range (unmarked marked range mix) s.first s.end)
   done_kept on = subst (All (λ sum. is_clipped (bits_of range.depth) sum ≡ false))
       (sym (same_there (λ _ _. pos 0)
       (λ b is channel time. ap (λ (x : Bool). if x then pos 0 else mix channel time) (is ∙ on))))
       (block_kept range.depth range.channels (block_start range s.first)
-      (frames_before range s.behind - frames_before range s.first))
+      (frames_before range s.end - frames_before range s.first))
 
 -- where the stretch of this number begins, and where the last one ends
 abbrev pub first_of : List Stretch → (to k : ℕ) → ℕ
-first_of stretches to k = (slice_index_or stretches k (record { first = to; behind = to; done = false })).first
+first_of stretches to k = (slice_index_or stretches k (record { first = to; end = to; done = false })).first
 
 pub first_is : (stretches : List Stretch) (from to : ℕ) → IsCut from stretches to → first_of stretches to 0 ≡ from
 first_is [] from to cut = sym cut
 first_is (s ∷ stretches) from to cut = cut.0
 
 pub first_next : (stretches : List Stretch) (from to k : ℕ) (d : Stretch) → IsCut from stretches to
-    → k < length stretches → first_of stretches to (k + 1) ≡ (slice_index_or stretches k d).behind
+    → k < length stretches → first_of stretches to (k + 1) ≡ (slice_index_or stretches k d).end
 first_next [] from to k d cut below = absurd (omega (arith, below))
-first_next (s ∷ stretches) from to zero d cut below = first_is stretches s.behind to cut.2
+first_next (s ∷ stretches) from to zero d cut below = first_is stretches s.end to cut.2
 first_next (s ∷ stretches) from to (suc k) d cut below =
-    ap (λ (n : ℕ). first_of (s ∷ stretches) to n) next ∙ first_next stretches s.behind to k d cut.2 (omega (arith, below))
+    ap (λ (n : ℕ). first_of (s ∷ stretches) to n) next ∙ first_next stretches s.end to k d cut.2 (omega (arith, below))
   where
     next : suc k + 1 ≡ suc (k + 1)
     next = omega arith

@@ -9,10 +9,10 @@ use Rattle.rendering.specs.declared.stretch.Stretch.{Stretch}
 use Rattle.rendering.specs.Cut.{AreEven, AreLongest, IsCut, IsShort, IsUniform, even_stretch}
 
 pub cut-push : (stretches : List Stretch) (from mid : ℕ) (s : Stretch) → IsCut from stretches mid → s.first ≡ mid
-    → s.first < s.behind → IsCut from (stretches ++ s ∷ []) s.behind
+    → s.first < s.end → IsCut from (stretches ++ s ∷ []) s.end
 cut-push [] from mid s cut at some = (at ∙ sym cut, some, refl)
 cut-push (t ∷ stretches) from mid s cut at some =
-    (cut.0, cut.1, cut-push stretches t.behind mid s cut.2 at some)
+    (cut.0, cut.1, cut-push stretches t.end mid s cut.2 at some)
 
 -- what holds of each, and of one more
 pub all-push : (P : Stretch → Type 0) (stretches : List Stretch) (s : Stretch) → All P stretches → P s
@@ -26,7 +26,7 @@ all-push P stretches s all here k d below = elim (cases_lt k (length stretches))
 -- the last of them, if there is one, could not go on with blocks that are marked so
 abbrev pub CannotGoOn : ℕ → List Stretch → Bool → Type 0
 CannotGoOn most stretches mark = (k : ℕ) (d : Stretch) → k + 1 ≡ length stretches → (get_or stretches k d).done ≡ mark
-    → (get_or stretches k d).behind - (get_or stretches k d).first ≡ most
+    → (get_or stretches k d).end - (get_or stretches k d).first ≡ most
 
 pub longest-push : (most : ℕ) (stretches : List Stretch) (s : Stretch) → AreLongest most stretches
     → CannotGoOn most stretches s.done → AreLongest most (stretches ++ s ∷ [])
@@ -34,7 +34,7 @@ longest-push most stretches s longest ends k d below alike =
     let count = length-append stretches (s ∷ []) in
     let within : k < length stretches = omega (arith, below, count) in
     let left = get_or_append_left stretches (s ∷ []) d k within in
-    let is_last : Stretch → Type 0 = λ t. t.behind - t.first ≡ most in
+    let is_last : Stretch → Type 0 = λ t. t.end - t.first ≡ most in
     subst is_last (sym left) (elim (cases_lt (k + 1) (length stretches)) [
       | inl before ↦ longest k d before (ap (λ (t : Stretch). t.done) (sym left) ∙ alike
           ∙ ap (λ (t : Stretch). t.done) (get_or_append_left stretches (s ∷ []) d (k + 1) before))
@@ -45,11 +45,11 @@ longest-push most stretches s longest ends k d below alike =
     ])
 
 pub ends-push : (most : ℕ) (stretches : List Stretch) (s : Stretch) (mark : Bool)
-    → (s.done ≡ mark → s.behind - s.first ≡ most) → CannotGoOn most (stretches ++ s ∷ []) mark
+    → (s.done ≡ mark → s.end - s.first ≡ most) → CannotGoOn most (stretches ++ s ∷ []) mark
 ends-push most stretches s mark full k d last alike =
     let at : k ≡ length stretches = omega (arith, last, length-append stretches (s ∷ [])) in
     let here = ap (λ (i : ℕ). get_or (stretches ++ s ∷ []) i d) at ∙ get_or-append_seam stretches s [] d in
-    subst (λ (t : Stretch). t.behind - t.first ≡ most) (sym here)
+    subst (λ (t : Stretch). t.end - t.first ≡ most) (sym here)
     (full (ap (λ (t : Stretch). t.done) (sym here) ∙ alike))
 
 -- stretches of as many blocks each, and the next of them
@@ -63,10 +63,10 @@ even-push most to stretches s even here k d below = elim (cases_lt k (length str
 ]
 
 abbrev fresh_from : ℕ → ℕ → Stretch
-fresh_from first behind = record { first = first; behind = behind; done = false }
+fresh_from first behind = record { first = first; end = behind; done = false }
 
 pub even-next : (most to n first behind : ℕ) → first ≡ min (n * most) to → first < to → behind ≡ min (first + most) to
-    → record { first = first; behind = behind; done = false } ≡ even_stretch most to n
+    → record { first = first; end = behind; done = false } ≡ even_stretch most to n
 even-next most to n first behind place some ends =
     let begins : first ≡ n * most = omega (arith, place, some) in
     ap (λ (x : ℕ). fresh_from x behind) begins
@@ -101,7 +101,7 @@ pub record IsCutSoFar (marked : List Bool) (most first here : ℕ) (done : Bool)
 module _ (marked : List Bool) (most first here : ℕ) (done : Bool) (stretches : List Stretch)
     (is : IsCutSoFar marked most first here done stretches) where
   abbrev last_one : Stretch
-  last_one = record { first = first; behind = here; done = done }
+  last_one = record { first = first; end = here; done = done }
 
   -- they end where the next block is
   pub cut-here : 1 ≤ most → first < here → (get_or marked here false ≡ done → most ≤ here - first)

@@ -35,10 +35,10 @@ frames_split depth channels from a n all mix inside =
 record IsInFile (range : Range) (mix : ℕ → ℕ → ℤ) (s : Stretch) : Type 0 where
   front : List ℕ
   back : List ℕ
-  whole : rendering_of range mix ≡ front ++ (bytes_of_blocks range mix s.first s.behind ++ back)
+  whole : rendering_of range mix ≡ front ++ (bytes_of_blocks range mix s.first s.end ++ back)
   place : length front ≡ place_of range s
 
-in_file : (range : Range) (mix : ℕ → ℕ → ℤ) (s : Stretch) → s.first < s.behind → s.behind ≤ block_count range
+in_file : (range : Range) (mix : ℕ → ℕ → ℤ) (s : Stretch) → s.first < s.end → s.end ≤ block_count range
     → IsInFile range mix s
 unfolding rendering_of file_of
 in_file range mix s some inside =
@@ -46,10 +46,10 @@ in_file range mix s some inside =
     let channels = range.channels in
     let all = range.to - range.from in
     let a = s.first * 4096 in
-    let n = frames_before range s.behind - frames_before range s.first in
+    let n = frames_before range s.end - frames_before range s.first in
     let head = header_of (render_info range) in
     let before = frames_of depth mix channels range.from a in
-    let bytes = bytes_of_blocks range mix s.first s.behind in
+    let bytes = bytes_of_blocks range mix s.first s.end in
     let after = frames_of depth mix channels (range.from + a + n) (all - (a + n)) in
     let samples = frames_of depth mix channels range.from all in
     let pad = zeros (length samples % 2) in
@@ -69,8 +69,8 @@ in_file range mix s some inside =
 -- ---- all stretches
 
 pub stretch_inside : (work : RenderWork) (k : ℕ) → IsRenderWork work → k < length work.stretches
-    → ((stretch_at work.stretches k).first < (stretch_at work.stretches k).behind)
-    × ((stretch_at work.stretches k).behind ≤ block_count work.planned.range)
+    → ((stretch_at work.stretches k).first < (stretch_at work.stretches k).end)
+    × ((stretch_at work.stretches k).end ≤ block_count work.planned.range)
 stretch_inside work k is below =
     let inside = cut-inside work.stretches 0 (block_count work.planned.range) k no_stretch is.cut below in
     (inside.1, inside.2)
@@ -83,7 +83,7 @@ are_parts work sources is k below =
     let s = stretch_at work.stretches k in
     let in_cut = stretch_inside work k is below in
     let part = in_file range mix s in_cut.0 in_cut.1 in
-    let bytes = bytes_of_blocks range mix s.first s.behind in
+    let bytes = bytes_of_blocks range mix s.first s.end in
     let long : length (whole_of work sources) ≡ length part.front + (length bytes + length part.back) =
     ap (λ (file : List ℕ). length file) part.whole ∙ length-append part.front (bytes ++ part.back)
     ∙ ap (λ (n : ℕ). length part.front + n) (length-append bytes part.back) in
@@ -99,14 +99,14 @@ are_parts work sources is k below =
 ends_before : (work : RenderWork) (sources : Files) (j k : ℕ) → IsRenderWork work → j < k → k < length work.stretches
     → place_of work.planned.range (stretch_at work.stretches j)
     + length (bytes_of_blocks work.planned.range (heard work.planned work.sounds sources)
-    (stretch_at work.stretches j).first (stretch_at work.stretches j).behind)
+    (stretch_at work.stretches j).first (stretch_at work.stretches j).end)
     ≤ place_of work.planned.range (stretch_at work.stretches k)
 ends_before work sources j k is less below =
     let range = work.planned.range in
     let s = stretch_at work.stretches j in
     let t = stretch_at work.stretches k in
     let wide = range.channels * (bits_of range.depth / 8) in
-    let n = frames_before range s.behind - frames_before range s.first in
+    let n = frames_before range s.end - frames_before range s.first in
     let in_cut = stretch_inside work j is (omega (arith, less, below)) in
     let behind = cut-apart work.stretches 0 (block_count range) j k no_stretch is.cut less below in
     let long = length-frames_of (bits_of range.depth) range.channels (block_start range s.first) n
@@ -190,13 +190,13 @@ in_job work sources i is name same fixed below =
     let s = stretch_at work.stretches k in
     let in_cut = stretch_inside work k is inside.there in
     let first : s.first * size ≤ b * size = mul-le-mul_right size inside.behind_first in
-    let last : i < frames_before range s.behind * wide =
-    before_end i b s.behind all wide ends inside.before_end below in
-    let n = frames_before range s.behind - frames_before range s.first in
+    let last : i < frames_before range s.end * wide =
+    before_end i b s.end all wide ends inside.before_end below in
+    let n = frames_before range s.end - frames_before range s.first in
     let mix = heard work.planned work.sounds sources in
     let long = length-frames_of (bits_of range.depth) range.channels (block_start range s.first) n mix in
-    let all_frames : n + s.first * 4096 ≡ frames_before range s.behind = omega (arith, in_cut.0, in_cut.1) in
-    let counted : n * wide + s.first * size ≡ frames_before range s.behind * wide =
+    let all_frames : n + s.first * 4096 ≡ frames_before range s.end = omega (arith, in_cut.0, in_cut.1) in
+    let counted : n * wide + s.first * size ≡ frames_before range s.end * wide =
     frames_counted n s.first wide ∙ ap (λ (m : ℕ). m * wide) all_frames in
     sym (fixed k inside.there (sym same) (omega (arith, first, begun)) (omega (arith, long, last, counted)))
 

@@ -39,7 +39,7 @@ job_sized : (work : RenderWork) (sources : Files) (k : ℕ)
 job_sized work sources k =
     let range = work.planned.range in
     let s = stretch_at work.stretches k in
-    let n = frames_before range s.behind - frames_before range s.first in
+    let n = frames_before range s.end - frames_before range s.first in
     length-frames_of (bits_of range.depth) range.channels (block_start range s.first) n
     (heard work.planned work.sounds sources) ∙ bytes_product n range.channels (bits_of range.depth / 8)
 

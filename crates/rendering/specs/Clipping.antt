@@ -27,7 +27,7 @@ Clip range = IsClippingOf (bits_of range.depth) range.channels
 -- what is clipped of this job
 abbrev pub ClipsJob : RenderWork → Files → ℕ → Clips → Type 0
 ClipsJob work sources k = Clip work.planned.range (sums_of_blocks work.planned.range
-    (heard work.planned work.sounds sources) (stretch_at work.stretches k).first (stretch_at work.stretches k).behind)
+    (heard work.planned work.sounds sources) (stretch_at work.stretches k).first (stretch_at work.stretches k).end)
 
 -- a mix that is silent in the blocks that are marked
 abbrev pub unmarked : List Bool → Range → (ℕ → ℕ → ℤ) → ℕ → ℕ → ℤ
@@ -37,7 +37,7 @@ unmarked marked range mix channel time =
 -- what is clipped of a stretch of its blocks, the marked ones aside
 abbrev pub ClipsIn : List Bool → RenderWork → Files → Stretch → Clips → Type 0
 ClipsIn marked work sources s = Clip work.planned.range (sums_of_blocks work.planned.range
-    (unmarked marked work.planned.range (heard work.planned work.sounds sources)) s.first s.behind)
+    (unmarked marked work.planned.range (heard work.planned work.sounds sources)) s.first s.end)
 
 -- what is clipped of a rendering, its marked blocks aside
 abbrev pub ClipsUnmarked : List Bool → Range → (ℕ → ℕ → ℤ) → Clips → Type 0

@@ -7,7 +7,7 @@ use Rattle.rendering.specs.declared.stretch.Stretch.{Stretch}
 -- the stretches follow one another, from one block on up to, and without, another; each has at least one block
 abbrev pub IsCut : ℕ → List Stretch → ℕ → Type 0
 IsCut from [] to = from ≡ to
-IsCut from (s ∷ stretches) to = (s.first ≡ from) × (s.first < s.behind) × IsCut s.behind stretches to
+IsCut from (s ∷ stretches) to = (s.first ≡ from) × (s.first < s.end) × IsCut s.end stretches to
 
 -- none of its blocks is done
 abbrev pub IsFresh : Stretch → Type 0
@@ -15,11 +15,11 @@ IsFresh s = s.done ≡ false
 
 -- it has at most so many blocks
 abbrev pub IsShort : ℕ → Stretch → Type 0
-IsShort most s = s.behind - s.first ≤ most
+IsShort most s = s.end - s.first ≤ most
 
 -- the stretch of this number, counted from 0, where each but the last has so many blocks
 abbrev pub even_stretch : (most to : ℕ) → ℕ → Stretch
-even_stretch most to k = record { first = k * most; behind = min (k * most + most) to; done = false }
+even_stretch most to k = record { first = k * most; end = min (k * most + most) to; done = false }
 
 -- these are the first of them
 abbrev pub AreEven : (most to : ℕ) → List Stretch → Type 0
@@ -28,13 +28,13 @@ AreEven most to stretches = (k : ℕ) (d : Stretch) → k < length stretches
 
 -- the stretch is done where its blocks are marked, all or none
 abbrev pub IsUniform : List Bool → Stretch → Type 0
-IsUniform marked s = (b : ℕ) → s.first ≤ b → b < s.behind → slice_index_or marked b false ≡ s.done
+IsUniform marked s = (b : ℕ) → s.first ≤ b → b < s.end → slice_index_or marked b false ≡ s.done
 
 -- none of them could go on: what follows one that isn't full is marked otherwise
 abbrev pub AreLongest : ℕ → List Stretch → Type 0
 AreLongest most stretches = (k : ℕ) (d : Stretch) → k + 1 < length stretches
     → (slice_index_or stretches k d).done ≡ (slice_index_or stretches (k + 1) d).done
-    → (slice_index_or stretches k d).behind - (slice_index_or stretches k d).first ≡ most
+    → (slice_index_or stretches k d).end - (slice_index_or stretches k d).first ≡ most
 
 -- how many blocks of so many bytes a job has: one; or, for speed, what makes 4 MiB, at least one, where there are more
 -- than 64

@@ -7,49 +7,49 @@ use Rattle.rendering.specs.Cut.{IsCut}
 -- there are no more of them than blocks
 pub cut-few : (stretches : List Stretch) (from to : ℕ) → IsCut from stretches to → from + length stretches ≤ to
 cut-few [] from to cut = omega (arith, cut)
-cut-few (s ∷ stretches) from to cut = omega (arith, cut.0, cut.1, cut-few stretches s.behind to cut.2)
+cut-few (s ∷ stretches) from to cut = omega (arith, cut.0, cut.1, cut-few stretches s.end to cut.2)
 
 -- each has a block, and lies between the ends
 pub cut-inside : (stretches : List Stretch) (from to k : ℕ) (d : Stretch) → IsCut from stretches to
     → k < length stretches
-    → (from ≤ (get_or stretches k d).first) × ((get_or stretches k d).first < (get_or stretches k d).behind)
-    × ((get_or stretches k d).behind ≤ to)
+    → (from ≤ (get_or stretches k d).first) × ((get_or stretches k d).first < (get_or stretches k d).end)
+    × ((get_or stretches k d).end ≤ to)
 cut-inside [] from to k d cut below = absurd (omega (arith, below))
 cut-inside (s ∷ stretches) from to zero d cut below =
-    (omega (arith, cut.0), cut.1, omega (arith, cut-few stretches s.behind to cut.2))
+    (omega (arith, cut.0), cut.1, omega (arith, cut-few stretches s.end to cut.2))
 cut-inside (s ∷ stretches) from to (suc k) d cut below =
-    let rest = cut-inside stretches s.behind to k d cut.2 (omega (arith, below)) in
+    let rest = cut-inside stretches s.end to k d cut.2 (omega (arith, below)) in
     (omega (arith, cut.0, cut.1, rest.0), rest.1, rest.2)
 
 -- two of them don't meet
 pub cut-apart : (stretches : List Stretch) (from to j k : ℕ) (d : Stretch) → IsCut from stretches to → j < k
-    → k < length stretches → (get_or stretches j d).behind ≤ (get_or stretches k d).first
+    → k < length stretches → (get_or stretches j d).end ≤ (get_or stretches k d).first
 cut-apart [] from to j k d cut less below = absurd (omega (arith, below))
 cut-apart (s ∷ stretches) from to j zero d cut less below = absurd (omega (arith, less))
 cut-apart (s ∷ stretches) from to zero (suc k) d cut less below =
-    (cut-inside stretches s.behind to k d cut.2 (omega (arith, below))).0
+    (cut-inside stretches s.end to k d cut.2 (omega (arith, below))).0
 cut-apart (s ∷ stretches) from to (suc j) (suc k) d cut less below =
-    cut-apart stretches s.behind to j k d cut.2 (omega (arith, less)) (omega (arith, below))
+    cut-apart stretches s.end to j k d cut.2 (omega (arith, less)) (omega (arith, below))
 
 -- a block of one of them
 pub record IsInside (stretches : List Stretch) (d : Stretch) (b : ℕ) : Type 0 where
   pub place : ℕ
   pub there : place < length stretches
   pub behind_first : (get_or stretches place d).first ≤ b
-  pub before_end : b < (get_or stretches place d).behind
+  pub before_end : b < (get_or stretches place d).end
 
 -- each block is in one of them
 pub cut-covers : (stretches : List Stretch) (from to b : ℕ) (d : Stretch) → IsCut from stretches to → from ≤ b → b < to
     → IsInside stretches d b
 cut-covers [] from to b d cut behind before = absurd (omega (arith, cut, behind, before))
-cut-covers (s ∷ stretches) from to b d cut behind before = elim (cases_lt b s.behind) [
+cut-covers (s ∷ stretches) from to b d cut behind before = elim (cases_lt b s.end) [
   | inl inside ↦ record {
     place = 0;
     there = omega arith;
     behind_first = omega (arith, cut.0, behind);
     before_end = inside;
   }
-  | inr past ↦ let rest = cut-covers stretches s.behind to b d cut.2 past before in record {
+  | inr past ↦ let rest = cut-covers stretches s.end to b d cut.2 past before in record {
     place = suc rest.place;
     there = omega (arith, rest.there);
     behind_first = rest.behind_first;

@@ -14,7 +14,7 @@ number_of Memory = 57
 number_of MarksMemory = 69
 
 abbrev pub refusal_of : RenderFault → Refusal
-refusal_of fault = record { number = number_of fault; place = Nowhere; late = false }
+refusal_of fault = record { number = number_of fault; location = Nowhere; late = false }
 
 -- no earlier fault is due for this range
 abbrev pub ComesFirst : Range → RenderFault → Type 0

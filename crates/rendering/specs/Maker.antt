@@ -21,7 +21,7 @@ marks_of marked sources = record {
   last = block_end marked.work.planned.range;
   jobs = length marked.work.stretches;
   from = λ k. (stretch_at marked.work.stretches k).first;
-  end = λ k. (stretch_at marked.work.stretches k).behind;
+  end = λ k. (stretch_at marked.work.stretches k).end;
   marks = marks_name;
   head = head_of marked.run;
 }

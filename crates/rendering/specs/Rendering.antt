@@ -38,7 +38,7 @@ pub record HasRange (rendered : Rendered) (range : Range) : Type 0 where
 -- 58: the range is empty
 abbrev pub empty_fault : Range → Option Refusal
 empty_fault range =
-    if nat_le range.to range.from then Some (record { number = 58; place = Nowhere; late = false }) else None
+    if nat_le range.to range.from then Some (record { number = 58; location = Nowhere; late = false }) else None
 
 -- the first fault of rendering a project without a fault
 abbrev pub render_fault : ListProject → OptionValues → Option Refusal

@@ -67,18 +67,18 @@ pub record HasRoom (range : Range) (k room : ℕ) : Type 0 where
 
 -- what stands behind the last stretch
 abbrev pub no_stretch : Stretch
-no_stretch = record { first = 0; behind = 0; done = false }
+no_stretch = record { first = 0; end = 0; done = false }
 
 -- it has a block, and lies among those of a range
 pub record IsInRange (range : Range) (s : Stretch) : Type 0 where
-  pub some : s.first < s.behind
-  pub there : s.behind ≤ block_count range
+  pub some : s.first < s.end
+  pub there : s.end ≤ block_count range
 
 abbrev pub stretch_at : List Stretch → ℕ → Stretch
 stretch_at stretches k = slice_index_or stretches k no_stretch
 
 abbrev pub stretch_frames : Range → Stretch → ℕ
-stretch_frames range s = frames_before range s.behind - frames_before range s.first
+stretch_frames range s = frames_before range s.end - frames_before range s.first
 
 -- how many blocks a job of a range has
 abbrev pub job_blocks : JobLength → Range → ℕ
@@ -107,5 +107,5 @@ work_of work = record {
   at = λ k. place_of work.planned.range (stretch_at work.stretches k);
   size = λ k. bytes_for work.planned.range (stretch_frames work.planned.range (stretch_at work.stretches k));
   bytes = λ sources k. bytes_of_blocks work.planned.range (heard work.planned work.sounds sources)
-      (stretch_at work.stretches k).first (stretch_at work.stretches k).behind;
+      (stretch_at work.stretches k).first (stretch_at work.stretches k).end;
 }

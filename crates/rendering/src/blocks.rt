@@ -140,17 +140,17 @@ impl<'a> Blocks<'a> {
         ensures frames { result ≡ stretch_frames self.now.planned.range stretch.now }
         ensures few { result ≤ 4147200000 }
     {
-        let last = stretch.behind - 1;
+        let last = stretch.end - 1;
         (last - stretch.first) as usize * BLOCK_LENGTH
             + self.plan.frames_of(u64::from(last)) as usize
     }
 
     /// Where the first block of a stretch in which something sounds begins in its file; `None` where all are silent.
     pub fn source_of(&self, stretch: &Stretch) -> Option<(u32, u64)>
-        requires { stretch.now.behind ≤ block_count self.now.planned.range }
+        requires { stretch.now.end ≤ block_count self.now.planned.range }
         ensures in_day { IfSome result (λ source. source.1 < day) }
     {
-        for k in stretch.first as u64..stretch.behind as u64 {
+        for k in stretch.first as u64..stretch.end as u64 {
             let source = self.plan.source_of(k);
             if source.is_some() {
                 return source;
@@ -232,17 +232,17 @@ impl<'a> Blocks<'a> {
             ≡ bytes_for self.old.planned.range (stretch_frames self.old.planned.range stretch.now) }
         ensures played { IsTrue (S.honest shelf.old) → OnOk result (bytes.new
             ≡ bytes_of_blocks self.old.planned.range
-            (heard self.old.planned self.old.sounds (S.stored shelf.old)) stretch.now.first stretch.now.behind) }
+            (heard self.old.planned self.old.sounds (S.stored shelf.old)) stretch.now.first stretch.now.end) }
         ensures clips { IsTrue (S.honest shelf.old) → IfOk result (Clip self.old.planned.range (sums_of_blocks
             self.old.planned.range (heard self.old.planned self.old.sounds (S.stored shelf.old))
-            stretch.now.first stretch.now.behind)) }
+            stretch.now.first stretch.now.end)) }
         ensures ready { self.new ≡ self.old }
         ensures only_reads { OnlyReads S.Shelf shelf.old shelf.new result (λ _. ⊤) (λ _ failed. ⊤) }
     {
         let channels = u64::from(self.plan.format().channels);
         let mut end = 0;
         let mut clips = Clips::none();
-        for k in stretch.first as u64..stretch.behind as u64 {
+        for k in stretch.first as u64..stretch.end as u64 {
             let played = self.play_at(k, shelf, bytes, end)?;
             let before = (k - stretch.first as u64) * BLOCK_LENGTH as u64 * channels;
             clips = clips.joined(played.clips, before);

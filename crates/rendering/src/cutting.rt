@@ -46,13 +46,13 @@ pub fn fresh_stretches(alloc: Global, blocks: u32, most: u32) -> Result<Vec<Stre
     let mut stretches = Vec::new(alloc);
     let mut first = 0;
     while first < blocks {
-        let behind = blocks.min(first.saturating_add(most));
+        let end = blocks.min(first.saturating_add(most));
         stretches.push(Stretch {
             first,
-            behind,
+            end,
             done: false,
         })?;
-        first = behind;
+        first = end;
     }
     Ok(stretches)
 }
@@ -90,21 +90,17 @@ pub fn stretches_of(alloc: Global, marked: &[bool], most: u32) -> Result<Vec<Str
         if ends_here(first, here, done, *mark, most) {
             stretches.push(Stretch {
                 first,
-                behind: here,
+                end: here,
                 done,
             })?;
             first = here;
         }
         done = *mark;
     }
-    let behind = marked.len() as u32;
-    if first >= behind {
+    let end = marked.len() as u32;
+    if first >= end {
         return Ok(stretches);
     }
-    stretches.push(Stretch {
-        first,
-        behind,
-        done,
-    })?;
+    stretches.push(Stretch { first, end, done })?;
     Ok(stretches)
 }

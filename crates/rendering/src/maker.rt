@@ -171,10 +171,10 @@ impl<'a> JobMaker for RenderingWork<'a> {
         }
     }
 
-    fn place<B: Bench>(&mut self, job: u32, bytes: &[u8], bench: &mut B) -> Result<(), PlaceFault> {
+    fn write<B: Bench>(&mut self, job: u32, bytes: &[u8], bench: &mut B) -> Result<(), PlaceFault> {
         let stretch = self.rendering.stretch(job);
         let at = self.rendering.place_at(&stretch);
-        place_marked(bench, at, bytes, stretch.first, stretch.behind)
+        place_marked(bench, at, bytes, stretch.first, stretch.end)
     }
 
     fn lay_out<B: Bench>(&mut self, bench: &mut B) -> Result<(), OutputFault> {

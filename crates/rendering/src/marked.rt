@@ -26,7 +26,7 @@ impl<'a> Rendering<'a> {
         requires { job < (work_of self.now).count }
         ensures stretch { result ≡ stretch_at self.now.stretches job }
         ensures inside { IsInRange self.now.planned.range result }
-        ensures few { result.behind ≤ result.first + 2048 }
+        ensures few { result.end ≤ result.first + 2048 }
     {
         self.stretches[job as usize]
     }

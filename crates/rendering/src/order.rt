@@ -22,7 +22,7 @@ fn key_of(source: Option<(u32, u64)>, homes: &[Home]) -> u64 {
         return u64::MAX;
     };
     match homes.get(file as usize) {
-        Some(home) => (u64::from(home.place) << 32).saturating_add(frame),
+        Some(home) => (u64::from(home.position) << 32).saturating_add(frame),
         None => u64::MAX,
     }
 }

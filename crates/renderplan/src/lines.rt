@@ -38,7 +38,7 @@ fn line_of(piece: &Piece, window: Window) -> Option<Instruction>
         dest: piece.dest,
         width: piece.width.min(window.channels + 1 - piece.dest),
     };
-    let shape = piece.shape.behind(first - piece.start);
+    let shape = piece.shape.after(first - piece.start);
     Some(Instruction::adding(stretch, shape))
 }
 

@@ -59,7 +59,7 @@ impl Reach {
 fn next_reach(pieces: &[Piece], reaches: &[Reach]) -> Reach
     requires more { length reaches.now < length pieces.now }
     requires sound { All IsPiece pieces.now }
-    requires behind { AreReaches pieces.now reaches.now }
+    requires after { AreReaches pieces.now reaches.now }
     ensures { IsReach (last (length reaches.now + 1) pieces.now) result }
 {
     let mut reach = Reach::of(&pieces[pieces.len() - 1 - reaches.len()]);

@@ -84,8 +84,8 @@ fn read_sizes<S: Shelf>(shelf: &mut S, name: &str, end: u64) -> Result<Form, Med
         return Err(MediaFault::BadDs64);
     }
     let head = head_at(shelf, name, FORM_LENGTH)?;
-    let behind = end - FORM_LENGTH - HEAD_LENGTH;
-    if !holds_fields(&head, behind) {
+    let rest = end - FORM_LENGTH - HEAD_LENGTH;
+    if !holds_fields(&head, rest) {
         return Err(MediaFault::BadDs64);
     }
     let mut fields = [0u8; 28];
@@ -94,7 +94,7 @@ fn read_sizes<S: Shelf>(shelf: &mut S, name: &str, end: u64) -> Result<Form, Med
     let size = u64::from(head.size);
     Ok(Form {
         sizes: Some(ds64),
-        left: behind.saturating_sub(size + size % 2),
+        left: rest.saturating_sub(size + size % 2),
     })
 }
 

@@ -77,14 +77,14 @@ impl Found {
         ensures inside { IfOk result (λ rest. IsInside end rest self.new) }
         ensures less { IfOk result (λ rest. rest + 8 ≤ left) }
     {
-        let behind = left - HEAD_LENGTH;
+        let rest = left - HEAD_LENGTH;
         let contents = Span {
-            at: end - behind,
+            at: end - rest,
             length: size,
         };
-        self.add(head.id, contents, behind)?;
+        self.add(head.id, contents, rest)?;
         self.seen += 1;
-        Ok(behind.saturating_sub(size).saturating_sub(size % 2))
+        Ok(rest.saturating_sub(size).saturating_sub(size % 2))
     }
 
     /// Takes in so many chunks of id 0 and size 0, one right after the other, whose heads begin the last `left` bytes of

@@ -103,7 +103,7 @@ pub fn told_size<S: Shelf>(
     index: &Option<Index>,
     head: &Head,
 ) -> Result<u64, MediaFault>
-    ensures told { IsTrue (S.honest shelf.old) → (file : List ℕ) → S.stored shelf.old name.now ≡ Some file
+    ensures size { IsTrue (S.honest shelf.old) → (file : List ℕ) → S.stored shelf.old name.now ≡ Some file
         → IsIndexOf file sizes.now index.now → TellsSize file sizes.now head.now result }
     ensures no_memory { IsErrOf result MediaFault.Memory → ⊥ }
     ensures only_reads { OnlyReads S.Shelf shelf.old shelf.new result (λ fault. fault ≡ MediaFault.Device)

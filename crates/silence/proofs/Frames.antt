@@ -35,7 +35,7 @@ none_of (negsuc m) n some none = absurd (below (suc m * n) (grind arith) (sym (n
 
 -- where the sample of a frame and a channel begins
 abbrev sample_place : SoundFacts → (frame channel : ℕ) → ℕ
-sample_place facts frame channel = facts.place + (frame * facts.channels + (channel - 1)) * (bits_of facts.depth / 8)
+sample_place facts frame channel = facts.offset + (frame * facts.channels + (channel - 1)) * (bits_of facts.depth / 8)
 
 -- a sample of an opened file, inside its channels and frames
 heard : (files : Files) (facts : SoundFacts) (channel frame : ℕ) (file : List ℕ) → files facts.name ≡ Some file
@@ -50,10 +50,10 @@ heard files facts channel frame file stored inside first last =
 
 module _ (files : Files) (facts : SoundFacts) (part : Part) (file : List ℕ) (frames : List ℤ) (count : ℕ)
     (stored : files facts.name ≡ Some file)
-    (are : AreFrames file (facts.place + part.from * frame_length facts) (bits_of facts.depth) frames)
+    (are : AreFrames file (facts.offset + part.from * frame_length facts) (bits_of facts.depth) frames)
     (whole : length frames ≡ count * facts.channels) (inside : part.from + count ≤ facts.frames)
     (lies : LiesIn facts part) where
-  place_told : (j i : ℕ) → facts.place + part.from * frame_length facts + (i * facts.channels + (part.first - 1 + j)) *
+  place_told : (j i : ℕ) → facts.offset + part.from * frame_length facts + (i * facts.channels + (part.first - 1 + j)) *
       (bits_of facts.depth / 8)
       ≡ sample_place facts (part.from + i) (part.first + j)
   place_told j i =

@@ -19,12 +19,12 @@ pub fn pieces_of(alloc: Global, intervals: &Intervals) -> Result<Vec<Piece>, All
 
 /// So many places, from 0 on.
 fn places(alloc: Global, count: usize) -> Result<Vec<usize>, AllocError>
-    ensures inside { IfOk result (λ places. All (λ place. place < count) places.items) }
-    ensures each { IfOk result (λ places. (place : ℕ) → place < count → Contains places.items place) }
+    ensures inside { IfOk result (λ places. All (λ position. position < count) places.items) }
+    ensures each { IfOk result (λ places. (position : ℕ) → position < count → Contains places.items position) }
 {
     let mut places = Vec::with_capacity(alloc, count)?;
-    for place in 0..count {
-        places.push(place)?;
+    for position in 0..count {
+        places.push(position)?;
     }
     Ok(places)
 }
@@ -36,10 +36,10 @@ fn key(piece: &Piece) -> (u32, u8, u8, u64) {
 
 /// The place of each piece, in the order in which their files are read: by file, channels and frame.
 pub fn reading_order(alloc: Global, pieces: &[Piece]) -> Result<Vec<usize>, AllocError>
-    ensures inside { IfOk result (λ places. All (λ place. place < length pieces.now) places.items) }
-    ensures each { IfOk result (λ places. (place : ℕ) → place < length pieces.now → Contains places.items place) }
+    ensures inside { IfOk result (λ places. All (λ position. position < length pieces.now) places.items) }
+    ensures each { IfOk result (λ places. (position : ℕ) → position < length pieces.now → Contains places.items position) }
 {
     let mut order = places(alloc, pieces.len())?;
-    order.sort_by_key(|place| pieces.get(*place).map(key))?;
+    order.sort_by_key(|position| pieces.get(*position).map(key))?;
     Ok(order)
 }

@@ -37,8 +37,8 @@ fn asked_in_order<S: Shelf, W: Watch>(
     watch: &mut W,
 ) -> Result<Vec<bool>, PassFault>
     requires pieces { All IsPiece pieces.now }
-    requires inside { All (λ place. place < length pieces.now) order.now }
-    requires each { (place : ℕ) → place < length pieces.now → Contains order.now place }
+    requires inside { All (λ position. position < length pieces.now) order.now }
+    requires each { (position : ℕ) → position < length pieces.now → Contains order.now position }
     ensures answers { IsTrue (S.honest shelf.old) → IfOk result (λ silent.
         silent.items ≡ silences_of (reading_by (S.stored shelf.old) sounds.now) pieces.now) }
     ensures only_reads { OnlyReads S.Shelf shelf.old shelf.new result IsDevice (FailsAt sounds.now) }
@@ -47,10 +47,10 @@ fn asked_in_order<S: Shelf, W: Watch>(
     let mut silent = Vec::new(alloc);
     silent.resize(pieces.len(), false)?;
     let mut looking = Looking::new(watch, frames_of(pieces));
-    for place in order {
-        let piece = &pieces[*place];
+    for position in order {
+        let piece = &pieces[*position];
         let answer = search.is_silent(piece, sounds, shelf, &mut looking)?;
-        silent[*place] = answer;
+        silent[*position] = answer;
         looking.answered(piece.length);
     }
     Ok(silent)

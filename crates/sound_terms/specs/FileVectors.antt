@@ -15,7 +15,7 @@ pub rendered_says : sound_of (codes "render.wav") rendered ≡ Ok (record {
   channels = 1;
   depth = Sixteen;
   frames = 4;
-  place = 690;
+  offset = 690;
   text = Some (replicate 338 0);
   time_reference = Some 172800000;
   history = [];

@@ -27,7 +27,7 @@ same_file homes are i j m n here there same = by_test (i == j) refl where
   by_test false e =
       let a = home_of homes i m here in
       let b = home_of homes j n there in
-      let places : a.0.place ≡ b.0.place = rw (a.1, b.1) at same in
+      let places : a.0.position ≡ b.0.position = rw (a.1, b.1) at same in
       absurd (are.apart i j a.0 b.0 (λ (one : i ≡ j). grind (arith, nat_tests)) a.1 b.1 places)
 
 -- the frames of a file that can be addressed end in the day

@@ -17,12 +17,12 @@ base_by homes file = unwrap_or (option_map (λ home. home.base) (slice_get homes
 
 -- where the home index stands among the bound indexes
 abbrev pub place_by : List Home → ℕ → ℕ
-place_by homes file = unwrap_or (option_map (λ home. home.place) (slice_get homes file)) 0
+place_by homes file = unwrap_or (option_map (λ home. home.position) (slice_get homes file)) 0
 
 -- two files have two home indexes, and what can be addressed lies inside the day
 pub record AreHomes (homes : List Home) : Type 0 where
   pub apart : (i j : ℕ) (a b : Home) → i ≢ j → slice_get homes i ≡ Some a → slice_get homes j ≡ Some b
-      → a.place ≢ b.place
+      → a.position ≢ b.position
   pub in_day : (i : ℕ) (a : Home) → slice_get homes i ≡ Some a → 0 < a.addressable → a.base + a.addressable ≤ day
 
 abbrev pub kept_of : List (List Piece) → List Home → ℕ → ℕ → ℕ → Bool

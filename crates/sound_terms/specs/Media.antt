@@ -27,7 +27,7 @@ medium_info facts base run = record {
 -- the bytes of so many frames of a source, from this frame on
 abbrev pub frames_in : SoundFacts → List ℕ → (frame count : ℕ) → List ℕ
 frames_in facts bytes frame count =
-    take (count * frame_length facts) (drop (facts.place + frame * frame_length facts) bytes)
+    take (count * frame_length facts) (drop (facts.offset + frame * frame_length facts) bytes)
 
 -- the medium of a run of a source of these bytes
 abbrev pub medium_of : SoundFacts → List ℕ → ℕ → Run → List ℕ
@@ -58,7 +58,7 @@ no_sound = record {
   channels = 0;
   depth = Sixteen;
   frames = 0;
-  place = 0;
+  offset = 0;
   text = None;
   time_reference = None;
   history = [];

@@ -51,5 +51,5 @@ pub record ReadsBack (range : Range) (mix : ℕ → ℕ → ℤ) (file : List �
   pub frames : facts.frames ≡ range.to - range.from
   pub start : facts.time_reference ≡ Some range.from
   pub samples : (frame channel : ℕ) → frame < range.to - range.from → 1 ≤ channel → channel ≤ range.channels
-      → sample_at file facts.place range.channels (bits_of range.depth) frame channel
+      → sample_at file facts.offset range.channels (bits_of range.depth) frame channel
       ≡ quantized (bits_of range.depth) (mix channel (range.from + frame))

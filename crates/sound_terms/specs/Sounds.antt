@@ -10,14 +10,14 @@ use Rattle.sound_terms.specs.Mix.{Reading, full_scale}
 use Rattle.sound_terms.specs.Waves.{sample_at}
 use Rattle.work_terms.specs.Disk.{Files}
 
--- all that a sound file says: `place` is where its samples begin; `text`, `time_reference` and `history` are of
+-- all that a sound file says: `offset` is where its samples begin; `text`, `time_reference` and `history` are of
 -- its `bext`; `short_bext`, `history_cut` and `others` tell what of the file is not carried along
 pub record SoundFacts : Type 0 where
   pub name : List ℕ
   pub channels : ℕ
   pub depth : Depth
   pub frames : ℕ
-  pub place : ℕ
+  pub offset : ℕ
   pub text : Option (List ℕ)
   pub time_reference : Option ℕ
   pub history : List ℕ
@@ -43,7 +43,7 @@ facts_with name chunks format bext =
       channels = format.channels;
       depth = format.depth;
       frames = chunks.sound.length / (format.channels * (bits_of format.depth / 8));
-      place = chunks.sound.at;
+      offset = chunks.sound.at;
       text = if is_whole then Some (take 338 bext) else None;
       time_reference = if is_whole then Some (number_at 8 338 bext) else None;
       history = take history_limit (drop 602 bext);
@@ -60,7 +60,7 @@ reading_by files sounds file channel frame = of_sound (slice_get sounds file) wh
   of_bytes facts (Some bytes) =
       if nat_lt frame facts.frames && (nat_le 1 channel && nat_le channel facts.channels)
       then full_scale (bits_of facts.depth)
-      (sample_at bytes facts.place facts.channels (bits_of facts.depth) frame channel)
+      (sample_at bytes facts.offset facts.channels (bits_of facts.depth) frame channel)
       else pos 0
 
   of_sound : Option SoundFacts → ℤ

@@ -60,11 +60,11 @@ impl Homes {
     }
 
     /// Where the home index of a file stands among the bound indexes; 0 without a home.
-    pub fn place(&self, file: u32) -> u32
+    pub fn position(&self, file: u32) -> u32
         ensures { result ≡ place_by self.now file }
     {
         match self.homes.get(file as usize) {
-            Some(home) => home.place,
+            Some(home) => home.position,
             None => 0,
         }
     }

@@ -18,7 +18,7 @@ pub enum Shape {
 
 impl Shape {
     /// The shape of what is left of a piece behind its first `count` samples.
-    pub fn behind(self, count: u64) -> Self
+    pub fn after(self, count: u64) -> Self
         requires { IsRamp self count }
         ensures { result ≡ shape_behind count self }
     {
@@ -78,5 +78,5 @@ pub struct Run {
 pub struct Home {
     pub base: u64,
     pub addressable: u64,
-    pub place: u32,
+    pub position: u32,
 }

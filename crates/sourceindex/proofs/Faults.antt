@@ -153,10 +153,10 @@ device_told source (Media media.Memory) told = cc
 -- a device fails at a file whose name is told
 device_place : (P : List ℕ → Type 0) (source : Source) (named : NamedFault) → named.fault ≡ Media media.Device
     → IsNamedAs source named → P (name_of_source source)
-    → HoldsOfFile P (refusal_of (at_index source.number named)).place
+    → HoldsOfFile P (refusal_of (at_index source.number named)).location
 device_place P source named is = by_name named.name refl where
   by_name : (name : Option (String Global)) → named.name ≡ name → IsNamedAs source named → P (name_of_source source)
-      → HoldsOfFile P (refusal_of (at_index source.number named)).place
+      → HoldsOfFile P (refusal_of (at_index source.number named)).location
   by_name (Some name) e told failed =
       let same : string_bytes name ≡ name_of_source source = rw e at told in
       rw (is, e) (subst P (sym same) failed)
@@ -174,7 +174,7 @@ pub read_on : {S : Type 0} (stored : S → Files) (honest : S → Bool) (failure
     (named.fault ≡ Media media.Device) (named.fault ≡ Media media.Device → failed_at new (name_of_source source))
     → HasRead stored honest failures failed_at old new (¬ ((refusal_of fault).number ≡ 22))
     ((refusal_of fault).number ≡ 22)
-    ((refusal_of fault).number ≡ 22 → HoldsOfFile (failed_at new) (refusal_of fault).place)
+    ((refusal_of fault).number ≡ 22 → HoldsOfFile (failed_at new) (refusal_of fault).location)
 read_on stored honest failures failed_at old mid new source named fault of_index name kept read = record {
   same = read.same ∙ kept.same;
   honest_same = read.honest_same ∙ kept.honest_same;

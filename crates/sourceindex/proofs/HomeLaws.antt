@@ -241,7 +241,7 @@ are_homes binding is = record {
       let first = home_told binding is i a at_i in
       let second = home_told binding is j b at_j in
       let places : 0 + first.at ≡ 0 + second.at =
-      sym (ap (λ (h : Home). h.place) first.told) ∙ same ∙ ap (λ (h : Home). h.place) second.told in
+      sym (ap (λ (h : Home). h.position) first.told) ∙ same ∙ ap (λ (h : Home). h.position) second.told in
       let place : first.at ≡ second.at = sym (zero-add first.at) ∙ places ∙ zero-add second.at in
       let one : first.index ≡ second.index = let e =
       sym first.there ∙ ap (λ n. slice_get binding.indexes n) place ∙ second.there in cc in

@@ -45,7 +45,7 @@ pub known_refused : (binding : Binding) (source : Source) (place : Place) (file 
     → slice_get binding.files file ≡ Some opened
     → bytes_eq opened.path place.path ≡ false
     → with_known_file binding source place file (slice_get binding.files file)
-    ≡ Err (record { number = 30; place = Index source.number; late = false })
+    ≡ Err (record { number = 30; location = Index source.number; late = false })
 known_refused binding source place file opened there other = rw (there, other) refl
 
 pub known_added : (binding : Binding) (source : Source) (place : Place) (file : ℕ) (opened : OpenedFile)

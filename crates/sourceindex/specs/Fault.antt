@@ -17,9 +17,9 @@ abbrev pub name_of_source : Source → List ℕ
 name_of_source source = unwrap_or (option_map (λ place. place.name) (place_of_url source.url)) []
 
 abbrev pub refusal_of_source : Source → SourceFault → Refusal
-refusal_of_source source of_source.SameName = record { number = 30; place = Index source.number; late = false }
+refusal_of_source source of_source.SameName = record { number = 30; location = Index source.number; late = false }
 refusal_of_source source (of_source.Media fault) =
-    record { number = media.number_of fault; place = IndexFile source.number (name_of_source source); late = false }
+    record { number = media.number_of fault; location = IndexFile source.number (name_of_source source); late = false }
 
 -- the fault of the project at this index
 abbrev pub at_index : ℕ → NamedFault → BindFault
@@ -34,6 +34,6 @@ file_at index (Some name) = IndexFile index (string_bytes name)
 file_at index None = Index index
 
 abbrev pub refusal_of : BindFault → Refusal
-refusal_of (SameName index) = record { number = 30; place = Index index; late = false }
+refusal_of (SameName index) = record { number = 30; location = Index index; late = false }
 refusal_of (Media index name fault) =
-    record { number = media.number_of fault; place = file_at index name; late = false }
+    record { number = media.number_of fault; location = file_at index name; late = false }

@@ -111,17 +111,17 @@ impl Binder {
         &mut self,
         alloc: Global,
         source: &Source,
-        place: &Place,
+        location: &Place,
         file: u32,
     ) -> Result<(), SourceFault>
-        requires place { place_of_url source.now.url ≡ Some place.now }
-        requires opened { file_named place.now.name self.old.files ≡ Some file }
+        requires location { place_of_url source.now.url ≡ Some location.now }
+        requires opened { file_named location.now.name self.old.files ≡ Some file }
         ensures added { Takes source.now result self.new
-            (with_known_file self.old source.now place.now file (slice_get self.old.files file)) }
+            (with_known_file self.old source.now location.now file (slice_get self.old.files file)) }
         ensures sound { IsBinding self.old → OnOk result (IsBinding self.new) }
         ensures no_device { IfErr result (λ fault. fault ≡ SourceFault.Media MediaFault.Device → ⊥) }
     {
-        if self.files.path(file) != place.path() {
+        if self.files.path(file) != location.path() {
             return Err(SourceFault::SameName);
         }
         self.push_index(alloc, source, file, false)?;
@@ -133,19 +133,19 @@ impl Binder {
         &mut self,
         alloc: Global,
         source: &Source,
-        place: &Place,
+        location: &Place,
         shelf: &mut S,
     ) -> Result<(), SourceFault>
-        requires place { place_of_url source.now.url ≡ Some place.now }
-        requires missing { file_named place.now.name self.old.files ≡ None }
+        requires location { place_of_url source.now.url ≡ Some location.now }
+        requires missing { file_named location.now.name self.old.files ≡ None }
         ensures added { IsTrue (S.honest shelf.old)
-            → Takes source.now result self.new (bound_to_new (S.stored shelf.old) self.old source.now place.now) }
+            → Takes source.now result self.new (bound_to_new (S.stored shelf.old) self.old source.now location.now) }
         ensures sound { IsBinding self.old → OnOk result (IsBinding self.new) }
         ensures only_reads { OnlyReads S.Shelf shelf.old shelf.new result
             (λ fault. fault ≡ SourceFault.Media MediaFault.Device) (λ _ failed. failed (name_of_source source.now)) }
     {
-        let sound = open(alloc, shelf, place.name())?;
-        let path = Bytes::from_slice(alloc, place.path())?;
+        let sound = open(alloc, shelf, location.name())?;
+        let path = Bytes::from_slice(alloc, location.path())?;
         let file = self.files.push(alloc, path, sound)?;
         self.push_index(alloc, source, file, true)?;
         Ok(())
@@ -156,20 +156,20 @@ impl Binder {
         &mut self,
         alloc: Global,
         source: &Source,
-        place: &Place,
+        location: &Place,
         shelf: &mut S,
     ) -> Result<(), SourceFault>
-        requires place { place_of_url source.now.url ≡ Some place.now }
+        requires location { place_of_url source.now.url ≡ Some location.now }
         ensures added { IsTrue (S.honest shelf.old)
             → Takes source.now result self.new (bound_source (S.stored shelf.old) self.old source.now
-            (Some place.now)) }
+            (Some location.now)) }
         ensures sound { IsBinding self.old → OnOk result (IsBinding self.new) }
         ensures only_reads { OnlyReads S.Shelf shelf.old shelf.new result
             (λ fault. fault ≡ SourceFault.Media MediaFault.Device) (λ _ failed. failed (name_of_source source.now)) }
     {
-        match self.files.position(place.name()) {
-            Some(file) => self.add_known(alloc, source, place, file),
-            None => self.add_new(alloc, source, place, shelf),
+        match self.files.position(location.name()) {
+            Some(file) => self.add_known(alloc, source, location, file),
+            None => self.add_new(alloc, source, location, shelf),
         }
     }
 
@@ -189,12 +189,12 @@ impl Binder {
             (λ named. named.fault ≡ SourceFault.Media MediaFault.Device)
             (λ _ failed. failed (name_of_source source.now)) }
     {
-        let Some(place) = place_of(alloc, source.url())? else {
+        let Some(location) = place_of(alloc, source.url())? else {
             return Ok(());
         };
-        match self.add_at(alloc, source, &place, shelf) {
+        match self.add_at(alloc, source, &location, shelf) {
             Ok(()) => Ok(()),
-            Err(fault) => Err(fault.at(place)),
+            Err(fault) => Err(fault.at(location)),
         }
     }
 

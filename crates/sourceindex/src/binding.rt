@@ -26,7 +26,7 @@ pub fn bind<S: Shelf>(alloc: Global, project: &Project, shelf: &mut S) -> Result
     ensures own { IfErr result (IsOfProject project.now) }
     ensures only_reads { OnlyReads S.Shelf shelf.old shelf.new result
         (λ fault. (refusal_of fault).number ≡ 22)
-        (λ fault failed. HoldsOfFile failed (refusal_of fault).place) }
+        (λ fault failed. HoldsOfFile failed (refusal_of fault).location) }
 {
     let sources = project.sources().as_slice();
     let used = UsedNumbers::new(alloc, project.events());

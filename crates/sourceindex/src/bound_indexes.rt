@@ -71,8 +71,8 @@ impl BoundIndexes {
                 .copied()
                 .find(|index| index.number == number);
         }
-        let place = self.places[number as usize]?;
-        Some(self.indexes[place])
+        let position = self.places[number as usize]?;
+        Some(self.indexes[position])
     }
 
     /// Makes the table where there is no index yet.
@@ -91,14 +91,14 @@ impl BoundIndexes {
         ensures { self.new ≡ (if is_ok result then self.old ++ index ∷ [] else self.old) }
     {
         self.make_places(alloc)?;
-        let place = self.indexes.len();
-        if place >= MOST {
+        let position = self.indexes.len();
+        if position >= MOST {
             return Err(AllocError);
         }
         let number = index.number as usize;
         self.indexes.push(index)?;
         if number < self.places.len() && self.places[number].is_none() {
-            self.places[number] = Some(place);
+            self.places[number] = Some(position);
         }
         Ok(())
     }

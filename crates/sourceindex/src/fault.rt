@@ -38,13 +38,13 @@ impl From<AllocError> for SourceFault {
 
 impl SourceFault {
     /// The fault with the name of the file at this place.
-    pub fn at(self, place: Place) -> NamedFault
+    pub fn at(self, location: Place) -> NamedFault
         ensures fault { result.fault ≡ self }
-        ensures name { option_map string_bytes result.name ≡ Some place.name }
+        ensures name { option_map string_bytes result.name ≡ Some location.name }
     {
         NamedFault {
             fault: self,
-            name: Some(place.into_name()),
+            name: Some(location.into_name()),
         }
     }
 }

@@ -48,19 +48,19 @@ impl Files {
     }
 
     /// The path of the file at this place.
-    pub fn path(&self, place: u32) -> &[u8]
-        requires { place < length self.now }
-        ensures { (file : OpenedFile) → slice_get self.now place ≡ Some file → result.now ≡ file.path }
+    pub fn path(&self, position: u32) -> &[u8]
+        requires { position < length self.now }
+        ensures { (file : OpenedFile) → slice_get self.now position ≡ Some file → result.now ≡ file.path }
     {
-        self.paths[place as usize].as_slice()
+        self.paths[position as usize].as_slice()
     }
 
     /// The file at this place.
-    pub fn sound(&self, place: u32) -> &Sound
-        requires { place < length self.now }
-        ensures { (file : OpenedFile) → slice_get self.now place ≡ Some file → result.now ≡ file.facts }
+    pub fn sound(&self, position: u32) -> &Sound
+        requires { position < length self.now }
+        ensures { (file : OpenedFile) → slice_get self.now position ≡ Some file → result.now ≡ file.facts }
     {
-        &self.sounds[place as usize]
+        &self.sounds[position as usize]
     }
 
     /// All of them.
@@ -71,30 +71,30 @@ impl Files {
     }
 
     /// Hands out the name of the file at this place.
-    pub fn into_name(self, place: u32) -> String
-        requires { place < length self }
-        ensures { (file : OpenedFile) → slice_get self place ≡ Some file → string_bytes result ≡ file.facts.name }
+    pub fn into_name(self, position: u32) -> String
+        requires { position < length self }
+        ensures { (file : OpenedFile) → slice_get self position ≡ Some file → string_bytes result ≡ file.facts.name }
     {
         let mut sounds = self.sounds;
-        sounds.swap_remove(place as usize).into_name()
+        sounds.swap_remove(position as usize).into_name()
     }
 
     /// Adds a file behind the others, and gives its place. An error leaves them as they were; it also stands for more
     /// files than 32 bits can number.
     pub fn push(&mut self, alloc: Global, path: Bytes, sound: Sound) -> Result<u32, AllocError>
         requires missing { file_named sound.name self.old ≡ None }
-        ensures place { IfOk result (λ place. place ≡ length self.old) }
+        ensures position { IfOk result (λ position. position ≡ length self.old) }
         ensures pushed { OnOk result (self.new ≡ self.old ++ record { path = path; facts = sound } ∷ []) }
     {
-        let Ok(place) = u32::try_from(self.sounds.len()) else {
+        let Ok(position) = u32::try_from(self.sounds.len()) else {
             return Err(AllocError);
         };
         let name = String::from_str(alloc, sound.name())?;
         self.sounds.reserve(1)?;
         self.paths.reserve(1)?;
-        self.places.insert(name, place)?;
+        self.places.insert(name, position)?;
         self.sounds.push(sound)?;
         self.paths.push(path)?;
-        Ok(place)
+        Ok(position)
     }
 }

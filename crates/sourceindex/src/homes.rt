@@ -12,7 +12,7 @@ use std::alloc::{AllocError, Global};
 const NO_HOME: Home = Home {
     base: 0,
     addressable: 0,
-    place: 0,
+    position: 0,
 };
 
 /// So many files without a home.
@@ -34,13 +34,13 @@ fn least(home: Option<Home>, later: Home) -> Home
 }
 
 /// What an index tells that stands at this place among those bound.
-fn home_at(place: u32, index: &BoundIndex) -> Home
-    ensures { result ≡ spec.home_at place index.now }
+fn home_at(position: u32, index: &BoundIndex) -> Home
+    ensures { result ≡ spec.home_at position index.now }
 {
     Home {
         base: index.base,
         addressable: index.addressable,
-        place,
+        position,
     }
 }
 
@@ -70,10 +70,10 @@ fn least_homes(
 {
     let mut homes = no_homes(alloc, files)?;
     for (i, index) in indexes.iter().enumerate() {
-        let Ok(place) = u32::try_from(i) else {
+        let Ok(position) = u32::try_from(i) else {
             return Err(AllocError);
         };
-        let home = home_at(place, index);
+        let home = home_at(position, index);
         let file = index.file as usize;
         if file < homes.len() {
             homes[file] = Some(least(homes[file], home));

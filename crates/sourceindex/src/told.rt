@@ -53,13 +53,13 @@ pub fn index_over(source: &Source, sound: &Sound, file: u32) -> BoundIndex
 /// Adds a notice of this kind at an index where it is told.
 pub fn tell_if(
     notices: &mut Vec<Notice>,
-    told: bool,
+    is_reported: bool,
     kind: u8,
     number: u32,
 ) -> Result<(), AllocError>
-    ensures { OnOk result (notices.new.items ≡ notices.old.items ++ notice_if told kind number) }
+    ensures { OnOk result (notices.new.items ≡ notices.old.items ++ notice_if is_reported kind number) }
 {
-    if told {
+    if is_reported {
         notices.push(Notice {
             kind,
             at: u64::from(number),

@@ -72,10 +72,10 @@ pub fn parts_of(event: &Event) -> (Channels, SampleTime, Fade) {
 /// How long the path and the name are that a URL names.
 pub fn lengths_of(alloc: Global, url: &[u8]) -> Result<Option<(usize, usize)>, AllocError> {
     let found: Option<Place> = place_of(alloc, url)?;
-    let Some(place) = found else {
+    let Some(location) = found else {
         return Ok(None);
     };
-    Ok(Some((place.path().len(), place.name().len())))
+    Ok(Some((location.path().len(), location.name().len())))
 }
 
 /// A project over its files, checked.

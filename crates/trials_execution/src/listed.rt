@@ -67,7 +67,7 @@ impl JobMaker for Listed {
         Ok(())
     }
 
-    fn place<B: Bench>(&mut self, job: u32, bytes: &[u8], bench: &mut B) -> Result<(), PlaceFault> {
+    fn write<B: Bench>(&mut self, job: u32, bytes: &[u8], bench: &mut B) -> Result<(), PlaceFault> {
         match bench.write_at(OUT, job as u64, bytes) {
             Ok(()) => return Ok(()),
             Err(_) => return Err(PlaceFault::Write),

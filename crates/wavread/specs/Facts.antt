@@ -17,12 +17,12 @@ sound_of_file name (Some file) = as_media (sound_of name file)
 
 -- the facts of these parts
 abbrev pub facts_told : List ℕ → ℕ → Depth → ℕ → ℕ → Option Bext → List ℕ → Bool → Bool → Bool → SoundFacts
-facts_told name channels depth frames place bext history short_bext history_cut others = record {
+facts_told name channels depth frames offset bext history short_bext history_cut others = record {
   name = name;
   channels = channels;
   depth = depth;
   frames = frames;
-  place = place;
+  offset = offset;
   text = option_map (λ b. b.text) bext;
   time_reference = option_map (λ b. b.time_reference) bext;
   history = history;
@@ -37,7 +37,7 @@ pub record IsSound (facts : SoundFacts) : Type 0 where
   pub few_channels : facts.channels ≤ 64
   pub history_fits : length facts.history ≤ 65536
   pub few_frames : facts.frames < 2 ^ 64
-  pub ends : facts.place + facts.frames * frame_length facts < 2 ^ 64
+  pub ends : facts.offset + facts.frames * frame_length facts < 2 ^ 64
 
 -- these are the samples that stand one after the other from this place on
 abbrev pub AreFrames : List ℕ → ℕ → ℕ → List ℤ → Type 0

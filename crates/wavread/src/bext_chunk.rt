@@ -74,10 +74,10 @@ fn read_whole<S: Shelf>(
     contents: Span,
 ) -> Result<Told, MediaFault>
     requires { contents.at + contents.length < 2 ^ 64 }
-    ensures told { IsTrue (S.honest shelf.old) → (file : List ℕ) → S.stored shelf.old name.now ≡ Some file
+    ensures texts { IsTrue (S.honest shelf.old) → (file : List ℕ) → S.stored shelf.old name.now ≡ Some file
         → contents.at + contents.length ≤ length file
         → IfOk result (TellsAll (Some contents) (contents_of file (Some contents))) }
-    ensures few { IfOk result (λ told. vec_len told.history ≤ 65536) }
+    ensures few { IfOk result (λ texts. vec_len texts.history ≤ 65536) }
     ensures excused { IfErr result (λ fault. is_excused (number_of fault) ≡ true) }
     ensures only_reads { OnlyReads S.Shelf shelf.old shelf.new result (λ fault. fault ≡ MediaFault.Device)
         (λ _ failed. failed name.now) }
@@ -118,10 +118,10 @@ pub fn read_told<S: Shelf>(
     contents: Option<Span>,
 ) -> Result<Told, MediaFault>
     requires { IfSome contents (λ span. span.at + span.length < 2 ^ 64) }
-    ensures told { IsTrue (S.honest shelf.old) → (file : List ℕ) → S.stored shelf.old name.now ≡ Some file
+    ensures texts { IsTrue (S.honest shelf.old) → (file : List ℕ) → S.stored shelf.old name.now ≡ Some file
         → IfSome contents (λ span. span.at + span.length ≤ length file)
         → IfOk result (TellsAll contents (contents_of file contents)) }
-    ensures few { IfOk result (λ told. vec_len told.history ≤ 65536) }
+    ensures few { IfOk result (λ texts. vec_len texts.history ≤ 65536) }
     ensures excused { IfErr result (λ fault. is_excused (number_of fault) ≡ true) }
     ensures only_reads { OnlyReads S.Shelf shelf.old shelf.new result (λ fault. fault ≡ MediaFault.Device)
         (λ _ failed. failed name.now) }

@@ -35,7 +35,7 @@ pub fn open<S: Shelf>(alloc: Global, shelf: &mut S, name: &str) -> Result<Sound,
 {
     let chunks = walk_indexed(alloc, shelf, name)?;
     let format = read_format(shelf, name, chunks.format)?;
-    let told = read_told(alloc, shelf, name, chunks.bext)?;
+    let texts = read_told(alloc, shelf, name, chunks.bext)?;
     let name = copy_of(alloc, name)?;
-    Ok(Sound::of(name, format, chunks.sound, told, chunks.others))
+    Ok(Sound::of(name, format, chunks.sound, texts, chunks.others))
 }

@@ -30,7 +30,7 @@ pub struct Sound {
     channels: u8,
     depth: Depth,
     frames: u64,
-    place: u64,
+    offset: u64,
     bext: Option<Bext>,
     history: Vec<u8>,
     short_bext: bool,
@@ -46,23 +46,23 @@ impl Model for Sound {
     ghost Value = { SoundFacts };
 
     ghost view = { λ s. facts_told (string_bytes s.name)
-        s.channels s.depth s.frames s.place s.bext s.history.items s.short_bext s.history_cut s.others };
+        s.channels s.depth s.frames s.offset s.bext s.history.items s.short_bext s.history_cut s.others };
 
     ghost invariant = { λ s. IsSound (facts_told (string_bytes s.name)
-        s.channels s.depth s.frames s.place s.bext s.history.items s.short_bext s.history_cut s.others) };
+        s.channels s.depth s.frames s.offset s.bext s.history.items s.short_bext s.history_cut s.others) };
 }
 
 impl Sound {
     ghost use Rattle.wavread.specs.Facts.{IsSound};
 
     /// The file of these parts.
-    pub fn of(name: String, format: Format, sound: Span, told: Told, others: bool) -> Self
+    pub fn of(name: String, format: Format, sound: Span, texts: Told, others: bool) -> Self
         requires channels { (1 ≤ format.channels) × (format.channels ≤ 64) }
-        requires history { vec_len told.history ≤ 65536 }
+        requires history { vec_len texts.history ≤ 65536 }
         requires ends { sound.at + sound.length < 2 ^ 64 }
         ensures { result ≡ facts_told (string_bytes name) format.channels format.depth
             (sound.length / (format.channels * (bits_of format.depth / 8)))
-            sound.at told.bext told.history.items told.short told.cut others }
+            sound.at texts.bext texts.history.items texts.short texts.cut others }
     {
         let frame = u64::from(format.channels) * u64::from(format.depth.bits() / 8);
         Sound {
@@ -70,11 +70,11 @@ impl Sound {
             channels: format.channels,
             depth: format.depth,
             frames: sound.length / frame,
-            place: sound.at,
-            bext: told.bext,
-            history: told.history,
-            short_bext: told.short,
-            history_cut: told.cut,
+            offset: sound.at,
+            bext: texts.bext,
+            history: texts.history,
+            short_bext: texts.short,
+            history_cut: texts.cut,
             others,
         }
     }
@@ -170,14 +170,14 @@ impl Sound {
         requires whole { (frames : ℕ) × (length bytes.old ≡ frames * frame_length self.now)
             × (from + frames ≤ self.now.frames) }
         ensures bytes { IsTrue (S.honest shelf.old)
-            → OnOk result (IsRange (S.stored shelf.old self.now.name) (self.now.place + from * frame_length self.now)
+            → OnOk result (IsRange (S.stored shelf.old self.now.name) (self.now.offset + from * frame_length self.now)
             bytes.new) }
         ensures not_missing { IsErrOf result ShelfFault.NotFound → ⊥ }
         ensures only_reads { OnlyReads S.Shelf shelf.old shelf.new result (λ fault. fault ≡ ShelfFault.Device)
             (λ _ failed. failed self.now.name) }
     {
-        let place = self.place + from * self.frame_length();
-        shelf.read_at(self.name.as_str(), place, bytes)
+        let offset = self.offset + from * self.frame_length();
+        shelf.read_at(self.name.as_str(), offset, bytes)
     }
 
     /// Fills `samples` with those of a channel, counted from 1, from this frame on. `Device` where a read fails; the
@@ -193,7 +193,7 @@ impl Sound {
         requires inside { from + length samples.old ≤ self.now.frames }
         ensures samples { IsTrue (S.honest shelf.old) → (file : List ℕ) → S.stored shelf.old self.now.name ≡ Some file
             → OnOk result ((i : ℕ) → i < length samples.new → get_or samples.new i (pos 0)
-            ≡ sample_at file self.now.place self.now.channels (bits_of self.now.depth) (from + i) channel) }
+            ≡ sample_at file self.now.offset self.now.channels (bits_of self.now.depth) (from + i) channel) }
         ensures not_missing { IsErrOf result ShelfFault.NotFound → ⊥ }
         ensures only_reads { OnlyReads S.Shelf shelf.old shelf.new result (λ fault. fault ≡ ShelfFault.Device)
             (λ _ failed. failed self.now.name) }
@@ -232,7 +232,7 @@ impl Sound {
         requires room { length frames.old * (bits_of self.now.depth / 8) ≤ length buffer.old }
         requires inside { from + count ≤ self.now.frames }
         ensures frames { IsTrue (S.honest shelf.old) → (file : List ℕ) → S.stored shelf.old self.now.name ≡ Some file
-            → OnOk result (AreFrames file (self.now.place + from * frame_length self.now) (bits_of self.now.depth)
+            → OnOk result (AreFrames file (self.now.offset + from * frame_length self.now) (bits_of self.now.depth)
             frames.new) }
         ensures there { IsTrue (S.honest shelf.old) → OnOk result (IsSome (S.stored shelf.old self.now.name)) }
         ensures fit { OnOk result (All (FitsDepth (bits_of self.now.depth)) frames.new) }

@@ -47,9 +47,9 @@ impl<'a> SoundInfoRef<'a> {
     pub fn fits(&self) -> bool
         ensures { IsTrue result ↔ Fits self.now }
     {
-        let place = self.header_length() as u64;
+        let offset = self.header_length() as u64;
         match self.size() {
-            Some(size) => size <= LONGEST - place,
+            Some(size) => size <= LONGEST - offset,
             None => false,
         }
     }
@@ -58,9 +58,9 @@ impl<'a> SoundInfoRef<'a> {
     pub fn is_large(&self) -> bool
         ensures { result ≡ is_large self.now }
     {
-        let place = self.header_length() as u64;
+        let offset = self.header_length() as u64;
         match self.size() {
-            Some(size) => size > LONGEST_RIFF - place,
+            Some(size) => size > LONGEST_RIFF - offset,
             None => true,
         }
     }
@@ -115,7 +115,7 @@ impl<'a> SoundInfoRef<'a> {
 
 /// Where the samples begin in a file of this, at most byte 66,226, and what such a file is read as.
 pub fn place_of(info: &SoundInfo) -> u64
-    ensures place { result ≡ data_place info.now }
+    ensures offset { result ≡ data_place info.now }
     ensures near { result ≤ 66226 }
     ensures reads_back { (name «data» : List ℕ) → Fits info.now → length «data» ≡ data_size info.now
         → sound_of name (file_of info.now «data») ≡ Ok (facts_of name info.now) }
@@ -160,10 +160,10 @@ pub fn fits_riff_with(channels: u8, depth: Depth, frames: u64, history: usize) -
         → IsTrue result ↔ FitsRiff info }
 {
     let bext = BEXT_LENGTH + history as u64;
-    let place = HEADS_LENGTH + bext + bext % 2;
+    let offset = HEADS_LENGTH + bext + bext % 2;
     let frame = u64::from(channels) * u64::from(depth.bits() / 8);
     match frames.checked_mul(frame) {
-        Some(size) => size <= LONGEST_RIFF - place,
+        Some(size) => size <= LONGEST_RIFF - offset,
         None => false,
     }
 }

@@ -16,7 +16,7 @@ pub data Where : Type 0 where
 -- late: it came after the first write
 pub record Refusal : Type 0 where
   pub number : ℕ
-  pub place : Where
+  pub location : Where
   pub late : Bool
 
 -- this number, from the first to the last

@@ -96,8 +96,8 @@ fn places_of(alloc: Global, jobs: u32, order: &[u32]) -> Result<Vec<u32>, BoardF
     let Ok(mut places) = vec![in alloc; 0; jobs as usize] else {
         return Err(BoardFault::Memory);
     };
-    for (place, job) in order.iter().enumerate() {
-        places[*job as usize] = place as u32;
+    for (position, job) in order.iter().enumerate() {
+        places[*job as usize] = position as u32;
     }
     Ok(places)
 }
@@ -141,9 +141,9 @@ impl Board {
         ensures { self.new ≡ with_job self.old k job }
     {
         let k = k as usize;
-        let place = self.places[k] as usize;
+        let position = self.places[k] as usize;
         self.counts = counts_with(&self.counts, &self.jobs, k, &job);
-        self.firsts.set(place, givable(&job));
+        self.firsts.set(position, givable(&job));
         self.jobs[k] = job;
     }
 
@@ -271,7 +271,7 @@ impl Board {
 
     /// Opens a job that is out; its ticket is stale from then on. False where it isn't out, and nothing happens.
     pub fn reclaim(&mut self, job: u32) -> bool
-        ensures told { result ≡ is_out (job_at self.old job).standing }
+        ensures reported { result ≡ is_out (job_at self.old job).standing }
         ensures opened { self.new ≡ cond (is_out (job_at self.old job).standing) (reopened self.old job) self.old }
     {
         let k = job;

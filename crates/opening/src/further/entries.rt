@@ -10,10 +10,10 @@ use sourceindex::Bound;
 use std::alloc::{AllocError, Global};
 
 /// What is wrong with an entry, unless it is the one of this number, which is told.
-fn entry_fault(bound: &Bound, event: &Event, told: u32) -> Option<Fault>
-    ensures { option_map refusal_of result ≡ fault_beside bound.now told event.now }
+fn entry_fault(bound: &Bound, event: &Event, reported: u32) -> Option<Fault>
+    ensures { option_map refusal_of result ≡ fault_beside bound.now reported event.now }
 {
-    if event.number == told {
+    if event.number == reported {
         return None;
     }
     let fault = fault_of(bound, event)?;
@@ -28,13 +28,13 @@ pub fn entry_faults(
     alloc: Global,
     bound: &Bound,
     events: &[Event],
-    told: u32,
+    reported: u32,
 ) -> Result<Vec<Fault>, AllocError>
-    ensures { IfOk result (λ faults. map refusal_of faults.items ≡ faults_beside bound.now told events.now) }
+    ensures { IfOk result (λ faults. map refusal_of faults.items ≡ faults_beside bound.now reported events.now) }
 {
     let mut faults = Vec::new(alloc);
     for event in events {
-        if let Some(fault) = entry_fault(bound, event, told) {
+        if let Some(fault) = entry_fault(bound, event, reported) {
             faults.push(fault)?;
         }
     }

@@ -19,20 +19,20 @@ use wavread::{MediaFault, open};
 fn file_fault<S: Shelf>(
     alloc: Global,
     source: &Source,
-    place: &Place,
+    location: &Place,
     shelf: &mut S,
 ) -> Result<Option<Fault>, AllocError>
-    requires { place_of_url source.now.url ≡ Some place.now }
-    ensures told { IsTrue (S.honest shelf.old)
-        → IfOk result (IsFileTold (S.stored shelf.old) source.now place.now) }
+    requires { place_of_url source.now.url ≡ Some location.now }
+    ensures reported { IsTrue (S.honest shelf.old)
+        → IfOk result (IsFileTold (S.stored shelf.old) source.now location.now) }
     ensures only_read { WasRead S.Shelf shelf.old shelf.new }
 {
-    match open(alloc, shelf, place.name()) {
+    match open(alloc, shelf, location.name()) {
         Ok(_) => Ok(None),
         Err(MediaFault::Memory) => Err(AllocError),
         Err(fault) => {
             let index = source.number();
-            let name = Some(String::from_str(alloc, place.name())?);
+            let name = Some(String::from_str(alloc, location.name())?);
             Ok(Some(Fault::Media { index, name, fault }))
         }
     }
@@ -46,9 +46,9 @@ fn source_fault<S: Shelf>(
     paths: &mut Paths,
     shelf: &mut S,
 ) -> Result<Option<Fault>, AllocError>
-    ensures told { IsTrue (S.honest shelf.old) → (named : List names.Place) → Knows paths.old named
-        → IfOk result (λ told.
-        AreTold (S.stored shelf.old) named (used_of used.now (source.now ∷ [])) (cons_option told [])) }
+    ensures reported { IsTrue (S.honest shelf.old) → (named : List names.Place) → Knows paths.old named
+        → IfOk result (λ reported.
+        AreTold (S.stored shelf.old) named (used_of used.now (source.now ∷ [])) (cons_option reported [])) }
     ensures noted { (named : List names.Place) → Knows paths.old named
         → OnOk result (Knows paths.new (named ++ places_of (used_of used.now (source.now ∷ [])))) }
     ensures only_read { WasRead S.Shelf shelf.old shelf.new }
@@ -56,11 +56,11 @@ fn source_fault<S: Shelf>(
     if !used.contains(source.number()) {
         return Ok(None);
     }
-    let Some(place) = place_of(alloc, source.url())? else {
+    let Some(location) = place_of(alloc, source.url())? else {
         return Ok(None);
     };
-    match paths.note(alloc, &place)? {
-        Naming::First => file_fault(alloc, source, &place, shelf),
+    match paths.note(alloc, &location)? {
+        Naming::First => file_fault(alloc, source, &location, shelf),
         Naming::Again => Ok(None),
         Naming::ByOtherPath => Ok(Some(Fault::SameName {
             index: source.number(),
@@ -81,8 +81,8 @@ fn note_file(
     if !used.contains(source.number()) {
         return Ok(());
     }
-    if let Some(place) = place_of(alloc, source.url())? {
-        let _ = paths.note(alloc, &place)?;
+    if let Some(location) = place_of(alloc, source.url())? {
+        let _ = paths.note(alloc, &location)?;
     }
     Ok(())
 }
@@ -111,7 +111,7 @@ fn tell_files<S: Shelf>(
     paths: &mut Paths,
     shelf: &mut S,
 ) -> Result<Vec<Fault>, AllocError>
-    ensures told { IsTrue (S.honest shelf.old) → (named : List names.Place) → Knows paths.old named
+    ensures reported { IsTrue (S.honest shelf.old) → (named : List names.Place) → Knows paths.old named
         → IfOk result (λ faults. AreTold (S.stored shelf.old) named (used_of used.now sources.now) faults.items) }
     ensures only_read { WasRead S.Shelf shelf.old shelf.new }
 {
@@ -137,7 +137,7 @@ fn count_up_to(sources: &[Source], number: u32) -> usize
     ensures within { result ≤ length sources.now }
 {
     match place_of_number(sources, number) {
-        Some(place) => place + 1,
+        Some(position) => position + 1,
         None => sources.len(),
     }
 }
@@ -147,17 +147,17 @@ fn count_up_to(sources: &[Source], number: u32) -> usize
 pub fn file_faults<S: Shelf>(
     alloc: Global,
     project: &Project,
-    told: u32,
+    reported: u32,
     shelf: &mut S,
 ) -> Result<Vec<Fault>, AllocError>
     ensures of_files { IsTrue (S.honest shelf.old)
-        → IfOk result (λ faults. AreOfFiles project.now (S.stored shelf.old) told faults.items) }
+        → IfOk result (λ faults. AreOfFiles project.now (S.stored shelf.old) reported faults.items) }
     ensures only_read { WasRead S.Shelf shelf.old shelf.new }
 {
     let used = UsedNumbers::new(alloc, project.events());
     let mut paths = Paths::new(alloc);
     let sources = project.sources().as_slice();
-    let (before, behind) = sources.split_at(count_up_to(sources, told));
+    let (before, after) = sources.split_at(count_up_to(sources, reported));
     note_files(alloc, &used, before, &mut paths)?;
-    tell_files(alloc, &used, behind, &mut paths, shelf)
+    tell_files(alloc, &used, after, &mut paths, shelf)
 }

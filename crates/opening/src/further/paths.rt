@@ -32,22 +32,22 @@ impl Paths {
     }
 
     /// Notes that the file at this place is named, and tells whether it was named before, and by this path.
-    pub fn note(&mut self, alloc: Global, place: &Place) -> Result<Naming, AllocError>
+    pub fn note(&mut self, alloc: Global, location: &Place) -> Result<Naming, AllocError>
         ensures naming { (places : List names.Place) → Knows self.old places → IfOk result (λ naming. naming
-            ≡ naming_of (path_among place.now.name places) place.now.path) }
+            ≡ naming_of (path_among location.now.name places) location.now.path) }
         ensures noted { (places : List names.Place) → Knows self.old places
-            → OnOk result (Knows self.new (places ++ place.now ∷ [])) }
+            → OnOk result (Knows self.new (places ++ location.now ∷ [])) }
     {
-        if let Some(path) = self.paths.get(place.name()) {
-            let is_same = path.as_slice() == place.path();
+        if let Some(path) = self.paths.get(location.name()) {
+            let is_same = path.as_slice() == location.path();
             return Ok(if is_same {
                 Naming::Again
             } else {
                 Naming::ByOtherPath
             });
         }
-        let name = String::from_str(alloc, place.name())?;
-        let path = Bytes::from_slice(alloc, place.path())?;
+        let name = String::from_str(alloc, location.name())?;
+        let path = Bytes::from_slice(alloc, location.path())?;
         self.paths.insert(name, path)?;
         Ok(Naming::First)
     }

@@ -61,7 +61,7 @@ impl NamedFiles {
     }
 
     /// Writes the bytes, of `count` that were to be written, at their place, where a file is there that has one.
-    pub fn place(
+    pub fn write(
         &mut self,
         name: &str,
         kind: Kind,
@@ -96,14 +96,14 @@ impl NamedFiles {
             } else {
                 self.put(name, &[])
             },
-            Kind::Append => self.place(
+            Kind::Append => self.write(
                 name,
                 Kind::Append,
                 call.at,
                 call.bytes.len(),
                 call.written(),
             ),
-            Kind::Write => self.place(name, Kind::Write, call.at, call.bytes.len(), call.written()),
+            Kind::Write => self.write(name, Kind::Write, call.at, call.bytes.len(), call.written()),
             Kind::Sync => Ok(()),
         }
     }
@@ -129,7 +129,7 @@ impl NamedFiles {
             },
             Kind::Append => {
                 let bytes = spoilt(self.alloc, call.written(), kept, fill)?;
-                self.place(
+                self.write(
                     name,
                     Kind::Append,
                     call.at,
@@ -139,7 +139,7 @@ impl NamedFiles {
             }
             Kind::Write => {
                 let bytes = spoilt(self.alloc, call.written(), kept, fill)?;
-                self.place(
+                self.write(
                     name,
                     Kind::Write,
                     call.at,
@@ -190,7 +190,7 @@ impl NamedFiles {
 
 /// The place as an index, where a range of so many bytes from it on lies inside a file of this length.
 fn place_of(at: u64, count: usize, file_length: usize) -> Option<usize>
-    ensures inside { IfSome result (λ place. (place ≡ at) × (at + count ≤ file_length)) }
+    ensures inside { IfSome result (λ offset. (offset ≡ at) × (at + count ≤ file_length)) }
     ensures outside { IfNone result (file_length < at + count) }
 {
     let at = usize::try_from(at).ok()?;
@@ -200,7 +200,7 @@ fn place_of(at: u64, count: usize, file_length: usize) -> Option<usize>
 
 /// The place as an index, where so many bytes have one in a file of this length.
 fn place_for(kind: Kind, at: u64, count: usize, length: usize) -> Option<usize>
-    ensures place { IfSome result (λ place. (place ≡ at) × IsTrue (has_place kind at count length)) }
+    ensures offset { IfSome result (λ offset. (offset ≡ at) × IsTrue (has_place kind at count length)) }
     ensures none { IfNone result (has_place kind at count length ≡ false) }
 {
     let at = usize::try_from(at).ok()?;
@@ -231,7 +231,7 @@ fn place_in(
 {
     match place_for(kind, at, count, file.len()) {
         None => Ok(()),
-        Some(place) => write_over(file, place, bytes),
+        Some(offset) => write_over(file, offset, bytes),
     }
 }
 

@@ -18,6 +18,6 @@ returns g c =
       status_is = refl;
       printed = subst
           (λ (text : List ℕ). Prints contents failures c.args.out.now c.end_line.new.self (text ++ 10 ∷ []))
-          (alike _ _ _ _ c.refusal-refusal.ensures.number c.refusal-refusal.ensures.place)
+          (alike _ _ _ _ c.refusal-refusal.ensures.number c.refusal-refusal.ensures.location)
           (prints_more contents failures c.put_refusal.ensures c.end_line.ensures);
     }

@@ -11,12 +11,12 @@ use Rattle.adlcons.proofs.looks.report_unread.Goals as goal
 -- by the number and the place that were printed
 kept_out : {O : Type 0} (out : console.Ghosts O) (list : List ℕ) (old new : O) (status : ℕ) (fault : OpenFault)
     (number : ℕ) (place : Where)
-    → number ≡ (refusal_of_opening fault list []).number → place ≡ (refusal_of_opening fault list []).place
+    → number ≡ (refusal_of_opening fault list []).number → place ≡ (refusal_of_opening fault list []).location
     → status ≡ 1 → PrintsUnread out old new number place → IsReportKeptOut out list old new status
 kept_out out list old new status fault number place number_is place_is one printed = record {
   fault = fault;
   status_is = one;
-  unread = subst (λ (n : ℕ). PrintsUnread out old new n (refusal_of_opening fault list []).place) number_is
+  unread = subst (λ (n : ℕ). PrintsUnread out old new n (refusal_of_opening fault list []).location) number_is
       (subst (λ (p : Where). PrintsUnread out old new number p) place_is printed);
 }
 
@@ -31,7 +31,7 @@ pub returns-in-Ok : goal.returns-in-Ok
 returns-in-Ok g c =
     kept_out g.O.Console c.args.list.now c.args.out.now c.put_unread.new.out c.put_unread.result c.args.fault
     c.refusal-refusal.result.number (File (string_bytes c.in-Ok.path)) c.refusal-refusal.ensures.number
-    (ap File c.in-Ok.ensures.ok ∙ ap where_of (sym c.in-File.is) ∙ c.refusal-refusal.ensures.place)
+    (ap File c.in-Ok.ensures.ok ∙ ap where_of (sym c.in-File.is) ∙ c.refusal-refusal.ensures.location)
     c.put_unread.ensures.status c.put_unread.ensures.unread
 
 pub returns-in-Err : goal.returns-in-Err

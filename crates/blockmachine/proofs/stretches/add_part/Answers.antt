@@ -61,8 +61,8 @@ returns-clause-added g c = λ honest before are.
     subst (λ (h : Option Held). Holds (g.S.Shelf.honest c.args.shelf.now) files sounds h all) c.in_ok-hold.ensures.this
     c.in_ok-hold.ensures.held in
     let bytes : List ℕ = take (part.length * c.channels-channels.result * c.from.result) all in
-    let range : IsRange (files sound.name) (sound.place + part.frame * frame_length sound) bytes =
-    subst (λ (n : ℕ). IsRange (files sound.name) (sound.place + part.frame * frame_length sound) (take n all)) (sym count)
+    let range : IsRange (files sound.name) (sound.offset + part.frame * frame_length sound) bytes =
+    subst (λ (n : ℕ). IsRange (files sound.name) (sound.offset + part.frame * frame_length sound) (take n all)) (sym count)
     (holds honest sound found) in
     let long : length all ≡ length c.args.bytes.now = c.hold.auto.bytes in
     let whole : length bytes ≡ part.length * sound.channels * (bits_of sound.depth / 8) =
@@ -109,8 +109,8 @@ returns-clause-full g c = λ honest.
     subst (λ (h : Option Held). Holds (g.S.Shelf.honest c.args.shelf.now) files sounds h all) c.in_ok-hold.ensures.this
     c.in_ok-hold.ensures.held in
     let bytes : List ℕ = take (part.length * c.channels-channels.result * c.from.result) all in
-    let range : IsRange (files sound.name) (sound.place + part.frame * frame_length sound) bytes =
-    subst (λ (n : ℕ). IsRange (files sound.name) (sound.place + part.frame * frame_length sound) (take n all)) (sym count)
+    let range : IsRange (files sound.name) (sound.offset + part.frame * frame_length sound) bytes =
+    subst (λ (n : ℕ). IsRange (files sound.name) (sound.offset + part.frame * frame_length sound) (take n all)) (sym count)
     (holds honest sound found) in
     let long : length all ≡ length c.args.bytes.now = c.hold.auto.bytes in
     let whole : length bytes ≡ part.length * sound.channels * (bits_of sound.depth / 8) =

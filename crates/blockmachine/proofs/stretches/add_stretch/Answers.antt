@@ -45,11 +45,11 @@ loop-done-preserved g c =
           let new = c.in_ok-add_part.ensures.added (subst IsTrue (sym quiet.honest_same) honest) front old in
           let same =
           subst (λ (stored : Files). AreSums sums (sums_with (reading_by stored c.args.sounds.now)
-          c.part_of-part.result c.behind-shape.result front)) quiet.same new in
+          c.part_of-part.result c.after-shape.result front)) quiet.same new in
           let part =
-          subst (λ (p : Stretch). AreSums sums (sums_with reading p c.behind-shape.result front))
+          subst (λ (p : Stretch). AreSums sums (sums_with reading p c.after-shape.result front))
           c.part_of-part.ensures same in
-          let shaped = rw c.behind-shape.ensures at part in
+          let shaped = rw c.after-shape.ensures at part in
           λ i channel room first there. shaped i channel room first there
           ∙ part_more reading stretch c.args.shape done count before i channel;
       full = λ honest.

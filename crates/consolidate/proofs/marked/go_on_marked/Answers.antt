@@ -32,7 +32,7 @@ returns-in-Ok-resume-clause-finished g c = c.in-Ok-resume.ensures.reported
 
 pub returns-in-Err-resume-clause-does : goal.returns-in-Err-resume-clause-does
 returns-in-Err-resume-clause-does g c = subst (λ (f : Fault). GoesOnWithWork g.S.Shelf g.B.Bench c.args.work
-    c.args.shelf.now c.resume.new.shelf c.args.bench.now c.resume.new.bench (Err f)) (sym c.of_execution.ensures.told)
+    c.args.shelf.now c.resume.new.shelf c.args.bench.now c.resume.new.bench (Err f)) (sym c.of_execution.ensures.reported)
     (goes_on_work g.S.Shelf g.B.Bench g.met.B.Bench.reads_now c.in-Ok.execution
     c.args.shelf.now c.resume.new.shelf c.args.bench.now c.resume.new.bench c.args.work c.in-Ok.ensures.taken_up
     c.requires.whole c.requires.jobs _ _ (Err c.in-Err-resume.fault) c.in-Err-resume.ensures.resumed)

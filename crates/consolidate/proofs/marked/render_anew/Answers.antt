@@ -25,7 +25,7 @@ returns-in-Ok-execute-clause-finished g c = c.in-Ok-execute.ensures.reported
 
 pub returns-in-Err-execute-clause-does : goal.returns-in-Err-execute-clause-does
 returns-in-Err-execute-clause-does g c = subst (λ (f : Fault). BeginsWork g.S.Shelf g.B.Bench in_rounds c.args.work
-    c.args.shelf.now c.execute.new.shelf c.args.bench.now c.execute.new.bench (Err f)) (sym c.of_execution.ensures.told)
+    c.args.shelf.now c.execute.new.shelf c.args.bench.now c.execute.new.bench (Err f)) (sym c.of_execution.ensures.reported)
     (begins_work g.S.Shelf g.B.Bench g.met.B.Bench.reads_now c.in-Ok.execution
     c.args.shelf.now c.execute.new.shelf c.args.bench.now c.execute.new.bench c.args.work c.in-Ok.ensures.prepared
     c.requires.whole c.requires.jobs in_rounds _ _ _ (Err c.in-Err-execute.fault) c.in-Err-execute.ensures.executed)

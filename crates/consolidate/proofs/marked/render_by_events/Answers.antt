@@ -16,7 +16,7 @@ returns-in-Ok-execute_events-clause-does g c = begins_work g.S.Shelf g.B.Bench g
 
 pub returns-in-Err-execute_events-clause-does : goal.returns-in-Err-execute_events-clause-does
 returns-in-Err-execute_events-clause-does g c = subst (λ (f : Fault). BeginsWork g.S.Shelf g.B.Bench (λ _. c.args.events.now) c.args.work
-    c.args.shelf.now c.execute_events.new.shelf c.args.bench.now c.execute_events.new.bench (Err f)) (sym c.of_execution.ensures.told)
+    c.args.shelf.now c.execute_events.new.shelf c.args.bench.now c.execute_events.new.bench (Err f)) (sym c.of_execution.ensures.reported)
     (begins_work g.S.Shelf g.B.Bench g.met.B.Bench.reads_now c.in-Ok.execution
     c.args.shelf.now c.execute_events.new.shelf c.args.bench.now c.execute_events.new.bench c.args.work c.in-Ok.ensures.prepared
     c.requires.whole c.requires.jobs (λ _. c.args.events.now) _ _ _

@@ -45,7 +45,7 @@ returns-in-Err-clause-performed g c = performed-ended c.args.in_rounds
     (c.event_at-event.ensures.event ∙ ap {B = BoardEvent} (λ (k : ℕ). get_or (listed c.args.in_rounds k
     c.args.events.now) c.loop-i.i (Lose 0)) c.count-count.ensures)
     c.loop-i.invariant.ran c.in-Err.ensures.ran
-    c.in-Err.ensures.place c.in-Err.ensures.room c.in-Err.ensures.no_output
+    c.in-Err.ensures.memory c.in-Err.ensures.room c.in-Err.ensures.no_output
 
 pub returns-in-Err-clause-notes : goal.returns-in-Err-clause-notes
 returns-in-Err-clause-notes g c = notes-step _ _ _ (g.S.Shelf.honest c.args.shelf.now) (g.S.Shelf.honest c.loop-i.shelf) (g.S.Shelf.stored c.args.shelf.now)

@@ -18,17 +18,17 @@ returns-then-not-is_current-clause-step g c honest sources shelf = IsStale c.in-
     (sym c.if-not-is_current.ensures) refl refl
 
 pub returns-in-Ok-clause-step : goal.returns-in-Ok-clause-step
-returns-in-Ok-clause-step g c honest sources shelf = Delivers c.in-Some.ticket _ (g.B.Bench.stored c.place.new.bench)
+returns-in-Ok-clause-step g c honest sources shelf = Delivers c.in-Some.ticket _ (g.B.Bench.stored c.write.new.bench)
     (worker-hand _ _ c.in-Some.ticket _ true _ _ c.worker.view_is c.in-Some.is c.if-not-worker.false)
     (sym c.is_current.ensures ∙ c.if-not-is_current.false)
     (subst (λ (b : List ℕ). Puts (IsWritten ((g.W.JobMaker.plan c.args.maker.now).jobs.at c.in-Some.ticket.job) b)
     (g.W.JobMaker.plan c.args.maker.now).jobs.name c.in-Some.ticket.job
-    (g.B.Bench.stored c.args.bench.now) (g.B.Bench.stored c.place.new.bench))
+    (g.B.Bench.stored c.args.bench.now) (g.B.Bench.stored c.write.new.bench))
     (ap (λ (x : List ℕ). take c.worker.inside.size x) c.deref.ensures.value) (c.in-Ok.ensures.placed honest))
-    (ap {B = State} (λ (b : Board). state_of b (g.B.Bench.stored c.place.new.bench) c.args.stale.now shelf
-    (g.B.Bench.failures c.place.new.bench) None) c.accept.ensures.done
+    (ap {B = State} (λ (b : Board). state_of b (g.B.Bench.stored c.write.new.bench) c.args.stale.now shelf
+    (g.B.Bench.failures c.write.new.bench) None) c.accept.ensures.done
     ∙ ap {B = State} (λ (n : ℕ). state_of (accepted c.args.board.now c.in-Some.ticket.job) (g.B.Bench.stored
-    c.place.new.bench) c.args.stale.now shelf n None) (c.in-Ok.ensures.only_writes.cause.left tt))
+    c.write.new.bench) c.args.stale.now shelf n None) (c.in-Ok.ensures.only_writes.cause.left tt))
     refl
 
 pub returns-in-Err-Mark-clause-step : goal.returns-in-Err-Mark-clause-step
@@ -37,17 +37,17 @@ returns-in-Err-Mark-clause-step g c honest sources shelf =
     (g.W.JobMaker.plan c.args.maker.now).marks c.in-Some.ticket.job _ (take c.worker.inside.size c.worker.inside.bytes.items) _ _
     c.in-Err-Mark.field-0 c.in-Err-Mark.field-0-is (ap (λ (x : List ℕ). take c.worker.inside.size x)
     c.deref.ensures.value) (c.in-Err-Mark.ensures.placed honest) in
-    CantMark c.in-Some.ticket _ (g.B.Bench.stored c.place.new.bench) (g.B.Bench.failures c.place.new.bench) placed.0
+    CantMark c.in-Some.ticket _ (g.B.Bench.stored c.write.new.bench) (g.B.Bench.failures c.write.new.bench) placed.0
     (worker-hand _ _ c.in-Some.ticket _ true _ _ c.worker.view_is c.in-Some.is c.if-not-worker.false)
     (sym c.is_current.ensures ∙ c.if-not-is_current.false)
     placed.1 (raised _ _ _ _ c.in-Err-Mark.ensures.only_writes.cause tt)
-    (ap {B = State} (λ (b : Board). state_of b (g.B.Bench.stored c.place.new.bench) c.args.stale.now shelf
-    (g.B.Bench.failures c.place.new.bench) (Some MarkFailed)) c.accept-in-Err-Mark.ensures.done)
+    (ap {B = State} (λ (b : Board). state_of b (g.B.Bench.stored c.write.new.bench) c.args.stale.now shelf
+    (g.B.Bench.failures c.write.new.bench) (Some MarkFailed)) c.accept-in-Err-Mark.ensures.done)
     refl
 
 pub returns-in-Err-Write-clause-step : goal.returns-in-Err-Write-clause-step
 returns-in-Err-Write-clause-step g c honest sources shelf = CantWrite c.in-Some.ticket _
-    (g.B.Bench.stored c.place.new.bench) (g.B.Bench.failures c.place.new.bench)
+    (g.B.Bench.stored c.write.new.bench) (g.B.Bench.failures c.write.new.bench)
     (worker-hand _ _ c.in-Some.ticket _ true _ _ c.worker.view_is c.in-Some.is c.if-not-worker.false)
     (sym c.is_current.ensures ∙ c.if-not-is_current.false)
     (placed-write (Unit {0}) (g.W.JobMaker.plan c.args.maker.now).jobs (g.W.JobMaker.plan c.args.maker.now).marks

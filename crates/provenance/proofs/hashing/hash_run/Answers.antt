@@ -3,7 +3,7 @@ use Rattle.provenance.proofs.InTurn.{more_hashed, nothing_hashed}
 use Rattle.provenance.proofs.hashing.hash_run.Goals as goal
 
 pub overflow_add-run : goal.overflow_add-run
-overflow_add-run g c = omega (arith, c.frame_of.ensures.told, c.requires.inside, c.loop-done.invariant.0)
+overflow_add-run g c = omega (arith, c.frame_of.ensures.bounded, c.requires.inside, c.loop-done.invariant.0)
 
 pub loop-done-init : goal.loop-done-init
 loop-done-init g c = (

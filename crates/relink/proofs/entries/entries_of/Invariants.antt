@@ -3,5 +3,5 @@ use Rattle.list_terms.specs.Renewed.{numbered, run_event}
 use Rattle.relink.proofs.entries.entries_of.Given as goal
 
 -- the entries of the groups before the place
-abbrev pub invariant-loop-place : goal.invariant-loop-place
-invariant-loop-place l = l.events.items ≡ numbered (run_event l.runs.homes l.runs.runs) 1 (take l.place l.groups)
+abbrev pub invariant-loop-position : goal.invariant-loop-position
+invariant-loop-position l = l.events.items ≡ numbered (run_event l.runs.homes l.runs.runs) 1 (take l.position l.groups)

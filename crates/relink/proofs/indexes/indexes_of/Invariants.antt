@@ -3,5 +3,5 @@ use Rattle.list_terms.specs.Renewed.{numbered, run_source}
 use Rattle.relink.proofs.indexes.indexes_of.Given as goal
 
 -- the indexes of the runs before the place
-abbrev pub invariant-loop-place : goal.invariant-loop-place
-invariant-loop-place l = l.sources ≡ numbered (run_source l.homes) 1 (take l.place l.list)
+abbrev pub invariant-loop-position : goal.invariant-loop-position
+invariant-loop-position l = l.sources ≡ numbered (run_source l.homes) 1 (take l.position l.list)

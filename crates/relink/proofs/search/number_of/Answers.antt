@@ -27,7 +27,7 @@ returns c =
     let point =
     IsPartitionPoint-from_clause (is_begun home (home file) frame)
     list c.partition_point-begun.result c.partition_point-begun.ensures.partitioned
-    (parted home list file frame apart) (λ a r q k. rw (sym c.place-place.ensures) (search rules)) in
+    (parted home list file frame apart) (λ a r q k. rw (sym c.position-position.ensures) (search rules)) in
     counted home list file frame apart found.0 c.partition_point-begun.result found.1
     c.partition_point-begun.ensures.bound point
     ∙ sym (run_number_of home list file frame found.0 apart found.1)

@@ -7,11 +7,11 @@ use Rattle.rendering.proofs.cutting.fresh_stretches.Goals as goal
 
 pub loop-first-preserved : goal.loop-first-preserved
 loop-first-preserved c =
-    let behind = c.min-behind.result in
+    let behind = c.min-end.result in
     let before = c.loop-first.stretches.items in
     let is = c.loop-first.invariant in
-    let s : Stretch = record { first = c.loop-first.first; behind = behind; done = false } in
-    let ends = c.min-behind.ensures in
+    let s : Stretch = record { first = c.loop-first.first; end = behind; done = false } in
+    let ends = c.min-end.ensures in
     let far = c.saturating_add.ensures in
     let some : c.loop-first.first < behind = omega (arith, ends, far, c.loop-first-test.true, c.requires) in
     let goes : behind ≡ min (c.loop-first.first + c.args.most) c.args.blocks = omega (arith, ends, far) in

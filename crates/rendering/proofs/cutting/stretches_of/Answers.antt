@@ -16,6 +16,6 @@ loop-i-preserved c = elim c.if-ends_here.branch [
 
 pub returns-clause-cut : goal.returns-clause-cut
 returns-clause-cut c =
-    let s : Stretch = record { first = c.loop-i.first; behind = length c.args.marked.now; done = c.loop-i.done } in
+    let s : Stretch = record { first = c.loop-i.first; end = length c.args.marked.now; done = c.loop-i.done } in
     rw c.in_ok-push-2.ensures.items
     (cut-push c.loop-i.stretches.items 0 c.loop-i.first s c.loop-i.invariant.cut refl (omega arith))

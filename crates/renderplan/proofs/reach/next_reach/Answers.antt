@@ -13,7 +13,7 @@ loop-reach-preserved c =
     let next : Reach = get_or c.args.reaches.now (n - reach.count) (record { count = 0; least = 0; greatest = 0 }) in
     let some = c.loop-reach.invariant.some in
     let behind : IsReach (last (n - reach.count + 1) pieces) next =
-    c.requires.behind (n - reach.count) _ (omega arith) in
+    c.requires.after (n - reach.count) _ (omega arith) in
     let place : n + 1 - reach.count ≡ n - reach.count + 1 = omega arith in
     let there : drop reach.count (last (n + 1) pieces) ≡ last (n - reach.count + 1) pieces =
     drop-last reach.count (n + 1) pieces (omega arith) (omega arith) ∙ ap (λ k. last k pieces) place in

@@ -26,7 +26,7 @@ returns-in_err-size-clause-walked g c = λ honest file there indexed before.
     let head =
     head_front file (c.args.end - c.args.left)
     _ c.of-head.result ahead enough c.of-head.ensures.id c.of-head.ensures.size in
-    let told = c.in_err-size.ensures.told (subst IsTrue (sym kept.honest_same) honest) file
+    let told = c.in_err-size.ensures.size (subst IsTrue (sym kept.honest_same) honest) file
     (ap (λ (files : Files). files c.args.name.now) kept.same ∙ there) indexed in
     let refused = refused_size file c.args.sizes.now c.of-head.result c.in_err-size.field-0.0 told
     (λ none. walked_unknown file c.args.sizes.now c.args.end c.args.left _ here c.of-head.result c.requires.head head
@@ -47,7 +47,7 @@ returns-in_err-rest-2-clause-walked g c = λ honest file there indexed before.
     let head =
     head_front file (c.args.end - c.args.left)
     _ c.of-head.result ahead enough c.of-head.ensures.id c.of-head.ensures.size in
-    let told = c.in_ok-size.ensures.told (subst IsTrue (sym kept.honest_same) honest) file
+    let told = c.in_ok-size.ensures.size (subst IsTrue (sym kept.honest_same) honest) file
     (ap (λ (files : Files). files c.args.name.now) kept.same ∙ there) indexed in
     let cut = c.in_err-rest-2.ensures.walked file c.args.sizes.now here head told in
     let p = err_from_is_err_and c.from_residual-in_err-rest-2.result c.from_residual-in_err-rest-2.ensures.1 in
@@ -66,6 +66,6 @@ returns-clause-walked g c = λ honest file there indexed before.
     let head =
     head_front file (c.args.end - c.args.left)
     _ c.of-head.result ahead enough c.of-head.ensures.id c.of-head.ensures.size in
-    let told = c.in_ok-size.ensures.told (subst IsTrue (sym kept.honest_same) honest) file
+    let told = c.in_ok-size.ensures.size (subst IsTrue (sym kept.honest_same) honest) file
     (ap (λ (files : Files). files c.args.name.now) kept.same ∙ there) indexed in
     c.in_ok-rest-2.ensures.walked file c.args.sizes.now here head told

@@ -3,8 +3,8 @@ use Rattle.std.specs.List.{All, Contains}
 use Rattle.silence.proofs.pieces.places.Given as goal
 
 -- the places so far are there
-abbrev pub invariant-loop-place : goal.invariant-loop-place
-invariant-loop-place l = record {
+abbrev pub invariant-loop-position : goal.invariant-loop-position
+invariant-loop-position l = record {
   inside : All (λ place. place < l.count) l.places.items;
-  each : (n : ℕ) → n < l.place → Contains l.places.items n;
+  each : (n : ℕ) → n < l.position → Contains l.places.items n;
 }

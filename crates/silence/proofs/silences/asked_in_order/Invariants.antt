@@ -7,12 +7,12 @@ use Rattle.silence.proofs.Answered.{AreRight}
 use Rattle.silence.proofs.silences.asked_in_order.Given as goal
 
 -- the pieces of the places so far are answered, and nothing has failed
-abbrev pub invariant-loop-place : goal.invariant-loop-place
-invariant-loop-place g l = record {
+abbrev pub invariant-loop-position : goal.invariant-loop-position
+invariant-loop-position g l = record {
   quiet : IsQuiet g.S.Shelf l.fn.shelf l.shelf;
   whole : length l.silent.items ≡ length l.pieces;
   known : IsTrue (g.S.Shelf.honest l.fn.shelf) → IsSo (reading_by (g.S.Shelf.stored l.fn.shelf) l.sounds) l.search;
   right : IsTrue (g.S.Shelf.honest l.fn.shelf)
       → AreRight (is_silent_in (reading_by (g.S.Shelf.stored l.fn.shelf) l.sounds)) l.pieces l.silent.items l.order
-      l.place-index;
+      l.position-index;
 }

@@ -38,7 +38,7 @@ returns-clause-exact g c = λ honest.
     (λ file there.
     let there' = ap (λ (files : Files). files name) walk.only_reads.same ∙ there in
     let there'' = ap (λ (files : Files). files name) read.only_reads.same ∙ there' in
-    let tells = c.in_ok-told.ensures.told honest'' file there'' (walk.inside honest file there).bext in
+    let tells = c.in_ok-texts.ensures.texts honest'' file there'' (walk.inside honest file there).bext in
     let copied = c.in_ok-name.ensures.same in
     let made = rw copied at c.of.ensures in
-    facts_same name (chunks_view c.in_ok-chunks.chunks) c.in_ok-format.format _ c.in_ok-told.told tells ∙ sym made)
+    facts_same name (chunks_view c.in_ok-chunks.chunks) c.in_ok-format.format _ c.in_ok-texts.texts tells ∙ sym made)

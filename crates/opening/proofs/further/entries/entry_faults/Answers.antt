@@ -15,9 +15,9 @@ loop-event-preserved c =
     ∙ ap (λ e. before ++ e ∷ []) (sym c.event-item.is) in
     rw here (elim c.match-entry_fault.branch [
       | in-Some+in_ok-push w ↦ rw (w.faults-is, w.in_ok-push.ensures.items)
-          (one_more_entry c.args.bound.now c.args.told before event c.loop-event.faults.items (Some w.in-Some.fault)
+          (one_more_entry c.args.bound.now c.args.reported before event c.loop-event.faults.items (Some w.in-Some.fault)
           c.loop-event.invariant w.in-Some.ensures)
       | in_default w ↦ rw (w.faults-is, sym (append-nil c.loop-event.faults.items))
-          (one_more_entry c.args.bound.now c.args.told before event c.loop-event.faults.items None
+          (one_more_entry c.args.bound.now c.args.reported before event c.loop-event.faults.items None
           c.loop-event.invariant w.in_default.ensures)
     ])

@@ -5,4 +5,4 @@ use Rattle.opening.proofs.further.entries.entry_faults.Given as goal
 
 -- the faults of the entries so far
 abbrev pub invariant-loop-event : goal.invariant-loop-event
-invariant-loop-event l = map refusal_of l.faults.items ≡ faults_beside l.bound l.told (take l.event-index l.events)
+invariant-loop-event l = map refusal_of l.faults.items ≡ faults_beside l.bound l.reported (take l.event-index l.events)

@@ -18,22 +18,22 @@ loop-source-preserved g c =
     rw (used_further used sources c.loop-source.source-index source c.loop-source-test.true (sym c.source-item.is))
     (record {
       read = read_on g.S.Shelf walked.read one.only_read;
-      told = λ honest named knows.
+      reported = λ honest named knows.
           let honest_now : IsTrue (g.S.Shelf.honest c.loop-source.shelf) = rw walked.read.honest_same honest in
-          let told = one.told honest_now (named ++ places_of before) (walked.noted named knows) in
+          let reported = one.reported honest_now (named ++ places_of before) (walked.noted named knows) in
           elim c.match-branch-2.branch [
             | in-Some+in_ok-push w ↦ rw (w.faults-is, w.in_ok-push.ensures.items)
-                (told_further files named before here c.loop-source.faults.items _ (walked.told honest named knows)
-                (rw (w.in-Some.is, walked.read.same) at told))
+                (told_further files named before here c.loop-source.faults.items _ (walked.reported honest named knows)
+                (rw (w.in-Some.is, walked.read.same) at reported))
             | in_default w ↦ rw (w.faults-is, sym (append-nil c.loop-source.faults.items))
-                (told_further files named before here c.loop-source.faults.items [] (walked.told honest named knows)
-                (rw (w.in_default.is, walked.read.same) at told))
+                (told_further files named before here c.loop-source.faults.items [] (walked.reported honest named knows)
+                (rw (w.in_default.is, walked.read.same) at reported))
           ];
       noted = λ named knows.
           rw (← named_further named before here) (one.noted (named ++ places_of before) (walked.noted named knows));
     })
 
-pub returns-clause-told : goal.returns-clause-told
-returns-clause-told g c = λ honest named knows.
+pub returns-clause-reported : goal.returns-clause-reported
+returns-clause-reported g c = λ honest named knows.
     let all = take_all c.loop-source.source-index c.args.sources.now c.loop-source-test.false in
-    rw all at (c.loop-source.invariant.told honest named knows)
+    rw all at (c.loop-source.invariant.reported honest named knows)

@@ -7,7 +7,7 @@ use Rattle.opening.proofs.further.files.tell_files.Given as goal
 -- what is wrong with the files of the sources so far is told, and these are noted; the store was only read
 pub record IsWalked (Read Told Noted : Type 0) : Type 0 where
   pub read : Read
-  pub told : Told
+  pub reported : Told
   pub noted : Noted
 
 abbrev pub invariant-loop-source : goal.invariant-loop-source

@@ -7,8 +7,8 @@ use Rattle.passes.proofs.marks.Marks.clear.Goals as goal
 pub invariant_of-self : goal.invariant_of-self
 invariant_of-self c =
     let marks = c.self.inside.marks.items in
-    let below : c.args.place < length marks = rw c.self.view_is c.requires in
-    let read : Some c.in-Some.end ≡ get_or marks c.args.place (Some c.in-Some.end) =
+    let below : c.args.position < length marks = rw c.self.view_is c.requires in
+    let read : Some c.in-Some.end ≡ get_or marks c.args.position (Some c.in-Some.end) =
     rw c.in-Some.is at c.index.ensures in
-    let had : slice_get marks c.args.place ≡ Some (Some c.in-Some.end) = slice_get_read marks _ _ _ refl below read in
-    clear_is_index marks _ _ c.in-Some.end c.args.place c.self.invariant had c.remove.ensures.updates.0 below
+    let had : slice_get marks c.args.position ≡ Some (Some c.in-Some.end) = slice_get_read marks _ _ _ refl below read in
+    clear_is_index marks _ _ c.in-Some.end c.args.position c.self.invariant had c.remove.ensures.updates.0 below

@@ -12,12 +12,12 @@ invariant_of-self-in-None c = rw c.in_ok-push.ensures.items (push_is_index _ _ c
 
 pub put-requires : goal.put-requires
 put-requires c =
-    let ends : length c.self.inside.marks.items ≡ c.len-place.result = search rules in
-    rw c.in_ok-push.ensures.items (last_of_push c.self.inside.marks.items None c.len-place.result ends)
+    let ends : length c.self.inside.marks.items ≡ c.len-position.result = search rules in
+    rw c.in_ok-push.ensures.items (last_of_push c.self.inside.marks.items None c.len-position.result ends)
 
 pub returns-in-Some : goal.returns-in-Some
 returns-in-Some c =
     let marks = c.self.inside.marks.items in
-    let ends : length marks ≡ c.len-place.result = search rules in
-    let put = set_at marks None [] (Some c.in-Some.end) c.len-place.result ends in
+    let ends : length marks ≡ c.len-position.result = search rules in
+    let put = set_at marks None [] (Some c.in-Some.end) c.len-position.result ends in
     rw (← c.self.view_is, c.in-Some.is) (rw (c.in_ok-push.ensures.items, put) at c.put.ensures)

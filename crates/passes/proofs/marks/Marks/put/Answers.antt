@@ -7,6 +7,6 @@ use Rattle.passes.proofs.marks.Marks.put.Goals as goal
 pub invariant_of-self-2 : goal.invariant_of-self-2
 invariant_of-self-2 c =
     let marks = c.self.inside.marks.items in
-    let free : slice_get marks c.args.place ≡ Some None = rw c.self.view_is c.requires in
-    put_is_index marks _ _ c.args.end c.args.place c.self.invariant free c.in_ok-insert.ensures.updates.0
-    (slice_get_within marks c.args.place None free)
+    let free : slice_get marks c.args.position ≡ Some None = rw c.self.view_is c.requires in
+    put_is_index marks _ _ c.args.end c.args.position c.self.invariant free c.in_ok-insert.ensures.updates.0
+    (slice_get_within marks c.args.position None free)

@@ -15,7 +15,7 @@ play_at-requires-clause-there g c = rw c.loop-k.invariant.ready (omega (arith, c
 pub play_at-requires-clause-room : goal.play_at-requires-clause-room
 play_at-requires-clause-room g c =
     let stretch = c.args.stretch.now in
-    let room = bytes_room c.args.self.now.planned.range stretch.first stretch.behind c.loop-k.k (omega arith) (omega arith)
+    let room = bytes_room c.args.self.now.planned.range stretch.first stretch.end c.loop-k.k (omega arith) (omega arith)
     c.requires.inside.there in
     rw c.loop-k.invariant.ready
     (omega (arith, c.loop-k.invariant.ended, room, c.requires.room, c.loop-k.auto.bytes))
@@ -67,7 +67,7 @@ loop-k-init g c =
 pub returns-clause-clips : goal.returns-clause-clips
 returns-clause-clips g c honest =
     let work = c.args.self.now in
-    let end : c.loop-k.k ≡ c.args.stretch.now.behind = omega arith in
+    let end : c.loop-k.k ≡ c.args.stretch.now.end = omega arith in
     subst (λ (k : ℕ). Clip work.planned.range (sums_of_blocks work.planned.range
     (heard work.planned work.sounds (g.S.Shelf.stored c.args.shelf.now)) c.args.stretch.now.first k) c.loop-k.clips) end
     (c.loop-k.invariant.clips honest)

@@ -42,7 +42,7 @@ loop-job-preserved c sources marked uniform noted =
     ∙ ap (λ (n : ℕ). n * range.channels) (omega arith) in
     subst (λ (k : ℕ). Clip range (sums_of_blocks range mix 0 k) c.joined-clips.result)
     (sym (first_next work.stretches 0 (block_count range) job no_stretch is.cut below))
-    (clips_after range mix 0 s.first s.behind c.samples_before-before.result c.loop-job.clips c.clips_in.result
+    (clips_after range mix 0 s.first s.end c.samples_before-before.result c.loop-job.clips c.clips_in.result
     c.joined-clips.result (omega arith) (omega (arith, inside.1)) (omega (arith, inside.1, inside.2)) is.planned.in_day
     is.planned.few_channels before c.joined-clips.ensures
     (subst (λ (k : ℕ). Clip range (sums_of_blocks range mix 0 k) c.loop-job.clips)

@@ -19,7 +19,7 @@ returns-then-stretch c sources marked uniform noted =
     let same : c.stretch-stretch.result ≡ s = subst (λ (w : RenderWork). c.stretch-stretch.result
     ≡ stretch_at w.stretches c.args.job) (ap (λ (m : MarkedWork). m.work) c.self.view_is) c.stretch-stretch.ensures.stretch in
     c.none.ensures (bits_of work.planned.range.depth) work.planned.range.channels (sums_of_blocks work.planned.range
-    (unmarked marked work.planned.range (heard work.planned work.sounds sources)) s.first s.behind)
+    (unmarked marked work.planned.range (heard work.planned work.sounds sources)) s.first s.end)
     (done_kept work.planned.range (heard work.planned work.sounds sources) marked s
     (All-get_or (IsUniform marked) work.stretches c.args.job no_stretch c.requires uniform)
     (subst (IsInRange work.planned.range) same

@@ -10,7 +10,7 @@ use Rattle.sourceindex.proofs.binder.Binder.add_known.Goals as goal
 pub returns-then-ne-clause-added : goal.returns-then-ne-clause-added
 returns-then-ne-clause-added c =
     let self = c.args.self.now in
-    let place = c.args.place.now in
+    let place = c.args.location.now in
     let opened = found_file place.name self.files c.args.file c.requires.opened in
     let path =
     c.path.ensures opened.0 (ap (λ (b : Binding). slice_get b.files c.args.file) c.self.view_is ∙ opened.1) in
@@ -21,7 +21,7 @@ returns-then-ne-clause-added c =
 pub returns-clause-added : goal.returns-clause-added
 returns-clause-added c =
     let self = c.args.self.now in
-    let place = c.args.place.now in
+    let place = c.args.location.now in
     let opened = found_file place.name self.files c.args.file c.requires.opened in
     let path =
     c.path.ensures opened.0 (ap (λ (b : Binding). slice_get b.files c.args.file) c.self.view_is ∙ opened.1) in
@@ -33,6 +33,6 @@ returns-clause-added c =
 pub returns-clause-sound : goal.returns-clause-sound
 returns-clause-sound c = λ is.
     let self = c.args.self.now in
-    let opened = found_file c.args.place.now.name self.files c.args.file c.requires.opened in
+    let opened = found_file c.args.location.now.name self.files c.args.file c.requires.opened in
     subst IsBinding (sym (c.in_ok-push_index.ensures opened.0 opened.1))
     (known_index self c.args.source.now c.args.file opened.0 false is opened.1)

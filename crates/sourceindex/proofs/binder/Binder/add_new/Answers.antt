@@ -10,17 +10,17 @@ use Rattle.sourceindex.proofs.binder.Binder.add_new.Goals as goal
 pub returns-in_err-sound-clause-added : goal.returns-in_err-sound-clause-added
 returns-in_err-sound-clause-added g c = λ honest.
     let files = g.S.Shelf.stored c.args.shelf.now in
-    let place = c.args.place.now in
+    let place = c.args.location.now in
     let told = rw c.name.ensures at (c.in_err-sound.ensures.exact honest) in
     let p = err_from_is_err_and c.from_residual.result c.from_residual.ensures.1 in
-    rw (p.1, p.2) (new_refused files c.args.self.now c.args.source.now place c.in_err-sound.field-0.0 c.requires.place
+    rw (p.1, p.2) (new_refused files c.args.self.now c.args.source.now place c.in_err-sound.field-0.0 c.requires.location
     told)
 
 pub returns-clause-added : goal.returns-clause-added
 returns-clause-added g c = λ honest.
     let files = g.S.Shelf.stored c.args.shelf.now in
     let source = c.args.source.now in
-    let place = c.args.place.now in
+    let place = c.args.location.now in
     let sound = c.in_ok-sound.sound in
     let before : Binding =
     record {
@@ -31,7 +31,7 @@ returns-clause-added g c = λ honest.
     let path = c.in_ok-path.ensures ∙ c.path.ensures in
     let opened : OpenedFile = record { path = c.in_ok-path.path; facts = sound } in
     let added = pushed_new before c.push_index.new.self c.push.new.self opened c.in_ok-file.file source
-    c.in_ok-file.ensures.pushed c.in_ok-file.ensures.place c.in_ok-push_index.ensures in
+    c.in_ok-file.ensures.pushed c.in_ok-file.ensures.position c.in_ok-push_index.ensures in
     let read = rw c.name.ensures at (c.in_ok-sound.ensures.exact honest) in
     let same =
     ap (λ p. with_index before source (length before.files) sound true
@@ -50,10 +50,10 @@ returns-clause-sound g c = λ is.
     } in
     let opened : OpenedFile = record { path = c.in_ok-path.path; facts = sound } in
     let added = pushed_new before c.push_index.new.self c.push.new.self opened c.in_ok-file.file c.args.source.now
-    c.in_ok-file.ensures.pushed c.in_ok-file.ensures.place c.in_ok-push_index.ensures in
+    c.in_ok-file.ensures.pushed c.in_ok-file.ensures.position c.in_ok-push_index.ensures in
     let name = c.in_ok-sound.ensures.named ∙ c.name.ensures in
     let none : file_named sound.name before.files ≡ None =
     ap (λ n. file_named n before.files) name
-    ∙ ap (λ (b : Binding). file_named c.args.place.now.name b.files) c.self.view_is ∙ c.requires.missing in
+    ∙ ap (λ (b : Binding). file_named c.args.location.now.name b.files) c.self.view_is ∙ c.requires.missing in
     subst IsBinding (sym added) (new_index before c.args.source.now c.in_ok-path.path sound true
     (subst IsBinding (sym c.self.view_is) is) none)

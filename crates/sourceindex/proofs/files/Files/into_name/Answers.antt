@@ -23,10 +23,10 @@ returns c = λ file there.
     let sounds = c.self.inside.sounds.items in
     let many = length-opened_of c.self.inside.paths.items sounds in
     let view = ap length c.self.view_is in
-    let below : c.args.place < length sounds = omega (arith, c.requires, many, view, c.self.invariant.together) in
-    let at = opened_at c.self.inside.paths.items sounds c.args.place file c.self.invariant.together
-    (ap (λ l. slice_get l c.args.place) c.self.view_is ∙ there) in
-    let read : slice_get sounds c.args.place ≡ Some c.swap_remove.result =
+    let below : c.args.position < length sounds = omega (arith, c.requires, many, view, c.self.invariant.together) in
+    let at = opened_at c.self.inside.paths.items sounds c.args.position file c.self.invariant.together
+    (ap (λ l. slice_get l c.args.position) c.self.view_is ∙ there) in
+    let read : slice_get sounds c.args.position ≡ Some c.swap_remove.result =
     slice_get_read sounds (length sounds)
-    c.args.place c.swap_remove.result refl below c.swap_remove.ensures.value in
+    c.args.position c.swap_remove.result refl below c.swap_remove.ensures.value in
     cc

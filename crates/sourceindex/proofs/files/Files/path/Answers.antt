@@ -23,10 +23,10 @@ returns c = λ file there.
     let paths = c.self.inside.paths.items in
     let many = length-opened_of paths c.self.inside.sounds.items in
     let view = ap length c.self.view_is in
-    let below : c.args.place < length paths = omega (arith, c.requires, many, view, c.self.invariant.together) in
-    let at = opened_at paths c.self.inside.sounds.items c.args.place file c.self.invariant.together
-    (ap (λ l. slice_get l c.args.place) c.self.view_is ∙ there) in
-    let read : slice_get paths c.args.place ≡ Some c.index.result.now =
-    slice_get_read paths (length paths) c.args.place c.index.result.now refl below c.index.ensures in
+    let below : c.args.position < length paths = omega (arith, c.requires, many, view, c.self.invariant.together) in
+    let at = opened_at paths c.self.inside.sounds.items c.args.position file c.self.invariant.together
+    (ap (λ l. slice_get l c.args.position) c.self.view_is ∙ there) in
+    let read : slice_get paths c.args.position ≡ Some c.index.result.now =
+    slice_get_read paths (length paths) c.args.position c.index.result.now refl below c.index.ensures in
     let same : c.index.result.now ≡ file.path = cc in
     c.as_slice.ensures ∙ same

@@ -4,8 +4,8 @@ use Rattle.sourceindex.specs.Files.{opened_of}
 use Rattle.sourceindex.proofs.FilePlaces.{length-opened_of, opened_of-push, placed_push}
 use Rattle.sourceindex.proofs.files.Files.push.Goals as goal
 
-pub returns-clause-place : goal.returns-clause-place
-returns-clause-place c =
+pub returns-clause-position : goal.returns-clause-position
+returns-clause-position c =
     let many = length-opened_of c.self.inside.paths.items c.self.inside.sounds.items in
     let view = ap length c.self.view_is in
     omega (arith, many, view, c.in-Ok.ensures, c.len.ensures, c.self.inside.sounds.ok.0)
@@ -29,7 +29,7 @@ invariant_of-self-2 c =
     c.in_ok-push.ensures.items ∙ rw c.in_ok-reserve.ensures.items refl in
     let paths_pushed : c.push-2.new.self.items ≡ paths ++ c.args.path ∷ [] =
     c.in_ok-push-2.ensures.items ∙ rw c.in_ok-reserve-2.ensures.items refl in
-    let place : c.in-Ok.place ≡ length sounds =
+    let place : c.in-Ok.position ≡ length sounds =
     omega (arith, c.in-Ok.ensures, c.len.ensures, c.self.inside.sounds.ok.0) in
     let name : string_bytes c.in_ok-name.name ≡ c.args.sound.name = c.in_ok-name.ensures.ok ∙ c.name.ensures in
     let missing : file_named c.args.sound.name (opened_of paths sounds) ≡ None =

@@ -23,9 +23,9 @@ returns c = λ file there.
     let sounds = c.self.inside.sounds.items in
     let many = length-opened_of c.self.inside.paths.items sounds in
     let view = ap length c.self.view_is in
-    let below : c.args.place < length sounds = omega (arith, c.requires, many, view) in
-    let at = opened_at c.self.inside.paths.items sounds c.args.place file c.self.invariant.together
-    (ap (λ l. slice_get l c.args.place) c.self.view_is ∙ there) in
-    let read : slice_get sounds c.args.place ≡ Some c.index.result.now =
-    slice_get_read sounds (length sounds) c.args.place c.index.result.now refl below c.index.ensures in
+    let below : c.args.position < length sounds = omega (arith, c.requires, many, view) in
+    let at = opened_at c.self.inside.paths.items sounds c.args.position file c.self.invariant.together
+    (ap (λ l. slice_get l c.args.position) c.self.view_is ∙ there) in
+    let read : slice_get sounds c.args.position ≡ Some c.index.result.now =
+    slice_get_read sounds (length sounds) c.args.position c.index.result.now refl below c.index.ensures in
     cc

@@ -38,13 +38,13 @@ loop-done-preserved g c =
           c.read_frames.auto.frames ∙ omega (arith, room, length-take {A = ℤ}) in
           let long : length frames ≡ count * self.channels = taken ∙ ap (λ m. count * m) channels in
           filled_more done count size old new
-          (λ i. sample_at file self.place self.channels (bits_of self.depth) (c.args.from + i) c.args.channel) inside
+          (λ i. sample_at file self.offset self.channels (bits_of self.depth) (c.args.from + i) c.args.channel) inside
           picked
           (c.loop-done.invariant.filled honest file there)
           (λ j below. c.pick.ensures j (omega arith)
           ∙ ap (λ m. get_or frames (j * m + (c.from.result - 1)) (pos 0)) channels
           ∙ ap (λ m. get_or frames (j * self.channels + (m - 1)) (pos 0)) c.from.ensures
-          ∙ sample_told file self.place self.channels (bits_of self.depth) c.args.from done j c.args.channel frames
+          ∙ sample_told file self.offset self.channels (bits_of self.depth) c.args.from done j c.args.channel frames
           count are long below
           c.requires.channel.0 c.requires.channel.1);
     }

@@ -11,7 +11,7 @@ invariant-loop-done g l = record {
   sources : IsQuiet g.S.Shelf l.fn.shelf l.shelf;
   filled : IsTrue (g.S.Shelf.honest l.fn.shelf) → (file : List ℕ) → g.S.Shelf.stored l.fn.shelf l.self.name ≡ Some file
       → (i : ℕ) → i < l.done → get_or l.samples i (pos 0)
-      ≡ sample_at file l.self.place l.self.channels (bits_of l.self.depth) (l.from + i) l.channel;
+      ≡ sample_at file l.self.offset l.self.channels (bits_of l.self.depth) (l.from + i) l.channel;
 }
 
 abbrev pub decreases-loop-done : goal.decreases-loop-done

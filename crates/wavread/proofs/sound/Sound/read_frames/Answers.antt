@@ -29,7 +29,7 @@ returns-clause-frames g c = λ honest file there.
     let range = c.in_ok-read_bytes.ensures.bytes honest in
     let samples = c.unpack.new.samples in
     let bits = bits_of c.depth-depth.result in
-    let place = c.args.self.now.place + c.args.from * frame_length c.args.self.now in
+    let place = c.args.self.now.offset + c.args.from * frame_length c.args.self.now in
     let width : c.from.result ≡ bits / 8 = c.from.ensures ∙ ap (λ b. b / 8) c.bits.ensures in
     let told : c.from.result ≡ bits_of c.args.self.now.depth / 8 =
     width ∙ ap (λ depth. bits_of depth / 8) c.depth-depth.ensures in

@@ -2,7 +2,7 @@ use Rattle.std.proofs.Common.{rules, option_map}
 use Rattle.shelf.specs.Files.{IsMade}
 use Rattle.shelf.specs.History.{with_bytes}
 use Rattle.shelf.proofs.Named.{changes, stays}
-use Rattle.shelf.proofs.memory.files.NamedFiles.place.Goals as goal
+use Rattle.shelf.proofs.memory.files.NamedFiles.write.Goals as goal
 
 pub returns-in-Ok : goal.returns-in-Ok
 returns-in-Ok c = record {

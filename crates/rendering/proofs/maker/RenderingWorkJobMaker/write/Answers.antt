@@ -1,7 +1,7 @@
 use Rattle.std.proofs.Common.{[]}
 use Rattle.rendering.proofs.BlockMarks.{placed_stretch}
 use Rattle.rendering.proofs.Works.{placed_as, places_as}
-use Rattle.rendering.proofs.maker.RenderingWorkJobMaker.place.Goals as goal
+use Rattle.rendering.proofs.maker.RenderingWorkJobMaker.write.Goals as goal
 
 pub returns-clause-marks : goal.returns-clause-marks
 returns-clause-marks g c honest sources done right off run =

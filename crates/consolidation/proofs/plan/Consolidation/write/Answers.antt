@@ -1,4 +1,4 @@
-use Rattle.consolidation.proofs.plan.Consolidation.place.Goals as goal
+use Rattle.consolidation.proofs.plan.Consolidation.write.Goals as goal
 
 pub returns-clause-torn : goal.returns-clause-torn
 returns-clause-torn g c = λ honest.
