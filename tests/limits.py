@@ -3,7 +3,8 @@
 import resource
 import shutil
 import subprocess
-from functools import partial
+import time
+from functools import lru_cache, partial
 
 import model
 from harness import LIST, MEDIA, OUT, TIMEOUT, Mismatch, Scene, Skipped, Suite, same, same_outcome, words_of
@@ -22,20 +23,34 @@ STACK = 256 * 1024
 HEAD_SIZE = 690
 
 
+@lru_cache
+def second() -> float:
+    """As many seconds of this processor as one of that on which these bounds were set, by a loop that took a fifth."""
+    before = time.process_time()
+    for _ in range(5_000_000):
+        pass
+    return 5 * (time.process_time() - before)
+
+
 def processor_seconds() -> float:
     """What all programs that were run so far took."""
     used = resource.getrusage(resource.RUSAGE_CHILDREN)
-    return used.ru_utime + used.ru_stime
+    return (used.ru_utime + used.ru_stime) / second()
+
+
+def expect_within(what: str, before: float, seconds: float) -> None:
+    """No longer than that was taken since then."""
+    taken = processor_seconds() - before
+    if taken > seconds:
+        raise Mismatch(f"{what!r} took {taken:.2f} seconds of the processor, more than {seconds}")
 
 
 def expect_check(scene: Scene, line: str, seconds: float, **how) -> None:
     """`check` prints this line, and takes no longer than that of the processor."""
     before = processor_seconds()
     got = scene.run(*words_of("check"), **how)
-    taken = processor_seconds() - before
     same_outcome(got, 1 if line.startswith("refused") else 0, line)
-    if taken > seconds:
-        raise Mismatch(f"{line!r} took {taken:.2f} seconds of the processor, more than {seconds}")
+    expect_within(line, before, seconds)
 
 
 def entry(number: int, index: int) -> bytes:
@@ -80,11 +95,9 @@ def many_faults(scene: Scene) -> None:
         scene.put(text, {"A.wav": wave()})
         before = processor_seconds()
         got = scene.run(*words_of("check"))
-        taken = processor_seconds() - before
         told = [f"13 at line {first + count}{entry_of}" for count in range(21)]
         same_outcome(got, 1, f"refused {told[0]}", further=(*(f"also {each}" for each in told[1:]), "and more"))
-        if taken > 3:
-            raise Mismatch(f"{told[0]!r} took {taken:.2f} seconds of the processor, more than 3")
+        expect_within(told[0], before, 3)
 
 
 def many_chunks(scene: Scene) -> None:
@@ -115,8 +128,7 @@ def long_day(scene: Scene) -> None:
     got = scene.run(*words_of("consolidate", model.Options(handle=model.DAY)))
     same_outcome(got, 0, "written 1 media 2 entries")
     same_outcome(scene.run("render", LIST, MEDIA, MEDIA), 1, f"refused 20 at file {MEDIA}")
-    if processor_seconds() - before > 2:
-        raise Mismatch("a long day takes long")
+    expect_within("a long day", before, 2)
 
 
 def small_stack(scene: Scene) -> None:
