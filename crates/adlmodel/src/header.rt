@@ -1,5 +1,5 @@
 // The lines of five sections, which are kept as they stand.
-ghost use Rattle.std.specs.Prelude.{◌≡◌, ◌++◌, ◌∷◌, [], IfOk, OnOk};
+ghost use Rattle.std.specs.Prelude.{◌≡◌, ◌++◌, ◌∷◌, [], IfOk, OnErr, OnOk};
 ghost use Rattle.adlmodel.specs.Header.{header_view};
 
 use crate::bytes::Bytes;
@@ -32,7 +32,8 @@ impl KeptLines {
 
     /// One line more.
     pub fn push(&mut self, alloc: Global, line: &[u8]) -> Result<(), AllocError>
-        ensures { OnOk result (self.new ≡ self.old ++ line.now ∷ []) }
+        ensures pushed { OnOk result (self.new ≡ self.old ++ line.now ∷ []) }
+        ensures unchanged { OnErr result (self.new ≡ self.old) }
     {
         let line = Bytes::from_slice(alloc, line)?;
         self.lines.push(line)?;

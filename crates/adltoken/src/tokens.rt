@@ -1,5 +1,5 @@
 // The tokens of a line, one after another.
-ghost use Rattle.std.specs.Prelude.{◌≡◌, ◌≤◌, ◌<◌, ◌+◌, ◌^◌, ◌++◌, ℕ, List, IfErr, IfOk, IfSome, None, Some, length, option_map};
+ghost use Rattle.std.specs.Prelude.{◌≡◌, ◌≤◌, ◌<◌, ◌+◌, ◌^◌, ◌++◌, ℕ, List, IfErr, IfOk, IfSome, None, Ok, OnErr, Some, length, option_map};
 ghost use Rattle.std.specs.List.{prefix_len};
 ghost use Rattle.std.proofs.Props.{props};
 ghost use Rattle.list_terms.specs.Steps.{err_map, ok_map};
@@ -106,6 +106,8 @@ impl<'a> Tokens<'a> {
         ensures line { self.new.at + length self.new.rest.now ≡ self.old.at + length self.old.rest.now }
         ensures stood { self.new.last ≡ Some (first_span self.old.at self.old.rest.now) }
         ensures same_number { self.new.number ≡ self.old.number }
+        ensures none { result ≡ Ok None → (self.new.rest.now ≡ self.old.rest.now) × (self.new.at ≡ self.old.at) }
+        ensures unchanged { OnErr result ((self.new.rest.now ≡ self.old.rest.now) × (self.new.at ≡ self.old.at)) }
     {
         match self.cut_next() {
             Ok(next) => Ok(next),
@@ -128,6 +130,8 @@ impl<'a> Tokens<'a> {
         ensures stood { self.new.last ≡ Some (first_span self.old.at self.old.rest.now) }
         ensures fault { IfErr result IsTokenFault }
         ensures same_number { self.new.number ≡ self.old.number }
+        ensures none { result ≡ Ok None → (self.new.rest.now ≡ self.old.rest.now) × (self.new.at ≡ self.old.at) }
+        ensures unchanged { OnErr result ((self.new.rest.now ≡ self.old.rest.now) × (self.new.at ≡ self.old.at)) }
     {
         let line = skip_blanks(self.rest);
         let at = self.at + (self.rest.len() - line.len());

@@ -1,5 +1,5 @@
 // Pieces that continue one another.
-ghost use Rattle.std.specs.Prelude.{◌≡◌, ◌≢◌, MatchOption, IfSome, ◌++◌, ◌∷◌, [], IsTrue, IsSome, OnOk, Some};
+ghost use Rattle.std.specs.Prelude.{◌≡◌, ◌≢◌, MatchOption, IfSome, ◌++◌, ◌∷◌, [], IsTrue, IsSome, OnErr, OnOk, Some};
 ghost use Rattle.std.specs.List.{All};
 ghost use Rattle.sound_terms.specs.Groups.{IsGroup, IsPiece, start_of};
 ghost use Rattle.sound_terms.specs.Passes.{is_followed_by, lengthened};
@@ -84,6 +84,7 @@ impl Group {
     pub fn append(&mut self, later: Group) -> Result<(), AllocError>
         requires { IsTrue (is_followed_by self.old later) }
         ensures appended { OnOk result (self.new ≡ self.old ++ later) }
+        ensures unchanged { OnErr result (self.new ≡ self.old) }
     {
         self.pieces.extend_from_slice(later.pieces.as_slice())?;
         Ok(())

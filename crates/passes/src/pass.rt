@@ -1,5 +1,5 @@
 // Passes over groups.
-ghost use Rattle.std.specs.Prelude.{◌≡◌, ℕ, Bool, List, IsTrue, IfOk, IfErr};
+ghost use Rattle.std.specs.Prelude.{◌≡◌, ℕ, Bool, List, IsTrue, IfOk, IfErr, OnErr};
 ghost use Rattle.sound_terms.specs.declared.piece.Piece.{Piece};
 ghost use Rattle.sound_terms.specs.Groups.{SameMix, are_whole, reads};
 ghost use Rattle.passes.specs.declared.fault.PassFault.TheVariants.{Memory};
@@ -21,7 +21,7 @@ pub trait Pass: Drop {
         ensures { result ≡ looking self.now };
 
     /// The groups that the pass makes of these. `silent` answers for the pieces of all groups in order; what it doesn't
-    /// reach is not silent.
+    /// reach is not silent. Where no memory was left the pass is as it was.
     fn apply(
         &mut self,
         alloc: Global,
@@ -33,5 +33,6 @@ pub trait Pass: Drop {
         ensures keeps_whole { IfOk result (λ new. IsTrue (are_whole intervals) → IsTrue (are_whole new)) }
         ensures reads_no_more { (file channel frame : ℕ)
             → IfOk result (λ new. IsTrue (reads new file channel frame) → IsTrue (reads intervals file channel frame)) }
-        ensures memory { IfErr result (λ fault. fault ≡ Memory) };
+        ensures memory { IfErr result (λ fault. fault ≡ Memory) }
+        ensures unchanged { OnErr result (self.new ≡ self.old) };
 }
