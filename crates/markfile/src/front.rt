@@ -6,6 +6,7 @@ ghost use Rattle.markfile.specs.Fault.{ReadsMarks, number_of};
 ghost use Rattle.markfile.specs.Format.{marks_name};
 ghost use Rattle.markfile.specs.Opened.{fits_run, front_fault};
 
+use crate::fields::bytes_of_u32;
 use crate::settled::Sizes;
 use crate::{MARKS, MarkFault, MarkedFile, RunId};
 use devices::Bench;
@@ -33,11 +34,10 @@ fn is_of_run(run: &RunId, front: &[u8; 44]) -> bool
 }
 
 /// Whether the front tells as many blocks, and both files are as long as the run has them.
-#[tactic(auto, unfolding(sound_terms::specs::Waves::u32_bytes))]
 fn fits_run(run: &RunId, front: &[u8; 44], marks: u64, sound: Option<u64>) -> bool
     ensures { result ≡ fits_run run.now front.now marks sound }
 {
-    front[40..].starts_with(&run.blocks.to_le_bytes())
+    front[40..].starts_with(&bytes_of_u32(run.blocks))
         && marks == FRONT as u64 + u64::from(run.blocks)
         && sound == Some(run.length)
 }

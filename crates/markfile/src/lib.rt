@@ -3,6 +3,7 @@
 #![tactic(auto)]
 
 mod fault;
+mod fields;
 mod fresh;
 mod front;
 mod opening;

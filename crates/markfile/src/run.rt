@@ -4,6 +4,7 @@ ghost use Rattle.sha2.specs.Sha256.{sha256};
 ghost use Rattle.markfile.specs.Format.{run_bytes};
 ghost use Rattle.markfile.specs.Range.{range_of};
 
+use crate::fields::{bytes_of_u16, bytes_of_u64};
 use sampletime::SampleTime;
 use sha2::{Digest, Sha256};
 use sound_terms::Depth;
@@ -37,10 +38,10 @@ impl RunId {
         ensures length { result.length ≡ length }
     {
         let mut hasher = Sha256::new();
-        hasher.update(range.from.get().to_le_bytes());
-        hasher.update(range.to.get().to_le_bytes());
-        hasher.update(u16::from(range.channels).to_le_bytes());
-        hasher.update(u16::from(range.depth.bits()).to_le_bytes());
+        hasher.update(bytes_of_u64(range.from.get()));
+        hasher.update(bytes_of_u64(range.to.get()));
+        hasher.update(bytes_of_u16(u16::from(range.channels)));
+        hasher.update(bytes_of_u16(u16::from(range.depth.bits())));
         hasher.update(list);
         RunId {
             digest: hasher.finalize(),

@@ -7,18 +7,16 @@ use Rattle.bext.proofs.Fields.{bext_again}
 use Rattle.bext.proofs.bytes_of.Goals as goal
 
 bytes_put : goal.returns-clause-bytes
-unfolding bext_bytes u16_bytes u64_bytes zeros
+unfolding bext_bytes zeros
 bytes_put c =
     let bext = c.args.bext.now in
-    let second : c.to_le_bytes.result ≡ u64_bytes bext.time_reference = c.to_le_bytes.ensures in
-    let third : c.to_le_bytes-2.result ≡ u16_bytes 1 = c.to_le_bytes-2.ensures in
     let next = c.put-2.ensures in
     let last = c.put-3.ensures in
     let a : length bext.text ≡ 338 = omega arith in
     let b = length-u64_bytes bext.time_reference in
     let d = length-u16_bytes 1 in
     three_filled bext.text (u64_bytes bext.time_reference) (u16_bytes 1) (replicate 602 0) _ _ _
-    338 346 348 a (omega arith) (omega arith) c.put.ensures (rw second at next) (rw third at last)
+    338 346 348 a (omega arith) (omega arith) c.put.ensures (rw c.u64_field.ensures at next) (rw c.u16_field.ensures at last)
 
 pub returns-clause-bytes : goal.returns-clause-bytes
 returns-clause-bytes = bytes_put
