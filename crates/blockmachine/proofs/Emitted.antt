@@ -1,11 +1,12 @@
 -- What sums are handed out as.
-use Rattle.std.proofs.Common.{◌≡◌, ◌⊎◌, inl, inr, ◌≤◌, ◌<◌, ℕ, zero, suc, ◌+◌, ◌*◌, List, [], ◌∷◌, ◌++◌, length, take, get_or, refl, sym, ap, ◌∙◌, arith, zero-add}
+use Rattle.std.proofs.Common.{◌≡◌, ◌⊎◌, inl, inr, ◌≤◌, ◌<◌, ℕ, zero, suc, ◌+◌, ◌-◌, ◌*◌, List, [], ◌∷◌, ◌++◌, length, take, get_or, refl, sym, ap, ◌∙◌, arith, zero-add}
 use Rattle.std.specs.Prelude.{ℤ, pos}
 use Rattle.std.proofs.lemmas.List.{append-nil, append_assoc, take_all, take_more}
 use Rattle.std.proofs.Math.Nat.{mul-le-mul_right}
 use Rattle.std.proofs.lemmas.Bool.{cases_lt}
 use Rattle.sound_terms.specs.Mix.{quantized}
 use Rattle.sound_terms.specs.Blocks.{block_samples, frame_samples}
+use Rattle.blockmachine.specs.Sums.{AreSums, BlockSums}
 
 module _ (depth : ℕ) (sums : ℕ → ℕ → ℤ) where
   -- a channel more
@@ -82,3 +83,27 @@ near i frames few most channels j some small below same = by_place (cases_lt i m
 pub room : (n few most channels : ℕ) → few ≤ most → n ≡ few * channels → n ≤ most * channels
 room n few most channels small is =
     let row : few * channels ≤ most * channels = mul-le-mul_right channels small in omega arith
+
+-- so there is a sum for each sample of few frames
+pub enough : (kept : BlockSums) (few out sums frames channels : ℕ) → few ≤ kept.extent.frames
+    → out ≡ few * kept.extent.channels → sums ≡ frames * channels
+    → frames * channels ≡ kept.extent.frames * kept.extent.channels → out ≤ sums
+enough kept few out sums frames channels small is long same =
+    omega (arith, room out few kept.extent.frames kept.extent.channels small is, long, same)
+
+-- samples that are one by one the sums that a machine keeps, at a depth, are the block's
+pub handed_out : (depth : ℕ) (all : ℕ → ℕ → ℤ) (kept : BlockSums) (few frames : ℕ) (out : List ℤ)
+    → few ≤ kept.extent.frames → few * kept.extent.channels ≡ frames * kept.extent.channels → AreSums kept all
+    → length out ≡ frames * kept.extent.channels
+    → ((k : ℕ) → k < length out → get_or out k (pos 0) ≡ quantized depth (get_or kept.values k (pos 0)))
+    → out ≡ block_samples depth all kept.extent.channels 0 frames
+handed_out depth all kept few frames out small count are long each =
+    let channels = kept.extent.channels in
+    by_samples depth all channels frames out long (λ i j below on.
+    let row : suc i * channels ≤ frames * channels = mul-le-mul_right channels below in
+    let position : i * channels + j < length out = omega (arith, row, long, on) in
+    let same : 1 + j - 1 ≡ j = omega arith in
+    ap (quantized depth) (sym (are i (1 + j) (near i frames few kept.extent.frames channels j on small below count)
+    (omega arith) (omega (arith, on))))
+    ∙ ap (λ n. quantized depth (get_or kept.values (i * channels + n) (pos 0))) same
+    ∙ sym (each (i * channels + j) position))

@@ -1,12 +1,17 @@
 -- What a program does, line after line.
-use Rattle.std.proofs.Common.{◌≡◌, ℕ, ◌-◌, ◌≤◌, List, All, [], ◌∷◌, ◌++◌, length, take, drop, arith, length-append, sym, ◌∙◌, subst}
-use Rattle.std.proofs.lemmas.List.{take_at}
+use Rattle.std.proofs.Common.{◌≡◌, ℕ, ◌+◌, ◌-◌, ◌<◌, ◌≤◌, List, All, [], ◌∷◌, ◌++◌, Some, length, take, drop, get_or, arith, length-append, sym, ap, ◌∙◌, subst}
+use Rattle.std.proofs.lemmas.List.{take_at, take_more}
 use Rattle.std.proofs.lemmas.List.Elements.{All-drop, All-take, All-weaker}
+use Rattle.std.proofs.lemmas.Option.{same_Some}
 use Rattle.sound_terms.specs.declared.Depth.{Depth}
 use Rattle.sound_terms.specs.declared.block.Instruction.{Instruction}
 use Rattle.sound_terms.specs.declared.block.Instruction.TheVariants.{Start, Flat, Rise, Fall, Emit}
 use Rattle.sound_terms.specs.declared.block.Stretch.{Stretch}
-use Rattle.sound_terms.specs.Blocks.{FitsBlock, IsBlockProgram, IsFormed, LiesInFiles}
+use Rattle.sound_terms.specs.declared.piece.Shape.{Shape}
+use Rattle.sound_terms.specs.declared.piece.Shape.TheVariants as shapes
+use Rattle.sound_terms.specs.Mix.{Reading}
+use Rattle.sound_terms.specs.Blocks.{BlockState, FitsBlock, IsBlockProgram, IsFormed, LiesInFiles, addition_of, executed, executed_all, sums_with}
+use Rattle.sound_terms.specs.BlockLaws.{executed_all-append}
 use Rattle.sound_terms.specs.Sounds.{SoundFacts}
 use Rattle.blockmachine.specs.Lines.{CanAdd}
 use Rattle.blockmachine.specs.Sums.{Extent}
@@ -74,3 +79,29 @@ added_between sounds extent frames depth program lines le block same inside =
     let all = All-drop (LiesInFiles sounds) 1 program (subst (All (LiesInFiles sounds)) (sym same) inside) in
     let lies = All-take (LiesInFiles sounds) (length program - 1 - 1) (drop 1 program) all in
     λ k d below. can_add sounds extent _ (formed k d below) (lies k d below)
+
+-- a line adds what it plays
+adds : (reading : Reading) (channels : ℕ) (line : Instruction) (s : Stretch) (shape : Shape) (state : BlockState)
+    → addition_of line ≡ Some (s, shape)
+    → sums_with reading s shape state.sums ≡ (executed reading channels line state).sums
+adds reading channels (Start frames) s shape state is = absurd (cc)
+adds reading channels (Flat t) s shape state is =
+    ap (λ (p : Stretch × Shape). sums_with reading p.0 p.1 state.sums) (sym (same_Some (t, shapes.Flat) (s, shape) is))
+adds reading channels (Rise t offset den) s shape state is =
+    ap (λ (p : Stretch × Shape). sums_with reading p.0 p.1 state.sums)
+    (sym (same_Some (t, shapes.Rise offset den) (s, shape) is))
+adds reading channels (Fall t offset den) s shape state is =
+    ap (λ (p : Stretch × Shape). sums_with reading p.0 p.1 state.sums)
+    (sym (same_Some (t, shapes.Fall offset den) (s, shape) is))
+adds reading channels (Emit depth) s shape state is = absurd (cc)
+
+-- and so the lines up to it
+pub adds_more : (reading : Reading) (channels n : ℕ) (lines : List Instruction) (s : Stretch) (shape : Shape)
+    (state : BlockState) → n < length lines → addition_of (get_or lines n (Start 0)) ≡ Some (s, shape)
+    → sums_with reading s shape (executed_all reading channels (take n lines) state).sums
+    ≡ (executed_all reading channels (take (n + 1) lines) state).sums
+adds_more reading channels n lines s shape state below is =
+    let line = get_or lines n (Start 0) in
+    adds reading channels line s shape (executed_all reading channels (take n lines) state) is
+    ∙ ap (λ (made : BlockState). made.sums) (sym (executed_all-append reading channels (take n lines) (line ∷ []) state)
+    ∙ ap (λ (l : List Instruction). executed_all reading channels l state) (sym (take_more lines n (Start 0) below)))

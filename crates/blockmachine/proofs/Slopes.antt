@@ -1,10 +1,9 @@
 -- A shape, frame by frame.
-use Rattle.std.proofs.Common.{◌≡◌, ℕ, ◌+◌, ◌<◌, ◌≤◌, Bool, refl, true, false, ◌∙◌, arith}
-use Rattle.std.specs.Prelude.{IsTrue}
+use Rattle.std.proofs.Common.{◌≡◌, ℕ, ◌+◌, Bool, refl, true, false, ◌∙◌, arith}
 use Rattle.sound_terms.specs.declared.piece.Shape.{Shape}
 use Rattle.sound_terms.specs.declared.piece.Shape.TheVariants.{Flat, Rise, Fall}
 use Rattle.sound_terms.specs.Groups.{IsRamp, fraction_of}
-use Rattle.blockmachine.specs.Slopes.{IsAt, fraction_at}
+use Rattle.blockmachine.specs.Slopes.{HasFrame, IsAt, fraction_at}
 
 pub slope_fraction : (shape : Shape) (i : ℕ) (falls : Bool) (num den by : ℕ) → IsAt shape i falls num den by
     → fraction_at falls num den ≡ fraction_of shape i
@@ -23,17 +22,18 @@ slope_next (Rise offset whole) i falls later_falls num den by later later_den la
 slope_next (Fall offset whole) i falls later_falls num den by later later_den later_by at f n d b =
     (f ∙ at.0, omega (arith, n, at.1, at.3), d ∙ at.2, b ∙ at.3)
 
--- it hasn't fallen to nothing, and may rise by one frame more
-pub slope_less : (shape : Shape) (i : ℕ) (falls : Bool) (num den by : ℕ) → IsAt shape i falls num den by
-    → IsRamp shape (i + 1) → IsTrue falls → num < den
-slope_less Flat i falls num den by at ramp told =
-    let none : falls ≡ false = at.0 in
-    let some : falls ≡ true = told in cc
-slope_less (Rise offset whole) i falls num den by at ramp told = omega (arith, at.1, at.2, ramp.0)
-slope_less (Fall offset whole) i falls num den by at ramp told = omega (arith, at.1, at.2, ramp.0)
-
-pub slope_room : (shape : Shape) (i : ℕ) (falls : Bool) (num den by : ℕ) → IsAt shape i falls num den by
-    → IsRamp shape (i + 1) → num + by ≤ den
-slope_room Flat i falls num den by at ramp = omega (arith, at.1, at.2, at.3)
-slope_room (Rise offset whole) i falls num den by at ramp = omega (arith, at.1, at.2, at.3, ramp.0)
-slope_room (Fall offset whole) i falls num den by at ramp = omega (arith, at.1, at.2, at.3, ramp.0)
+-- before its end it has a frame more
+pub slope_more : (shape : Shape) (i : ℕ) (falls : Bool) (num den by : ℕ) → IsAt shape i falls num den by
+    → IsRamp shape (i + 1) → HasFrame falls num den by
+slope_more Flat i falls num den by at ramp = record {
+  less = λ yes. let none : falls ≡ false = at.0 in let some : falls ≡ true = yes in cc;
+  room = omega (arith, at.1, at.2, at.3);
+}
+slope_more (Rise offset whole) i falls num den by at ramp = record {
+  less = λ yes. omega (arith, at.1, at.2, ramp.0);
+  room = omega (arith, at.1, at.2, at.3, ramp.0);
+}
+slope_more (Fall offset whole) i falls num den by at ramp = record {
+  less = λ yes. omega (arith, at.1, at.2, ramp.0);
+  room = omega (arith, at.1, at.2, at.3, ramp.0);
+}

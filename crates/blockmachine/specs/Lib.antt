@@ -5,5 +5,6 @@ pub mod Fault
 pub mod Holding
 pub mod Lines
 pub mod Playing
+pub mod Reads
 pub mod Slopes
 pub mod Sums

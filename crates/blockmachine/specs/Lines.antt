@@ -1,10 +1,10 @@
 -- The lines of a program that are added to sums.
-use Rattle.std.specs.Prelude.{List, IsSomeAnd}
+use Rattle.std.specs.Prelude.{◌≡◌, ℕ, ◌*◌, ◌≤◌, pos, List, All, IsSomeAnd}
 use Rattle.sound_terms.specs.declared.block.Stretch.{Stretch}
 use Rattle.sound_terms.specs.declared.block.Instruction.{Instruction}
 use Rattle.sound_terms.specs.declared.piece.Shape.{Shape}
 use Rattle.sound_terms.specs.Groups.{IsRamp}
-use Rattle.sound_terms.specs.Blocks.{FitsBlock, addition_of}
+use Rattle.sound_terms.specs.Blocks.{BlockState, FitsBlock, addition_of}
 use Rattle.sound_terms.specs.Media.{LiesInFile}
 use Rattle.sound_terms.specs.Sounds.{SoundFacts}
 use Rattle.blockmachine.specs.Sums.{Extent}
@@ -18,3 +18,13 @@ pub record CanPlay (sounds : List SoundFacts) (extent : Extent) (stretch : Stret
 -- the instruction adds such a stretch
 abbrev pub CanAdd : List SoundFacts → Extent → Instruction → Type 0
 CanAdd sounds extent line = IsSomeAnd (addition_of line) (λ added. CanPlay sounds extent added.0 added.1)
+
+-- these instructions are added in so many sums, those of whole frames that a block has room for
+pub record CanSum (sounds : List SoundFacts) (extent : Extent) (program : List Instruction) (sums : ℕ)
+    : Type 0 where
+  pub lines : All (CanAdd sounds extent) program
+  pub whole : (frames : ℕ) × (frames ≤ extent.frames) × (sums ≡ frames * extent.channels)
+
+-- nothing was added to the block so far
+abbrev pub silent : BlockState → BlockState
+silent state = record state { sums = λ i channel. pos 0 }

@@ -1,5 +1,5 @@
 -- The fractions of a shape, by what rises with each frame.
-use Rattle.std.specs.Prelude.{◌≡◌, ℕ, ◌+◌, ◌-◌, Bool, true, false}
+use Rattle.std.specs.Prelude.{◌≡◌, ℕ, ◌+◌, ◌-◌, ◌<◌, ◌≤◌, Bool, true, false, IsTrue}
 use Rattle.sound_terms.specs.declared.piece.Shape.{Shape}
 use Rattle.sound_terms.specs.declared.piece.Shape.TheVariants.{Flat, Rise, Fall}
 
@@ -13,3 +13,8 @@ abbrev pub IsAt : Shape → ℕ → (falls : Bool) → (num den by : ℕ) → Ty
 IsAt Flat i falls num den by = (falls ≡ false) × (num ≡ 1) × (den ≡ 1) × (by ≡ 0)
 IsAt (Rise offset whole) i falls num den by = (falls ≡ false) × (num ≡ offset + i) × (den ≡ whole) × (by ≡ 1)
 IsAt (Fall offset whole) i falls num den by = (falls ≡ true) × (num ≡ offset + i) × (den ≡ whole) × (by ≡ 1)
+
+-- it has a frame more: it hasn't fallen to nothing, and may rise once more
+pub record HasFrame (falls : Bool) (num den by : ℕ) : Type 0 where
+  pub less : IsTrue falls → num < den
+  pub room : num + by ≤ den

@@ -1,10 +1,11 @@
 -- The sums of a block as a machine keeps them: frame after frame.
-use Rattle.std.specs.Prelude.{◌≡◌, ◌⊎◌, ℕ, ◌+◌, ◌-◌, ◌*◌, ◌^◌, ◌<◌, ◌≤◌, Bool, ℤ, pos, neg_ℤ, ◌+ℤ◌, ◌≤ℤ◌, List, All, IsTrue, length, map, slice_index_or, if◌then◌else◌}
+use Rattle.std.specs.Prelude.{◌≡◌, ◌⊎◌, ℕ, ◌+◌, ◌-◌, ◌*◌, ◌^◌, ◌<◌, ◌≤◌, Bool, true, ℤ, pos, neg_ℤ, ◌+ℤ◌, ◌≤ℤ◌, List, All, IsTrue, length, map, slice_index_or, if◌then◌else◌}
 use Rattle.sound_terms.specs.declared.block.Stretch.{Stretch}
 use Rattle.sound_terms.specs.declared.piece.Shape.{Shape}
 use Rattle.sound_terms.specs.declared.piece.Shape.TheVariants.{Flat}
 use Rattle.sound_terms.specs.Mix.{Reading, full_scale, share_of}
 use Rattle.sound_terms.specs.Blocks.{FitsBlock, held, sums_with}
+use Rattle.pcm.specs.Samples.{FitsDepth}
 use Rattle.blockmachine.specs.Playing.{Plays}
 
 -- what a machine has room for
@@ -38,6 +39,11 @@ kept_sums at_depth depth layers values = if at_depth then widened depth layers e
 abbrev pub IsWithin : ℕ → ℤ → Type 0
 IsWithin m z = (neg_ℤ (pos (m * 2 ^ 47)) ≤ℤ z) × (z ≤ℤ pos (m * 2 ^ 47))
 
+-- as many sums are kept at a depth as at full scale, and they are zero where nothing was added
+pub record CanWiden (at_depth is_clear : Bool) (depth : ℕ) (layers values : List ℤ) : Type 0 where
+  pub each : length layers ≡ length values
+  pub clear : IsTrue is_clear → All (IsWithin 0) (kept_sums at_depth depth layers values)
+
 -- no sum is larger than that of so many samples, and from the k-th on of one fewer
 abbrev pub AreFew : (most k : ℕ) → List ℤ → Type 0
 AreFew most k sums = All (IsWithin most) sums
@@ -51,6 +57,11 @@ Counts most fewer_from at more = (more ≡ most + 1) ⊎ ((more ≡ most) × (1 
 abbrev pub few_additions : ℕ
 few_additions = 32767
 
+-- a sample, or a share of one, is added to a sum; where this is small, it is the sum of few
+pub record TakeShare (is_small : Bool) (sum added : ℤ) : Type 0 where
+  pub small : IsTrue is_small → IsWithin 32766 sum
+  pub share : IsWithin 1 added
+
 -- so many samples are added to as many sums; where these are small none is, at full scale, larger than so many samples
 pub record TakeSamples (samples most : ℕ) (is_small : Bool) (kept full : List ℤ) : Type 0 where
   pub each : samples ≡ length kept
@@ -63,6 +74,18 @@ pub record TakeStretch (frames channels most : ℕ) (is_small : Bool) (stretch :
   pub inside : FitsBlock frames channels stretch
   pub small : IsTrue is_small → All (IsWithin most) full
 
+-- so it is of frames of so many channels, for whose samples there is room
+pub record TakeStored (extent : Extent) (stretch : Stretch) (source samples : ℕ) : Type 0 where
+  pub inside : FitsBlock extent.frames extent.channels stretch
+  pub room : stretch.length * source ≤ samples
+
+-- so it is, a row of this width for each frame; as it is only where it has no fade
+pub record TakeRows (frames channels : ℕ) (is_flat is_small : Bool) (width : ℕ) (stretch : Stretch) (shape : Shape)
+    (kept : List ℤ) : Type 0 where
+  pub flat : IsTrue is_flat → shape ≡ Flat
+  pub wide : width ≡ stretch.width
+  pub takes : TakeStretch frames channels 32766 is_small stretch kept kept
+
 -- a stretch without a fade, of all channels of its file on all there are, at no more than a depth of 24 bits at most
 pub record IsLayer (stretch : Stretch) (shape : Shape) (source channels bits depth : ℕ) : Type 0 where
   pub flat : shape ≡ Flat
@@ -70,6 +93,17 @@ pub record IsLayer (stretch : Stretch) (shape : Shape) (source channels bits dep
   pub alike : source ≡ channels
   pub no_deeper : bits ≤ depth
   pub shallow : depth ≤ 24
+
+-- a sample of one depth is added to the sum of few samples, which is kept at another
+pub record TakeSample (source depth : ℕ) (sum sample : ℤ) : Type 0 where
+  pub small : IsWithin 254 (full_scale depth sum)
+  pub fit : FitsDepth source sample
+
+-- such a stretch is added to sums of few samples, which are kept at this depth
+pub record TakeLayer (frames channels : ℕ) (stretch : Stretch) (shape : Shape) (source bits depth : ℕ)
+    (kept : List ℤ) : Type 0 where
+  pub layer : IsLayer stretch shape source channels bits depth
+  pub takes : TakeStretch frames channels 254 true stretch kept (widened depth kept)
 
 -- each of the first n sums had its sample added, so much of it, and the others are as they were
 abbrev pub HasAddedTo : ℕ → (fraction : ℕ × ℕ) → (depth : ℕ) → (samples old new : List ℤ) → Type 0

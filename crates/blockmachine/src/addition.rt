@@ -1,10 +1,10 @@
 // Frames of a stretch, added to sums.
-ghost use Rattle.std.specs.Prelude.{IsTrue, true, ◌≡◌, ◌∷◌, [], ◌^◌, ◌<◌, ◌≤◌, pos, neg_ℤ, ◌+ℤ◌, ◌≤ℤ◌, length, slice_index_or};
+ghost use Rattle.std.specs.Prelude.{if◌then◌else◌, IsTrue, true, ◌≡◌, ◌∷◌, [], ◌^◌, ◌<◌, ◌≤◌, pos, neg_ℤ, ◌+ℤ◌, ◌≤ℤ◌, length, slice_index_or};
 ghost use Rattle.sound_terms.specs.declared.piece.Shape.TheVariants as shape;
 ghost use Rattle.sound_terms.specs.Depth.{bits_of};
 ghost use Rattle.sound_terms.specs.Mix.{full_scale};
 ghost use Rattle.sound_terms.specs.Blocks.{held};
-ghost use Rattle.blockmachine.specs.Sums.{HasAdded, HasAddedTo, HasPlayed, IsWithin, TakeSamples, TakeStretch, block_of};
+ghost use Rattle.blockmachine.specs.Sums.{HasAdded, HasAddedTo, HasPlayed, TakeRows, TakeSamples, TakeShare, TakeStretch, block_of};
 
 use crate::frames::{Frames, Lanes, Played, Row};
 use crate::scale::Scale;
@@ -16,8 +16,7 @@ use std::simd::prelude::*;
 /// A sum and a share more. What is small can't leave 64 bits.
 #[inline(always)]
 fn added(sum: i64, share: i64, is_small: bool) -> i64
-    requires small { IsTrue is_small → IsWithin 32766 sum }
-    requires share { IsWithin 1 share }
+    requires { TakeShare is_small sum share }
     ensures { result ≡ held (sum +ℤ share) }
 {
     if is_small {
@@ -34,16 +33,14 @@ fn full_sample(row: &Row, k: usize) -> i64
     ensures value { result ≡ full_scale (bits_of row.now.scale.depth) (slice_index_or row.now.samples.now k (pos 0)) }
     ensures within { (neg_ℤ (pos (2 ^ 47)) ≤ℤ result) × (result ≤ℤ pos (2 ^ 47)) }
 {
-    row.scale.widen(row.samples[k])
+    i64::from(row.samples[k]) * row.scale.factor
 }
 
 /// Two small sums, each with a sample more.
 #[inline(always)]
 fn two_added(first: i64, second: i64, low: i64, high: i64) -> [i64; 2]
-    requires first { IsWithin 32766 first }
-    requires second { IsWithin 32766 second }
-    requires low { IsWithin 1 low }
-    requires high { IsWithin 1 high }
+    requires first { TakeShare true first low }
+    requires second { TakeShare true second high }
     ensures { result ≡ held (first +ℤ low) ∷ held (second +ℤ high) ∷ [] }
 {
     (i64x2::from_array([first, second]) + i64x2::from_array([low, high])).to_array()
@@ -97,9 +94,9 @@ fn add_shares(gain: Gain, row: &Row, is_small: bool, sums: &mut [i64])
 /// Adds the samples of a frame as they are, or the shares of them.
 #[inline(always)]
 fn add_row(gain: Gain, row: &Row, is_flat: bool, is_small: bool, sums: &mut [i64])
-    requires flat { IsTrue is_flat → (gain.num ≡ 1) × (gain.den ≡ 1) }
-    requires takes { TakeSamples (length row.now.samples.now) 32766 is_small sums.old sums.old }
-    ensures { HasAdded (gain.num, gain.den) (bits_of row.now.scale.depth) row.now.samples.now sums.old sums.new }
+    requires { TakeSamples (length row.now.samples.now) 32766 is_small sums.old sums.old }
+    ensures { HasAdded (if is_flat then (1, 1) else (gain.num, gain.den)) (bits_of row.now.scale.depth)
+        row.now.samples.now sums.old sums.new }
 {
     if is_flat {
         add_flat(row, is_small, sums)
@@ -118,9 +115,7 @@ fn add_rows(
     is_small: bool,
     sums: &mut [i64],
 )
-    requires flat { IsTrue is_flat → played.now.shape ≡ shape.Flat }
-    requires width { width ≡ played.now.stretch.width }
-    requires takes { TakeStretch lanes.frames lanes.channels 32766 is_small played.now.stretch sums.old sums.old }
+    requires { TakeRows lanes.frames lanes.channels is_flat is_small width played.now.stretch played.now.shape sums.old }
     ensures { HasPlayed played.now.stretch played.now.shape played.now.frames.channels
         (bits_of played.now.frames.depth) played.now.frames.samples.now (block_of lanes.frames lanes.channels sums.old)
         (block_of lanes.frames lanes.channels sums.new) }
@@ -134,10 +129,9 @@ fn add_rows(
         let from = i as usize * source + (stretch.first as usize - 1);
         let to = (stretch.at as usize + i as usize) * lanes.channels + (stretch.dest as usize - 1);
         let samples = &all[from..from + width];
-        let gain = slope.gain();
+        let gain = slope.step();
         let row = Row { samples, scale };
         add_row(gain, &row, is_flat, is_small, &mut sums[to..to + width]);
-        slope = slope.next();
     }
 }
 
@@ -153,8 +147,8 @@ pub fn is_run(played: &Played, channels: usize) -> bool
 /// Adds a stretch frame by frame to small sums. One or two channels have loops of their own.
 #[inline(always)]
 fn add_by_width(played: &Played, lanes: Lanes, is_flat: bool, sums: &mut [i64])
-    requires flat { IsTrue is_flat → played.now.shape ≡ shape.Flat }
-    requires takes { TakeStretch lanes.frames lanes.channels 32766 true played.now.stretch sums.old sums.old }
+    requires { TakeRows lanes.frames lanes.channels is_flat true played.now.stretch.width played.now.stretch
+        played.now.shape sums.old }
     ensures { HasPlayed played.now.stretch played.now.shape played.now.frames.channels
         (bits_of played.now.frames.depth) played.now.frames.samples.now (block_of lanes.frames lanes.channels sums.old)
         (block_of lanes.frames lanes.channels sums.new) }
@@ -189,22 +183,7 @@ fn add_run(frames: &Frames, sums: &mut [i64])
     }
 }
 
-/// Adds a stretch frame by frame to small sums. Each kind of shape has loops of its own.
-#[inline(always)]
-fn add_by_shape(played: &Played, lanes: Lanes, sums: &mut [i64])
-    requires { TakeStretch lanes.frames lanes.channels 32766 true played.now.stretch sums.old sums.old }
-    ensures { HasPlayed played.now.stretch played.now.shape played.now.frames.channels
-        (bits_of played.now.frames.depth) played.now.frames.samples.now (block_of lanes.frames lanes.channels sums.old)
-        (block_of lanes.frames lanes.channels sums.new) }
-{
-    match played.shape {
-        Shape::Flat => add_by_width(played, lanes, true, sums),
-        Shape::Rise { .. } => add_by_width(played, lanes, false, sums),
-        Shape::Fall { .. } => add_by_width(played, lanes, false, sums),
-    }
-}
-
-/// Adds a stretch to small sums: as one run where it is one.
+/// Adds a stretch to small sums: as one run where it is one. Each kind of shape has loops of its own.
 #[inline(always)]
 fn add_small(played: &Played, lanes: Lanes, sums: &mut [i64])
     requires { TakeStretch lanes.frames lanes.channels 32766 true played.now.stretch sums.old sums.old }
@@ -219,7 +198,11 @@ fn add_small(played: &Played, lanes: Lanes, sums: &mut [i64])
         let run = &mut sums[from..from + count];
         add_run(&played.frames, run)
     } else {
-        add_by_shape(played, lanes, sums)
+        match played.shape {
+            Shape::Flat => add_by_width(played, lanes, true, sums),
+            Shape::Rise { .. } => add_by_width(played, lanes, false, sums),
+            Shape::Fall { .. } => add_by_width(played, lanes, false, sums),
+        }
     }
 }
 

@@ -1,7 +1,5 @@
 // Blocks that one file fills as it is.
 ghost use Rattle.std.specs.Prelude.{◌≡◌, IfSome};
-ghost use Rattle.std.specs.List.{All};
-ghost use Rattle.sound_terms.specs.Blocks.{LiesInFiles};
 ghost use Rattle.sound_terms.specs.declared.block.Instruction.TheVariants.{Flat};
 ghost use Rattle.blockmachine.specs.Alone.{FillsAlone};
 
@@ -27,7 +25,6 @@ pub fn fills_alone(
     depth: Depth,
     sounds: &[Sound],
 ) -> Option<Stretch>
-    requires { All (LiesInFiles sounds.now) lines.now }
     ensures { IfSome result (FillsAlone sounds.now lanes.frames lanes.channels depth lines.now) }
 {
     let [line] = lines else {
@@ -42,7 +39,7 @@ pub fn fills_alone(
         width: lanes.channels as u8,
         ..stretch
     };
-    let sound = &sounds[stretch.file as usize];
+    let sound = sounds.get(stretch.file as usize)?;
     if stretch != filling {
         return None;
     }

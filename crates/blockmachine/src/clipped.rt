@@ -1,5 +1,5 @@
 // What is clipped of the sums of a block.
-ghost use Rattle.std.specs.Prelude.{◌≡◌, ◌*◌, ◌≤◌, ◌<◌, ◌≤ℤ◌, ℕ, ℤ, pos, false, length, slice_index_or, take};
+ghost use Rattle.std.specs.Prelude.{◌≡◌, ◌*◌, ◌≤◌, ◌<◌, ◌≤ℤ◌, ℕ, ℤ, pos, false, length, slice_index_or};
 ghost use Rattle.std.specs.List.{All};
 ghost use Rattle.sound_terms.specs.Depth.{bits_of};
 ghost use Rattle.sound_terms.specs.Blocks.{block_samples};
@@ -50,20 +50,6 @@ impl Sums {
         }
     }
 
-    /// What is clipped of the first sums, so many, one by one.
-    fn counted(&self, depth: Depth, count: usize) -> Clips
-        requires { count ≤ self.now.extent.frames * self.now.extent.channels }
-        ensures clips { IsClippingOf (bits_of depth) self.now.extent.channels (take count self.now.values) result }
-        ensures whole { length self.now.values ≡ self.now.extent.frames * self.now.extent.channels }
-    {
-        let mut clips = Clips::none();
-        let channels = self.lanes.channels;
-        for k in 0..count {
-            clips.note(self.sum_at(k), depth, k as u64, (k % channels) as u32);
-        }
-        clips
-    }
-
     /// What is clipped of the first sums, which were handed out at this depth as these samples.
     pub fn clips(&self, depth: Depth, samples: &[i32]) -> Clips
         requires { (frames : ℕ) × (frames ≤ self.now.extent.frames)
@@ -74,10 +60,15 @@ impl Sums {
             → IsClippingOf (bits_of depth) self.now.extent.channels (block_sums all self.now.extent.channels 0 frames)
             result }
     {
-        if may_be_clipped(samples, depth) {
-            self.counted(depth, samples.len())
-        } else {
-            Clips::none()
+        let mut clips = Clips::none();
+        if !may_be_clipped(samples, depth) {
+            return clips;
         }
+        let channels = self.lanes.channels;
+        let count = samples.len();
+        for k in 0..count {
+            clips.note(self.sum_at(k), depth, k as u64, (k % channels) as u32);
+        }
+        clips
     }
 }

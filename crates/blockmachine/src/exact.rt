@@ -1,37 +1,21 @@
 // The exact sums of a block, before any rounding.
-ghost use Rattle.std.specs.Prelude.{◌≡◌, ◌*◌, ◌≤◌, ◌++◌, ◌∷◌, [], ℕ, ℤ, IsTrue, IfErr, OnOk, length, take};
+ghost use Rattle.std.specs.Prelude.{◌≡◌, ◌*◌, ◌≤◌, ℕ, ℤ, IsTrue, IfErr, OnOk, length};
 ghost use Rattle.std.specs.List.{All};
 ghost use Rattle.sound_terms.specs.declared.Depth as declared;
-ghost use Rattle.sound_terms.specs.declared.block.Instruction.TheVariants as instruction;
-ghost use Rattle.sound_terms.specs.Depth.{bits_of};
 ghost use Rattle.sound_terms.specs.Blocks.{BlockState, IsBlockProgram, LiesInFiles, PlaysFull, executed_all};
 ghost use Rattle.sound_terms.specs.Sounds.{reading_by};
 ghost use Rattle.devices.specs.Frame.{OnlyReads};
 ghost use Rattle.blockmachine.specs.Exact.{AreSumsOf};
 ghost use Rattle.blockmachine.specs.Fault.{FailsAt, IsSource};
-ghost use Rattle.blockmachine.specs.Lines.{CanAdd};
-ghost use Rattle.blockmachine.specs.Sums.{AreSums, kept_sums};
+ghost use Rattle.blockmachine.specs.Sums.{AreSums};
 
 use crate::layers::widen_all;
-use crate::machine::{add_all, depth_of};
+use crate::machine::{depth_of, sum_all};
 use crate::sums::Sums;
 use crate::{Machine, MachineFault};
 use devices::Shelf;
-use sound_terms::{Depth, Instruction, Program};
+use sound_terms::Program;
 use wavread::Sound;
-
-/// Hands out the first sums at full scale, where they are kept at a depth and where they aren't.
-fn put_kept(at_depth: bool, kept: Depth, layers: &[i32], values: &[i64], out: &mut [i64])
-    requires layers { length out.old ≤ length layers.now }
-    requires values { length out.old ≤ length values.now }
-    ensures { out.new ≡ take (length out.new) (kept_sums at_depth (bits_of kept) layers.now values.now) }
-{
-    if at_depth {
-        widen_all(kept, &layers[..out.len()], out);
-    } else {
-        out.copy_from_slice(&values[..out.len()]);
-    }
-}
 
 impl Sums {
     /// Hands out the first sums at full scale, as many as there is room for.
@@ -44,42 +28,15 @@ impl Sums {
     {
         let layers = self.layers.as_slice();
         let values = self.values.as_slice();
-        put_kept(self.at_depth, self.depth, layers, values, out);
+        if self.at_depth {
+            widen_all(self.depth, &layers[..out.len()], out);
+        } else {
+            out.copy_from_slice(&values[..out.len()]);
+        }
     }
 }
 
 impl Machine {
-    /// Adds what these instructions play to sums of zero, and hands the sums out at full scale.
-    fn sum_lines<S: Shelf>(
-        &mut self,
-        lines: &[Instruction],
-        depth: Depth,
-        sounds: &[Sound],
-        shelf: &mut S,
-        out: &mut [i64],
-    ) -> Result<(), MachineFault>
-        requires lines { All (CanAdd sounds.now self.old) lines.now }
-        requires whole { (frames : ℕ) × (frames ≤ self.old.frames) × (length out.old ≡ frames * self.old.channels) }
-        ensures summed { IsTrue (S.honest shelf.old)
-            → OnOk result ((frames : ℕ) (start : BlockState) → length out.old ≡ frames * self.old.channels
-            → AreSumsOf frames self.old.channels out.new
-            (executed_all (reading_by (S.stored shelf.old) sounds.now) self.old.channels
-            (instruction.Start frames ∷ (lines.now ++ instruction.Emit depth ∷ [])) start).sums) }
-        ensures full { IsTrue (S.honest shelf.old)
-            → OnOk result (All (PlaysFull (reading_by (S.stored shelf.old) sounds.now)) lines.now) }
-        ensures ready { self.new ≡ self.old }
-        ensures source { IfErr result IsSource }
-        ensures only_reads { OnlyReads S.Shelf shelf.old shelf.new result (λ fault. IsSource fault)
-            (λ fault failed. FailsAt sounds.now fault failed) }
-    {
-        let sums = &mut self.sums;
-        sums.clear(depth);
-        self.buffer.held = None;
-        add_all(lines, sounds, shelf, &mut self.buffer, sums)?;
-        sums.put(out);
-        Ok(())
-    }
-
     /// Runs the program of a block over sounds that were opened, and writes its exact sums over `out`, at full scale
     /// (48 bits), neither rounded nor clipped, frame by frame. It takes no memory. `Source` where a read fails; what was
     /// written is then unspecified, and the machine as ready as before.
@@ -110,7 +67,9 @@ impl Machine {
         let instructions = program.as_slice();
         if let Some(depth) = depth_of(instructions) {
             let lines = &instructions[1..instructions.len() - 1];
-            self.sum_lines(lines, depth, sounds, shelf, out)?;
+            let sums = &mut self.sums;
+            sum_all(lines, depth, sounds, shelf, &mut self.buffer, sums)?;
+            sums.put(out);
         }
         Ok(())
     }

@@ -3,6 +3,7 @@ ghost use Rattle.std.specs.Prelude.{◌≡◌, ◌+◌, ◌*◌, ◌/◌, ◌≤
 ghost use Rattle.std.specs.List.{All};
 ghost use Rattle.sound_terms.specs.Depth.{bits_of};
 ghost use Rattle.sound_terms.specs.Groups.{IsRamp};
+ghost use Rattle.pcm.specs.Laws.{AreBytes};
 ghost use Rattle.pcm.specs.Samples.{FitsDepth};
 ghost use Rattle.blockmachine.specs.Playing.{IsRamp-prop};
 
@@ -57,6 +58,7 @@ pub struct Stored<'a> {
     pub channels: usize,
     pub depth: Depth,
     ghost whole: { length bytes.now ≡ stretch.length * channels * (bits_of depth / 8) },
+    ghost small: { AreBytes bytes.now },
     ghost source: { stretch.first + stretch.width ≤ channels + 1 },
     ghost ramp: { IsRamp shape stretch.length } by { IsRamp-prop shape stretch.length },
 }

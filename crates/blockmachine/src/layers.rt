@@ -1,15 +1,14 @@
 // Sums at the depth of their block, of samples that are no deeper and that nothing fades: 32 bits have room for them.
-ghost use Rattle.std.specs.Prelude.{IsTrue, true, ◌≡◌, ◌*◌, ◌/◌, ◌<◌, ◌≤◌, ℕ, pos, ◌+ℤ◌, length, slice_index_or};
+ghost use Rattle.std.specs.Prelude.{IsTrue, true, ◌≡◌, ◌*◌, ◌<◌, ◌≤◌, ℕ, pos, ◌+ℤ◌, length, slice_index_or};
 ghost use Rattle.std.specs.List.{All};
 ghost use Rattle.sound_terms.specs.Depth.{bits_of};
 ghost use Rattle.sound_terms.specs.Mix.{full_scale, quantized};
 ghost use Rattle.sound_terms.specs.Blocks.{held};
 ghost use Rattle.pcm.specs.Samples.{FitsDepth, samples_in};
-ghost use Rattle.blockmachine.specs.Sums.{HasAdded, HasPlayed, IsLayer, IsWithin, TakeSamples, TakeStretch, block_of, kept_sums, widened};
+ghost use Rattle.blockmachine.specs.Sums.{CanWiden, HasAdded, HasPlayed, IsLayer, TakeLayer, TakeSample, TakeSamples, block_of, kept_sums, widened};
 
 use crate::addition::is_run;
 use crate::frames::{Frames, Lanes, Played, Stored};
-use crate::output::emit;
 use pcm::add_unpacked;
 use sound_terms::{Depth, Shape};
 use soundlaw::finish;
@@ -53,8 +52,7 @@ fn at_depth(layer: &Layer, sample: i32) -> i32
 /// A sum of few samples, and a sample more.
 #[inline(always)]
 fn layered(layer: &Layer, sum: i32, sample: i32) -> i32
-    requires small { IsWithin 254 (full_scale (bits_of layer.now.depth) sum) }
-    requires fit { FitsDepth (bits_of layer.now.frames.depth) sample }
+    requires { TakeSample (bits_of layer.now.frames.depth) (bits_of layer.now.depth) sum sample }
     ensures { full_scale (bits_of layer.now.depth) result
         ≡ held (full_scale (bits_of layer.now.depth) sum +ℤ full_scale (bits_of layer.now.frames.depth) sample) }
 {
@@ -76,10 +74,8 @@ fn add_samples(layer: &Layer, sums: &mut [i32])
 
 /// Adds what a stretch plays, a layer of the block, to sums of few samples.
 pub fn add_layer(played: &Played, lanes: Lanes, depth: Depth, sums: &mut [i32])
-    requires layer { IsLayer played.now.stretch played.now.shape played.now.frames.channels lanes.channels
-        (bits_of played.now.frames.depth) (bits_of depth) }
-    requires takes { TakeStretch lanes.frames lanes.channels 254 true played.now.stretch sums.old
-        (widened (bits_of depth) sums.old) }
+    requires { TakeLayer lanes.frames lanes.channels played.now.stretch played.now.shape played.now.frames.channels
+        (bits_of played.now.frames.depth) (bits_of depth) sums.old }
     ensures { HasPlayed played.now.stretch played.now.shape played.now.frames.channels
         (bits_of played.now.frames.depth) played.now.frames.samples.now
         (block_of lanes.frames lanes.channels (widened (bits_of depth) sums.old))
@@ -107,25 +103,10 @@ pub fn is_stored_layer(stored: &Stored, channels: usize, depth: Depth) -> bool
     is_run && stored.depth == depth && depth.bits() <= 24
 }
 
-/// Adds samples, as they are stored, to as many sums of few samples.
-#[inline(always)]
-fn add_stored(bytes: &[u8], depth: Depth, sums: &mut [i32])
-    requires each { length bytes.now ≡ length sums.old * (bits_of depth / 8) }
-    requires shallow { bits_of depth ≤ 24 }
-    requires small { All (IsWithin 254) (widened (bits_of depth) sums.old) }
-    ensures added { HasAdded (1, 1) (bits_of depth) (samples_in (bits_of depth) (length sums.old) bytes.now)
-        (widened (bits_of depth) sums.old) (widened (bits_of depth) sums.new) }
-    ensures fit { All (FitsDepth (bits_of depth)) (samples_in (bits_of depth) (length sums.old) bytes.now) }
-{
-    add_unpacked(depth, bytes, sums);
-}
-
 /// Adds what a stretch plays, a layer of the block at its depth, to sums of few samples.
 pub fn add_stored_layer(stored: &Stored, lanes: Lanes, sums: &mut [i32])
-    requires layer { IsLayer stored.now.stretch stored.now.shape stored.now.channels lanes.channels
-        (bits_of stored.now.depth) (bits_of stored.now.depth) }
-    requires takes { TakeStretch lanes.frames lanes.channels 254 true stored.now.stretch sums.old
-        (widened (bits_of stored.now.depth) sums.old) }
+    requires { TakeLayer lanes.frames lanes.channels stored.now.stretch stored.now.shape stored.now.channels
+        (bits_of stored.now.depth) (bits_of stored.now.depth) sums.old }
     ensures fit { All (FitsDepth (bits_of stored.now.depth))
         (samples_in (bits_of stored.now.depth) (stored.now.stretch.length * stored.now.channels) stored.now.bytes.now) }
     ensures played { HasPlayed stored.now.stretch stored.now.shape stored.now.channels (bits_of stored.now.depth)
@@ -136,7 +117,7 @@ pub fn add_stored_layer(stored: &Stored, lanes: Lanes, sums: &mut [i32])
     let from = stored.stretch.at as usize * lanes.channels;
     let count = stored.stretch.length as usize * lanes.channels;
     let run = &mut sums[from..from + count];
-    add_stored(stored.bytes, stored.depth, run);
+    add_unpacked(stored.depth, stored.bytes, run);
 }
 
 /// A sum at full scale.
@@ -160,8 +141,7 @@ pub fn widen_layers(
     layers: &[i32],
     values: &mut [i64],
 )
-    requires each { length layers.now ≡ length values.old }
-    requires clear { IsTrue is_clear → All (IsWithin 0) (kept_sums at_depth (bits_of depth) layers.now values.old) }
+    requires { CanWiden at_depth is_clear (bits_of depth) layers.now values.old }
     ensures { values.new ≡ kept_sums at_depth (bits_of depth) layers.now values.old }
 {
     if at_depth && is_clear {
@@ -234,7 +214,7 @@ fn finish_layers(sums: &[i32], kept: Depth, depth: Depth, out: &mut [i32])
 }
 
 /// Hands out the first sums, which are kept at one depth, as samples of any.
-fn emit_layers(sums: &[i32], kept: Depth, depth: Depth, out: &mut [i32])
+pub fn emit_layers(sums: &[i32], kept: Depth, depth: Depth, out: &mut [i32])
     requires { length out.old ≤ length sums.now }
     ensures { (k : ℕ) → k < length out.new → slice_index_or out.new k (pos 0)
         ≡ quantized (bits_of depth) (full_scale (bits_of kept) (slice_index_or sums.now k (pos 0))) }
@@ -243,26 +223,5 @@ fn emit_layers(sums: &[i32], kept: Depth, depth: Depth, out: &mut [i32])
         (Depth::Sixteen, Depth::Sixteen) => clip(sums, Depth::Sixteen, out),
         (Depth::TwentyFour, Depth::TwentyFour) => clip(sums, Depth::TwentyFour, out),
         _ => finish_layers(sums, kept, depth, out),
-    }
-}
-
-/// Hands out the first sums of a block, where they are kept at a depth and where they aren't.
-pub fn emit_kept(
-    at_depth: bool,
-    kept: Depth,
-    layers: &[i32],
-    values: &[i64],
-    depth: Depth,
-    out: &mut [i32],
-)
-    requires layers { length out.old ≤ length layers.now }
-    requires values { length out.old ≤ length values.now }
-    ensures { (k : ℕ) → k < length out.new → slice_index_or out.new k (pos 0) ≡ quantized (bits_of depth)
-        (slice_index_or (kept_sums at_depth (bits_of kept) layers.now values.now) k (pos 0)) }
-{
-    if at_depth {
-        emit_layers(layers, kept, depth, out);
-    } else {
-        emit(values, depth, out);
     }
 }

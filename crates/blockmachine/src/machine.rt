@@ -7,14 +7,13 @@ ghost use Rattle.sound_terms.specs.declared.block.Instruction.TheVariants as ins
 ghost use Rattle.sound_terms.specs.Depth.{bits_of};
 ghost use Rattle.clipping.specs.Clips.{IsClippingOf, block_sums};
 ghost use Rattle.pcm.specs.Samples.{FitsDepth};
-ghost use Rattle.sound_terms.specs.Blocks.{BlockState, IsBlockProgram, LiesInFiles, PlaysFull, executed, executed_all};
+ghost use Rattle.sound_terms.specs.Blocks.{BlockState, IsBlockProgram, LiesInFiles, PlaysFull, addition_of, executed_all};
 ghost use Rattle.sound_terms.specs.Sounds.{reading_by};
 ghost use Rattle.sound_terms.specs.Waves.{sample_bytes};
 ghost use Rattle.devices.specs.Frame.{OnlyReads};
 ghost use Rattle.list_terms.specs.Heard.{sounds_of};
 ghost use Rattle.blockmachine.specs.Fault.{FailsAt, IsSource};
-ghost use Rattle.blockmachine.specs.Holding.{Holds};
-ghost use Rattle.blockmachine.specs.Lines.{CanAdd};
+ghost use Rattle.blockmachine.specs.Lines.{CanAdd, CanSum, silent};
 ghost use Rattle.blockmachine.specs.Sums.{AreSums};
 
 use crate::MachineFault;
@@ -26,7 +25,7 @@ use crate::sums::Sums;
 use clipping::Clips;
 use devices::Shelf;
 use pcm::pack;
-use sound_terms::{Depth, Instruction, Program, Shape};
+use sound_terms::{Depth, Instruction, Program, Shape, Stretch};
 use sourceindex::Bound;
 use std::alloc::Global;
 use std::marker::Model;
@@ -48,73 +47,51 @@ impl Model for Machine {
     ghost view = { λ machine. machine.sums.extent };
 }
 
-/// Adds what an instruction plays.
-fn add_line<S: Shelf>(
-    line: &Instruction,
-    sounds: &[Sound],
-    shelf: &mut S,
-    buffer: &mut Buffer,
-    sums: &mut Sums,
-) -> Result<(), MachineFault>
-    requires line { CanAdd sounds.now sums.old.extent line.now }
-    requires held { Holds (S.honest shelf.old) (S.stored shelf.old) sounds.now buffer.old.held buffer.old.bytes.items }
-    ensures held { OnOk result (Holds (S.honest shelf.new) (S.stored shelf.new) sounds.now buffer.new.held
-        buffer.new.bytes.items) }
-    ensures added { IsTrue (S.honest shelf.old)
-        → OnOk result ((channels : ℕ) (before : BlockState) → AreSums sums.old before.sums
-        → AreSums sums.new (executed (reading_by (S.stored shelf.old) sounds.now) channels line.now before).sums) }
-    ensures full { IsTrue (S.honest shelf.old)
-        → OnOk result (PlaysFull (reading_by (S.stored shelf.old) sounds.now) line.now) }
-    ensures same_extent { sums.new.extent ≡ sums.old.extent }
-    ensures source { IfErr result IsSource }
-    ensures only_reads { OnlyReads S.Shelf shelf.old shelf.new result (λ fault. IsSource fault)
-        (λ fault failed. FailsAt sounds.now fault failed) }
+/// What an instruction adds: a stretch, under a shape.
+fn added_by(line: &Instruction) -> Option<(Stretch, Shape)>
+    ensures { result ≡ addition_of line.now }
 {
     match line {
-        Instruction::Flat { stretch } => {
-            add_stretch(stretch, Shape::Flat, sounds, shelf, buffer, sums)
-        }
+        Instruction::Flat { stretch } => Some((*stretch, Shape::Flat)),
         Instruction::Rise {
             stretch,
             offset,
             den,
-        } => {
-            let shape = Shape::Rise {
+        } => Some((
+            *stretch,
+            Shape::Rise {
                 offset: *offset,
                 den: *den,
-            };
-            add_stretch(stretch, shape, sounds, shelf, buffer, sums)
-        }
+            },
+        )),
         Instruction::Fall {
             stretch,
             offset,
             den,
-        } => {
-            let shape = Shape::Fall {
+        } => Some((
+            *stretch,
+            Shape::Fall {
                 offset: *offset,
                 den: *den,
-            };
-            add_stretch(stretch, shape, sounds, shelf, buffer, sums)
-        }
-        Instruction::Start { .. } | Instruction::Emit { .. } => Ok(()),
+            },
+        )),
+        Instruction::Start { .. } | Instruction::Emit { .. } => None,
     }
 }
 
-/// Adds what each of these instructions plays.
-pub(crate) fn add_all<S: Shelf>(
+/// Sums what each of these instructions plays, in a block of this depth.
+pub(crate) fn sum_all<S: Shelf>(
     lines: &[Instruction],
+    depth: Depth,
     sounds: &[Sound],
     shelf: &mut S,
     buffer: &mut Buffer,
     sums: &mut Sums,
 ) -> Result<(), MachineFault>
-    requires lines { All (CanAdd sounds.now sums.old.extent) lines.now }
-    requires held { Holds (S.honest shelf.old) (S.stored shelf.old) sounds.now buffer.old.held buffer.old.bytes.items }
-    ensures held { OnOk result (Holds (S.honest shelf.new) (S.stored shelf.new) sounds.now buffer.new.held
-        buffer.new.bytes.items) }
-    ensures added { IsTrue (S.honest shelf.old)
-        → OnOk result ((channels : ℕ) (before : BlockState) → AreSums sums.old before.sums
-        → AreSums sums.new (executed_all (reading_by (S.stored shelf.old) sounds.now) channels lines.now before).sums) }
+    requires { All (CanAdd sounds.now sums.old.extent) lines.now }
+    ensures summed { IsTrue (S.honest shelf.old)
+        → OnOk result ((channels : ℕ) (begun : BlockState) → AreSums sums.new
+        (executed_all (reading_by (S.stored shelf.old) sounds.now) channels lines.now (silent begun)).sums) }
     ensures full { IsTrue (S.honest shelf.old)
         → OnOk result (All (PlaysFull (reading_by (S.stored shelf.old) sounds.now)) lines.now) }
     ensures same_extent { sums.new.extent ≡ sums.old.extent }
@@ -122,8 +99,13 @@ pub(crate) fn add_all<S: Shelf>(
     ensures only_reads { OnlyReads S.Shelf shelf.old shelf.new result (λ fault. IsSource fault)
         (λ fault failed. FailsAt sounds.now fault failed) }
 {
+    sums.clear(depth);
+    buffer.held = None;
     for line in lines {
-        add_line(line, sounds, shelf, buffer, sums)?;
+        let Some((stretch, shape)) = added_by(line) else {
+            continue;
+        };
+        add_stretch(&stretch, shape, sounds, shelf, buffer, sums)?;
     }
     Ok(())
 }
@@ -147,7 +129,11 @@ impl Machine {
         ensures made { IfOk result (λ machine. machine ≡ record { frames = frames; channels = channels }) }
         ensures only_memory { IfErr result (λ fault. fault ≡ MachineFault.Memory) }
     {
-        let sums = Sums::new(alloc, frames, channels)?;
+        let lanes = Lanes {
+            frames: frames as usize,
+            channels: channels as usize,
+        };
+        let sums = Sums::new(alloc, lanes)?;
         let buffer = Buffer::new(alloc)?;
         Ok(Machine { sums, buffer })
     }
@@ -161,8 +147,7 @@ impl Machine {
         shelf: &mut S,
         out: &mut [i32],
     ) -> Result<Clips, MachineFault>
-        requires lines { All (CanAdd sounds.now self.old) lines.now }
-        requires whole { (frames : ℕ) × (frames ≤ self.old.frames) × (length out.old ≡ frames * self.old.channels) }
+        requires { CanSum sounds.now self.old lines.now (length out.old) }
         ensures ran { IsTrue (S.honest shelf.old)
             → OnOk result ((frames : ℕ) (start : BlockState) → length out.old ≡ frames * self.old.channels
             → out.new ≡ (executed_all (reading_by (S.stored shelf.old) sounds.now) self.old.channels
@@ -182,9 +167,7 @@ impl Machine {
             (λ fault failed. FailsAt sounds.now fault failed) }
     {
         let sums = &mut self.sums;
-        sums.clear(depth);
-        self.buffer.held = None;
-        add_all(lines, sounds, shelf, &mut self.buffer, sums)?;
+        sum_all(lines, depth, sounds, shelf, &mut self.buffer, sums)?;
         sums.emit(depth, out);
         Ok(sums.clips(depth, out))
     }

@@ -1,8 +1,6 @@
 // Samples of a depth at full scale.
-ghost use Rattle.std.specs.Prelude.{◌≡◌, ◌-◌, ◌^◌, pos, neg_ℤ, ◌≤ℤ◌};
+ghost use Rattle.std.specs.Prelude.{◌≡◌, ◌-◌, ◌^◌, pos};
 ghost use Rattle.sound_terms.specs.Depth.{bits_of};
-ghost use Rattle.sound_terms.specs.Mix.{full_scale};
-ghost use Rattle.pcm.specs.Samples.{FitsDepth};
 
 use sound_terms::Depth;
 
@@ -10,7 +8,7 @@ use sound_terms::Depth;
 #[derive(Clone, Copy)]
 pub struct Scale {
     pub depth: Depth,
-    factor: i64,
+    pub factor: i64,
     ghost is: { factor ≡ pos (2 ^ (48 - bits_of depth)) },
 }
 
@@ -26,15 +24,5 @@ impl Scale {
             Depth::ThirtyTwo => 1 << 16,
         };
         Scale { depth, factor }
-    }
-
-    /// A sample of the depth at full scale: from -2^47 to 2^47.
-    #[inline(always)]
-    pub fn widen(&self, sample: i32) -> i64
-        requires { FitsDepth (bits_of self.now.depth) sample }
-        ensures value { result ≡ full_scale (bits_of self.now.depth) sample }
-        ensures within { (neg_ℤ (pos (2 ^ 47)) ≤ℤ result) × (result ≤ℤ pos (2 ^ 47)) }
-    {
-        i64::from(sample) * self.factor
     }
 }

@@ -1,7 +1,7 @@
 // The fractions of a shape, frame by frame.
-ghost use Rattle.std.specs.Prelude.{IsTrue, ◌≡◌, ◌+◌, ◌-◌, ◌≤◌, ◌<◌};
+ghost use Rattle.std.specs.Prelude.{◌≡◌, ◌+◌, ◌-◌};
 ghost use Rattle.sound_terms.specs.Groups.{IsRamp};
-ghost use Rattle.blockmachine.specs.Slopes.{IsAt, fraction_at};
+ghost use Rattle.blockmachine.specs.Slopes.{HasFrame, IsAt, fraction_at};
 
 use sound_terms::Shape;
 use soundlaw::{Gain, Rise};
@@ -36,31 +36,22 @@ impl Slope {
         }
     }
 
-    /// The fraction of this frame.
+    /// The fraction of this frame; the shape goes on to the next one.
     #[inline(always)]
-    pub fn gain(&self) -> Gain
-        requires { IsTrue self.now.falls → self.now.rise.num < self.now.rise.den }
-        ensures { (result.num, result.den) ≡ fraction_at self.now.falls self.now.rise.num self.now.rise.den }
+    pub fn step(&mut self) -> Gain
+        requires { HasFrame self.old.falls self.old.rise.num self.old.rise.den self.old.rise.by }
+        ensures gain { (result.num, result.den) ≡ fraction_at self.old.falls self.old.rise.num self.old.rise.den }
+        ensures falls { self.new.falls ≡ self.old.falls }
+        ensures num { self.new.rise.num ≡ self.old.rise.num + self.old.rise.by }
+        ensures den { self.new.rise.den ≡ self.old.rise.den }
+        ensures by { self.new.rise.by ≡ self.old.rise.by }
     {
+        let rise = self.rise;
+        self.rise = rise.next();
         if self.falls {
-            self.rise.gain_left()
+            rise.gain_left()
         } else {
-            self.rise.gain()
-        }
-    }
-
-    /// The shape from the next frame on.
-    #[inline(always)]
-    pub fn next(&self) -> Self
-        requires { self.now.rise.num + self.now.rise.by ≤ self.now.rise.den }
-        ensures falls { result.falls ≡ self.now.falls }
-        ensures num { result.rise.num ≡ self.now.rise.num + self.now.rise.by }
-        ensures den { result.rise.den ≡ self.now.rise.den }
-        ensures by { result.rise.by ≡ self.now.rise.by }
-    {
-        Slope {
-            falls: self.falls,
-            rise: self.rise.next(),
+            rise.gain()
         }
     }
 }

@@ -2,13 +2,12 @@
 ghost use Rattle.std.specs.Prelude.{◌≡◌, ◌+◌, ◌*◌, ◌/◌, ◌^◌, ◌<◌, ◌≤◌, ℕ, ℤ, IsTrue, IfErr, OnOk, Some, slice_get, length};
 ghost use Rattle.sound_terms.specs.Depth.{bits_of};
 ghost use Rattle.sound_terms.specs.Sounds.{SoundFacts, reading_by};
-ghost use Rattle.sound_terms.specs.Media.{LiesInFile, frame_length};
 ghost use Rattle.sound_terms.specs.Blocks.{IsFull, sums_with};
 ghost use Rattle.devices.specs.Frame.{OnlyReads};
 ghost use Rattle.blockmachine.specs.Fault.{FailsAt, IsSource};
 ghost use Rattle.pcm.specs.Samples.{samples_in};
 ghost use Rattle.blockmachine.specs.Holding.{Holds};
-ghost use Rattle.blockmachine.specs.Lines.{CanPlay};
+ghost use Rattle.blockmachine.specs.Reads.{CanHold, IsPart, IsRead, IsReady};
 ghost use Rattle.blockmachine.specs.Playing.{Plays};
 ghost use Rattle.blockmachine.specs.Sums.{AreSums};
 
@@ -27,10 +26,7 @@ pub fn read_stored<S: Shelf>(
     shelf: &mut S,
     bytes: &mut [u8],
 ) -> Result<(), MachineFault>
-    requires lies { LiesInFile sounds.now part.now.file part.now.first part.now.width part.now.frame part.now.length }
-    requires first { 1 ≤ part.now.first }
-    requires whole { (facts : SoundFacts) → slice_get sounds.now part.now.file ≡ Some facts
-        → length bytes.old ≡ part.now.length * facts.channels * (bits_of facts.depth / 8) }
+    requires { IsRead sounds.now part.now (length bytes.old) }
     ensures plays { IsTrue (S.honest shelf.old)
         → OnOk result ((facts : SoundFacts) → slice_get sounds.now part.now.file ≡ Some facts
         → Plays (reading_by (S.stored shelf.old) sounds.now) part.now facts.channels (bits_of facts.depth)
@@ -57,10 +53,7 @@ fn hold<S: Shelf>(
     bytes: &mut [u8],
     held: &mut Option<Held>,
 ) -> Result<(), MachineFault>
-    requires lies { LiesInFile sounds.now part.now.file part.now.first part.now.width part.now.frame part.now.length }
-    requires room { (facts : SoundFacts) → slice_get sounds.now part.now.file ≡ Some facts
-        → part.now.length * frame_length facts ≤ length bytes.old }
-    requires held { Holds (S.honest shelf.old) (S.stored shelf.old) sounds.now held.old bytes.old }
+    requires { CanHold (S.honest shelf.old) (S.stored shelf.old) sounds.now part.now held.old bytes.old }
     ensures this { OnOk result (held.new ≡ Some (record {
       file = part.now.file;
       frame = part.now.frame;
@@ -103,11 +96,8 @@ fn add_part<S: Shelf>(
     held: &mut Option<Held>,
     sums: &mut Sums,
 ) -> Result<(), MachineFault>
-    requires plays { CanPlay sounds.now sums.old.extent part.now shape }
-    requires few { (facts : SoundFacts) → slice_get sounds.now part.now.file ≡ Some facts
-        → part.now.length * facts.channels ≤ length samples.old }
-    requires room { length samples.old * 4 ≤ length bytes.old }
-    requires held { Holds (S.honest shelf.old) (S.stored shelf.old) sounds.now held.old bytes.old }
+    requires { IsPart (S.honest shelf.old) (S.stored shelf.old) sounds.now sums.old.extent part.now shape held.old
+        bytes.old (length samples.old) }
     ensures held { OnOk result (Holds (S.honest shelf.new) (S.stored shelf.new) sounds.now held.new bytes.new) }
     ensures added { IsTrue (S.honest shelf.old) → OnOk result ((before : ℕ → ℕ → ℤ) → AreSums sums.old before
         → AreSums sums.new (sums_with (reading_by (S.stored shelf.old) sounds.now) part.now shape before)) }
@@ -134,24 +124,6 @@ fn add_part<S: Shelf>(
     Ok(())
 }
 
-/// The part of a stretch behind its first `done` samples, `count` of them.
-fn part_of(stretch: &Stretch, done: u32, count: u32) -> Stretch
-    requires at { stretch.now.at + done < 2 ^ 32 }
-    requires frame { stretch.now.frame + done < 2 ^ 64 }
-    ensures { result ≡ record stretch.now {
-      at = stretch.now.at + done;
-      length = count;
-      frame = stretch.now.frame + done;
-    } }
-{
-    Stretch {
-        at: stretch.at + done,
-        length: count,
-        frame: stretch.frame + done as u64,
-        ..*stretch
-    }
-}
-
 /// Adds a stretch of one of the sounds under a shape. Each frame is read once, for all its channels.
 pub fn add_stretch<S: Shelf>(
     stretch: &Stretch,
@@ -161,8 +133,8 @@ pub fn add_stretch<S: Shelf>(
     buffer: &mut Buffer,
     sums: &mut Sums,
 ) -> Result<(), MachineFault>
-    requires plays { CanPlay sounds.now sums.old.extent stretch.now shape }
-    requires held { Holds (S.honest shelf.old) (S.stored shelf.old) sounds.now buffer.old.held buffer.old.bytes.items }
+    requires { IsReady (S.honest shelf.old) (S.stored shelf.old) sounds.now sums.old.extent stretch.now shape
+        buffer.old.held buffer.old.bytes.items }
     ensures held { OnOk result (Holds (S.honest shelf.new) (S.stored shelf.new) sounds.now buffer.new.held
         buffer.new.bytes.items) }
     ensures added { IsTrue (S.honest shelf.old) → OnOk result ((before : ℕ → ℕ → ℤ) → AreSums sums.old before
@@ -179,7 +151,12 @@ pub fn add_stretch<S: Shelf>(
     let mut done = 0;
     while done < stretch.length {
         let count = most.min(stretch.length - done);
-        let part = part_of(stretch, done, count);
+        let part = Stretch {
+            at: stretch.at + done,
+            length: count,
+            frame: stretch.frame + done as u64,
+            ..*stretch
+        };
         let shape = shape.after(done as u64);
         let bytes = buffer.bytes.as_mut_slice();
         let samples = buffer.samples.as_mut_slice();

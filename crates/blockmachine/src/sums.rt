@@ -3,15 +3,16 @@ ghost use Rattle.std.specs.Prelude.{◌≡◌, ◌*◌, ◌≤◌, ℕ, ℤ, pos
 ghost use Rattle.sound_terms.specs.Depth.{bits_of};
 ghost use Rattle.sound_terms.specs.Blocks.{FitsBlock, block_samples};
 ghost use Rattle.pcm.specs.Samples.{samples_in};
-ghost use Rattle.blockmachine.specs.Sums.{AreSums, BlockSums, HasPlayed};
+ghost use Rattle.blockmachine.specs.Sums.{AreSums, BlockSums, HasPlayed, TakeStored};
 
 use crate::addition;
 use crate::additions::Additions;
 use crate::frames::{Frames, Lanes, Played, Stored};
 use crate::layers::{
-    self, FEW_LAYERS, add_layer, add_stored_layer, emit_kept, is_layer, is_stored_layer,
+    self, FEW_LAYERS, add_layer, add_stored_layer, emit_layers, is_layer, is_stored_layer,
     widen_layers,
 };
+use crate::output::emit;
 use pcm::unpack;
 use sound_terms::Depth;
 use std::alloc::{AllocError, Global};
@@ -50,16 +51,10 @@ impl Model for Sums {
 }
 
 impl Sums {
-    /// Sums for a block of so many frames, 4096 at most, and channels, 1 to 64.
-    pub fn new(alloc: Global, frames: u32, channels: u8) -> Result<Self, AllocError>
-        requires frames { frames ≤ 4096 }
-        requires channels { (1 ≤ channels) × (channels ≤ 64) }
-        ensures { IfOk result (λ sums. sums.extent ≡ record { frames = frames; channels = channels }) }
+    /// Sums for a block of these frames and channels.
+    pub fn new(alloc: Global, lanes: Lanes) -> Result<Self, AllocError>
+        ensures { IfOk result (λ sums. sums.extent ≡ record { frames = lanes.frames; channels = lanes.channels }) }
     {
-        let lanes = Lanes {
-            frames: frames as usize,
-            channels: channels as usize,
-        };
         let mut layers = Vec::new(alloc);
         layers.resize(lanes.frames * lanes.channels, 0)?;
         let mut values = Vec::new(alloc);
@@ -101,8 +96,7 @@ impl Sums {
 
     /// Adds what a stretch plays. `samples` has room for its frames.
     pub fn add(&mut self, stored: &Stored, samples: &mut [i32])
-        requires inside { FitsBlock self.old.extent.frames self.old.extent.channels stored.now.stretch }
-        requires room { stored.now.stretch.length * stored.now.channels ≤ length samples.old }
+        requires { TakeStored self.old.extent stored.now.stretch stored.now.channels (length samples.old) }
         ensures played { HasPlayed stored.now.stretch stored.now.shape stored.now.channels (bits_of stored.now.depth)
             (samples_in (bits_of stored.now.depth) (stored.now.stretch.length * stored.now.channels) stored.now.bytes.now)
             self.old self.new }
@@ -114,34 +108,22 @@ impl Sums {
             add_stored_layer(stored, lanes, self.layers.as_mut_slice());
             self.additions = self.additions.with(&stored.stretch);
         } else {
-            self.add_unpacked(stored, samples);
+            let samples = &mut samples[..stored.stretch.length as usize * stored.channels];
+            unpack(stored.depth, stored.bytes, samples);
+            let frames = Frames {
+                samples,
+                channels: stored.channels,
+                depth: stored.depth,
+            };
+            self.add_played(&Played {
+                stretch: stored.stretch,
+                shape: stored.shape,
+                frames,
+            });
         }
     }
 
-    /// The same, of samples that are unpacked first.
-    fn add_unpacked(&mut self, stored: &Stored, samples: &mut [i32])
-        requires inside { FitsBlock self.old.extent.frames self.old.extent.channels stored.now.stretch }
-        requires room { stored.now.stretch.length * stored.now.channels ≤ length samples.old }
-        ensures played { HasPlayed stored.now.stretch stored.now.shape stored.now.channels (bits_of stored.now.depth)
-            (samples_in (bits_of stored.now.depth) (stored.now.stretch.length * stored.now.channels) stored.now.bytes.now)
-            self.old self.new }
-        ensures same_extent { self.new.extent ≡ self.old.extent }
-    {
-        let samples = &mut samples[..stored.stretch.length as usize * stored.channels];
-        unpack(stored.depth, stored.bytes, samples);
-        let frames = Frames {
-            samples,
-            channels: stored.channels,
-            depth: stored.depth,
-        };
-        self.add_played(&Played {
-            stretch: stored.stretch,
-            shape: stored.shape,
-            frames,
-        });
-    }
-
-    /// Adds what a stretch plays, frames that were unpacked.
+    /// Adds what a stretch plays, frames that were unpacked: at full scale from the first one on that is no layer.
     fn add_played(&mut self, played: &Played)
         requires { FitsBlock self.old.extent.frames self.old.extent.channels played.now.stretch }
         ensures played { HasPlayed played.now.stretch played.now.shape played.now.frames.channels
@@ -153,18 +135,8 @@ impl Sums {
         if few && is_layer(played, lanes.channels, self.depth) {
             add_layer(played, lanes, self.depth, self.layers.as_mut_slice());
             self.additions = self.additions.with(&played.stretch);
-        } else {
-            self.add_at_full_scale(played);
+            return;
         }
-    }
-
-    /// The same at full scale.
-    fn add_at_full_scale(&mut self, played: &Played)
-        requires { FitsBlock self.old.extent.frames self.old.extent.channels played.now.stretch }
-        ensures played { HasPlayed played.now.stretch played.now.shape played.now.frames.channels
-            (bits_of played.now.frames.depth) played.now.frames.samples.now self.old self.new }
-        ensures same_extent { self.new.extent ≡ self.old.extent }
-    {
         let layers = self.layers.as_slice();
         widen_layers(
             self.at_depth,
@@ -175,7 +147,6 @@ impl Sums {
         );
         self.at_depth = false;
         let is_small = self.additions.most < FEW;
-        let lanes = self.lanes;
         addition::add_played(played, lanes, is_small, self.values.as_mut_slice());
         self.additions = self.additions.with(&played.stretch);
     }
@@ -190,6 +161,10 @@ impl Sums {
     {
         let layers = self.layers.as_slice();
         let values = self.values.as_slice();
-        emit_kept(self.at_depth, self.depth, layers, values, depth, out);
+        if self.at_depth {
+            emit_layers(layers, self.depth, depth, out);
+        } else {
+            emit(values, depth, out);
+        }
     }
 }

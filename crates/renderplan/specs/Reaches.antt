@@ -1,6 +1,7 @@
 -- Where neighbours among pieces sound, so that they can be passed over.
-use Rattle.std.specs.Prelude.{ℕ, ◌+◌, ◌-◌, ◌<◌, ◌≤◌, min, max, List, All, length, take, drop, slice_index_or}
+use Rattle.std.specs.Prelude.{◌≡◌, ℕ, ◌+◌, ◌-◌, ◌<◌, ◌≤◌, min, max, List, All, length, take, drop, slice_index_or}
 use Rattle.sound_terms.specs.declared.piece.Piece.{Piece}
+use Rattle.sound_terms.specs.Groups.{IsPiece}
 use Rattle.renderplan.specs.declared.reach.Reach.{Reach}
 
 -- the piece sounds from `least` on, and up to and without `greatest`
@@ -29,3 +30,9 @@ last n pieces = drop (length pieces - n) pieces
 abbrev pub AreReaches : List Piece → List Reach → Type 0
 AreReaches pieces reaches =
     (k : ℕ) (d : Reach) → k < length reaches → IsReach (last (k + 1) pieces) (slice_index_or reaches k d)
+
+-- and there is one for each piece
+pub record AreReached (pieces : List Piece) (reaches : List Reach) : Type 0 where
+  pub sound : All IsPiece pieces
+  pub each : length reaches ≡ length pieces
+  pub far : AreReaches pieces reaches

@@ -1,12 +1,11 @@
 // The instructions of the pieces that sound in a block.
 ghost use Rattle.std.specs.Prelude.{◌≡◌, ◌+◌, ◌≤◌, ◌++◌, length, option_to_list};
-ghost use Rattle.std.specs.List.{All, flat_map};
+ghost use Rattle.std.specs.List.{flat_map};
 ghost use Rattle.sampletime.specs.TimeCode.{day};
 ghost use Rattle.sound_terms.specs.Groups.{IsPiece};
 ghost use Rattle.sound_terms.specs.Blocks.{lines_of};
-ghost use Rattle.renderplan.specs.Reaches.{AreReaches};
 
-use crate::reach::Reach;
+use crate::reach::Reached;
 use sound_terms::{Instruction, Piece, Program, Stretch};
 
 /// The samples of a block, `frames` from the time `from` on, on channels from 1.
@@ -15,13 +14,13 @@ pub struct Window {
     pub from: u64,
     pub frames: u32,
     pub channels: u8,
+    ghost in_day: { from + frames ≤ day },
+    ghost few_channels: { channels ≤ 64 },
 }
 
 /// What of a piece sounds in a block; `None` where nothing does.
 fn line_of(piece: &Piece, window: Window) -> Option<Instruction>
-    requires sound { IsPiece piece.now }
-    requires in_day { window.from + window.frames ≤ day }
-    requires channels { window.channels ≤ 64 }
+    requires { IsPiece piece.now }
     ensures { option_to_list result ≡ lines_of window.from window.frames window.channels piece.now }
 {
     let first = window.from.max(piece.start);
@@ -42,32 +41,29 @@ fn line_of(piece: &Piece, window: Window) -> Option<Instruction>
     Some(Instruction::adding(stretch, shape))
 }
 
-/// Adds what of the pieces sounds in a block, in their order, to its program, which has room for one instruction a piece.
-/// `reaches` tells what can be passed over.
-pub fn push_lines(pieces: &[Piece], reaches: &[Reach], window: Window, program: &mut Program)
-    requires sound { All IsPiece pieces.now }
-    requires in_day { window.from + window.frames ≤ day }
-    requires channels { window.channels ≤ 64 }
-    requires each { length reaches.now ≡ length pieces.now }
-    requires far { AreReaches pieces.now reaches.now }
-    requires room { length program.old.lines + length pieces.now ≤ program.old.room }
-    ensures few { length program.new.lines ≤ length program.old.lines + length pieces.now }
-    ensures written { program.new ≡ record program.old {
-      lines = program.old.lines
-          ++ flat_map (lines_of window.from window.frames window.channels) pieces.now;
-    } }
-{
-    let end = window.from + u64::from(window.frames);
-    let mut next = 0;
-    while next < pieces.len() {
-        let reach = reaches[pieces.len() - 1 - next];
-        if reach.is_outside(window.from, end) {
-            next += reach.count;
-        } else {
-            if let Some(line) = line_of(&pieces[next], window) {
-                program.push(line);
+impl Reached {
+    /// Adds what of the pieces sounds in a block, in their order, to its program, which has room for one instruction a
+    /// piece.
+    pub fn push_lines(&self, window: Window, program: &mut Program)
+        requires { length program.old.lines + length self.now ≤ program.old.room }
+        ensures few { length program.new.lines ≤ length program.old.lines + length self.now }
+        ensures written { program.new ≡ record program.old {
+          lines = program.old.lines ++ flat_map (lines_of window.from window.frames window.channels) self.now;
+        } }
+    {
+        let end = window.from + u64::from(window.frames);
+        let pieces = self.pieces();
+        let mut next = 0;
+        while next < pieces.len() {
+            let reach = self.reach_from(next);
+            if reach.is_outside(window.from, end) {
+                next += reach.count;
+            } else {
+                if let Some(line) = line_of(&pieces[next], window) {
+                    program.push(line);
+                }
+                next += 1;
             }
-            next += 1;
         }
     }
 }

@@ -12,9 +12,8 @@ ghost use Rattle.renderplan.specs.Planned.{IsPlan};
 ghost use Rattle.renderplan.specs.Sources as sources;
 
 use crate::PlanFault;
-use crate::lines::{Window, push_lines};
-use crate::reach::{Reach, reaches_of};
-use crate::source::first_source;
+use crate::lines::Window;
+use crate::reach::Reached;
 use groups::Intervals;
 use sampletime::SampleTime;
 use sound_terms::{Depth, Format, Instruction, Piece, Program};
@@ -28,8 +27,7 @@ const BLOCK_LENGTH: u64 = 4096;
 /// pieces, the range and the depth.
 #[derive(Drop)]
 pub struct Plan {
-    pieces: Vec<Piece>,
-    reaches: Vec<Reach>,
+    pieces: Reached,
     from: SampleTime,
     to: SampleTime,
     channels: u8,
@@ -37,22 +35,19 @@ pub struct Plan {
 }
 
 impl Model for Plan {
-    ghost use Rattle.std.specs.Prelude.{◌≡◌, length};
     ghost use Rattle.renderplan.specs.Planned.{IsPlan, Planned};
-    ghost use Rattle.renderplan.specs.Reaches.{AreReaches};
 
     ghost Value = { Planned };
 
     ghost view = { λ plan. record {
-      pieces = plan.pieces.items;
+      pieces = plan.pieces;
       range = record { from = plan.from; to = plan.to; channels = plan.channels; depth = plan.depth };
     } };
 
     ghost invariant = { λ plan. IsPlan (record {
-      pieces = plan.pieces.items;
+      pieces = plan.pieces;
       range = record { from = plan.from; to = plan.to; channels = plan.channels; depth = plan.depth };
-    })
-        × (length plan.reaches.items ≡ length plan.pieces.items) × AreReaches plan.pieces.items plan.reaches.items };
+    }) };
 }
 
 /// All pieces of the groups, one group after the other.
@@ -90,11 +85,9 @@ impl Plan {
         if to.get() <= from.get() {
             return Err(PlanFault::EmptyRange);
         }
-        let pieces = pieces_of(alloc, &intervals)?;
-        let reaches = reaches_of(alloc, pieces.as_slice())?;
+        let pieces = Reached::new(alloc, pieces_of(alloc, &intervals)?)?;
         Ok(Plan {
             pieces,
-            reaches,
             from,
             to,
             channels,
@@ -122,7 +115,7 @@ impl Plan {
     pub fn most_instructions(&self) -> usize
         ensures { result ≡ length self.now.pieces + 2 }
     {
-        self.pieces.len() + 2
+        self.pieces.pieces().len() + 2
     }
 
     /// The channels and the depth of its samples.
@@ -142,7 +135,6 @@ impl Plan {
         ensures from { result.from ≡ block_start self.now.range k }
         ensures frames { result.frames ≡ block_frames self.now.range k }
         ensures channels { result.channels ≡ self.now.range.channels }
-        ensures in_day { result.from + result.frames ≤ day }
     {
         Window {
             from: self.from.get() + k * BLOCK_LENGTH,
@@ -163,7 +155,7 @@ impl Plan {
             return None;
         }
         let window = self.window_of(k);
-        first_source(self.pieces.as_slice(), self.reaches.as_slice(), window)
+        self.pieces.first_source(window)
     }
 
     /// Writes the instructions of block k over those of a program that has room for them.
@@ -175,13 +167,11 @@ impl Plan {
         ensures planned { IsPlan self.now }
     {
         let window = self.window_of(k);
-        let pieces = self.pieces.as_slice();
-        let reaches = self.reaches.as_slice();
         program.clear();
         program.push(Instruction::Start {
             frames: window.frames,
         });
-        push_lines(pieces, reaches, window, program);
+        self.pieces.push_lines(window, program);
         program.push(Instruction::Emit { depth: self.depth });
     }
 

@@ -1,11 +1,12 @@
 // An index of pieces by what they can be passed over for.
-ghost use Rattle.std.specs.Prelude.{◌≡◌, ◌+◌, ◌<◌, ◌^◌, ◌||◌, nat_le, length, IfOk};
+ghost use Rattle.std.specs.Prelude.{◌≡◌, ◌+◌, ◌<◌, ◌^◌, ◌||◌, nat_le, drop, length, IfOk};
 ghost use Rattle.std.specs.List.{All};
 ghost use Rattle.sound_terms.specs.Groups.{IsPiece};
-ghost use Rattle.renderplan.specs.Reaches.{AreReaches, IsReach, joined_reach, last};
+ghost use Rattle.renderplan.specs.Reaches.{AreReached, AreReaches, IsReach, joined_reach, last};
 
 use sound_terms::Piece;
 use std::alloc::{AllocError, Global};
+use std::marker::Model;
 
 /// Where `count` pieces, one behind the other in their list, sound: not before `least`, and not from `greatest` on.
 #[derive(Clone, Copy, Debug, PartialEq, Eq)]
@@ -74,10 +75,9 @@ fn next_reach(pieces: &[Piece], reaches: &[Reach]) -> Reach
 }
 
 /// A reach for the pieces from each one on, that of the last piece first.
-pub fn reaches_of(alloc: Global, pieces: &[Piece]) -> Result<Vec<Reach>, AllocError>
+fn reaches_of(alloc: Global, pieces: &[Piece]) -> Result<Vec<Reach>, AllocError>
     requires { All IsPiece pieces.now }
-    ensures each { IfOk result (λ reaches. length reaches.items ≡ length pieces.now) }
-    ensures far { IfOk result (λ reaches. AreReaches pieces.now reaches.items) }
+    ensures { IfOk result (λ reaches. AreReached pieces.now reaches.items) }
 {
     let mut reaches = Vec::with_capacity(alloc, pieces.len())?;
     while reaches.len() < pieces.len() {
@@ -85,4 +85,50 @@ pub fn reaches_of(alloc: Global, pieces: &[Piece]) -> Result<Vec<Reach>, AllocEr
         reaches.push(reach)?;
     }
     Ok(reaches)
+}
+
+/// Pieces, of which those that are silent in a block can be passed over many at once.
+#[derive(Drop)]
+pub struct Reached {
+    pieces: Vec<Piece>,
+    reaches: Vec<Reach>,
+}
+
+impl Model for Reached {
+    ghost use Rattle.std.specs.Prelude.{List};
+    ghost use Rattle.sound_terms.specs.declared.piece.Piece.{Piece};
+    ghost use Rattle.renderplan.specs.Reaches.{AreReached};
+
+    ghost Value = { List Piece };
+
+    ghost view = { λ reached. reached.pieces.items };
+
+    ghost invariant = { λ reached. AreReached reached.pieces.items reached.reaches.items };
+}
+
+impl Reached {
+    /// These pieces.
+    pub fn new(alloc: Global, pieces: Vec<Piece>) -> Result<Self, AllocError>
+        requires { All IsPiece pieces.items }
+        ensures { IfOk result (λ reached. reached ≡ pieces.items) }
+    {
+        let reaches = reaches_of(alloc, pieces.as_slice())?;
+        Ok(Reached { pieces, reaches })
+    }
+
+    /// The pieces, in their order.
+    pub fn pieces(&self) -> &[Piece]
+        ensures lent { result.now ≡ self.now }
+        ensures sound { All IsPiece self.now }
+    {
+        self.pieces.as_slice()
+    }
+
+    /// The reach of the pieces from this one on.
+    pub fn reach_from(&self, next: usize) -> Reach
+        requires { next < length self.now }
+        ensures { IsReach (drop next self.now) result }
+    {
+        self.reaches[self.pieces.len() - 1 - next]
+    }
 }

@@ -8,6 +8,7 @@ ghost use Rattle.silence.specs.Zero.{LiesIn};
 
 use crate::looking::Looking;
 use crate::part::Part;
+use crate::room::Room;
 use crate::zeros::first_sounding;
 use devices::{Shelf, ShelfFault, Watch};
 use wavread::Sound;
@@ -87,14 +88,11 @@ pub fn looked_at<S: Shelf, W: Watch>(
     part: &Part,
     sound: &Sound,
     shelf: &mut S,
-    bytes: &mut [u8],
-    samples: &mut [i32],
+    room: &mut Room,
     looking: &mut Looking<W>,
 ) -> Result<Known, ShelfFault>
     requires inside { LiesIn sound.now part.now }
     requires reaches { Reaches known known.file part.now }
-    requires some_samples { 64 ≤ length samples.old }
-    requires room { length samples.old * 4 ≤ length bytes.old }
     ensures so { IsTrue (S.honest shelf.old) → (sounds : List SoundFacts) → slice_get sounds known.file ≡ Some sound.now
         → IsSo (reading_by (S.stored shelf.old) sounds) known
         → IfOk result (IsSo (reading_by (S.stored shelf.old) sounds)) }
@@ -110,6 +108,6 @@ pub fn looked_at<S: Shelf, W: Watch>(
         from: known.part.to,
         ..*part
     };
-    let found = first_sounding(&rest, sound, shelf, bytes, samples, looking)?;
+    let found = first_sounding(&rest, sound, shelf, room, looking)?;
     Ok(known.until(found, part.to))
 }

@@ -5,6 +5,7 @@ mod known;
 mod looking;
 mod part;
 mod pieces;
+mod room;
 mod search;
 mod silences;
 mod turns;

@@ -11,6 +11,7 @@ ghost use Rattle.silence.specs.Known.{IsSo};
 use crate::known::{Known, looked_at};
 use crate::looking::Looking;
 use crate::part::Part;
+use crate::room::Room;
 use devices::{Shelf, Watch};
 use groups::Piece;
 use passes::PassFault;
@@ -18,30 +19,20 @@ use std::alloc::{AllocError, Global};
 use std::marker::Model;
 use wavread::Sound;
 
-/// How many samples are read at once, of all channels of a file.
-const SAMPLES: usize = 4096;
-
-/// The bytes of so many samples, of 32 bits at most.
-const BYTES: usize = 4 * SAMPLES;
-
-/// Room for some frames of every file, as bytes and as samples, and what is known of the last file that was looked at.
+/// Room for some frames of every file, and what is known of the last file that was looked at.
 /// A clause sees what is known.
 #[derive(Drop)]
 pub struct Search {
     known: Known,
-    bytes: Vec<u8>,
-    samples: Vec<i32>,
+    room: Room,
 }
 
 impl Model for Search {
-    ghost use Rattle.std.specs.Prelude.{◌≡◌, length};
     ghost use Rattle.silence.specs.declared.known.Known.{Known};
 
     ghost Value = { Known };
 
     ghost view = { λ search. search.known };
-
-    ghost invariant = { λ search. (length search.bytes.items ≡ 16384) × (length search.samples.items ≡ 4096) };
 }
 
 impl Search {
@@ -49,14 +40,9 @@ impl Search {
     pub fn new(alloc: Global) -> Result<Self, AllocError>
         ensures { (reading : Reading) → IfOk result (IsSo reading) }
     {
-        let mut bytes = Vec::new(alloc);
-        bytes.resize(BYTES, 0)?;
-        let mut samples = Vec::new(alloc);
-        samples.resize(SAMPLES, 0)?;
         Ok(Search {
             known: Known::NOTHING,
-            bytes,
-            samples,
+            room: Room::new(alloc)?,
         })
     }
 
@@ -80,10 +66,8 @@ impl Search {
             return Ok(true);
         };
         let part = Part::inside(piece, sound);
-        let bytes = self.bytes.as_mut_slice();
-        let samples = self.samples.as_mut_slice();
         let known = self.known.up_to(piece.file, &part);
-        match looked_at(known, &part, sound, shelf, bytes, samples, looking) {
+        match looked_at(known, &part, sound, shelf, &mut self.room, looking) {
             Ok(known) => {
                 self.known = known;
                 Ok(part.to <= known.part.to)

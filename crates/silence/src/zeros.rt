@@ -5,6 +5,7 @@ ghost use Rattle.silence.specs.Zero.{IsFirstSounding, IsFrameZero, IsZeroAt, Lie
 
 use crate::looking::Looking;
 use crate::part::Part;
+use crate::room::{Room, SAMPLES};
 use devices::{Shelf, ShelfFault, Watch};
 use pcm::all_zero;
 use wavread::Sound;
@@ -60,20 +61,17 @@ pub fn first_sounding<S: Shelf, W: Watch>(
     part: &Part,
     sound: &Sound,
     shelf: &mut S,
-    bytes: &mut [u8],
-    samples: &mut [i32],
+    room: &mut Room,
     looking: &mut Looking<W>,
 ) -> Result<Option<u64>, ShelfFault>
-    requires inside { LiesIn sound.now part.now }
-    requires some_samples { 64 ≤ length samples.old }
-    requires room { length samples.old * 4 ≤ length bytes.old }
+    requires { LiesIn sound.now part.now }
     ensures found { IsTrue (S.honest shelf.old) → IfOk result (IsFirstSounding
         (IsZeroAt (sound_by (S.stored shelf.old) sound.now) part.now.first part.now.width) part.now.from part.now.to) }
     ensures not_missing { IsErrOf result ShelfFault.NotFound → ⊥ }
     ensures only_reads { OnlyReads S.Shelf shelf.old shelf.new result (λ fault. fault ≡ ShelfFault.Device)
         (λ _ failed. failed sound.now.name) }
 {
-    let most = samples.len() as u64 / u64::from(sound.channels());
+    let most = SAMPLES as u64 / u64::from(sound.channels());
     let mut at = part.from;
     while at < part.to {
         let count = most.min(part.to - at);
@@ -82,6 +80,8 @@ pub fn first_sounding<S: Shelf, W: Watch>(
             to: at + count,
             ..*part
         };
+        let bytes = room.bytes.as_mut_slice();
+        let samples = room.samples.as_mut_slice();
         let found = first_in_block(&block, sound, shelf, bytes, samples)?;
         if found.is_some() {
             return Ok(found);

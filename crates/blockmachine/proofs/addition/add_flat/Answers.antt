@@ -23,19 +23,18 @@ loop-i-preserved c =
     ∙ ap (λ z. held (get_or sums n (pos 0) +ℤ z)) (c.full_sample-sample.ensures.value ∙ sym (flat_share _)) in
     added_more n (1, 1) (bits_of c.args.row.now.scale.depth) c.args.row.now.samples.now c.args.sums.now sums _ inside c.loop-i.invariant value
 
-pub added-requires-clause-small : goal.added-requires-clause-small
-added-requires-clause-small c = λ yes.
+pub added-requires : goal.added-requires
+added-requires c =
     let n = c.loop-i.i in
     let sums = c.loop-i.sums in
     let inside : n < length c.args.sums.now = omega arith in
     let sum_fits : SFits w64 (get_or sums n (pos 0)) = search rules in
-    let same : get_or sums n (pos 0) ≡ get_or c.args.sums.now n (pos 0) = c.loop-i.invariant.1 n (omega arith) in
-    rw (to_z-of_z w64 (get_or sums n (pos 0)) sum_fits, same) (c.requires.small yes n (pos 0) inside)
-
-pub added-requires-clause-share : goal.added-requires-clause-share
-added-requires-clause-share c =
     let sample_fits : SFits w64 c.full_sample-sample.result = search rules in
-    rw (to_z-of_z w64 c.full_sample-sample.result sample_fits) c.full_sample-sample.ensures.within
+    let same : get_or sums n (pos 0) ≡ get_or c.args.sums.now n (pos 0) = c.loop-i.invariant.1 n (omega arith) in
+    record {
+      small = λ yes. rw (to_z-of_z w64 (get_or sums n (pos 0)) sum_fits, same) (c.requires.small yes n (pos 0) inside);
+      share = rw (to_z-of_z w64 c.full_sample-sample.result sample_fits) c.full_sample-sample.ensures.within;
+    }
 
 pub returns : goal.returns
 returns c = λ k below. c.loop-i.invariant.0 k (omega arith)

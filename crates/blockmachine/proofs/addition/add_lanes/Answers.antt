@@ -1,4 +1,4 @@
-use Rattle.std.proofs.Common.{◌≡◌, ◌<◌, ◌+◌, ℕ, List, length, get_or, set, arith, refl, rules, sym, ap, ◌∙◌, subst}
+use Rattle.std.proofs.Common.{◌≡◌, ◌<◌, ◌+◌, ℕ, List, length, get_or, set, arith, rules, sym, ap, ◌∙◌, subst}
 use Rattle.std.specs.Prelude.{ℤ, pos, ◌+ℤ◌}
 use Rattle.std.proofs.lemmas.Int.{to_z-of_z}
 use Rattle.std.proofs.lemmas.List.{get_or-set_other}
@@ -56,25 +56,24 @@ two_added-requires-clause-first c =
     let n = c.loop-sums.done in
     let sums = c.loop-sums.sums in
     let fits : SFits w64 (get_or sums n (pos 0)) = search rules in
+    let low_fits : SFits w64 c.full_sample-low.result = search rules in
     let same : get_or sums n (pos 0) ≡ get_or c.args.sums.now n (pos 0) =
     c.loop-sums.invariant.added.1 n (omega arith) in
-    rw (to_z-of_z w64 (get_or sums n (pos 0)) fits, same) (c.requires.small refl n (pos 0) (omega arith))
+    record {
+      small = λ yes. rw (to_z-of_z w64 (get_or sums n (pos 0)) fits, same) (c.requires.small yes n (pos 0) (omega arith));
+      share = rw (to_z-of_z w64 c.full_sample-low.result low_fits) c.full_sample-low.ensures.within;
+    }
 
 pub two_added-requires-clause-second : goal.two_added-requires-clause-second
 two_added-requires-clause-second c =
     let n = c.loop-sums.done in
     let sums = c.loop-sums.sums in
     let fits : SFits w64 (get_or sums (n + 1) (pos 0)) = search rules in
+    let high_fits : SFits w64 c.full_sample-high.result = search rules in
     let same : get_or sums (n + 1) (pos 0) ≡ get_or c.args.sums.now (n + 1) (pos 0) =
     c.loop-sums.invariant.added.1 (n + 1) (omega arith) in
-    rw (to_z-of_z w64 (get_or sums (n + 1) (pos 0)) fits, same) (c.requires.small refl (n + 1) (pos 0) (omega arith))
-
-pub two_added-requires-clause-low : goal.two_added-requires-clause-low
-two_added-requires-clause-low c =
-    let fits : SFits w64 c.full_sample-low.result = search rules in
-    rw (to_z-of_z w64 c.full_sample-low.result fits) c.full_sample-low.ensures.within
-
-pub two_added-requires-clause-high : goal.two_added-requires-clause-high
-two_added-requires-clause-high c =
-    let fits : SFits w64 c.full_sample-high.result = search rules in
-    rw (to_z-of_z w64 c.full_sample-high.result fits) c.full_sample-high.ensures.within
+    record {
+      small = λ yes. rw (to_z-of_z w64 (get_or sums (n + 1) (pos 0)) fits, same)
+          (c.requires.small yes (n + 1) (pos 0) (omega arith));
+      share = rw (to_z-of_z w64 c.full_sample-high.result high_fits) c.full_sample-high.ensures.within;
+    }

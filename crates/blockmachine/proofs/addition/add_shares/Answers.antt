@@ -26,14 +26,18 @@ loop-i-preserved c =
     added_more n (c.args.gain.num, c.args.gain.den) (bits_of c.args.row.now.scale.depth) c.args.row.now.samples.now c.args.sums.now sums _
     inside c.loop-i.invariant value
 
-pub added-requires-clause-small : goal.added-requires-clause-small
-added-requires-clause-small c = λ yes.
+pub added-requires : goal.added-requires
+added-requires c =
     let n = c.loop-i.i in
     let sums = c.loop-i.sums in
     let inside : n < length c.args.sums.now = omega arith in
     let sum_fits : SFits w64 (get_or sums n (pos 0)) = search rules in
+    let share_fits : SFits w64 c.share-share.result = search rules in
     let same : get_or sums n (pos 0) ≡ get_or c.args.sums.now n (pos 0) = c.loop-i.invariant.1 n (omega arith) in
-    rw (to_z-of_z w64 (get_or sums n (pos 0)) sum_fits, same) (c.requires.small yes n (pos 0) inside)
+    record {
+      small = λ yes. rw (to_z-of_z w64 (get_or sums n (pos 0)) sum_fits, same) (c.requires.small yes n (pos 0) inside);
+      share = rw (to_z-of_z w64 c.share-share.result share_fits) c.share-share.ensures.within;
+    }
 
 pub returns : goal.returns
 returns c = λ k below. c.loop-i.invariant.0 k (omega arith)

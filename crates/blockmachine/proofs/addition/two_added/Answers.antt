@@ -4,6 +4,6 @@ use Rattle.blockmachine.proofs.addition.two_added.Goals as goal
 
 pub returns : goal.returns
 returns c = rw (
-  lane_added c.args.first c.args.low c.requires.first c.requires.low,
-  lane_added c.args.second c.args.high c.requires.second c.requires.high,
+  lane_added c.args.first c.args.low (c.requires.first.small refl) c.requires.first.share,
+  lane_added c.args.second c.args.high (c.requires.second.small refl) c.requires.second.share,
 ) refl

@@ -1,13 +1,9 @@
-use Rattle.std.proofs.Common.{◌≡◌, ℕ, List, [], ◌∷◌, Some, length, get_or, refl, sym, ap, ◌∙◌, arith}
-use Rattle.std.specs.Prelude.{slice_get}
+use Rattle.std.proofs.Common.{◌≡◌, ◌<◌, ℕ, List, [], ◌∷◌, length, get_or, refl, sym, ap, ◌∙◌, arith}
 use Rattle.std.proofs.lemmas.Bool.Decides.{nat_tests}
-use Rattle.std.proofs.lemmas.Option.{slice_get_read, slice_get_within}
-use Rattle.std.proofs.lemmas.List.Elements.{All-head}
+use Rattle.std.proofs.lemmas.Option.{slice_get_read}
 use Rattle.sound_terms.specs.declared.block.Stretch.{Stretch}
 use Rattle.sound_terms.specs.declared.block.Instruction.{Instruction}
 use Rattle.sound_terms.specs.declared.block.Instruction.TheVariants.{Start, Flat}
-use Rattle.sound_terms.specs.Blocks.{LiesInFiles}
-use Rattle.sound_terms.specs.Media.{LiesInFile}
 use Rattle.blockmachine.specs.Alone.{filling}
 use Rattle.blockmachine.proofs.alone.fills_alone.Goals as goal
 
@@ -33,22 +29,18 @@ returns c =
     let first : stretch.first ≡ 1 = grind (arith, nat_tests) in
     let dest : stretch.dest ≡ 1 = grind (arith, nat_tests) in
     let wide : stretch.width ≡ c.args.lanes.channels = grind (arith, nat_tests) in
-    let sound = c.index-sounds-stretch.result in
     let lines : c.args.lines.now ≡ Flat stretch ∷ [] =
     alone c.args.lines.now (Flat stretch) (omega (arith, c.in-len1.len_at_least, c.in-len1.len_below))
     c.in_ok-stretch.ensures in
-    let lies : LiesInFile c.args.sounds.now stretch.file stretch.first stretch.width stretch.frame stretch.length =
-    All-head (LiesInFiles c.args.sounds.now) (Flat stretch) [] (rw lines at c.requires) in
-    let found : slice_get c.args.sounds.now stretch.file ≡ Some sound =
-    slice_get_read c.args.sounds.now (length c.args.sounds.now) stretch.file sound refl
-    (slice_get_within c.args.sounds.now stretch.file lies.facts lies.there) c.index-sounds-stretch.is in
+    let found = c.in_ok-sound.ensures.lookup in
+    let below : stretch.file < length c.args.sounds.now = grind (arith, nat_tests, found.0) in
     let parts : stretch ≡ filling stretch.file stretch.frame c.args.lanes.frames c.args.lanes.channels =
     by_parts stretch 0 c.args.lanes.frames 1 1 c.args.lanes.channels at long first dest wide in
     record {
       alone = lines ∙ ap (λ (s : Stretch). Flat s ∷ []) parts;
       whole = refl;
-      facts = sound;
-      there = found;
+      facts = c.in_ok-sound.sound.now;
+      there = slice_get_read c.args.sounds.now (length c.args.sounds.now) stretch.file c.in_ok-sound.sound.now refl below found.1;
       channels_alike = sym c.channels.ensures.channels ∙ c.if-channels-lanes.false;
       depth_alike = grind arith;
     }

@@ -37,15 +37,21 @@ loop-i-preserved c =
     (added_more n (1, 1) source samples (widened depth c.args.sums.now) (widened depth sums) (full_scale depth new)
     (rw (length-map sums (full_scale depth)) inside) c.loop-i.invariant value)
 
-pub layered-requires-clause-small : goal.layered-requires-clause-small
-layered-requires-clause-small c =
+pub layered-requires : goal.layered-requires
+layered-requires c =
     let n = c.loop-i.i in
     let sums = c.loop-i.sums in
     let old = c.args.sums.now in
     let depth = bits_of c.args.layer.now.depth in
+    let samples = c.args.layer.now.frames.samples.now in
     let inside : n < length sums = omega arith in
     let within : n < length old = omega arith in
     let sum_fits : SFits w32 (get_or sums n (pos 0)) = search rules in
+    let sample_fits : SFits w32 (get_or samples n (pos 0)) = search rules in
     let same = sym (c.loop-i.invariant.1 n (omega arith)) ∙ get_or-widened depth sums n inside in
-    rw (to_z-of_z w32 (get_or sums n (pos 0)) sum_fits)
-    (subst (IsWithin 254) same (c.requires.small refl n (pos 0) (rw (length-map old (full_scale depth)) within)))
+    record {
+      small = rw (to_z-of_z w32 (get_or sums n (pos 0)) sum_fits)
+          (subst (IsWithin 254) same (c.requires.small refl n (pos 0) (rw (length-map old (full_scale depth)) within)));
+      fit = rw (to_z-of_z w32 (get_or samples n (pos 0)) sample_fits)
+          (c.args.layer.now.frames.fit n (pos 0) (omega (arith, c.requires.each, inside)));
+    }

@@ -1,8 +1,8 @@
-use Rattle.std.proofs.Common.{◌≡◌, ◌+◌, ◌*◌, ◌/◌, ◌≤◌, ℕ, Bool, List, Option, Some, length, take, arith, rules, refl, sym, ap, ◌∙◌, subst}
+use Rattle.std.proofs.Common.{◌≡◌, ◌+◌, ◌*◌, ◌/◌, ◌≤◌, ℕ, Bool, IsTrue, List, Option, Some, length, take, arith, rules, sym, ap, ◌∙◌, subst}
 use Rattle.std.specs.Prelude.{slice_get}
 use Rattle.std.proofs.Math.Nat.{mul-le-mul_left}
 use Rattle.std.proofs.lemmas.List.{length-take-le}
-use Rattle.std.proofs.lemmas.Option.{same_Some, slice_get_read, slice_get_within}
+use Rattle.std.proofs.lemmas.Option.{same_Some}
 use Rattle.sound_terms.specs.declared.Depth.{Depth}
 use Rattle.sound_terms.specs.Sounds.{SoundFacts, reading_by}
 use Rattle.sound_terms.specs.Laws.{bits_bounded}
@@ -14,15 +14,20 @@ use Rattle.pcm.specs.Samples.{samples_in}
 use Rattle.blockmachine.specs.declared.buffer.Held.{Held}
 use Rattle.blockmachine.specs.Holding.{Holds}
 use Rattle.blockmachine.specs.Playing.{Plays}
-use Rattle.blockmachine.proofs.Held.{held_full, held_plays, small_front}
+use Rattle.blockmachine.proofs.Held.{AreRead, held_full, held_plays, opened, small_front}
+use Rattle.blockmachine.proofs.stretches.add_part.Given.{Over}
 use Rattle.blockmachine.proofs.stretches.add_part.Goals as goal
 
-pub hold-requires-clause-room : goal.hold-requires-clause-room
-hold-requires-clause-room g c = λ facts there.
-    let few : c.args.part.now.length * facts.channels ≤ length c.args.samples.now = c.requires.few facts there in
-    let narrow : bits_of facts.depth / 8 ≤ 4 = omega (arith, bits_bounded facts.depth) in
-    let wide = mul-le-mul_left (c.args.part.now.length * facts.channels) narrow in
-    omega (arith, few, wide, c.requires.room)
+pub hold-requires : goal.hold-requires
+hold-requires g c = record {
+  lies = c.requires.ready.plays.lies;
+  room = λ facts there.
+      let few : c.args.part.now.length * facts.channels ≤ length c.args.samples.now = c.requires.few facts there in
+      let narrow : bits_of facts.depth / 8 ≤ 4 = omega (arith, bits_bounded facts.depth) in
+      let wide = mul-le-mul_left (c.args.part.now.length * facts.channels) narrow in
+      omega (arith, few, wide, c.requires.room);
+  held = c.requires.ready.held;
+}
 
 pub returns-clause-held : goal.returns-clause-held
 returns-clause-held g c =
@@ -34,106 +39,77 @@ returns-clause-held g c =
     subst (λ (files : Files). Holds (g.S.Shelf.honest c.hold.new.shelf) files sounds c.hold.new.held c.hold.new.bytes)
     (sym only.same) holds
 
+-- the bytes that are added are the frames of the part
+read : (g : Over) (c : goal.After-samples-1 g) → IsTrue (g.S.Shelf.honest c.args.shelf.now)
+    → AreRead (g.S.Shelf.stored c.args.shelf.now) c.args.sounds.now c.index-sounds-part.result c.args.part.now
+    (take (c.args.part.now.length * c.channels-channels.result * c.from.result) c.hold.new.bytes)
+read g c honest =
+    let sound = c.index-sounds-part.result in
+    let part = c.args.part.now in
+    let sounds = c.args.sounds.now in
+    let lies = c.requires.ready.plays.lies in
+    let found : slice_get sounds part.file ≡ Some sound =
+    opened sounds part.file lies.facts sound lies.there c.index-sounds-part.is in
+    let same : lies.facts ≡ sound = same_Some lies.facts sound (sym lies.there ∙ found) in
+    let width : c.from.result ≡ bits_of sound.depth / 8 =
+    c.from.ensures ∙ ap (λ b. b / 8) c.bits.ensures ∙ ap (λ depth. bits_of depth / 8) c.depth-depth.ensures in
+    let channels = c.channels-channels.ensures.channels in
+    let count : part.length * c.channels-channels.result * c.from.result ≡ part.length * frame_length sound =
+    ap (λ n. part.length * n * c.from.result) channels ∙ ap (λ w. part.length * sound.channels * w) width ∙ omega arith in
+    let few : part.length * sound.channels ≤ length c.args.samples.now = c.requires.few sound found in
+    let narrow : bits_of sound.depth / 8 ≤ 4 = omega (arith, bits_bounded sound.depth) in
+    let wide : part.length * sound.channels * (bits_of sound.depth / 8) ≤ length c.args.bytes.now =
+    omega (arith, mul-le-mul_left (part.length * sound.channels) narrow, few, c.requires.room) in
+    let files : Files = g.S.Shelf.stored c.args.shelf.now in
+    let held : Held = record { file = part.file; frame = part.frame; length = part.length } in
+    let all = c.hold.new.bytes in
+    let holds : Holds (g.S.Shelf.honest c.args.shelf.now) files sounds (Some held) all =
+    subst (λ (h : Option Held). Holds (g.S.Shelf.honest c.args.shelf.now) files sounds h all) c.in_ok-hold.ensures.this
+    c.in_ok-hold.ensures.held in
+    let long : length all ≡ length c.args.bytes.now = c.hold.auto.bytes in
+    record {
+      there = found;
+      range = subst (λ (n : ℕ). IsRange (files sound.name) (sound.offset + part.frame * frame_length sound) (take n all))
+          (sym count) (holds honest sound found);
+      whole = length-take-le (part.length * c.channels-channels.result * c.from.result) all
+          (omega (arith, count, wide, long)) ∙ count ∙ omega arith;
+      first = c.requires.ready.plays.inside.source_from_one;
+      last = subst (λ (f : SoundFacts). part.first + part.width ≤ f.channels + 1) same lies.channels;
+      inside = subst (λ (f : SoundFacts). part.frame + part.length ≤ f.frames) same lies.frames;
+    }
+
 pub returns-clause-added : goal.returns-clause-added
 returns-clause-added g c = λ honest before are.
     let sound = c.index-sounds-part.result in
     let part = c.args.part.now in
     let sounds = c.args.sounds.now in
-    let lies = c.requires.plays.lies in
-    let found : slice_get sounds part.file ≡ Some sound =
-    slice_get_read sounds (length sounds) part.file sound refl
-    (slice_get_within sounds part.file lies.facts lies.there) c.index-sounds-part.is in
-    let same : lies.facts ≡ sound = same_Some lies.facts sound (sym lies.there ∙ found) in
-    let width : c.from.result ≡ bits_of sound.depth / 8 =
-    c.from.ensures ∙ ap (λ b. b / 8) c.bits.ensures ∙ ap (λ depth. bits_of depth / 8) c.depth-depth.ensures in
-    let channels = c.channels-channels.ensures.channels in
-    let count : part.length * c.channels-channels.result * c.from.result ≡ part.length * frame_length sound =
-    ap (λ n. part.length * n * c.from.result) channels ∙ ap (λ w. part.length * sound.channels * w) width ∙ omega arith in
-    let few : part.length * sound.channels ≤ length c.args.samples.now = c.requires.few sound found in
-    let narrow : bits_of sound.depth / 8 ≤ 4 = omega (arith, bits_bounded sound.depth) in
-    let wide : part.length * sound.channels * (bits_of sound.depth / 8) ≤ length c.args.bytes.now =
-    omega (arith, mul-le-mul_left (part.length * sound.channels) narrow, few, c.requires.room) in
     let files : Files = g.S.Shelf.stored c.args.shelf.now in
     let reading : Reading = reading_by files sounds in
-    let held : Held = record { file = part.file; frame = part.frame; length = part.length } in
-    let all = c.hold.new.bytes in
-    let holds : Holds (g.S.Shelf.honest c.args.shelf.now) files sounds (Some held) all =
-    subst (λ (h : Option Held). Holds (g.S.Shelf.honest c.args.shelf.now) files sounds h all) c.in_ok-hold.ensures.this
-    c.in_ok-hold.ensures.held in
-    let bytes : List ℕ = take (part.length * c.channels-channels.result * c.from.result) all in
-    let range : IsRange (files sound.name) (sound.offset + part.frame * frame_length sound) bytes =
-    subst (λ (n : ℕ). IsRange (files sound.name) (sound.offset + part.frame * frame_length sound) (take n all)) (sym count)
-    (holds honest sound found) in
-    let long : length all ≡ length c.args.bytes.now = c.hold.auto.bytes in
-    let whole : length bytes ≡ part.length * sound.channels * (bits_of sound.depth / 8) =
-    length-take-le (part.length * c.channels-channels.result * c.from.result) all (omega (arith, count, wide, long))
-    ∙ count ∙ omega arith in
-    let last : part.first + part.width ≤ sound.channels + 1 =
-    subst (λ (f : SoundFacts). part.first + part.width ≤ f.channels + 1) same lies.channels in
-    let inside : part.frame + part.length ≤ sound.frames =
-    subst (λ (f : SoundFacts). part.frame + part.length ≤ f.frames) same lies.frames in
-    let first = c.requires.plays.inside.source_from_one in
-    let plays = held_plays files sounds sound part bytes found range whole first last inside in
-    let told : Plays reading part sound.channels (bits_of c.depth-depth.result)
+    let bytes : List ℕ = take (part.length * c.channels-channels.result * c.from.result) c.hold.new.bytes in
+    let plays = held_plays files sounds sound part bytes (read g c honest) in
+    let deep : Plays reading part sound.channels (bits_of c.depth-depth.result)
     (samples_in (bits_of c.depth-depth.result) (part.length * sound.channels) bytes) =
     subst (λ (depth : Depth). Plays reading part sound.channels (bits_of depth)
     (samples_in (bits_of depth) (part.length * sound.channels) bytes)) (sym c.depth-depth.ensures) plays in
     c.add.ensures.played reading
     (subst (λ (n : ℕ). Plays reading part n (bits_of c.depth-depth.result)
-    (samples_in (bits_of c.depth-depth.result) (part.length * n) bytes)) (sym channels) told) before are
+    (samples_in (bits_of c.depth-depth.result) (part.length * n) bytes)) (sym c.channels-channels.ensures.channels) deep)
+    before are
 
 pub returns-clause-full : goal.returns-clause-full
 returns-clause-full g c = λ honest.
-    let sound = c.index-sounds-part.result in
-    let part = c.args.part.now in
-    let sounds = c.args.sounds.now in
-    let lies = c.requires.plays.lies in
-    let found : slice_get sounds part.file ≡ Some sound =
-    slice_get_read sounds (length sounds) part.file sound refl
-    (slice_get_within sounds part.file lies.facts lies.there) c.index-sounds-part.is in
-    let same : lies.facts ≡ sound = same_Some lies.facts sound (sym lies.there ∙ found) in
-    let width : c.from.result ≡ bits_of sound.depth / 8 =
-    c.from.ensures ∙ ap (λ b. b / 8) c.bits.ensures ∙ ap (λ depth. bits_of depth / 8) c.depth-depth.ensures in
-    let channels = c.channels-channels.ensures.channels in
-    let count : part.length * c.channels-channels.result * c.from.result ≡ part.length * frame_length sound =
-    ap (λ n. part.length * n * c.from.result) channels ∙ ap (λ w. part.length * sound.channels * w) width ∙ omega arith in
-    let few : part.length * sound.channels ≤ length c.args.samples.now = c.requires.few sound found in
-    let narrow : bits_of sound.depth / 8 ≤ 4 = omega (arith, bits_bounded sound.depth) in
-    let wide : part.length * sound.channels * (bits_of sound.depth / 8) ≤ length c.args.bytes.now =
-    omega (arith, mul-le-mul_left (part.length * sound.channels) narrow, few, c.requires.room) in
-    let files : Files = g.S.Shelf.stored c.args.shelf.now in
-    let reading : Reading = reading_by files sounds in
-    let held : Held = record { file = part.file; frame = part.frame; length = part.length } in
-    let all = c.hold.new.bytes in
-    let holds : Holds (g.S.Shelf.honest c.args.shelf.now) files sounds (Some held) all =
-    subst (λ (h : Option Held). Holds (g.S.Shelf.honest c.args.shelf.now) files sounds h all) c.in_ok-hold.ensures.this
-    c.in_ok-hold.ensures.held in
-    let bytes : List ℕ = take (part.length * c.channels-channels.result * c.from.result) all in
-    let range : IsRange (files sound.name) (sound.offset + part.frame * frame_length sound) bytes =
-    subst (λ (n : ℕ). IsRange (files sound.name) (sound.offset + part.frame * frame_length sound) (take n all)) (sym count)
-    (holds honest sound found) in
-    let long : length all ≡ length c.args.bytes.now = c.hold.auto.bytes in
-    let whole : length bytes ≡ part.length * sound.channels * (bits_of sound.depth / 8) =
-    length-take-le (part.length * c.channels-channels.result * c.from.result) all (omega (arith, count, wide, long))
-    ∙ count ∙ omega arith in
-    let last : part.first + part.width ≤ sound.channels + 1 =
-    subst (λ (f : SoundFacts). part.first + part.width ≤ f.channels + 1) same lies.channels in
-    let inside : part.frame + part.length ≤ sound.frames =
-    subst (λ (f : SoundFacts). part.frame + part.length ≤ f.frames) same lies.frames in
-    let first = c.requires.plays.inside.source_from_one in
-    held_full files sounds sound part bytes found range whole first last inside
-    (small_front (part.length * c.channels-channels.result * c.from.result) all
-    (λ k. search rules))
+    let n = c.args.part.now.length * c.channels-channels.result * c.from.result in
+    held_full (g.S.Shelf.stored c.args.shelf.now) c.args.sounds.now c.index-sounds-part.result c.args.part.now
+    (take n c.hold.new.bytes) (read g c honest) (small_front n c.hold.new.bytes (λ k. search rules))
 
 pub slice_bounds-stored-end : goal.slice_bounds-stored-end
 slice_bounds-stored-end g c =
     let sound = c.index-sounds-part.result in
     let part = c.args.part.now in
     let sounds = c.args.sounds.now in
-    let lies = c.requires.plays.lies in
+    let lies = c.requires.ready.plays.lies in
     let found : slice_get sounds part.file ≡ Some sound =
-    slice_get_read sounds (length sounds) part.file sound refl
-    (slice_get_within sounds part.file lies.facts lies.there) c.index-sounds-part.is in
+    opened sounds part.file lies.facts sound lies.there c.index-sounds-part.is in
     let same : lies.facts ≡ sound = same_Some lies.facts sound (sym lies.there ∙ found) in
     let width : c.from.result ≡ bits_of sound.depth / 8 =
     c.from.ensures ∙ ap (λ b. b / 8) c.bits.ensures ∙ ap (λ depth. bits_of depth / 8) c.depth-depth.ensures in
@@ -149,15 +125,20 @@ slice_bounds-stored-end g c =
     omega (arith, count, wide, long) in
     search (rules, fit)
 
-pub add-requires-clause-room : goal.add-requires-clause-room
-add-requires-clause-room g c =
+pub invariant_of-stored-clause-small : goal.invariant_of-stored-clause-small
+invariant_of-stored-clause-small g c =
+    small_front (c.args.part.now.length * c.channels-channels.result * c.from.result) c.hold.new.bytes (λ k. search rules)
+
+pub add-requires : goal.add-requires
+add-requires g c =
     let sound = c.index-sounds-part.result in
     let part = c.args.part.now in
     let sounds = c.args.sounds.now in
-    let lies = c.requires.plays.lies in
+    let lies = c.requires.ready.plays.lies in
     let found : slice_get sounds part.file ≡ Some sound =
-    slice_get_read sounds (length sounds) part.file sound refl
-    (slice_get_within sounds part.file lies.facts lies.there) c.index-sounds-part.is in
-    let same : lies.facts ≡ sound = same_Some lies.facts sound (sym lies.there ∙ found) in
-    let few : part.length * sound.channels ≤ length c.args.samples.now = c.requires.few sound found in
-    subst (λ (n : ℕ). part.length * n ≤ length c.args.samples.now) (sym c.channels-channels.ensures.channels) few
+    opened sounds part.file lies.facts sound lies.there c.index-sounds-part.is in
+    record {
+      inside = c.requires.ready.plays.inside;
+      room = subst (λ (n : ℕ). part.length * n ≤ length c.args.samples.now) (sym c.channels-channels.ensures.channels)
+          (c.requires.few sound found);
+    }

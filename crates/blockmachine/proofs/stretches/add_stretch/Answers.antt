@@ -1,7 +1,8 @@
-use Rattle.std.proofs.Common.{◌≡◌, ℕ, ◌*◌, ◌/◌, ◌≤◌, List, ◌++◌, IsTrue, Some, arith, drop, length, refl, rules, sym, take, ap, ◌∙◌, subst}
+use Rattle.std.proofs.Common.{◌≡◌, ℕ, ◌+◌, ◌*◌, ◌/◌, ◌≤◌, List, ◌++◌, IsTrue, Some, arith, drop, length, rules, sym, take, ap, ◌∙◌, subst}
 use Rattle.std.proofs.Math.Nat.{div-add-mod, mul-le-mul_right}
 use Rattle.std.proofs.lemmas.List.{take_at}
-use Rattle.std.proofs.lemmas.Option.{same_Some, slice_get_read, slice_get_within}
+use Rattle.std.proofs.lemmas.Grind.{common_steps}
+use Rattle.std.proofs.lemmas.Option.{same_Some}
 use Rattle.std.specs.Prelude.{ℤ, slice_get}
 use Rattle.sound_terms.specs.declared.block.Stretch.{Stretch}
 use Rattle.sound_terms.specs.Mix.{Reading}
@@ -12,6 +13,7 @@ use Rattle.work_terms.specs.Disk.{Files}
 use Rattle.blockmachine.specs.Holding.{Holds}
 use Rattle.blockmachine.specs.Sums.{AreSums}
 use Rattle.blockmachine.proofs.Full.{full_more}
+use Rattle.blockmachine.proofs.Held.{opened}
 use Rattle.blockmachine.proofs.Played.{part_more}
 use Rattle.blockmachine.proofs.stretches.add_stretch.Goals as goal
 
@@ -22,6 +24,7 @@ loop-done-preserved g c =
     let count = c.min-count.result in
     let within = c.loop-done.invariant.within in
     let quiet = c.loop-done.invariant.quiet in
+    let part : Stretch = record stretch { at = stretch.at + done; length = count; frame = stretch.frame + done } in
     record {
       within = search rules;
       same_extent = search rules;
@@ -45,26 +48,19 @@ loop-done-preserved g c =
           let new = c.in_ok-add_part.ensures.added (subst IsTrue (sym quiet.honest_same) honest) front old in
           let same =
           subst (λ (stored : Files). AreSums sums (sums_with (reading_by stored c.args.sounds.now)
-          c.part_of-part.result c.after-shape.result front)) quiet.same new in
-          let part =
-          subst (λ (p : Stretch). AreSums sums (sums_with reading p c.after-shape.result front))
-          c.part_of-part.ensures same in
-          let shaped = rw c.after-shape.ensures at part in
+          part c.after-shape.result front)) quiet.same new in
+          let shaped = rw c.after-shape.ensures at same in
           λ i channel room first there. shaped i channel room first there
           ∙ part_more reading stretch c.args.shape done count before i channel;
       full = λ honest.
           let old = c.loop-done.invariant.full honest in
           let new = c.in_ok-add_part.ensures.full (subst IsTrue (sym quiet.honest_same) honest) in
-          let same =
-          subst (λ (stored : Files). IsFull (reading_by stored c.args.sounds.now) c.part_of-part.result)
-          quiet.same new in
           full_more (reading_by (g.S.Shelf.stored c.args.shelf.now) c.args.sounds.now) stretch done count old
-          (subst (λ (p : Stretch). IsFull (reading_by (g.S.Shelf.stored c.args.shelf.now) c.args.sounds.now) p)
-          c.part_of-part.ensures same);
+          (subst (λ (stored : Files). IsFull (reading_by stored c.args.sounds.now) part) quiet.same new);
     }
 
-pub add_part-requires-clause-few : goal.add_part-requires-clause-few
-add_part-requires-clause-few g c = λ facts there.
+pub add_part-requires : goal.add_part-requires
+add_part-requires g c =
     let sounds = c.args.sounds.now in
     let stretch = c.args.stretch.now in
     let lies = c.requires.plays.lies in
@@ -72,16 +68,18 @@ add_part-requires-clause-few g c = λ facts there.
     let n = c.channels.result in
     let count = c.min-count.result in
     let found : slice_get sounds stretch.file ≡ Some sound =
-    slice_get_read sounds (length sounds) stretch.file sound refl
-    (slice_get_within sounds stretch.file lies.facts lies.there) c.index-sounds-stretch.is in
-    let file : c.part_of-part.result.file ≡ stretch.file = ap (λ (s : Stretch). s.file) c.part_of-part.ensures in
-    let long : c.part_of-part.result.length ≡ count = ap (λ (s : Stretch). s.length) c.part_of-part.ensures in
-    let same : sound ≡ facts = same_Some sound facts (sym found ∙ ap (slice_get sounds) (sym file) ∙ there) in
-    let wide : facts.channels ≡ n =
-    ap (λ (f : SoundFacts). f.channels) (sym same) ∙ sym c.channels.ensures.channels in
+    opened sounds stretch.file lies.facts sound lies.there c.index-sounds-stretch.is in
     let few : count ≤ 16384 / n = omega (arith, c.min-count.ensures) in
     let row : count * n ≤ 16384 / n * n = mul-le-mul_right n few in
     let most = div-add-mod 16384 n in
     let room : length c.as_mut_slice-samples.result.now ≡ 16384 =
     ap (λ (l : List ℤ). length l) c.as_mut_slice-samples.ensures.value ∙ c.loop-done.buffer.samples_room in
-    rw (long, wide) (omega (arith, row, most, room))
+    record {
+      ready = record { plays = grind (arith, common_steps); held = search rules };
+      few = λ facts there.
+          let same : sound ≡ facts = same_Some sound facts (sym found ∙ there) in
+          let wide : facts.channels ≡ n =
+          ap (λ (f : SoundFacts). f.channels) (sym same) ∙ sym c.channels.ensures.channels in
+          rw wide (omega (arith, row, most, room));
+      room = search rules;
+    }

@@ -9,10 +9,11 @@ use Rattle.sound_terms.specs.Blocks.{BlockState, IsFormed, block_samples, execut
 use Rattle.sound_terms.specs.BlockLaws.{executed_all-append, frames_kept}
 use Rattle.sound_terms.specs.Sounds.{reading_by}
 use Rattle.clipping.specs.Clips.{IsClippingOf, block_sums}
-use Rattle.blockmachine.specs.Lines.{CanAdd}
+use Rattle.blockmachine.specs.Lines.{CanAdd, silent}
 use Rattle.blockmachine.specs.Sums.{Extent}
 use Rattle.blockmachine.proofs.Fits.{fits_block}
 use Rattle.blockmachine.proofs.Ran.{added_formed}
+use Rattle.blockmachine.proofs.machine.Machine.run_lines.Given.{Over}
 use Rattle.blockmachine.proofs.machine.Machine.run_lines.Goals as goal
 
 -- what was handed out, by the channels of the sums
@@ -20,34 +21,36 @@ same_channels : (depth : Depth) (n m : ℕ) (all : ℕ → ℕ → ℤ) (frames 
     → block_samples (bits_of depth) all n 0 frames ≡ block_samples (bits_of depth) all m 0 frames
 same_channels depth n m all frames same = ap (λ k. block_samples (bits_of depth) all k 0 frames) same
 
+-- the sums have the channels of the machine
+as_wide : (g : Over) (c : goal.After-clips g) → c.sum_all.new.sums.extent.channels ≡ c.args.self.now.channels
+as_wide g c = ap (λ (e : Extent). e.channels) (c.sum_all.ensures.same_extent ∙ c.self.view_is)
+
 pub returns-clause-ran : goal.returns-clause-ran
 returns-clause-ran g c = λ honest frames start long.
     let reading : Reading = reading_by (g.S.Shelf.stored c.args.shelf.now) c.args.sounds.now in
     let channels = c.args.self.now.channels in
     let lines = c.args.lines.now in
-    let begun : BlockState = record start { frames = frames; sums = λ i channel. pos 0 } in
+    let begun : BlockState = silent (record start { frames = frames }) in
     let added : BlockState = executed_all reading channels lines begun in
-    let sums = c.in_ok-add_all.ensures.added honest channels begun c.clear.ensures.zero in
-    let told : c.add_all.new.sums.extent.channels ≡ channels =
-    ap (λ (e : Extent). e.channels) (c.add_all.ensures.same_extent ∙ c.clear.ensures.same_extent ∙ c.self.view_is) in
+    let sums = c.in_ok-sum_all.ensures.summed honest channels (record start { frames = frames }) in
+    let same = as_wide g c in
     let kept = frames_kept reading c.args.self.now.frames channels lines begun
     (All-weaker (CanAdd c.args.sounds.now c.args.self.now) (IsFormed c.args.self.now.frames channels)
     (added_formed c.args.sounds.now c.args.self.now) lines c.requires.lines) in
-    c.emit.ensures added.sums sums frames (long ∙ ap (λ n. frames * n) (sym told))
-    ∙ same_channels c.args.depth c.add_all.new.sums.extent.channels channels added.sums frames told
+    c.emit.ensures added.sums sums frames (long ∙ ap (λ n. frames * n) (sym same))
+    ∙ same_channels c.args.depth c.sum_all.new.sums.extent.channels channels added.sums frames same
     ∙ ap (block_samples (bits_of c.args.depth) added.sums channels 0) (sym kept)
     ∙ sym (ap (λ (state : BlockState). state.out)
     (executed_all-append reading channels lines (Emit c.args.depth ∷ []) begun))
 
 pub returns-clause-fit : goal.returns-clause-fit
 returns-clause-fit g c =
-    let sums = c.add_all.new.sums in
+    let sums = c.sum_all.new.sums in
     let channels = sums.extent.channels in
     let all : ℕ → ℕ → ℤ = λ i channel. slice_index_or sums.values (i * channels + (channel - 1)) (pos 0) in
-    let told : channels ≡ c.args.self.now.channels =
-    ap (λ (e : Extent). e.channels) (c.add_all.ensures.same_extent ∙ c.clear.ensures.same_extent ∙ c.self.view_is) in
+    let same = as_wide g c in
     let long : length c.args.out.now ≡ c.requires.whole.0 * channels =
-    c.requires.whole.2 ∙ ap (λ n. c.requires.whole.0 * n) (sym told) in
+    c.requires.whole.2 ∙ ap (λ n. c.requires.whole.0 * n) (sym same) in
     rw (c.emit.ensures all (λ i channel room first there. refl) c.requires.whole.0 long)
     (fits_block c.args.depth all channels 0 c.requires.whole.0)
 
@@ -57,15 +60,14 @@ returns-clause-clips g c = λ honest frames start long.
     let bits = bits_of c.args.depth in
     let channels = c.args.self.now.channels in
     let lines = c.args.lines.now in
-    let begun : BlockState = record start { frames = frames; sums = λ i channel. pos 0 } in
+    let begun : BlockState = silent (record start { frames = frames }) in
     let added : BlockState = executed_all reading channels lines begun in
-    let sums = c.in_ok-add_all.ensures.added honest channels begun c.clear.ensures.zero in
-    let told : c.add_all.new.sums.extent.channels ≡ channels =
-    ap (λ (e : Extent). e.channels) (c.add_all.ensures.same_extent ∙ c.clear.ensures.same_extent ∙ c.self.view_is) in
-    let room = long ∙ ap (λ n. frames * n) (sym told) in
-    let found : IsClippingOf bits c.add_all.new.sums.extent.channels
-    (block_sums added.sums c.add_all.new.sums.extent.channels 0 frames) c.clips.result =
+    let sums = c.in_ok-sum_all.ensures.summed honest channels (record start { frames = frames }) in
+    let same = as_wide g c in
+    let room = long ∙ ap (λ n. frames * n) (sym same) in
+    let found : IsClippingOf bits c.sum_all.new.sums.extent.channels
+    (block_sums added.sums c.sum_all.new.sums.extent.channels 0 frames) c.clips.result =
     c.clips.ensures added.sums sums frames (c.emit.auto.out ∙ room) (c.emit.ensures added.sums sums frames room) in
-    let here = subst (λ (n : ℕ). IsClippingOf bits n (block_sums added.sums n 0 frames) c.clips.result) told found in
+    let here = subst (λ (n : ℕ). IsClippingOf bits n (block_sums added.sums n 0 frames) c.clips.result) same found in
     subst (λ (state : BlockState). IsClippingOf bits channels (block_sums state.sums channels 0 frames) c.clips.result)
     (sym (executed_all-append reading channels lines (Emit c.args.depth ∷ []) begun)) here

@@ -1,31 +1,81 @@
-use Rattle.std.proofs.Common.{◌≡◌, ◌≤◌, List, ◌+◌, ◌-◌, ◌*◌, get_or, take, arith, sym, ap, ◌∙◌, subst}
+use Rattle.std.proofs.Common.{◌≡◌, ◌<◌, ◌≤◌, List, [], ◌∷◌, ◌++◌, ◌+◌, ◌-◌, ◌*◌, ◌/◌, ◌%◌, ◌^◌, false, get_or, length, take, arith, rules, sym, ap, ◌∙◌, subst}
 use Rattle.std.specs.Prelude.{ℤ, pos}
+use Rattle.std.proofs.Math.Nat.{mul-le-mul_right}
+use Rattle.std.proofs.lemmas.Int.{to_z-of_z}
+use Rattle.std.proofs.lemmas.List.{length-take-le, take_more}
+use Rattle.std.proofs.lemmas.List.Elements.{All-nil}
+use Rattle.std.proofs.lemmas.Nat.{div-add-mod', mod_below}
+use mir.Syntax.{w64}
+use mir.Val.{SFits}
 use Rattle.sound_terms.specs.Depth.{bits_of}
-use Rattle.clipping.specs.Clips.{IsClippingOf, block_sums}
+use Rattle.clipping.specs.Clips.{IsClippingOf, block_sums, is_clipped}
+use Rattle.blockmachine.specs.Sums.{BlockSums}
 use Rattle.blockmachine.proofs.Emitted.{near, room}
-use Rattle.blockmachine.proofs.UnclippedSums.{block_mapped, frames_taken, none_clipped}
+use Rattle.blockmachine.proofs.UnclippedSums.{block_mapped, frames_taken, length-kept, none_clipped}
 use Rattle.blockmachine.proofs.sums.Sums.clips.Goals as goal
 
-pub returns-then-may_be_clipped : goal.returns-then-may_be_clipped
-returns-then-may_be_clipped c = λ all are frames long handed.
+pub loop-k-init : goal.loop-k-init
+loop-k-init c =
+    c.none-clips.ensures (bits_of c.args.depth) c.args.self.now.extent.channels []
+    (All-nil (λ sum. is_clipped (bits_of c.args.depth) sum ≡ false))
+
+pub loop-k-preserved : goal.loop-k-preserved
+loop-k-preserved c =
+    let n = c.loop-k.k in
+    let inside = c.self.inside in
+    let values = c.args.self.now.values in
+    let channels = c.args.self.now.extent.channels in
+    let frames = c.args.self.now.extent.frames in
+    let wide : inside.lanes.channels ≡ channels = ap (λ (s : BlockSums). s.extent.channels) c.self.view_is in
+    let whole : length values ≡ frames * channels =
+    sym (ap (λ (s : BlockSums). length s.values) c.self.view_is)
+    ∙ length-kept inside.at_depth (bits_of inside.depth) (inside.lanes.frames * inside.lanes.channels)
+    inside.layers.items inside.values.items c.self.invariant.1 c.self.invariant.0
+    ∙ ap (λ (s : BlockSums). s.extent.frames * s.extent.channels) c.self.view_is in
+    let most = room (length c.args.samples.now) c.requires.0 frames channels c.requires.1 c.requires.2 in
+    let within : n < length values = omega (arith, whole, most, c.loop-k-test.true) in
+    let row : n ≡ n / channels * channels + n % inside.lanes.channels =
+    sym (div-add-mod' n channels) ∙ ap (λ m. n / channels * channels + n % m) (sym wide) in
+    let near : n % inside.lanes.channels < channels =
+    subst (λ m. n % inside.lanes.channels < m) wide (mod_below n inside.lanes.channels inside.lanes.some_channels) in
+    let few : frames * channels ≤ 4096 * channels =
+    mul-le-mul_right channels (omega (arith, inside.lanes.few_frames, ap (λ (s : BlockSums). s.extent.frames) c.self.view_is)) in
+    let small : n + 1 < 2 ^ 64 = omega (arith, few, most, wide, inside.lanes.few_channels, c.loop-k-test.true) in
+    let fits : SFits w64 c.sum_at.result = search rules in
+    let noted =
+    c.note.ensures channels (n / channels) (take n values) row near (length-take-le n values (omega (arith, within)))
+    small c.loop-k.invariant in
+    subst (λ (l : List ℤ). IsClippingOf (bits_of c.args.depth) channels l c.note.new.self)
+    (ap (λ z. take n values ++ z ∷ []) (to_z-of_z w64 c.sum_at.result fits ∙ c.sum_at.ensures)
+    ∙ sym (take_more values n (pos 0) within)) noted
+
+pub returns : goal.returns
+returns c = λ all are frames long handed.
     let extent = c.args.self.now.extent in
     let channels = extent.channels in
+    let inside = c.self.inside in
     let values = c.args.self.now.values in
     let count : frames * channels ≡ c.requires.0 * channels = sym long ∙ c.requires.2 in
-    let most : frames * channels ≤ extent.frames * channels =
-    room (frames * channels) c.requires.0 extent.frames channels c.requires.1 count in
+    let most = room (frames * channels) c.requires.0 extent.frames channels c.requires.1 count in
+    let whole : length values ≡ extent.frames * channels =
+    sym (ap (λ (s : BlockSums). length s.values) c.self.view_is)
+    ∙ length-kept inside.at_depth (bits_of inside.depth) (inside.lanes.frames * inside.lanes.channels)
+    inside.layers.items inside.values.items c.self.invariant.1 c.self.invariant.0
+    ∙ ap (λ (s : BlockSums). s.extent.frames * s.extent.channels) c.self.view_is in
+    let all_noted : c.loop-k.k ≡ length c.args.samples.now = omega (arith, c.loop-k-test.false, c.loop-k.auto.k-end) in
     let taken : take (frames * channels) values ≡ block_sums all channels 0 frames =
-    frames_taken all channels frames values (omega (arith, most, c.counted.ensures.whole)) (λ i j below on.
+    frames_taken all channels frames values (omega (arith, most, whole)) (λ i j below on.
     let same : 1 + j - 1 ≡ j = omega arith in
     sym (are i (1 + j) (near i frames c.requires.0 extent.frames channels j on c.requires.1 below (sym count))
     (omega arith) (omega (arith, on)))
     ∙ ap (λ n. get_or values (i * channels + n) (pos 0)) same) frames (omega arith) in
-    subst (λ (l : List ℤ). IsClippingOf (bits_of c.args.depth) channels l c.counted.result)
-    (ap (λ n. take n values) long ∙ taken) c.counted.ensures.clips
+    subst (λ (l : List ℤ). IsClippingOf (bits_of c.args.depth) channels l c.loop-k.clips)
+    (ap (λ n. take n values) (all_noted ∙ long) ∙ taken) c.loop-k.invariant
 
-pub returns-else-may_be_clipped : goal.returns-else-may_be_clipped
-returns-else-may_be_clipped c = λ all are frames long handed.
+pub returns-then-not-may_be_clipped : goal.returns-then-not-may_be_clipped
+returns-then-not-may_be_clipped c = λ all are frames long handed.
     let channels = c.args.self.now.extent.channels in
-    c.none.ensures (bits_of c.args.depth) channels (block_sums all channels 0 frames)
+    c.none-clips.ensures (bits_of c.args.depth) channels (block_sums all channels 0 frames)
     (none_clipped c.args.depth (block_sums all channels 0 frames) c.args.samples.now
-    (handed ∙ block_mapped (bits_of c.args.depth) all channels 0 frames) (c.may_be_clipped.ensures c.if-may_be_clipped.false))
+    (handed ∙ block_mapped (bits_of c.args.depth) all channels 0 frames)
+    (c.may_be_clipped.ensures c.if-not-may_be_clipped.true))

@@ -1,52 +1,52 @@
-use Rattle.std.proofs.Common.{◌≡◌, ◌<◌, ◌≤◌, List, suc, ◌+◌, ◌-◌, ◌*◌, get_or, length, arith, sym, ap, ◌∙◌}
+use Rattle.std.proofs.Common.{◌≡◌, ◌≤◌, List, ◌*◌, get_or, length, arith, sym, ap, ◌∙◌}
 use Rattle.std.specs.Prelude.{ℤ, pos}
-use Rattle.std.proofs.Math.Nat.{mul-le-mul_right}
 use Rattle.sound_terms.specs.Depth.{bits_of}
 use Rattle.sound_terms.specs.Mix.{quantized}
-use Rattle.blockmachine.specs.Sums.{BlockSums, kept_sums}
-use Rattle.blockmachine.proofs.Emitted.{by_samples, near, room}
+use Rattle.blockmachine.specs.Sums.{BlockSums, kept_sums, widened}
+use Rattle.blockmachine.proofs.AtDepth.{get_or-widened}
+use Rattle.blockmachine.proofs.Emitted.{enough, handed_out}
 use Rattle.blockmachine.proofs.sums.Sums.emit.Goals as goal
 
-pub emit_kept-requires-clause-layers : goal.emit_kept-requires-clause-layers
-emit_kept-requires-clause-layers c =
-    let extent = c.args.self.now.extent in
-    let sums : c.self.inside.lanes.frames * c.self.inside.lanes.channels ≡ extent.frames * extent.channels =
-    ap (λ (s : BlockSums). s.extent.frames * s.extent.channels) c.self.view_is in
-    let most = room _ c.requires.0 extent.frames extent.channels c.requires.1 c.requires.2 in
-    let long : length c.self.inside.layers.items ≡ c.self.inside.lanes.frames * c.self.inside.lanes.channels =
-    c.self.invariant.1 in
-    omega (arith, most, c.as_slice-layers.ensures.len, sums, long)
+pub emit_layers-requires : goal.emit_layers-requires
+emit_layers-requires c =
+    enough c.args.self.now c.requires.0 _ _ _ _ c.requires.1 c.requires.2
+    (ap (λ (l : List ℤ). length l) c.as_slice-layers.ensures.value ∙ c.self.invariant.1)
+    (ap (λ (s : BlockSums). s.extent.frames * s.extent.channels) c.self.view_is)
 
-pub emit_kept-requires-clause-values : goal.emit_kept-requires-clause-values
-emit_kept-requires-clause-values c =
-    let extent = c.args.self.now.extent in
-    let sums : c.self.inside.lanes.frames * c.self.inside.lanes.channels ≡ extent.frames * extent.channels =
-    ap (λ (s : BlockSums). s.extent.frames * s.extent.channels) c.self.view_is in
-    let most = room _ c.requires.0 extent.frames extent.channels c.requires.1 c.requires.2 in
-    let long : length c.self.inside.values.items ≡ c.self.inside.lanes.frames * c.self.inside.lanes.channels =
-    c.self.invariant.0 in
-    omega (arith, most, c.as_slice-values.ensures.len, sums, long)
+pub emit-requires : goal.emit-requires
+emit-requires c =
+    enough c.args.self.now c.requires.0 _ _ _ _ c.requires.1 c.requires.2
+    (ap (λ (l : List ℤ). length l) c.as_slice-values.ensures.value ∙ c.self.invariant.0)
+    (ap (λ (s : BlockSums). s.extent.frames * s.extent.channels) c.self.view_is)
 
-pub returns : goal.returns
-returns c = λ all are frames long.
+pub returns-then-self : goal.returns-then-self
+returns-then-self c = λ all are frames long.
     let inside = c.self.inside in
-    let channels = c.args.self.now.extent.channels in
-    let values = c.args.self.now.values in
+    let kept = bits_of inside.depth in
     let bits = bits_of c.args.depth in
-    let out = c.emit_kept.new.out in
-    let kept = kept_sums inside.at_depth (bits_of inside.depth) c.as_slice-layers.result.now c.as_slice-values.result.now in
-    let view : kept ≡ values =
-    ap (λ (l : List ℤ). kept_sums inside.at_depth (bits_of inside.depth) l c.as_slice-values.result.now)
-    c.as_slice-layers.ensures.value
-    ∙ ap (λ (l : List ℤ). kept_sums inside.at_depth (bits_of inside.depth) inside.layers.items l)
-    c.as_slice-values.ensures.value
+    let layers = c.as_slice-layers.result.now in
+    let room : length c.args.out.now ≤ length layers =
+    enough c.args.self.now c.requires.0 _ _ _ _ c.requires.1 c.requires.2
+    (ap (λ (l : List ℤ). length l) c.as_slice-layers.ensures.value ∙ c.self.invariant.1)
+    (ap (λ (s : BlockSums). s.extent.frames * s.extent.channels) c.self.view_is) in
+    let view : widened kept layers ≡ c.args.self.now.values =
+    ap (widened kept) c.as_slice-layers.ensures.value
+    ∙ ap (λ deep. kept_sums deep kept inside.layers.items inside.values.items) (sym c.if-self.true)
     ∙ ap (λ (s : BlockSums). s.values) c.self.view_is in
-    by_samples bits all channels frames out (c.emit_kept.auto.out ∙ long) (λ i j below on.
-    let row : suc i * channels ≤ frames * channels = mul-le-mul_right channels below in
-    let place : i * channels + j < length out = omega (arith, row, long, c.emit_kept.auto.out) in
-    let same : 1 + j - 1 ≡ j = omega arith in
-    ap (quantized bits) (sym (are i (1 + j) (near i frames c.requires.0 c.args.self.now.extent.frames channels j on c.requires.1 below
-    (sym c.requires.2 ∙ long)) (omega arith) (omega arith)))
-    ∙ ap (λ n. quantized bits (get_or values (i * channels + n) (pos 0))) same
-    ∙ ap (λ (l : List ℤ). quantized bits (get_or l (i * channels + j) (pos 0))) (sym view)
-    ∙ sym (c.emit_kept.ensures (i * channels + j) place))
+    handed_out bits all c.args.self.now c.requires.0 frames c.emit_layers.new.out c.requires.1
+    (sym c.requires.2 ∙ long) are (c.emit_layers.auto.out ∙ long) (λ k below.
+    c.emit_layers.ensures k below
+    ∙ ap (quantized bits) (sym (get_or-widened kept layers k (omega (arith, below, room, c.emit_layers.auto.out)))
+    ∙ ap (λ (l : List ℤ). get_or l k (pos 0)) view))
+
+pub returns-else-self : goal.returns-else-self
+returns-else-self c = λ all are frames long.
+    let inside = c.self.inside in
+    let bits = bits_of c.args.depth in
+    let view : c.as_slice-values.result.now ≡ c.args.self.now.values =
+    c.as_slice-values.ensures.value
+    ∙ ap (λ deep. kept_sums deep (bits_of inside.depth) inside.layers.items inside.values.items) (sym c.if-self.false)
+    ∙ ap (λ (s : BlockSums). s.values) c.self.view_is in
+    handed_out bits all c.args.self.now c.requires.0 frames c.emit.new.out c.requires.1
+    (sym c.requires.2 ∙ long) are (c.emit.auto.out ∙ long) (λ k below.
+    c.emit.ensures k below ∙ ap (λ (l : List ℤ). quantized bits (get_or l k (pos 0))) view)
