@@ -1,6 +1,6 @@
 -- Groups, one entry after another.
 use Rattle.std.proofs.Common.{◌≡◌, ◌∙◌, ◌+◌, ◌-◌, ◌<◌, ◌≤◌, ◌++◌, ◌∷◌, [], ◌||◌, ◌⊎◌, inl, inr, Bool, true, false, true≢false, cond, List, ℕ, ap, arith, filter, fold, if◌then◌else◌, length, length-append, length-take, map, nat_eq, not, refl, subst, sym, take}
-use Rattle.std.specs.Prelude.{⊤}
+use Rattle.std.specs.Prelude.{Option, None, Some, slice_get, ⊤}
 use Rattle.std.proofs.lemmas.Bool.Decides.{nat_tests}
 use Rattle.std.proofs.lemmas.List.{map-append, take-append-le, take_all}
 use Rattle.std.specs.Cmp.Lexicographic.{pointwise}
@@ -9,8 +9,10 @@ use Rattle.indexmap.specs.IndexSet.{insert_all, insert_key}
 use Rattle.provenance.specs.declared.played.Played.{Played}
 use Rattle.provenance.specs.declared.shared.Group.{Group}
 use Rattle.provenance.specs.declared.shared.GroupedEntry.{GroupedEntry}
-use Rattle.provenance.specs.Groups.{Shown, group_of, grouped_in, groups_of, is_same, number_of, position_in, seen, shown}
-use Rattle.provenance.specs.Played.{numbers_of, play_together}
+use Rattle.provenance.specs.Groups.{EndsWith, IsAgain, IsGrouped, Shown, group_of, grouped_in, groups_of, is_same, number_of, position_in, seen, shown, shown_in}
+use Rattle.provenance.specs.declared.shared.Grouped.{Grouped}
+use Rattle.provenance.specs.Lines.{PlayAlike}
+use Rattle.provenance.specs.Played.{numbered, numbers_of, play_together}
 
 one_test : (plays : Bool) (other : Played) (given : List Played) (rest : List ℕ) (last : List ℕ)
     → map (λ (e : Played). e.number) given ≡ rest ++ last
@@ -237,3 +239,60 @@ add_more numbers given more number same many =
     let rest : more ≡ length numbers - 1000 = ap (λ (s : Shown). s.1) same in
     let long : 1000 ≤ length numbers = omega (arith, ap length named, length-take 1000 numbers, many) in
     rw (named, rest) (sym (shown_more numbers number long))
+
+-- an entry that plays the same has the same group
+pub again_as : (given : List Played) (grouped : Grouped) (last entry : Played) (position : ℕ)
+    → entry ≡ numbered entry.number last → IsAgain given grouped last position → IsAgain given grouped entry position
+again_as given grouped last entry position same again =
+    let group : group_of given last ≡ group_of given entry = sym (ap (group_of given) same) in
+    record {
+      there = subst (λ (g : Shown). list_any (is_same g) (shown_in grouped) ≡ true) group again.there;
+      is_position = again.is_position ∙ ap (position_in (shown_in grouped)) group;
+    }
+
+slice_get-last : {X : Type 0} (xs : List X) (x : X) → slice_get (xs ++ x ∷ []) (length xs) ≡ Some x
+slice_get-last [] x = refl
+slice_get-last (y ∷ xs) x = slice_get-last xs x
+
+abbrev group_in : Option GroupedEntry → ℕ
+group_in None = 0
+group_in (Some entry) = entry.group
+
+-- once an entry was put, it is the last one
+pub ends_with_put : (given : List Played) (entry : Played) (old : List GroupedEntry) (before : List Shown) (grouped : Grouped)
+    → shown_in grouped ≡ insert_key is_same before (group_of given entry)
+    → grouped.entries.items ≡ old ++ grouped_in (shown_in grouped) given entry ∷ []
+    → EndsWith given (Some entry) grouped
+ends_with_put given entry old before grouped put added = λ last found.
+    let long : length grouped.entries.items - 1 ≡ length old =
+    omega (arith, ap length added, length-append old (grouped_in (shown_in grouped) given entry ∷ [])) in
+    let is : Some (grouped_in (shown_in grouped) given entry) ≡ Some last =
+    sym (slice_get-last old (grouped_in (shown_in grouped) given entry))
+    ∙ ap (λ (es : List GroupedEntry). slice_get es (length old)) (sym added)
+    ∙ ap (slice_get grouped.entries.items) (sym long) ∙ found in
+    record {
+      there = rw put (any_own (group_of given entry) before);
+      is_position = ap (λ (e : Option GroupedEntry). group_in e) (sym is);
+    }
+
+map_alike : {X Y : Type 0} (f g : X → Y) → ((x : X) → f x ≡ g x) → (xs : List X) → map f xs ≡ map g xs
+map_alike f g same [] = refl
+map_alike f g same (x ∷ xs) = rw (same x, map_alike f g same xs) refl
+
+-- groups among entries that play alike
+pub grouped_alike : (given others entries : List Played) (grouped : Grouped) → PlayAlike others given
+    → IsGrouped others entries grouped → IsGrouped given entries grouped
+grouped_alike given others entries grouped alike is =
+    let same : (entry : Played) → group_of others entry ≡ group_of given entry = λ entry. ap shown (alike entry) in
+    let groups : groups_of others entries ≡ groups_of given entries =
+    ap (insert_all is_same []) (map_alike (group_of others) (group_of given) same entries) in
+    record {
+      groups_are = is.groups_are ∙ groups;
+      entries_are =
+          is.entries_are
+          ∙ ap (λ (all : List Shown). map (grouped_in all others) entries) groups
+          ∙ map_alike (grouped_in (groups_of given entries) others) (grouped_in (groups_of given entries) given)
+          (λ entry. ap
+          (λ (g : Shown). record { number = entry.number; group = position_in (groups_of given entries) g })
+          (same entry)) entries;
+    }

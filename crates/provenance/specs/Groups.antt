@@ -1,7 +1,7 @@
 -- Groups of given entries, which new entries share.
-use Rattle.std.specs.Prelude.{◌≡◌, ℕ, ◌-◌, ◌&&◌, nat_eq, Bool, List, [], ◌∷◌, if◌then◌else◌, length, map, take}
+use Rattle.std.specs.Prelude.{◌≡◌, ℕ, ◌-◌, ◌&&◌, nat_eq, Bool, true, List, [], ◌∷◌, Option, None, Some, if◌then◌else◌, length, map, slice_get, take, ⊤}
 use Rattle.std.specs.Cmp.Lexicographic.{pointwise}
-use Rattle.std.specs.List.{position_or_len}
+use Rattle.std.specs.List.{list_any, position_or_len}
 use Rattle.indexmap.specs.IndexSet.{insert_all}
 use Rattle.provenance.specs.Played.{numbers_of, play_together}
 use Rattle.provenance.specs.declared.shared.Group.{Group}
@@ -54,3 +54,15 @@ shown_in grouped = map seen grouped.groups.keys
 pub record IsGrouped (given entries : List Played) (grouped : Grouped) : Type 0 where
   pub groups_are : shown_in grouped ≡ groups_of given entries
   pub entries_are : grouped.entries.items ≡ map (grouped_in (groups_of given entries) given) entries
+
+-- the group of an entry is among these, and has this position
+pub record IsAgain (given : List Played) (grouped : Grouped) (entry : Played) (position : ℕ) : Type 0 where
+  pub there : list_any (is_same (group_of given entry)) (shown_in grouped) ≡ true
+  pub is_position : position ≡ position_in (shown_in grouped) (group_of given entry)
+
+-- so is that of the last entry, where it is this one
+abbrev pub EndsWith : List Played → Option Played → Grouped → Type 0
+EndsWith given None grouped = ⊤
+EndsWith given (Some last) grouped = (entry : GroupedEntry)
+    → slice_get grouped.entries.items (length grouped.entries.items - 1) ≡ Some entry
+    → IsAgain given grouped last entry.group

@@ -22,6 +22,19 @@ played_of file base event = record {
   last = event.dest.last;
 }
 
+-- the same under this number
+abbrev pub numbered : (number : ℕ) → Played → Played
+numbered number entry = record {
+  number = number;
+  file = entry.file;
+  frame = entry.frame;
+  first = entry.first;
+  start = entry.start;
+  end = entry.end;
+  dest = entry.dest;
+  last = entry.last;
+}
+
 -- at some time, on some channel, both play the same frame of the same channel of one file
 abbrev pub play_together : Played → Played → Bool
 play_together a b =

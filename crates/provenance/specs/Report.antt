@@ -1,11 +1,12 @@
 -- The report of a consolidation, as a value of JSON (RFC 8259).
-use Rattle.std.specs.Prelude.{◌≡◌, ℕ, ◌+◌, ◌==◌, List, [], ◌∷◌, ◌++◌, map, Option, option_and_then, option_map, find, slice_get, unwrap_or, if◌then◌else◌, codes}
+use Rattle.std.specs.Prelude.{◌≡◌, ℕ, ◌+◌, List, [], ◌∷◌, ◌++◌, map, Option, option_and_then, option_map, slice_get, unwrap_or, if◌then◌else◌, codes}
 use Rattle.std.specs.Str.{is_utf8}
 use Rattle.hex.specs.Hex.{encode_lower}
 use Rattle.serde_json.specs.Data.{Data, null, number, unsigned, string, array, object, member, no_members}
 use Rattle.serde_json.specs.View.{items_of}
 use Rattle.serde_json.specs.Written.{compact_text}
 use Rattle.sha2.specs.Sha256.{sha256}
+use Rattle.adlmodel.specs.Numbered.{source_of}
 use Rattle.sound_terms.specs.declared.BoundIndex.{BoundIndex}
 use Rattle.sound_terms.specs.declared.piece.Home.{Home}
 use Rattle.sound_terms.specs.Depth.{bits_of}
@@ -47,7 +48,7 @@ known_digest digest = unwrap_or (option_map digest_data digest) null
 -- the line of the source index that the home index of a file is of
 abbrev pub home_source : List Source → List BoundIndex → List Home → ℕ → Option Source
 home_source sources indexes homes file =
-    option_and_then (λ index. find (λ source. source.number == index.number) sources)
+    option_and_then (λ index. source_of sources index.number)
     (slice_get indexes (place_by homes file))
 
 -- what is told of a line of the source index, where there is one

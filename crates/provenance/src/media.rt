@@ -1,5 +1,5 @@
 // What is told of media.
-ghost use Rattle.std.specs.Prelude.{◌≡◌, ◌==◌, IfOk, find, map, option_copied};
+ghost use Rattle.std.specs.Prelude.{◌≡◌, IfOk, map, option_copied};
 ghost use Rattle.std.specs.List.{All};
 ghost use Rattle.serde_json.specs.View.{view};
 ghost use Rattle.provenance.specs.Media.{IsTellable};
@@ -7,7 +7,7 @@ ghost use Rattle.provenance.specs.Report as spec;
 ghost use Rattle.provenance.specs.Report.{known_digest, medium_data, medium_told, origin_data, text_data};
 
 use crate::Medium;
-use adlmodel::Source;
+use adlmodel::{Source, Sources};
 use relink::media_name;
 use serde_json::{Value, json, push};
 use sound_terms::{BoundIndex, Homes};
@@ -38,16 +38,9 @@ fn digest_value(alloc: Global, digest: &Option<[u8; 32]>) -> Result<Value, Alloc
     }
 }
 
-/// The line of the source index of this number.
-fn source_of(sources: &[Source], number: u32) -> Option<&Source>
-    ensures { option_copied result ≡ find (λ source. source.number == number) sources.now }
-{
-    sources.iter().find(|source| source.number() == number)
-}
-
 /// The line of the source index that the home index of a file is of.
 fn home_source<'a>(
-    sources: &'a [Source],
+    sources: &'a Sources,
     indexes: &[BoundIndex],
     homes: &Homes,
     file: u32,
@@ -55,7 +48,7 @@ fn home_source<'a>(
     ensures { option_copied result ≡ spec.home_source sources.entry.now indexes.now homes.now file }
 {
     let index = indexes.get(homes.position(file) as usize)?;
-    source_of(sources, index.number)
+    sources.get(index.number)
 }
 
 /// Where a medium comes from.
@@ -123,7 +116,7 @@ fn medium_value(
 /// What is told of a medium over these opened files.
 fn told_value(
     alloc: Global,
-    sources: &[Source],
+    sources: &Sources,
     indexes: &[BoundIndex],
     sounds: &[Sound],
     homes: &Homes,
@@ -144,7 +137,7 @@ fn told_value(
 /// What is told of media over these opened files.
 pub fn media_values(
     alloc: Global,
-    sources: &[Source],
+    sources: &Sources,
     indexes: &[BoundIndex],
     sounds: &[Sound],
     homes: &Homes,

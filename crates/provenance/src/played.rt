@@ -1,5 +1,5 @@
 // What entries play of files.
-ghost use Rattle.std.specs.Prelude.{◌≡◌, IfOk};
+ghost use Rattle.std.specs.Prelude.{◌≡◌, IfOk, true};
 ghost use Rattle.provenance.specs.Played as spec;
 
 use mediaset::Runs;
@@ -49,6 +49,21 @@ impl Played {
                 == u16::from(other.first) + u16::from(self.dest)
             && self.start.max(other.start) < self.end.min(other.end)
             && self.dest.max(other.dest) <= self.last.min(other.last)
+    }
+}
+
+impl Played {
+    /// Whether both play the same, whatever their numbers are.
+    pub fn plays_as(&self, other: &Played) -> bool
+        ensures { result ≡ true → other.now ≡ spec.numbered other.now.number self.now }
+    {
+        self.file == other.file
+            && self.frame == other.frame
+            && self.first == other.first
+            && self.start == other.start
+            && self.end == other.end
+            && self.dest == other.dest
+            && self.last == other.last
     }
 }
 

@@ -89,7 +89,7 @@ fn json_text(
 {
     let media = media_values(
         alloc,
-        project.sources().as_slice(),
+        project.sources(),
         bound.indexes(),
         bound.sounds(),
         runs.homes(),

@@ -1,9 +1,11 @@
 // Groups of given entries, which new entries share.
-ghost use Rattle.std.specs.Prelude.{◌≡◌, ◌≤◌, ◌<◌, ◌+◌, ◌^◌, ◌++◌, ◌∷◌, [], ℕ, IfOk, List, OnOk, map};
+ghost use Rattle.std.specs.Prelude.{◌≡◌, ◌≤◌, ◌<◌, ◌+◌, ◌^◌, ◌++◌, ◌∷◌, [], ℕ, IfOk, IfSome, List, OnOk, map, option_copied};
 ghost use Rattle.indexmap.specs.IndexSet.{insert_key};
-ghost use Rattle.provenance.specs.Groups.{IsGrouped, group_of, grouped_in, is_same, number_of, position_in, seen, shown, shown_in};
+ghost use Rattle.provenance.specs.Groups.{EndsWith, IsAgain, IsGrouped, group_of, grouped_in, is_same, number_of, position_in, seen, shown, shown_in};
+ghost use Rattle.provenance.specs.declared.played.Played as played;
 
 use crate::Played;
+use crate::lines::Lined;
 use indexmap::IndexSet;
 use std::alloc::{AllocError, AllocFailed, Global};
 
@@ -62,18 +64,38 @@ impl Group {
     }
 }
 
-/// The given entries that play together with an entry.
-fn group_with(alloc: Global, given: &[Played], entry: &Played) -> Result<Group, AllocError>
-    ensures { IfOk result (λ group. seen group ≡ group_of given.now entry.now) }
+/// Those of these entries that play together with an entry.
+fn group_among(alloc: Global, entries: &[Played], entry: &Played) -> Result<Group, AllocError>
+    ensures { IfOk result (λ group. seen group ≡ group_of entries.now entry.now) }
 {
     let mut group = Group {
         given: Vec::new(alloc),
         more: 0,
     };
-    for other in given {
+    for other in entries {
         group.add_playing(entry, other)?;
     }
     Ok(group)
+}
+
+/// The given entries that play together with an entry.
+fn group_with(alloc: Global, given: &Lined, entry: &Played) -> Result<Group, AllocError>
+    ensures { IfOk result (λ group. seen group ≡ group_of given.now entry.now) }
+{
+    group_among(alloc, given.beside(entry), entry)
+}
+
+impl Grouped {
+    /// The position of the last entry's group, where that entry, this one, plays the same as the next.
+    fn group_again(&self, before: Option<&Played>, entry: &Played) -> Option<usize>
+        ensures { (given : List played.Played) → EndsWith given (option_copied before.entry) self.now
+            → IfSome result (λ position. IsAgain given self.now entry.now position) }
+    {
+        if !before?.plays_as(entry) {
+            return None;
+        }
+        Some(self.entries.last()?.group)
+    }
 }
 
 /// Puts a group after the others, unless it is among them, and answers its position.
@@ -86,21 +108,27 @@ fn put_group(groups: &mut IndexSet<Group>, group: Group) -> Result<usize, AllocF
     Ok(position)
 }
 
-/// Adds an entry with its group.
+/// Adds an entry with its group: that of the entry before it, where both play the same.
 fn put_entry(
     alloc: Global,
-    given: &[Played],
+    given: &Lined,
+    before: Option<&Played>,
     entry: &Played,
     grouped: &mut Grouped,
 ) -> Result<(), AllocError>
+    requires { EndsWith given.now (option_copied before) grouped.old }
     ensures groups { OnOk result
         (shown_in grouped.new ≡ insert_key is_same (shown_in grouped.old) (group_of given.now entry.now)) }
     ensures entries { OnOk result (grouped.new.entries.items ≡ grouped.old.entries.items
         ++ grouped_in (shown_in grouped.new) given.now entry.now ∷ []) }
 {
+    let number = entry.number;
+    if let Some(group) = grouped.group_again(before, entry) {
+        grouped.entries.push(GroupedEntry { number, group })?;
+        return Ok(());
+    }
     let group = group_with(alloc, given, entry)?;
     let group = put_group(&mut grouped.groups, group)?;
-    let number = entry.number;
     grouped.entries.push(GroupedEntry { number, group })?;
     Ok(())
 }
@@ -113,12 +141,15 @@ pub fn group_entries(
 ) -> Result<Grouped, AllocError>
     ensures { IfOk result (IsGrouped given.now entries.now) }
 {
+    let lined = Lined::of(alloc, given)?;
     let mut grouped = Grouped {
         groups: IndexSet::new(alloc),
         entries: Vec::with_capacity(alloc, entries.len())?,
     };
+    let mut before = None;
     for entry in entries {
-        put_entry(alloc, given, entry, &mut grouped)?;
+        put_entry(alloc, &lined, before, entry, &mut grouped)?;
+        before = Some(entry);
     }
     Ok(grouped)
 }

@@ -22,14 +22,14 @@ returns c =
     } in
     let media : map view c.in_ok-media.media.items
     ≡ map (medium_told t.project.sources t.binding.indexes (sounds_of t.binding) t.kept.homes) c.args.media.now =
-    rw (c.as_slice.ensures.sources, c.sources.ensures.sources, c.indexes.ensures.indexes, c.sounds.ensures.sounds, c.homes.ensures)
+    rw (c.sources.ensures.sources, c.indexes.ensures.indexes, c.sounds.ensures.sounds, c.homes.ensures)
     at c.in_ok-media.ensures in
     let given : c.in_ok-given.given.items ≡ given_of t = rw (c.events.ensures.events) at c.in_ok-given.ensures in
     let grouped : IsGrouped (given_of t) (news_of t) c.in_ok-grouped.grouped =
     rw (c.deref.ensures.value, c.deref-2.ensures.value, given, c.in_ok-entries.ensures) at c.in_ok-grouped.ensures in
     let groups : map view c.in_ok-groups.groups.items ≡ map group_data (groups_told t) =
     c.in_ok-groups.ensures
-    ∙ ap (λ (keys : List Group). map group_data (map seen keys)) c.as_slice-2.ensures.keys
+    ∙ ap (λ (keys : List Group). map group_data (map seen keys)) c.as_slice.ensures.keys
     ∙ ap (map group_data) grouped.groups_are in
     let entries : map view c.in_ok-entries-2.entries.items
     ≡ map entry_data (map (grouped_in (groups_told t) (given_of t)) (news_of t)) =
