@@ -6,7 +6,7 @@ _adlcons() {
         consolidate) options='--all --search --handle --report --digests --verify --help' ;;
         show) options='--all --search --handle --from --to --help' ;;
         compare) options='--all --search --report --from --to --channels --help' ;;
-        render | resume) options='--all --search --from --to --channels --depth --order --help' ;;
+        render | resume) options='--all --search --from --to --channels --depth --order --report --help' ;;
     esac
     if ((COMP_CWORD == 1)); then
         local commands='check consolidate render resume compare show explain help --help --version'

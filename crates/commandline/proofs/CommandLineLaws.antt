@@ -1,7 +1,7 @@
 -- How clap's words on a parse lead to what the words ask for.
-use Rattle.std.proofs.Common.{◌≡◌, ◌∙◌, ◌⊎◌, ℕ, inl, inr, Bool, true, false, ◌||◌, List, [], ◌∷◌, Option, None, Some, refl, ap, sym, subst, codes}
+use Rattle.std.proofs.Common.{◌≡◌, ◌∙◌, ◌⊎◌, ℕ, inl, inr, Bool, true, false, ◌&&◌, ◌||◌, List, [], ◌∷◌, Option, None, Some, refl, ap, sym, subst, codes}
 use Rattle.std.specs.Prelude.{option_and_then, option_map, if◌then◌else◌}
-use Rattle.std.specs.List.{list_any}
+use Rattle.std.specs.List.{list_all, list_any}
 use Rattle.std.specs.Option.{option_map_or}
 use Rattle.std.specs.Str.{bytes_eq}
 use Rattle.clap.specs.Words.{App, HasKind, IsAmong, Kinds, Row, Rule, Text, fault_of, first_of, first_value, is_simple, is_simple_and_free, kind_of, rows_of, subcommand_of, with_rule}
@@ -13,7 +13,7 @@ use Rattle.clap.proofs.OnLiterals.{clap_on_literals}
 use Rattle.clap.proofs.WalkLemmas.{first_value-rows}
 use Rattle.sound_terms.specs.declared.Depth.{Depth}
 use Rattle.job_terms.specs.declared.Order.{Order}
-use Rattle.commandline.specs.CommandLine.{Asked, Check, Compare, Report, Selected, Show, are_both_input, asked_compare, compare_by, selected_of, explained, adlcons_app, channels_in, chosen_of, depth_in, drawn_of, handle_of, number_in, order_in, ordered_by, asked, asked_over, asked_to, asks_for_help, has_flag, is_flagged, is_set, is_shown, named_by, request_of, unless_faulty, words_fault}
+use Rattle.commandline.specs.CommandLine.{Asked, Check, Compare, Report, Selected, Show, are_both_input, asked_compare, compare_by, selected_of, explained, adlcons_app, channels_in, chosen_of, depth_in, drawn_of, handle_of, number_in, order_in, ordered_by, asked, asked_over, asked_to, are_shown, asks_for_help, asks_for_help_alone, has_flag, is_flagged, is_set, is_shown, named_by, request_of, unless_faulty, words_fault}
 
 -- one more rule over the command so far
 pub one_more : (more app known : App) (rule : Rule) → more ≡ with_rule app rule → app ≡ known → more ≡ with_rule known rule
@@ -242,17 +242,19 @@ ordered-bad_order found depth count text given bad =
     rw (row_of_value found (codes "order") (Some text) given, ← bad) refl
 
 pub ordered-all : (found : Found) (depth : Depth) (count : Option ℕ) (text : Text) (order : Order)
-    (from to : Option Text)
+    (from to : Option Text) (report : Bool)
     → Some text ≡ first_value found (codes "order") → Some order ≡ order_in text
     → from ≡ first_value found (codes "from") → to ≡ first_value found (codes "to")
+    → report ≡ is_set (codes "report") (rows_of found)
     → ordered_by (rows_of found) depth count
-    ≡ Some (record { from = from; to = to; channels = count; depth = depth; order = order })
-ordered-all found depth count text order from to given named first last =
+    ≡ Some (record { from = from; to = to; channels = count; depth = depth; order = order; report = report })
+ordered-all found depth count text order from to report given named first last asks =
     rw (
       row_of_value found (codes "order") (Some text) given,
       ← named,
       row_of_value found (codes "from") from first,
       row_of_value found (codes "to") to last,
+      asks,
     ) refl
 
 -- ---- what clap says of an error
@@ -294,6 +296,39 @@ mistaken-by app words error same (inl memory) none = ap is_shown memory
 mistaken-by app words error same (inr among) none =
     among-shown (words_fault words) (kind_of error)
     (subst (IsAmong (kind_of error)) (fault_of-adlcons app words same) among) none
+
+both-left : (x y : Bool) → (x && y) ≡ true → x ≡ true
+both-left true y e = refl
+both-left false y e = cc
+
+both-right : (x y : Bool) → (x && y) ≡ true → y ≡ true
+both-right true y e = e
+both-right false y e = cc
+
+among-all_shown : (kinds : Kinds) (kind : ErrorKind) → IsAmong kind kinds → list_all is_shown kinds ≡ true
+    → is_shown kind ≡ true
+among-all_shown [] kind bad all = absurd bad
+among-all_shown (k ∷ ks) kind (inl same) all = rw same (both-left (is_shown k) (list_all is_shown ks) all)
+among-all_shown (k ∷ ks) kind (inr among) all =
+    among-all_shown ks kind among (both-right (is_shown k) (list_all is_shown ks) all)
+
+among-alone : (kinds : Kinds) (kind : ErrorKind) → IsAmong kind kinds → are_shown kinds ≡ true → is_shown kind ≡ true
+among-alone [] kind bad all = absurd bad
+among-alone (k ∷ ks) kind among all = among-all_shown (k ∷ ks) kind among all
+
+-- where the words ask for help alone, the error is help
+pub shown-by : (app : App) (words : List Text) (error : Error) → app ≡ adlcons_app
+    → HasKind (fault_of app words) error
+    → asks_for_help_alone words ≡ true → (kind_of error ≡ kind.OutOfMemory) ⊎ (is_shown (kind_of error) ≡ true)
+shown-by app words error same (inl memory) alone = inl memory
+shown-by app words error same (inr among) alone =
+    inr (among-alone (words_fault words) (kind_of error)
+    (subst (IsAmong (kind_of error)) (fault_of-adlcons app words same) among) alone)
+
+-- words without a fault don't
+pub helpless_alone-by : (app : App) (words : List Text) → app ≡ adlcons_app → fault_of app words ≡ []
+    → asks_for_help_alone words ≡ false
+helpless_alone-by app words same none = ap are_shown (sym (fault_of-adlcons app words same) ∙ none)
 
 -- matches without a fault are those of the words
 pub requested-by : (app : App) (words : List Text) (rows : Option (Text × List Row)) → app ≡ adlcons_app

@@ -67,7 +67,7 @@ with_range app = with_rule (with_times app) (option_rule (codes "channels"))
 abbrev pub with_choice : App → App
 with_choice app =
     let sounding = with_rule (with_range app) (default_rule (codes "depth") (codes "24")) in
-    with_rule sounding (default_rule (codes "order") (codes "time"))
+    with_rule (with_rule sounding (default_rule (codes "order") (codes "time"))) (flag_rule (codes "report"))
 
 -- a command of this name that renders
 abbrev pub rendering_shape : Text → Shape
@@ -107,13 +107,15 @@ adlcons_app =
     let comparing = with_subcommand writing compare_shape in
     with_subcommand (with_subcommand comparing show_shape) explain_shape
 
--- what is chosen of a rendering: times by their texts, a number of channels, the bits of a sample, the order of jobs
+-- what is chosen of a rendering: times by their texts, a number of channels, the bits of a sample, the order of jobs, and
+-- whether a report is written
 pub record Chosen : Type 0 where
   pub from : Option Text
   pub to : Option Text
   pub channels : Option ℕ
   pub depth : Depth
   pub order : Order
+  pub report : Bool
 
 -- what is chosen of a comparison: times by their texts, a number of channels, and whether it is reported as JSON
 pub record Selected : Type 0 where
@@ -193,6 +195,7 @@ chosen_by rows depth channels order = record {
   channels = channels;
   depth = depth;
   order = order;
+  report = is_set (codes "report") rows;
 }
 
 -- the order of this depth and of these channels
@@ -317,3 +320,12 @@ is_shown _ = false
 -- the words ask for help or for the version
 abbrev pub asks_for_help : List Text → Bool
 asks_for_help words = list_any is_shown (words_fault words)
+
+-- each of these kinds is shown, and there is one at least
+abbrev pub are_shown : Kinds → Bool
+are_shown [] = false
+are_shown (kind ∷ kinds) = is_shown kind && list_all is_shown kinds
+
+-- the words ask for help or for the version, and for nothing that may be a mistake (as a word behind `help` may be)
+abbrev pub asks_for_help_alone : List Text → Bool
+asks_for_help_alone words = are_shown (words_fault words)

@@ -15,6 +15,7 @@ chosen_of chosen = record {
   channels = chosen.channels;
   depth = chosen.depth;
   order = chosen.order;
+  report = chosen.report;
 }
 
 -- what is chosen of a comparison

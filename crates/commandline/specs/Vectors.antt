@@ -5,13 +5,13 @@ use Rattle.clap.proofs.OnLiterals.{clap_on_literals}
 use Rattle.sound_terms.specs.declared.Depth.TheVariants.{Sixteen, TwentyFour, ThirtyTwo}
 use Rattle.job_terms.specs.declared.Order.TheVariants.{ByTime, BySource}
 use Rattle.commandline.specs.declared.choice.MediaReport.TheVariants.{NoReport, Plain, WithDigests}
-use Rattle.commandline.specs.CommandLine.{Check, Chosen, Compare, Render, Report, Resume, Consolidate, Show, Explain, ExplainNotice, asks_for_help, has_flag, named_by, request_of, searches, tells_all, verifies, words_fault}
+use Rattle.commandline.specs.CommandLine.{Check, Chosen, Compare, Render, Report, Resume, Consolidate, Show, Explain, ExplainNotice, asks_for_help, asks_for_help_alone, has_flag, named_by, request_of, searches, tells_all, verifies, words_fault}
 
 -- ---- good words
 
--- the whole range, on all channels, at 24 bits, by time
+-- the whole range, on all channels, at 24 bits, by time, with no report
 abbrev default_choice : Chosen
-default_choice = record { from = None; to = None; channels = None; depth = TwentyFour; order = ByTime }
+default_choice = record { from = None; to = None; channels = None; depth = TwentyFour; order = ByTime; report = false }
 
 checks : request_of (codes "check" ∷ codes "L.adl" ∷ codes "M" ∷ []) ≡ Some (Check (codes "L.adl") (codes "M"))
 unfolding words_fault named_by clap_on_literals
@@ -20,13 +20,13 @@ checks = refl
 chooses : request_of (codes "render" ∷ codes "L" ∷ codes "M" ∷ codes "O"
     ∷ codes "--depth" ∷ codes "16" ∷ codes "--channels=2" ∷ codes "--from" ∷ codes "x" ∷ [])
     ≡ Some (Render (codes "L") (codes "M") (codes "O")
-    (record { from = Some (codes "x"); to = None; channels = Some 2; depth = Sixteen; order = ByTime }))
+    (record { from = Some (codes "x"); to = None; channels = Some 2; depth = Sixteen; order = ByTime; report = false }))
 unfolding words_fault named_by clap_on_literals
 chooses = refl
 
 orders : request_of (codes "render" ∷ codes "L" ∷ codes "M" ∷ codes "O" ∷ codes "--order" ∷ codes "source" ∷ [])
     ≡ Some (Render (codes "L") (codes "M") (codes "O")
-    (record { from = None; to = None; channels = None; depth = TwentyFour; order = BySource }))
+    (record { from = None; to = None; channels = None; depth = TwentyFour; order = BySource; report = false }))
 unfolding words_fault named_by clap_on_literals
 orders = refl
 
@@ -109,7 +109,7 @@ renders = refl
 
 resumes : request_of (codes "resume" ∷ codes "L.adl" ∷ codes "M" ∷ codes "O" ∷ codes "--depth" ∷ codes "32" ∷ [])
     ≡ Some (Resume (codes "L.adl") (codes "M") (codes "O")
-    (record { from = None; to = None; channels = None; depth = ThirtyTwo; order = ByTime }))
+    (record { from = None; to = None; channels = None; depth = ThirtyTwo; order = ByTime; report = false }))
 unfolding words_fault named_by clap_on_literals
 resumes = refl
 
@@ -208,12 +208,22 @@ shows_part : request_of (codes "show" ∷ codes "L" ∷ codes "M" ∷ codes "--t
 unfolding words_fault named_by clap_on_literals
 shows_part = refl
 
+renders_with_report : request_of (codes "render" ∷ codes "L" ∷ codes "M" ∷ codes "O" ∷ codes "--report" ∷ [])
+    ≡ Some (Render (codes "L") (codes "M") (codes "O") (record default_choice { report = true }))
+unfolding words_fault named_by clap_on_literals
+renders_with_report = refl
+
+resumes_with_report : request_of (codes "resume" ∷ codes "--report" ∷ codes "L" ∷ codes "M" ∷ codes "O" ∷ [])
+    ≡ Some (Resume (codes "L") (codes "M") (codes "O") (record default_choice { report = true }))
+unfolding words_fault named_by clap_on_literals
+resumes_with_report = refl
+
 -- ---- mistakes
 
-report_of_rendering : words_fault (codes "render" ∷ codes "L" ∷ codes "M" ∷ codes "O" ∷ codes "--report" ∷ [])
+digests_of_rendering : words_fault (codes "render" ∷ codes "L" ∷ codes "M" ∷ codes "O" ∷ codes "--digests" ∷ [])
     ≡ UnknownArgument ∷ []
 unfolding words_fault clap_on_literals
-report_of_rendering = refl
+digests_of_rendering = refl
 
 too_few : words_fault (codes "render" ∷ codes "L.adl" ∷ codes "M" ∷ []) ≡ MissingRequiredArgument ∷ []
 unfolding words_fault clap_on_literals
@@ -319,3 +329,11 @@ help_as_command = refl
 help_as_command_asks : asks_for_help (codes "help" ∷ []) ≡ true
 unfolding words_fault clap_on_literals
 help_as_command_asks = refl
+
+help_alone : asks_for_help_alone (codes "render" ∷ codes "--help" ∷ []) ≡ true
+unfolding words_fault clap_on_literals
+help_alone = refl
+
+help_with_a_word : asks_for_help_alone (codes "help" ∷ codes "me" ∷ []) ≡ false
+unfolding words_fault clap_on_literals
+help_with_a_word = refl

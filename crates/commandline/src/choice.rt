@@ -5,8 +5,8 @@ ghost use Rattle.commandline.specs.Channels.{are_few};
 use job_terms::Order;
 use sound_terms::Depth;
 
-/// What is chosen of a rendering: the texts of its times, a number of channels from 1 to 64, the depth, and the order
-/// of its jobs.
+/// What is chosen of a rendering: the texts of its times, a number of channels from 1 to 64, the depth, the order of its
+/// jobs, and whether a report is written beside the file.
 #[derive(Clone, Copy, Debug, PartialEq, Eq)]
 pub struct Chosen<'a> {
     pub from: Option<&'a str>,
@@ -14,6 +14,7 @@ pub struct Chosen<'a> {
     pub channels: Option<u8>,
     pub depth: Depth,
     pub order: Order,
+    pub report: bool,
     ghost few_channels: { are_few channels ≡ true },
 }
 

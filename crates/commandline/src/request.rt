@@ -6,7 +6,7 @@ ghost use Rattle.clap.specs.Walk.{texts};
 ghost use Rattle.clap.specs.declared.error.ErrorKind.TheVariants.{OutOfMemory};
 ghost use Rattle.commandline.specs.CommandLine as line;
 ghost use Rattle.commandline.specs.Channels.{are_few};
-ghost use Rattle.commandline.specs.CommandLine.{asked, asked_over, asks_for_help, is_shown, request_of};
+ghost use Rattle.commandline.specs.CommandLine.{asked, asked_over, asks_for_help, asks_for_help_alone, is_shown, request_of};
 ghost use Rattle.commandline.specs.Request as spec;
 ghost use Rattle.commandline.specs.Request.{asked_of};
 
@@ -82,6 +82,8 @@ pub fn parse<'a>(alloc: Global, words: &'a [&'a str]) -> Result<Parsed<'a>, Erro
         (λ error. (kind_of error ≡ OutOfMemory) ⊎ (request_of (texts words.entry.now) ≡ None)) }
     ensures mistake { IfErr result
         (λ error. asks_for_help (texts words.entry.now) ≡ false → is_shown (kind_of error) ≡ false) }
+    ensures help { IfErr result (λ error. asks_for_help_alone (texts words.entry.now) ≡ true
+        → (kind_of error ≡ OutOfMemory) ⊎ (is_shown (kind_of error) ≡ true)) }
 {
     let mut command = command(alloc)?;
     let matches = command.try_get_matches_from_mut(words)?;
@@ -348,6 +350,7 @@ fn chosen_in<'a>(words: &ArgMatches<'a>) -> Option<Chosen<'a>>
         channels,
         depth,
         order,
+        report: is_set("report", words),
     })
 }
 

@@ -165,7 +165,9 @@ fn with_choice<'a>(alloc: Global, command: Command<'a>) -> Result<Command<'a>, A
     let depth = "Bits of a sample: 16, 24 or 32";
     let command = with_default(alloc, command, "depth", "D", "24", depth)?;
     let order = "Which sound is read first: time or source";
-    with_default(alloc, command, "order", "O", "time", order)
+    let command = with_default(alloc, command, "order", "O", "time", order)?;
+    let report = "Write OUT/render.json: SHA-256, range, what was clipped";
+    with_flag(alloc, command, "report", report)
 }
 
 /// The command with the times and the channels that may be chosen.

@@ -489,6 +489,7 @@ module _ {S : Type 0} (shelf : source.Ghosts S) (old mid : S) (same : shelf.stor
           apart = subst (λ (f : Files). AreApart (jobs_over (work_of run.plan) f)) same run.apart;
           ended = run.ended;
           answers = so (consolidation_fault (length run.plan.runs) (is_some asked)) run.ended run.answers;
+          foreign = run.foreign;
           board = run.board;
           came = outcome_before run.plan (events (work_of run.plan).count)
               (fresh_board (work_of run.plan).count (range_with_len 0 (work_of run.plan).count)) o (λ _. Nothing)

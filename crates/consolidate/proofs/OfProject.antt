@@ -202,6 +202,7 @@ module _ {S B : Type 0} (shelf : source.Ghosts S) (bench : output.Ghosts B) (lea
         apart = fit.1;
         ended = ended;
         answers = answers;
+        foreign = call.bounded.output;
         board = board;
         came = outcome_before shelf old mid reads.same (reads.cause.left tt) plan (events (work_of plan).count)
             (fresh_board (work_of plan).count (range_with_len 0 (work_of plan).count)) (output_view bench before)

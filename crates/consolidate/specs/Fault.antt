@@ -30,6 +30,7 @@ late number place = record { number = number; location = place; late = true }
 abbrev pub name_of_output : OutputFile → bytes.List ℕ
 name_of_output output.Rendering = codes "render.wav"
 name_of_output output.Marks = codes "render.marks"
+name_of_output output.RenderReport = codes "render.json"
 name_of_output (output.Medium number) = media_name number
 name_of_output output.Sums = codes "SHA256SUMS"
 name_of_output output.Report = codes "consolidated.json"

@@ -13,3 +13,4 @@ pub mod RenderOutcome
 pub mod RenderWorks
 pub mod Resuming
 pub mod Schedules
+pub mod SoundReports

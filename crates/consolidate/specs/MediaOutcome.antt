@@ -1,7 +1,7 @@
 -- How a consolidation came out: its media laid out, their pieces copied, and what comes last, at every end.
 use Rattle.std.specs.Prelude.{ℕ, zero, suc, ◌-◌, ⊤, nat_lt, cond, Bool, true, false, Option, is_some, List, length, Result}
 use Rattle.std.specs.List.{range_with_len}
-use Rattle.devices.specs.Views.{OutputView, SourceView}
+use Rattle.devices.specs.Views.{OutputView, SourceView, Writes}
 use Rattle.job_terms.specs.declared.BoardEvent.{BoardEvent}
 use Rattle.job_terms.specs.declared.Progress.{Progress}
 use Rattle.job_terms.specs.Board.{Board}
@@ -14,7 +14,7 @@ use Rattle.execution.specs.Boards.{fresh_board}
 use Rattle.execution.specs.EventRun.{snapshot_of}
 use Rattle.execution.specs.Outcome.{Outcome}
 use Rattle.execution.specs.Filled.{AreApart}
-use Rattle.execution.specs.Plan.{AreBlank, SourcesFit}
+use Rattle.execution.specs.Plan.{AreBlank, IsForeign, SourcesFit}
 use Rattle.execution.specs.declared.fault.ExecutionFault.{ExecutionFault}
 use Rattle.execution.specs.declared.fault.ExecutionFault.TheVariants as execution
 use Rattle.provenance.specs.Asked.{AskedReport}
@@ -49,7 +49,8 @@ consolidation_fault media reported (execution.Output number) = fault.Output (out
 
 -- From its first write on a call executed these events, so many for so many pieces, of the media of a project: the
 -- pieces, which lie apart and are parts of the media, are handed out each in its turn, and what comes last is the report,
--- where one is asked for, and the list. What the call answers is how that ended.
+-- where one is asked for, and the list. No other file changed, nor what a crash leaves of it. What the call answers is how
+-- that ended.
 pub record ConsolidatesMedia {X : Type 0} (leave : Leaving) (project : ListProject) (binding : Binding) (handle : ℕ)
     (asked : Option AskedReport) (events : ℕ → List BoardEvent) (Reports : X → Progress → Type 0)
     (source_old source_new : SourceView) (output_old output_new : OutputView) (result : Result X Fault) : Type 0 where
@@ -59,6 +60,7 @@ pub record ConsolidatesMedia {X : Type 0} (leave : Leaving) (project : ListProje
   pub apart : AreApart (jobs_over (work_of plan) source_old.files)
   pub ended : Result Progress ExecutionFault
   pub answers : AnswersAs (consolidation_fault (length plan.runs) (is_some asked)) Reports result ended
+  pub foreign : Writes (IsForeign (job_plan plan)) output_old output_new
   pub board : Board
   pub came : Outcome (AreBlank (jobs_over (work_of plan) source_old.files) (whole_output plan source_old.files))
       (events (work_of plan).count)

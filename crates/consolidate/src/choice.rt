@@ -18,3 +18,10 @@ pub struct Clipping {
     pub start: SampleTime,
     pub channels: u8,
 }
+
+/// By which program a report of a rendering is asked for: its name and its version.
+#[derive(Clone, Copy, Debug)]
+pub struct RenderReport<'a> {
+    pub program: &'a str,
+    pub version: &'a str,
+}

@@ -20,6 +20,7 @@ use passes::PassFault;
 use projectcheck::Checked;
 use relink::RelinkFault;
 use rendering::RenderFault;
+use renderreport::RENDER_REPORT;
 use std::fmt;
 use thiserror::Error;
 
@@ -30,6 +31,8 @@ pub enum OutputFile {
     Rendering,
     /// `render.marks`
     Marks,
+    /// `render.json`
+    RenderReport,
     /// The medium of this number, from 1: `M00001.wav` and so on.
     Medium(u32),
     /// `SHA256SUMS`
@@ -66,6 +69,7 @@ impl fmt::Display for OutputFile {
         match self {
             OutputFile::Rendering => f.write_str(SOUND),
             OutputFile::Marks => f.write_str(MARKS),
+            OutputFile::RenderReport => f.write_str(RENDER_REPORT),
             OutputFile::Medium(number) => write!(f, "M{number:05}.wav"),
             OutputFile::Sums => f.write_str(SUMS),
             OutputFile::Report => f.write_str(REPORT),

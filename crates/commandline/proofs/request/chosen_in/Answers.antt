@@ -40,5 +40,5 @@ pub returns : goal.returns
 returns c =
     sym (chosen-ordered (found_of c.args.words.now) c.in_ok-get_str.field-0.now _ _ _
     c.in_ok-get_str.ensures c.in_ok-depth.ensures c.get_str-2.ensures c.in_ok-channels.ensures.read
-    ∙ ordered-all (found_of c.args.words.now) _ c.in_ok-channels.channels c.in_ok-get_str-2.field-0.now _ _ _
-    c.in_ok-get_str-2.ensures c.in_ok-order.ensures c.get_str-4.ensures c.get_str-5.ensures)
+    ∙ ordered-all (found_of c.args.words.now) _ c.in_ok-channels.channels c.in_ok-get_str-2.field-0.now _ _ _ _
+    c.in_ok-get_str-2.ensures c.in_ok-order.ensures c.get_str-4.ensures c.get_str-5.ensures c.is_set.ensures)

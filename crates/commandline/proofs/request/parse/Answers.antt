@@ -4,7 +4,7 @@ use Rattle.std.proofs.lemmas.Result.{err_from_is_err_and}
 use Rattle.clap.specs.Words.{Row, Text, subcommand_rows_of}
 use Rattle.clap.specs.Walk.{texts}
 use Rattle.commandline.specs.CommandLine.{is_flagged}
-use Rattle.commandline.proofs.CommandLineLaws.{helpless-by, is_free-adlcons, is_simple-adlcons, mistaken-by, refused-by, requested-by, has_flag-adlcons}
+use Rattle.commandline.proofs.CommandLineLaws.{helpless-by, is_free-adlcons, helpless_alone-by, is_simple-adlcons, mistaken-by, refused-by, shown-by, requested-by, has_flag-adlcons}
 use Rattle.commandline.proofs.request.parse.Goals as goal
 
 pub returns-in_err-matches-clause-refused : goal.returns-in_err-matches-clause-refused
@@ -20,6 +20,19 @@ returns-in_err-matches-clause-mistake c =
     let app = c.in_ok-command.ensures in
     rw (p.1, p.2) (mistaken-by _ (texts c.args.words.now) c.in_err-matches.field-0.0 app
     (c.in_err-matches.ensures.kinds (is_free-adlcons _ app)))
+
+pub returns-in_err-matches-clause-help : goal.returns-in_err-matches-clause-help
+returns-in_err-matches-clause-help c =
+    let p = err_from_is_err_and c.from_residual-in_err-matches.result c.from_residual-in_err-matches.ensures.1 in
+    let app = c.in_ok-command.ensures in
+    rw (p.1, p.2) (shown-by _ (texts c.args.words.now) c.in_err-matches.field-0.0 app
+    (c.in_err-matches.ensures.kinds (is_free-adlcons _ app)))
+
+pub returns-clause-help : goal.returns-clause-help
+returns-clause-help c = λ alone.
+    let app = c.in_ok-command.ensures in
+    let none = helpless_alone-by _ (texts c.args.words.now) app (c.in_ok-matches.ensures.kinds (is_free-adlcons _ app)) in
+    absurd (cc)
 
 pub returns-in-Some-clause-read : goal.returns-in-Some-clause-read
 returns-in-Some-clause-read c =

@@ -1,0 +1,126 @@
+// Renders a list, or goes on with its rendering, and writes a report beside the file.
+ghost use Rattle.std.specs.Prelude.{◌≡◌};
+ghost use Rattle.list_terms.specs.Steps.{ok_map};
+ghost use Rattle.renderreport.specs.Report.{facts_of};
+ghost use Rattle.rendering.specs.Rendering.{HaveChannels, values_of};
+ghost use Rattle.consolidate.specs.SoundReports.{IsReportedRendering, IsReportedResuming, WritesReport, asked_of, rendered_facts, resumed_facts};
+
+use crate::choice::{RenderChoice, RenderReport};
+use crate::rendered::{RenderedSound, render_watched};
+use crate::resumed::{ResumedSound, resume_watched};
+use crate::{Fault, OutputFile};
+use devices::{Bench, Shelf, Watch};
+use rendering::Depth;
+use renderreport::{ReportFacts, ReportFault, write_report};
+use std::alloc::Global;
+
+/// Writes the report of these facts.
+fn report_sound<B: Bench>(bench: &mut B, facts: &ReportFacts<'_>) -> Result<(), Fault>
+    ensures { WritesReport B.Bench (facts_of facts.now) bench.old bench.new result }
+{
+    match write_report(bench, facts) {
+        Ok(()) => Ok(()),
+        Err(ReportFault::Sound) => Err(Fault::Output(OutputFile::Rendering)),
+        Err(ReportFault::Report) => Err(Fault::Output(OutputFile::RenderReport)),
+    }
+}
+
+/// Writes the report of a rendering of this list to this depth.
+fn report_rendered<'a, B: Bench>(
+    list: &'a [u8],
+    depth: Depth,
+    report: RenderReport<'a>,
+    made: &RenderedSound,
+    bench: &mut B,
+) -> Result<(), Fault>
+    ensures { WritesReport B.Bench (rendered_facts (asked_of report.entry) list.entry.now depth made.now) bench.old
+        bench.new result }
+{
+    let facts = ReportFacts {
+        program: report.program,
+        version: report.version,
+        list,
+        depth,
+        start: made.clipping.start,
+        frames: made.rendered.frames,
+        channels: made.clipping.channels,
+        clips: made.clipping.clips,
+        marked: None,
+    };
+    report_sound(bench, &facts)
+}
+
+/// The same of one that was gone on with.
+fn report_resumed<'a, B: Bench>(
+    list: &'a [u8],
+    depth: Depth,
+    report: RenderReport<'a>,
+    made: &ResumedSound,
+    bench: &mut B,
+) -> Result<(), Fault>
+    ensures { WritesReport B.Bench (resumed_facts (asked_of report.entry) list.entry.now depth made.now) bench.old
+        bench.new result }
+{
+    let facts = ReportFacts {
+        program: report.program,
+        version: report.version,
+        list,
+        depth,
+        start: made.clipping.start,
+        frames: made.resumed.frames,
+        channels: made.clipping.channels,
+        clips: made.clipping.clips,
+        marked: Some(made.resumed.marked),
+    };
+    report_sound(bench, &facts)
+}
+
+/// Renders a list as `render_watched` does, and then writes `render.json` beside the file: a value of JSON (RFC 8259) in a
+/// line, with the SHA-256 of `render.wav`, which is read once more for it, and of the list, the range, and what was
+/// clipped. It takes no memory behind the first write. Where the device fails at one of the two files behind the
+/// rendering the call ends at once (62); the rendering is finished then, and `resume_reported` writes the report.
+pub fn render_reported<'a, S: Shelf, B: Bench, W: Watch>(
+    alloc: Global,
+    list: &'a [u8],
+    choice: &RenderChoice,
+    report: RenderReport<'a>,
+    shelf: &mut S,
+    bench: &mut B,
+    watch: &mut W,
+) -> Result<RenderedSound, Fault>
+    requires { HaveChannels choice.now.options }
+    ensures { IsReportedRendering S.Shelf B.Bench (asked_of report.entry) choice.now.jobs list.now
+        (values_of choice.now.options) shelf.old shelf.new bench.old bench.new (ok_map (λ made. made.rendered) result) }
+{
+    match render_watched(alloc, list, choice, shelf, bench, watch) {
+        Ok(made) => match report_rendered(list, choice.options.depth, report, &made, bench) {
+            Ok(()) => Ok(made),
+            Err(fault) => Err(fault),
+        },
+        Err(fault) => Err(fault),
+    }
+}
+
+/// Goes on with a rendering as `resume_watched` does, and then writes `render.json` beside the file as `render_reported`
+/// does. What it says of clipping is of the blocks that weren't marked before, and it says how many were.
+pub fn resume_reported<'a, S: Shelf, B: Bench, W: Watch>(
+    alloc: Global,
+    list: &'a [u8],
+    choice: &RenderChoice,
+    report: RenderReport<'a>,
+    shelf: &mut S,
+    bench: &mut B,
+    watch: &mut W,
+) -> Result<ResumedSound, Fault>
+    requires { HaveChannels choice.now.options }
+    ensures { IsReportedResuming S.Shelf B.Bench (asked_of report.entry) choice.now.jobs list.now
+        (values_of choice.now.options) shelf.old shelf.new bench.old bench.new (ok_map (λ made. made.resumed) result) }
+{
+    match resume_watched(alloc, list, choice, shelf, bench, watch) {
+        Ok(made) => match report_resumed(list, choice.options.depth, report, &made, bench) {
+            Ok(()) => Ok(made),
+            Err(fault) => Err(fault),
+        },
+        Err(fault) => Err(fault),
+    }
+}

@@ -1,0 +1,6 @@
+mod Beside
+mod Hashed
+mod Listed
+mod OnePart
+mod Plain
+mod Whole

@@ -1,0 +1,14 @@
+-- What reading the rendered file leaves.
+use Rattle.std.specs.Prelude.{⊤, Result}
+use Rattle.devices.specs.declared.bench.Bench as output
+use Rattle.devices.specs.declared.fault.DeviceFault.{DeviceFault}
+use Rattle.work_terms.specs.Disk.{Files, LeavesOnly, ReadsTo}
+use Rattle.renderreport.specs.Report.{sound_name}
+
+-- nothing was written, a crash leaves what it might have left before, and a fault is counted at that file
+pub record ReadsSound {B X : Type 0} (bench : output.Ghosts B) (old new : B) (result : Result X DeviceFault) : Type 0
+  where
+    pub only_reads : ReadsTo bench.stored bench.honest bench.failures bench.failed_at old new result (λ _. ⊤)
+        (λ _ failed. failed sound_name)
+    pub crash : (c : Files) → bench.may_leave new c → bench.may_leave old c
+    pub moments : LeavesOnly bench.moment bench.left_since old new (bench.may_leave old)

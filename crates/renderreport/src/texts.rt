@@ -1,0 +1,155 @@
+// Texts that are added at the end of the report. None takes memory.
+ghost use Rattle.std.specs.Prelude.{◌≡◌, ◌<◌, ◌++◌, ◌∷◌, [], false, option_map, true};
+ghost use Rattle.std.specs.Char.{digit_char};
+ghost use Rattle.hex.specs.Hex.{encode_lower};
+ghost use Rattle.json.specs.Print as json;
+ghost use Rattle.json.specs.Print.{escape_byte};
+ghost use Rattle.serde_json.specs.Written.{compact_text};
+ghost use Rattle.devices.specs.Frame.{Appends};
+ghost use Rattle.renderreport.specs.Parts.{all_of, string_text};
+ghost use Rattle.renderreport.specs.Report.{known, report_name};
+
+use crate::RENDER_REPORT;
+use devices::{Bench, DeviceFault};
+use itoa::Buffer;
+
+/// This text.
+pub fn put_text<B: Bench>(bench: &mut B, text: &[u8]) -> Result<(), DeviceFault>
+    ensures { Appends B.Bench report_name text.now bench.old bench.new result }
+{
+    bench.append(RENDER_REPORT, text)
+}
+
+/// These texts, one after another.
+pub fn put<B: Bench>(bench: &mut B, texts: &[&[u8]]) -> Result<(), DeviceFault>
+    ensures { Appends B.Bench report_name (all_of texts.now) bench.old bench.new result }
+{
+    for text in texts {
+        put_text(bench, text)?;
+    }
+    Ok(())
+}
+
+/// A text as it is in a string: at once, where none of its bytes is escaped.
+fn put_as_string<B: Bench>(bench: &mut B, text: &[u8]) -> Result<(), DeviceFault>
+    ensures { Appends B.Bench report_name (json.escape text.now) bench.old bench.new result }
+{
+    if is_plain(text) {
+        put_text(bench, text)
+    } else {
+        put_escaped(bench, text)
+    }
+}
+
+/// Whether no byte of a text is escaped in a string.
+fn is_plain(text: &[u8]) -> bool
+    ensures { result ≡ true → json.escape text.now ≡ text.now }
+{
+    for byte in text {
+        if is_escaped(*byte) {
+            return false;
+        }
+    }
+    true
+}
+
+/// Whether a byte of a text is escaped in a string.
+#[tactic(auto, unfolding(json::specs::Print::escape_byte))]
+fn is_escaped(byte: u8) -> bool
+    ensures { result ≡ false → escape_byte byte ≡ byte ∷ [] }
+{
+    let letter = escape_letter(byte);
+    if letter > 0 { true } else { byte < 32 }
+}
+
+/// Bytes of a text as they are in a string.
+fn put_escaped<B: Bench>(bench: &mut B, bytes: &[u8]) -> Result<(), DeviceFault>
+    ensures { Appends B.Bench report_name (json.escape bytes.now) bench.old bench.new result }
+{
+    for byte in bytes {
+        put_byte(bench, *byte)?;
+    }
+    Ok(())
+}
+
+/// A byte of a text as it is in a string.
+#[tactic(auto, unfolding(json::specs::Print::escape_byte))]
+fn put_byte<B: Bench>(bench: &mut B, byte: u8) -> Result<(), DeviceFault>
+    ensures { Appends B.Bench report_name (escape_byte byte) bench.old bench.new result }
+{
+    let letter = escape_letter(byte);
+    if letter > 0 {
+        put_text(bench, &[b'\\', letter])
+    } else if byte < 32 {
+        put_text(
+            bench,
+            &[b'\\', b'u', b'0', b'0', digit(byte / 16), digit(byte % 16)],
+        )
+    } else {
+        put_text(bench, &[byte])
+    }
+}
+
+/// The letter of the short escape of a byte; 0 where it has none.
+fn escape_letter(byte: u8) -> u8
+    ensures { result ≡ json.escape_letter byte }
+{
+    match byte {
+        b'"' | b'\\' => byte,
+        8 => b'b',
+        12 => b'f',
+        b'\n' => b'n',
+        b'\r' => b'r',
+        b'\t' => b't',
+        _ => 0,
+    }
+}
+
+/// The hexadecimal digit of a number below 16.
+fn digit(number: u8) -> u8
+    requires { number < 16 }
+    ensures { result ≡ digit_char number }
+{
+    if number < 10 {
+        b'0' + number
+    } else {
+        b'a' - 10 + number
+    }
+}
+
+/// The digits of a number, or null.
+pub fn found_in<'a>(room: &'a mut Buffer, number: Option<u128>) -> &'a [u8]
+    ensures { result.now ≡ compact_text (known number) }
+{
+    match number {
+        Some(number) => room.format(number).as_bytes(),
+        None => b"null",
+    }
+}
+
+/// A string, behind this key with its quotes and its colon.
+pub fn put_string<B: Bench>(bench: &mut B, key: &[u8], text: &[u8]) -> Result<(), DeviceFault>
+    ensures { Appends B.Bench report_name (string_text key.now text.now) bench.old bench.new result }
+{
+    put_text(bench, key)?;
+    put_as_string(bench, text)?;
+    put_text(bench, b"\"")
+}
+
+/// The same of a text.
+pub fn put_words<B: Bench>(bench: &mut B, key: &[u8], text: &str) -> Result<(), DeviceFault>
+    ensures { Appends B.Bench report_name (string_text key.now text.now) bench.old bench.new result }
+{
+    put_string(bench, key, text.as_bytes())
+}
+
+/// The digits of a digest.
+pub fn hex_of(digest: &[u8; 32]) -> [u8; 64]
+    ensures { result ≡ encode_lower digest.now }
+{
+    let mut digits = [0; 64];
+    match hex::encode_to_slice(digest, &mut digits) {
+        Ok(()) => digits,
+        Err(_) => digits,
+    }
+}

@@ -1,0 +1,78 @@
+// The report of a rendering, written beside the file.
+ghost use Rattle.std.specs.Prelude.{◌≡◌, ◌≢◌, IsTrue, OnOk, Some, ⊤};
+ghost use Rattle.work_terms.specs.Disk.{IsDurable, LeavesOthers};
+ghost use Rattle.devices.specs.Frame.{OnlyWrites};
+ghost use Rattle.renderreport.specs.Fault.{name_of};
+ghost use Rattle.renderreport.specs.Parts.{report_parts};
+ghost use Rattle.renderreport.specs.Report.{content, facts_of, report_name, report_text, sound_name};
+
+use crate::digest::sound_digest;
+use crate::parts::put_report;
+use crate::{ReportFacts, ReportFault};
+use devices::{Bench, DeviceFault};
+
+/// The name of the report of a rendering.
+pub const RENDER_REPORT: &str = "render.json";
+
+/// Makes the file of a report, with this digest of the rendered file.
+fn begin<B: Bench>(
+    bench: &mut B,
+    facts: &ReportFacts<'_>,
+    digest: &[u8; 32],
+) -> Result<(), DeviceFault>
+    ensures written { IsTrue (B.honest bench.old)
+        → OnOk result (B.stored bench.new report_name ≡ Some (report_parts (facts_of facts.now) digest.now)) }
+    ensures beside { LeavesOthers B.may_leave B.moment B.left_since report_name bench.old bench.new }
+    ensures only_writes { OnlyWrites B.Bench (λ n. n ≢ report_name) bench.old bench.new result (λ _. ⊤)
+        (λ _ failed. failed report_name) }
+{
+    match bench.create(RENDER_REPORT) {
+        Ok(()) => {}
+        Err(fault) => return Err(fault),
+    }
+    put_report(bench, facts, digest)
+}
+
+/// The same, synced.
+fn write<B: Bench>(
+    bench: &mut B,
+    facts: &ReportFacts<'_>,
+    digest: &[u8; 32],
+) -> Result<(), DeviceFault>
+    ensures written { IsTrue (B.honest bench.old)
+        → OnOk result (B.stored bench.new report_name ≡ Some (report_parts (facts_of facts.now) digest.now)) }
+    ensures durable { IsTrue (B.honest bench.old)
+        → OnOk result (IsDurable report_name (B.stored bench.new) (B.may_leave bench.new)) }
+    ensures beside { LeavesOthers B.may_leave B.moment B.left_since report_name bench.old bench.new }
+    ensures only_writes { OnlyWrites B.Bench (λ n. n ≢ report_name) bench.old bench.new result (λ _. ⊤)
+        (λ _ failed. failed report_name) }
+{
+    match begin(bench, facts, digest) {
+        Ok(()) => {}
+        Err(fault) => return Err(fault),
+    }
+    bench.sync(RENDER_REPORT)
+}
+
+/// Writes the report of a rendering to the file `render.json` of a bench, and syncs it: a value of JSON (RFC 8259) in a
+/// line, whose members are in order. `render.wav` is read once, from its first byte to its last, for its SHA-256. It
+/// takes no memory, and leaves each other file as it was. An error says at which of both files the device failed.
+pub fn write_report<B: Bench>(bench: &mut B, facts: &ReportFacts<'_>) -> Result<(), ReportFault>
+    ensures written { IsTrue (B.honest bench.old)
+        → OnOk result (B.stored bench.new report_name
+        ≡ Some (report_text (facts_of facts.now) (content (B.stored bench.old) sound_name))) }
+    ensures durable { IsTrue (B.honest bench.old)
+        → OnOk result (IsDurable report_name (B.stored bench.new) (B.may_leave bench.new)) }
+    ensures beside { LeavesOthers B.may_leave B.moment B.left_since report_name bench.old bench.new }
+    ensures only_writes { OnlyWrites B.Bench (λ n. n ≢ report_name) bench.old bench.new result (λ _. ⊤)
+        (λ fault failed. failed (name_of fault)) }
+{
+    let digest = match sound_digest(bench) {
+        Ok(digest) => digest,
+        Err(_) => return Err(ReportFault::Sound),
+    };
+    match write(bench, facts, &digest) {
+        Ok(()) => Ok(()),
+        Err(_) => Err(ReportFault::Report),
+    }
+}
