@@ -11,9 +11,9 @@ use std::fmt;
 use std::fmt::Display;
 use std::io::{Error, ErrorKind};
 
-/// What a command found where it refused: the line at fault, a file that the place doesn't name, what lies in a folder,
-/// what else is found of the folder of the output, what a second look at the media found, what the system said, and what
-/// is unfinished.
+/// What a command found where it refused: the line at fault, a file that the place doesn't name, what a folder already
+/// contains, what else is found of the folder of the output, what a second look at the media found, what the system said,
+/// and what is unfinished.
 #[derive(Clone, Copy)]
 struct Findings<'a> {
     line: Option<LineAtFault<'a>>,
@@ -53,11 +53,13 @@ impl FoundFolder {
     }
 }
 
-/// What lies unfinished in the output: a file, a rendering with its marks, or all of it.
+/// What lies unfinished in the output: a file, a rendering with its marks, the report of one that is finished, or all of
+/// it.
 #[derive(Clone, Copy)]
 enum Unfinished {
     File(OutputFile),
     Rendering,
+    Report,
     Whole,
 }
 
@@ -131,6 +133,7 @@ impl<'a> Explanation<'a> {
     pub fn of_rendering(self) -> Explanation<'a> {
         Explanation {
             is_rendering: true,
+            findings: self.findings.of_rendering(),
             ..self
         }
     }
@@ -162,7 +165,7 @@ impl<'a> Explanation<'a> {
             return folder.remedy();
         }
         if self.findings.inside == Some(MARKS) {
-            return "if that rendering is unfinished, go on with adlcons resume and its words; \
+            return "to continue that rendering, use adlcons resume with the same options; \
                     else make an empty folder and name that";
         }
         let goes_on = self.is_rendering && self.findings.unfinished.is_some();
@@ -234,6 +237,12 @@ impl<'a> FurtherExplanation<'a> {
         self.look.remedy().or(Some(self.meaning?.remedy))
     }
 
+    /// Whether its line ends with what to do: that of a file or an entry does, and of those of lines the first one of a
+    /// number, since the others are like it.
+    fn ends_with_remedy(&self) -> bool {
+        self.line.is_none_or(|line| line.is_first)
+    }
+
     /// How the fault comes about, as it was found or else as the number says.
     pub fn cause(self) -> FoundCause<'a> {
         FoundCause(self)
@@ -283,9 +292,12 @@ impl fmt::Display for FurtherExplanation<'_> {
         if let Some(line) = self.line {
             line.fmt_brief(f)?;
         }
-        match &self.look.near {
-            Some(near) => write!(f, "; {near}"),
-            None => Ok(()),
+        if let Some(near) = &self.look.near {
+            write!(f, "; {near}")?;
+        }
+        match self.remedy() {
+            Some(remedy) if self.ends_with_remedy() => write!(f, "; {remedy}"),
+            _ => Ok(()),
         }
     }
 }
@@ -381,6 +393,7 @@ fn unfinished_after(fault: &Fault, output: Option<Reason>) -> Option<Unfinished>
 fn unfinished_at(file: OutputFile, output: Option<Reason>) -> Option<Unfinished> {
     let is_there = output.is_none_or(is_left);
     match file {
+        OutputFile::RenderReport => Some(Unfinished::Report),
         OutputFile::Marks if is_there => Some(Unfinished::Rendering),
         OutputFile::Marks => Some(Unfinished::File(OutputFile::Rendering)),
         _ if is_there => Some(Unfinished::File(file)),
@@ -419,11 +432,40 @@ impl fmt::Display for Explanation<'_> {
 }
 
 impl Findings<'_> {
+    /// The same of a rendering, whose files have names, unless one of them may be gone.
+    fn of_rendering(self) -> Self {
+        let is_gone = self
+            .reason
+            .is_some_and(|reason| reason.kind() == ErrorKind::NotFound);
+        match self.unfinished {
+            Some(Unfinished::Whole) if !is_gone => Findings {
+                unfinished: Some(Unfinished::Rendering),
+                ..self
+            },
+            _ => self,
+        }
+    }
+
     /// What is at fault, as it was found or else as the number says.
     fn fmt_cause<W: fmt::Write>(&self, meaning: Meaning, f: &mut fmt::Formatter<W>) -> fmt::Result {
         match self.look {
             Some(look) if look.has_cause() => look.fmt_cause(f),
-            _ => f.write_str(meaning.cause),
+            _ => self.fmt_found(meaning, f),
+        }
+    }
+
+    /// What was found of the folder of the output, or what the system said; else what the number says.
+    fn fmt_found<W: fmt::Write>(&self, meaning: Meaning, f: &mut fmt::Formatter<W>) -> fmt::Result {
+        if let Some(folder) = self.folder {
+            return f.write_str(folder.text());
+        }
+        if let Some(name) = self.inside {
+            let name = PrintedName(name);
+            return write!(f, "it already contains {name}");
+        }
+        match self.reason {
+            Some(reason) => SystemWord(reason).fmt(f),
+            None => f.write_str(meaning.cause),
         }
     }
 }
@@ -437,25 +479,16 @@ impl fmt::Display for Findings<'_> {
             let name = PrintedName(file);
             write!(f, "; the file is: {name}")?;
         }
-        if let Some(name) = self.inside {
-            let name = PrintedName(name);
-            write!(f, "; in it lies: {name}")?;
-        }
-        if let Some(folder) = self.folder {
-            let found = folder.text();
-            write!(f, "; {found}")?;
-        }
         if let Some(near) = self.look.and_then(|look| look.near.as_ref()) {
             write!(f, "; {near}")?;
-        }
-        if let Some(reason) = self.reason {
-            let word = SystemWord(reason);
-            write!(f, "; {word}")?;
         }
         match self.unfinished {
             Some(Unfinished::File(file)) => write!(f, "; unfinished in the output: {file}"),
             Some(Unfinished::Rendering) => {
                 f.write_str("; unfinished in the output: render.wav and render.marks")
+            }
+            Some(Unfinished::Report) => {
+                f.write_str("; render.wav in the output is finished, and render.json isn't")
             }
             Some(Unfinished::Whole) => f.write_str("; what lies in the output is unfinished"),
             None => Ok(()),

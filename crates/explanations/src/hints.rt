@@ -29,11 +29,11 @@ pub fn hint_at(fault: TextFault, stood: &[u8], line: &[u8], list: &[u8]) -> Opti
 /// What alone is read in a line that says this.
 fn form_read(kind: LineKind) -> Option<&'static str> {
     match kind {
-        LineKind::Index => Some("of an index only (F) is read"),
-        LineKind::Entry => Some("of an entry only (Cut) I is read"),
-        LineKind::Fade => Some("of curves only LIN is read"),
-        LineKind::Gain => Some("of gains only zero is read"),
-        LineKind::Setting => Some("only zero is read there"),
+        LineKind::Index => Some("of indexes only files, (F), are supported"),
+        LineKind::Entry => Some("of entries only (Cut) I is supported, with a capital I"),
+        LineKind::Fade => Some("of curves only LIN is supported"),
+        LineKind::Gain => Some("only a gain of zero is supported: another one changes the sound"),
+        LineKind::Setting => Some("only zero is supported there"),
         LineKind::Other => None,
     }
 }

@@ -17,12 +17,14 @@ const STOOD_BYTES: usize = 60;
 const BLOCK_BYTES: usize = 4096;
 
 /// The lines of a list by their numbers, found soonest where these rise: what is left of it behind so many line feeds.
+/// Beside it which numbers of faults were asked for, one bit each.
 #[derive(Clone, Copy)]
 pub struct ListLines<'a> {
     list: &'a [u8],
     rest: &'a [u8],
     ends: usize,
     rate: Option<Rate>,
+    numbers: u64,
 }
 
 impl<'a> ListLines<'a> {
@@ -33,15 +35,28 @@ impl<'a> ListLines<'a> {
             rest: without_mark(list),
             ends: 0,
             rate: None,
+            numbers: 0,
         }
     }
 
     /// The line at which this fault of the list stands, where it stands at one.
     pub fn at(&mut self, fault: &opening::Fault) -> Option<LineAtFault<'a>> {
         match fault {
-            opening::Fault::List(fault) => self.at_fault(*fault),
+            opening::Fault::List(text) => {
+                let line = self.at_fault(*text)?;
+                let is_first = self.is_first(fault.number());
+                Some(LineAtFault { is_first, ..line })
+            }
             _ => None,
         }
+    }
+
+    /// Whether no line at a fault of this number was asked for before.
+    fn is_first(&mut self, number: u8) -> bool {
+        let mark = 1u64.checked_shl(u32::from(number)).unwrap_or(0);
+        let is_first = self.numbers & mark == 0;
+        self.numbers |= mark;
+        is_first
     }
 
     /// The line at which this fault of the text stands.
@@ -67,6 +82,7 @@ impl<'a> ListLines<'a> {
             stood,
             passed,
             hint,
+            is_first: true,
         })
     }
 
@@ -141,14 +157,15 @@ fn line_feeds_in(block: &[u8]) -> usize {
     count
 }
 
-/// A line of the list, what stands in it at the fault, the list's rate where a time's frame passes it, and what else
-/// helps there.
+/// A line of the list, what stands in it at the fault, the list's rate where a time's frame passes it, what else helps
+/// there, and whether it is the first one with a fault of its number.
 #[derive(Clone, Copy)]
 pub struct LineAtFault<'a> {
     pub line: &'a [u8],
     pub stood: Stood<'a>,
     passed: Option<Rate>,
     pub hint: Option<&'static str>,
+    pub is_first: bool,
 }
 
 impl LineAtFault<'_> {

@@ -131,9 +131,9 @@ pub static MEANINGS: [Meaning; 55] = [
         number: 13,
         spot: Spot::Line,
         meaning: "unsupported line",
-        cause: "this version reads plain cuts with LIN fades, but no gain, pan or automation, \
-                and no keyword that it doesn't know",
-        remedy: "export the project without what the line says",
+        cause: "only plain cuts with LIN fades are supported: gain, pan, automation or a line that isn't known may change \
+                the sound, so none is skipped",
+        remedy: "export the project again with this rendered into its sound files, or without it if it needn't be heard",
         is_answered: true,
     },
     Meaning {
@@ -337,7 +337,7 @@ pub static MEANINGS: [Meaning; 55] = [
         spot: Spot::Entry,
         meaning: "the entry plays what its file doesn't have",
         cause: "its source in lies before the file's first frame, or its length goes past the last one",
-        remedy: "correct its source in or its length, or the time of its index; or name the whole file",
+        remedy: "correct its source in or its length, or the time of its index; if the file was cut short, get the whole one",
         is_answered: true,
     },
     Meaning {

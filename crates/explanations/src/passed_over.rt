@@ -17,6 +17,27 @@ const SHOWN_BYTES: usize = 60;
 pub struct PassedLineWords<'a> {
     pub line: u64,
     pub words: &'a [u8],
+    unheard: Unheard,
+}
+
+/// What isn't heard since words are passed over.
+#[derive(Clone, Copy, PartialEq, Eq)]
+enum Unheard {
+    TrackSetting,
+    Crossfades,
+    BehindEntry,
+    Levels,
+}
+
+impl Unheard {
+    fn text(self) -> &'static str {
+        match self {
+            Unheard::TrackSetting => "gain, pan and mute of a track aren't applied",
+            Unheard::Crossfades => "default crossfades aren't heard",
+            Unheard::BehindEntry => "what follows the fields of an entry is ignored",
+            Unheard::Levels => "levels and volumes aren't applied",
+        }
+    }
 }
 
 /// The lines of a list with words that are passed over though they may be meant to be heard: gain, pan and mute in
@@ -49,12 +70,16 @@ impl<'a> PassedLines<'a> {
                 self.lines = Lines::new(b"");
                 break;
             }
-            let passed = words_in(section, text);
+            let passed = passed_in(section, text);
             section = section.after(text);
-            if let Some(words) = passed {
+            if let Some((words, unheard)) = passed {
                 self.section = section;
                 let line = self.lines.number();
-                return Some(PassedLineWords { line, words });
+                return Some(PassedLineWords {
+                    line,
+                    words,
+                    unheard,
+                });
             }
         }
         None
@@ -77,7 +102,8 @@ impl fmt::Display for PassedWords<'_> {
             if count <= MOST {
                 let line = passed.line;
                 let words = Shown(passed.words, SHOWN_BYTES);
-                writeln!(f, "not honoured at line {line}: {words}")?;
+                let unheard = passed.unheard.text();
+                writeln!(f, "not honoured at line {line}: {words}; {unheard}")?;
             }
         }
         match count.checked_sub(MOST) {
@@ -128,12 +154,17 @@ fn named_by(line: &[u8]) -> Option<&[u8]> {
     line.strip_prefix(b"<")?.strip_suffix(b">")
 }
 
-/// The words of a line in this section that are passed over: from the first of them on.
-fn words_in(section: Section, line: &[u8]) -> Option<&[u8]> {
+/// The words of a line in this section that are passed over, from the first of them on, and what isn't heard then.
+fn passed_in(section: Section, line: &[u8]) -> Option<(&[u8], Unheard)> {
     if named_by(line).is_some_and(says_levels) {
-        return Some(line);
+        return Some((line, Unheard::Levels));
     }
     let sought = Sought::of(section, line)?;
+    Some((words_in(sought, line)?, sought.unheard()))
+}
+
+/// The words of a line that are sought there: from the first of them on.
+fn words_in(sought: Sought, line: &[u8]) -> Option<&[u8]> {
     let mut tokens = Tokens::new(line);
     for position in 1..=line.len() {
         match tokens.next_token() {
@@ -186,6 +217,15 @@ impl Sought {
             }
             Section::EventList if begins_with(line, b"Entry") => Some(Sought::BehindEntry),
             _ => None,
+        }
+    }
+
+    /// What isn't heard where it is passed over.
+    fn unheard(self) -> Unheard {
+        match self {
+            Sought::TrackSetting => Unheard::TrackSetting,
+            Sought::CrossfadeLength => Unheard::Crossfades,
+            Sought::BehindEntry => Unheard::BehindEntry,
         }
     }
 

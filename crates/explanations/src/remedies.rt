@@ -19,7 +19,7 @@ impl fmt::Display for SystemWord {
                 f,
                 "the disk has no more room for you: {error}"
             ),
-            _ => write!(f, "the system says: {error}"),
+            _ => write!(f, "{error}"),
         }
     }
 }
