@@ -1,5 +1,5 @@
 -- What the program prints and answers of a command.
-use Rattle.std.specs.Prelude.{◌≡◌, ℕ, Bool, true, false, IsOk, IsErr, ⊤, List, [], ◌∷◌, ◌++◌, Option, None, Some, Result, Ok, Err, IfErr, codes, if◌then◌else◌}
+use Rattle.std.specs.Prelude.{◌≡◌, ℕ, Bool, true, false, IsOk, IsErr, IsTrue, ⊤, List, [], ◌∷◌, ◌++◌, Option, None, Some, Result, Ok, Err, IfErr, codes, if◌then◌else◌}
 use Rattle.work_terms.specs.Refusals.{Refusal, Nowhere}
 use Rattle.opening.specs.declared.checking.Accepted.{Accepted}
 use Rattle.devices.specs.declared.source.Shelf as source
@@ -11,6 +11,7 @@ use Rattle.rendering.specs.declared.cutting.JobLength.{JobLength}
 use Rattle.provenance.specs.Asked.{AskedReport}
 use Rattle.consolidate.specs.Commands.{IsChecking, IsRendering}
 use Rattle.consolidate.specs.Resuming.{IsResuming}
+use Rattle.consolidate.specs.SoundReports.{IsReportedRendering, IsReportedResuming, SoundReport}
 use Rattle.consolidate.specs.Fault.{refusal_of}
 use Rattle.consolidate.specs.Comparing.{IsComparing}
 use Rattle.consolidate.specs.CompareFault as comparing
@@ -28,18 +29,26 @@ use Rattle.consolidate.specs.declared.Resumed.{Resumed}
 use Rattle.consolidate.specs.declared.Written.{Written}
 use Rattle.commandline.specs.declared.choice.MediaReport.{MediaReport}
 use Rattle.commandline.specs.declared.choice.MediaReport.TheVariants.{NoReport, Plain, WithDigests}
+use Rattle.clap.specs.Walk.{Text}
 use Rattle.commandline.specs.CommandLine.{Asked, Chosen, Selected, Check, Report, Render, Resume, Consolidate, Compare, Show, Explain, ExplainNotice}
+use Rattle.checkreport.specs.Reported.{Holds}
+use Rattle.checkreport.specs.Reported as reporting
+use Rattle.work_terms.specs.Disk.{Files}
 use Rattle.console.specs.declared.console.Console as console
 use Rattle.console.specs.declared.lines.ListOfTwo.{ListOfTwo}
 use Rattle.console.specs.declared.lines.ListOfTwo.TheVariants.{First, Second}
 use Rattle.console.specs.Lines.{accepted_text, differ_text, in_list, notices_of_list, notices_text, refusal_text, rendered_text, resumed_text, same_text, written_text}
 use Rattle.console.specs.Printing.{Prints}
-use Rattle.answers.specs.Times.{part_of, selection_of, values_of}
+use Rattle.answers.specs.Times.{bad_time_line, part_of, selection_of, values_of}
 
 -- the report of this program on the list of this text, with the digests of whole sources or without them
 abbrev pub program_report : (digests : Bool) → (list : List ℕ) → AskedReport
 program_report digests list =
     record { program = codes "adlcons"; version = codes "1.0.0"; list = list; digests = digests }
+
+-- that of a rendering
+abbrev pub sound_report : SoundReport
+sound_report = record { program = codes "adlcons"; version = codes "1.0.0" }
 
 -- that which is asked for
 abbrev pub asking : MediaReport → (list : List ℕ) → Option AskedReport
@@ -188,19 +197,33 @@ pub record IsChecked {S : Type 0} (shelf : source.Ghosts S) (list : List ℕ) (o
   pub read : WasRead shelf between new
   pub accepted : IsOk result → new ≡ between
 
+-- the list was rendered, and then its report was written, where one is wanted
+abbrev pub RendersAs : {S B : Type 0} → source.Ghosts S → output.Ghosts B → (is_reported : Bool) → JobLength
+    → (list : List ℕ) → OptionValues → (shelf_old shelf_new : S) → (bench_old bench_new : B) → Result Rendered Fault
+    → Type 0
+RendersAs shelf bench false = IsRendering shelf bench
+RendersAs shelf bench true = IsReportedRendering shelf bench sound_report
+
+-- its rendering was gone on with, likewise
+abbrev pub ResumesAs : {S B : Type 0} → source.Ghosts S → output.Ghosts B → (is_reported : Bool) → JobLength
+    → (list : List ℕ) → OptionValues → (shelf_old shelf_new : S) → (bench_old bench_new : B) → Result Resumed Fault
+    → Type 0
+ResumesAs shelf bench false = IsResuming shelf bench
+ResumesAs shelf bench true = IsReportedResuming shelf bench sound_report
+
 -- the list was rendered by what the words choose, whose times are read at its own rate of frames
 pub record RendersBy {S B : Type 0} (shelf : source.Ghosts S) (bench : output.Ghosts B) (jobs : JobLength) (chosen : Chosen)
     (list : List ℕ) (shelf_old shelf_new : S) (bench_old bench_new : B) (result : Result Rendered Fault) : Type 0 where
   pub values : OptionValues
   pub read : values_of (rate_of list) chosen ≡ Ok values
-  pub rendering : IsRendering shelf bench jobs list values shelf_old shelf_new bench_old bench_new result
+  pub rendering : RendersAs shelf bench chosen.report jobs list values shelf_old shelf_new bench_old bench_new result
 
 -- the rendering of the list was gone on with, by what the words choose likewise
 pub record ResumesBy {S B : Type 0} (shelf : source.Ghosts S) (bench : output.Ghosts B) (jobs : JobLength) (chosen : Chosen)
     (list : List ℕ) (shelf_old shelf_new : S) (bench_old bench_new : B) (result : Result Resumed Fault) : Type 0 where
   pub values : OptionValues
   pub read : values_of (rate_of list) chosen ≡ Ok values
-  pub resuming : IsResuming shelf bench jobs list values shelf_old shelf_new bench_old bench_new result
+  pub resuming : ResumesAs shelf bench chosen.report jobs list values shelf_old shelf_new bench_old bench_new result
 
 -- two lists were compared at what the words choose, whose times are read at the first one's rate of frames
 pub record ComparesBy {S T : Type 0} (shelf : source.Ghosts S) (stock : source.Ghosts T) (selected : Selected)
@@ -209,14 +232,36 @@ pub record ComparesBy {S T : Type 0} (shelf : source.Ghosts S) (stock : source.G
   pub read : selection_of (rate_of list) selected ≡ Ok selection
   pub comparing : IsComparing shelf stock list other selection old new other_old other_new result
 
--- what is asked for can't be done: a time that can't be read, a number that nothing has, or two lists over one
-abbrev pub MayBeMistaken : ℕ → Asked → Type 0
-MayBeMistaken rate (Check list media) = ⊥
-MayBeMistaken rate (Report list media) = ⊥
-MayBeMistaken rate (Render list media out chosen) = IsErr (values_of rate chosen)
-MayBeMistaken rate (Resume list media out chosen) = IsErr (values_of rate chosen)
-MayBeMistaken rate (Consolidate list media out handle _) = ⊥
-MayBeMistaken rate (Compare list media other other_media selected) = ⊤
-MayBeMistaken rate (Show list media handle drawn) = IsErr (part_of rate drawn)
-MayBeMistaken rate (Explain number) = ⊤
-MayBeMistaken rate (ExplainNotice number) = ⊤
+-- a time of what is chosen can't be read, its option is named in a line, and nothing else is printed
+abbrev pub NamesBadTime : {X E : Type 0} → console.Ghosts E → (old new : E) → Result X Text → Type 0
+NamesBadTime err old new read =
+    (option : Text) × (read ≡ Err option) × Tells err old new (bad_time_line option)
+
+-- What is asked for can't be done: a time that can't be read, which is all that standard error has, a number that nothing
+-- has, or two lists over one.
+abbrev pub MayBeMistaken : {E : Type 0} → console.Ghosts E → (old new : E) → (rate : ℕ) → Asked → Type 0
+MayBeMistaken err old new rate (Check list media) = ⊥
+MayBeMistaken err old new rate (Report list media) = ⊥
+MayBeMistaken err old new rate (Render list media out chosen) = NamesBadTime err old new (values_of rate chosen)
+MayBeMistaken err old new rate (Resume list media out chosen) = NamesBadTime err old new (values_of rate chosen)
+MayBeMistaken err old new rate (Consolidate list media out handle _) = ⊥
+MayBeMistaken err old new rate (Compare list media other other_media selected) = ⊤
+MayBeMistaken err old new rate (Show list media handle drawn) = NamesBadTime err old new (part_of rate drawn)
+MayBeMistaken err old new rate (Explain number) = ⊤
+MayBeMistaken err old new rate (ExplainNotice number) = ⊤
+
+-- the times of what is asked for can be read at this rate
+abbrev pub CanBeTimed : (rate : ℕ) → Asked → Type 0
+CanBeTimed rate (Render list media out chosen) = IsOk (values_of rate chosen)
+CanBeTimed rate (Resume list media out chosen) = IsOk (values_of rate chosen)
+CanBeTimed rate (Show list media handle drawn) = IsOk (part_of rate drawn)
+CanBeTimed rate _ = ⊤
+
+-- some report was printed in a line, and the status is that of this report; where the files are honest it holds of the
+-- list over them
+pub record IsReportPrinted {O : Type 0} (honest : Bool) (list : List ℕ) (files : Files) (out : console.Ghosts O)
+    (old new : O) (status : ℕ) : Type 0 where
+  pub report : reporting.Report
+  pub holds : IsTrue honest → Holds list files report
+  pub status_is : status ≡ reporting.status_of report
+  pub printed : Tells out old new (reporting.text_of report ++ 10 ∷ [])

@@ -1,3 +1,5 @@
 pub mod Answers
 pub mod BadTime
+pub mod Mistaken
+pub mod MistakenLaws
 pub mod Times

@@ -1,6 +1,7 @@
 // The answer to a check whose report is asked for.
 ghost use Rattle.std.specs.Prelude.{◌≤◌, IsTrue};
 ghost use Rattle.checkreport.specs.Reported.{IsReported};
+ghost use Rattle.answers.specs.Answers.{IsReportPrinted};
 
 use crate::asides::Asides;
 use crate::explainer::Explainer;
@@ -27,6 +28,9 @@ pub fn answer_report<S: Shelf + Reasons, O: Console, E: Console, A: Asides>(
 ) -> u8
     ensures reported { IsTrue (S.honest shelf.old)
         → IsReported list.now (S.stored shelf.old) O.Console out.old out.new result }
+    // Whatever the sources are, some report was printed.
+    ensures printed { IsReportPrinted (S.honest shelf.old) list.now (S.stored shelf.old) O.Console out.old out.new
+        result }
     ensures statuses { result ≤ 1 }
 {
     let outcome = open_project(alloc, list, shelf);

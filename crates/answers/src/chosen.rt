@@ -1,15 +1,18 @@
 // What the words choose of a rendering, of a comparison or of a picture, as its options.
-ghost use Rattle.std.specs.Prelude.{◌≡◌, Err, IfErr, IfOk, Ok, option_map};
+ghost use Rattle.std.specs.Prelude.{◌≡◌, Err, IfErr, IfOk, Ok, option_map, true};
 ghost use Rattle.sampletime.specs.FrameRate.{frames_per_second};
 ghost use Rattle.rendering.specs.Rendering as rendering;
 ghost use Rattle.rendering.specs.Rendering.{HaveChannels};
+ghost use Rattle.answers.specs.Answers.{CanBeTimed};
 ghost use Rattle.answers.specs.BadTime.{name_of};
 ghost use Rattle.answers.specs.Times.{bad_time_line, part_of, selection_of, time_in, values_of};
 ghost use Rattle.comparison.specs.Range.{HasChannels};
-ghost use Rattle.commandline.specs.Request.{chosen_of, drawn_of, selected_of};
+ghost use Rattle.commandline.specs.Request.{asked_of, chosen_of, drawn_of, selected_of};
 ghost use Rattle.console.specs.Printing.{Prints};
+ghost use Rattle.list_terms.specs.Text.{rate_of as rate_at};
 
-use commandline::{Chosen, Drawn, Selected};
+use adlread::rate_of;
+use commandline::{Chosen, Drawn, Request, Selected};
 use console::Console;
 use consolidate::{Options, Selection};
 use picture::Part;
@@ -80,6 +83,24 @@ pub fn part_of(drawn: Drawn<'_>, rate: Rate) -> Result<Part, BadTime>
     let from = time_of(drawn.from, rate).ok_or(BadTime::From)?;
     let to = time_of(drawn.to, rate).ok_or(BadTime::To)?;
     Ok(Part { from, to })
+}
+
+/// Whether the times of a command over one list can be read at the list's rate.
+pub fn can_be_timed(request: Request<'_>, list: &[u8]) -> bool
+    ensures { result ≡ true → CanBeTimed (rate_at list.now) (asked_of request.entry) }
+{
+    match request {
+        Request::Render(_, chosen) | Request::Resume(_, chosen) => {
+            options_of(chosen, rate_of(list)).is_ok()
+        }
+        Request::Show(_, _, _, drawn) => part_of(drawn, rate_of(list)).is_ok(),
+        Request::Check(_, _)
+        | Request::Report(_, _)
+        | Request::Consolidate(_, _, _)
+        | Request::Compare(_, _)
+        | Request::Explain(_)
+        | Request::ExplainNotice(_) => true,
+    }
 }
 
 /// The time that a text spells at this rate, where there is a text.

@@ -1,5 +1,5 @@
 // The answer to a comparison of two lists.
-ghost use Rattle.std.specs.Prelude.{◌≡◌, ◌≢◌, ◌≤◌, Err, IsErr, false};
+ghost use Rattle.std.specs.Prelude.{◌≡◌, ◌≢◌, ◌≤◌, Err, false};
 ghost use Rattle.clap.specs.Walk.{Text};
 ghost use Rattle.comparison.specs.Range.{HasChannels};
 ghost use Rattle.consolidate.specs.Comparing.{IsComparing};
@@ -7,7 +7,7 @@ ghost use Rattle.sampletime.specs.FrameRate.{frames_per_second};
 ghost use Rattle.commandline.specs.Request.{selected_of};
 ghost use Rattle.console.specs.Printing.{Prints};
 ghost use Rattle.list_terms.specs.Text.{rate_of as rate_at};
-ghost use Rattle.answers.specs.Answers.{ComparesBy, IsComparedAs, compared_lines, comparison_refusal_line, comparison_text, list_refusal_line, status_of_comparison};
+ghost use Rattle.answers.specs.Answers.{ComparesBy, IsComparedAs, NamesBadTime, compared_lines, comparison_refusal_line, comparison_text, list_refusal_line, status_of_comparison};
 ghost use Rattle.consolidate.specs.CompareFault as comparing;
 ghost use Rattle.answers.specs.Times.{bad_time_line, selection_of};
 
@@ -68,7 +68,8 @@ pub fn answer_compare<
         → selection_of (rate_at first_list.now) (selected_of selected.entry) ≡ Err option
         → (result ≡ 2) × Prints E.contents E.failures err.old err.new (bad_time_line option) }
     ensures statuses { result ≤ 2 }
-    ensures mistake { result ≡ 2 → IsErr (selection_of (rate_at first_list.now) (selected_of selected.entry)) }
+    ensures mistake { result ≡ 2 → NamesBadTime E.Console err.old err.new
+        (selection_of (rate_at first_list.now) (selected_of selected.entry)) }
     ensures two { result ≡ 2
         → (first_shelf.new ≡ first_shelf.old) × (second_shelf.new ≡ second_shelf.old) × (out.new ≡ out.old) }
 {

@@ -1,9 +1,10 @@
 // The answer to a request for a picture.
-ghost use Rattle.std.specs.Prelude.{◌≡◌, ◌≤◌, Err, IsErr};
+ghost use Rattle.std.specs.Prelude.{◌≡◌, ◌≤◌, Err};
 ghost use Rattle.clap.specs.Walk.{Text};
 ghost use Rattle.commandline.specs.Request.{drawn_of};
 ghost use Rattle.console.specs.Printing.{Prints};
 ghost use Rattle.list_terms.specs.Text.{rate_of as rate_at};
+ghost use Rattle.answers.specs.Answers.{NamesBadTime};
 ghost use Rattle.answers.specs.Times.{bad_time_line, part_of};
 
 use crate::asides::Asides;
@@ -42,7 +43,8 @@ pub fn answer_picture<S: Shelf + Reasons, O: Console, E: Console, A: Asides>(
     ensures bad_time { (option : Text) → part_of (rate_at list.now) (drawn_of drawn.entry) ≡ Err option
         → (result ≡ 2) × Prints E.contents E.failures err.old err.new (bad_time_line option) }
     ensures statuses { result ≤ 2 }
-    ensures mistake { result ≡ 2 → IsErr (part_of (rate_at list.now) (drawn_of drawn.entry)) }
+    ensures mistake { result ≡ 2 → NamesBadTime E.Console err.old err.new
+        (part_of (rate_at list.now) (drawn_of drawn.entry)) }
     ensures two { result ≡ 2 → (shelf.new ≡ shelf.old) × (out.new ≡ out.old) }
 {
     match part_of(drawn, rate_of(list)) {

@@ -24,7 +24,7 @@ mod words;
 pub use also::tell_further;
 pub use asides::{Asides, FEW_FAULTS};
 pub use check_report::answer_report;
-pub use chosen::BadTime;
+pub use chosen::{BadTime, can_be_timed};
 pub use comparing::answer_compare;
 pub use drawing::answer_picture;
 pub use explainer::explained_unread;

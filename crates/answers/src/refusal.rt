@@ -16,7 +16,8 @@ use crate::second_look::SecondLook;
 use adlread::AdlFault;
 use console::{Console, Place, Refusal, put_refusal};
 use consolidate::{
-    Fault, LIST, ListFault, MARKS, MarkFault, MarkedFile, OutputFile, REPORT, SOUND, SUMS,
+    Fault, LIST, ListFault, MARKS, MarkFault, MarkedFile, OutputFile, RENDER_REPORT, REPORT, SOUND,
+    SUMS,
 };
 use explanations::{Explanation, Look};
 use list_terms::Location;
@@ -159,6 +160,7 @@ fn output_place(file: OutputFile) -> Place<'static>
     match file {
         OutputFile::Rendering => Place::File(SOUND),
         OutputFile::Marks => Place::File(MARKS),
+        OutputFile::RenderReport => Place::File(RENDER_REPORT),
         OutputFile::Medium(number) => Place::Medium(number),
         OutputFile::Sums => Place::File(SUMS),
         OutputFile::Report => Place::File(REPORT),

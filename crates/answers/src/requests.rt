@@ -1,10 +1,10 @@
 // The program's answer to a request.
-ghost use Rattle.std.specs.Prelude.{◌≡◌, ◌≢◌, ◌≤◌, ℕ, Bool, Err, IsTrue, List, Ok, Option, false, option_map};
+ghost use Rattle.std.specs.Prelude.{◌≡◌, ◌≢◌, ◌≤◌, ◌↔◌, ℕ, Bool, Err, IsTrue, List, Ok, Option, false, option_map, true};
 ghost use Rattle.clap.specs.Walk.{Text};
 ghost use Rattle.clap.specs.Words.{kind_of};
+ghost use Rattle.clap.specs.declared.error.ErrorKind.TheVariants.{OutOfMemory};
 ghost use Rattle.consolidate.specs.Asked.{asked_on};
-ghost use Rattle.consolidate.specs.Commands.{IsConsolidation, IsRendering};
-ghost use Rattle.consolidate.specs.Resuming.{IsResuming};
+ghost use Rattle.consolidate.specs.Commands.{IsConsolidation};
 ghost use Rattle.consolidate.specs.Fault.{refusal_of};
 ghost use Rattle.passes.specs.Left.{left_by};
 ghost use Rattle.passes.specs.Standard.{AreStandard};
@@ -16,9 +16,11 @@ ghost use Rattle.commandline.specs.CommandLine as asked;
 ghost use Rattle.commandline.specs.CommandLine.{is_shown};
 ghost use Rattle.commandline.specs.Request.{asked_of};
 ghost use Rattle.console.specs.Printing.{Prints};
+ghost use Rattle.list_terms.specs.Steps.{ok_map};
 ghost use Rattle.list_terms.specs.Text.{rate_of as rate_at};
-ghost use Rattle.answers.specs.Answers.{IsAnswered, IsChecked, MayBeMistaken, RendersBy, ResumesBy, accepted_lines, asking, rendered_lines, resumed_lines, written_lines};
+ghost use Rattle.answers.specs.Answers.{IsAnswered, IsChecked, IsReportPrinted, MayBeMistaken, RendersAs, RendersBy, ResumesAs, ResumesBy, accepted_lines, asking, rendered_lines, resumed_lines, written_lines};
 ghost use Rattle.answers.specs.BadTime.{name_of};
+ghost use Rattle.answers.specs.Mistaken.{no_memory_line};
 ghost use Rattle.checkreport.specs.Reported.{IsReported};
 ghost use Rattle.answers.specs.Times.{bad_time_line, part_of, values_of};
 
@@ -32,12 +34,15 @@ use crate::refusal::refuse;
 use crate::report::{tell_changed, tell_clipping, tell_done, tell_meanings};
 use adlread::rate_of;
 use clap::Error;
+use clap::error::ErrorKind;
 use commandline::{MediaReport, Request, VERSION};
 use console::{Console, Counts};
 use consolidate::{
-    Fault, JobLength, RenderChoice, ReportChoice, check_project, consolidate_watched,
-    render_watched, resume_watched,
+    Fault, JobLength, RenderChoice, RenderReport, RenderedSound, ReportChoice, ResumedSound,
+    check_project, consolidate_watched, render_reported, render_watched, resume_reported,
+    resume_watched,
 };
+use devices::Watch;
 use explanations::{Explanation, PrintedLines, Rendering, Saved, meanings_of, notice_meanings_of};
 use passes::Pass;
 use shelf::{Bench, Reasons, Shelf};
@@ -83,6 +88,8 @@ pub fn answer_request<
         → IsAnswered (IsChecked S.Shelf list.now shelf.old shelf.new) accepted_lines O.Console out.old out.new result }
     ensures reported { (path media : Text) → asked_of request.entry ≡ asked.Report path media
         → IsTrue (S.honest shelf.old) → IsReported list.now (S.stored shelf.old) O.Console out.old out.new result }
+    ensures report_printed { (path media : Text) → asked_of request.entry ≡ asked.Report path media
+        → IsReportPrinted (S.honest shelf.old) list.now (S.stored shelf.old) O.Console out.old out.new result }
     ensures rendered { (path media target : Text) (chosen : asked.Chosen)
         → asked_of request.entry ≡ asked.Render path media target chosen → result ≢ 2
         → IsAnswered (RendersBy S.Shelf B.Bench jobs chosen list.now shelf.old shelf.new bench.old bench.new)
@@ -117,7 +124,8 @@ pub fn answer_request<
     ensures explained_notice { (number : Option Text) → asked_of request.entry ≡ asked.ExplainNotice number
         → (result ≢ 1) × (shelf.new ≡ shelf.old) × (bench.new ≡ bench.old) }
     ensures statuses { result ≤ 2 }
-    ensures mistake { result ≡ 2 → MayBeMistaken (rate_at list.now) (asked_of request.entry) }
+    ensures mistake { result ≡ 2
+        → MayBeMistaken E.Console err.old err.new (rate_at list.now) (asked_of request.entry) }
     ensures two { result ≡ 2 → (shelf.new ≡ shelf.old) × (bench.new ≡ bench.old) × (out.new ≡ out.old) }
     ensures check_writes_nothing { (path media : Text) → asked_of request.entry ≡ asked.Check path media
         → bench.new ≡ bench.old }
@@ -136,14 +144,38 @@ pub fn answer_request<
         Request::Render(_, chosen) => match options_of(chosen, rate_of(list)) {
             Ok(options) => {
                 let choice = RenderChoice { options, jobs };
-                answer_render(alloc, list, &choice, shelf, bench, out, err, meter, asides)
+                let is_reported = chosen.report;
+                answer_render(
+                    alloc,
+                    list,
+                    &choice,
+                    is_reported,
+                    shelf,
+                    bench,
+                    out,
+                    err,
+                    meter,
+                    asides,
+                )
             }
             Err(bad) => refuse_time(bad, err),
         },
         Request::Resume(_, chosen) => match options_of(chosen, rate_of(list)) {
             Ok(options) => {
                 let choice = RenderChoice { options, jobs };
-                answer_resume(alloc, list, &choice, shelf, bench, out, err, meter, asides)
+                let is_reported = chosen.report;
+                answer_resume(
+                    alloc,
+                    list,
+                    &choice,
+                    is_reported,
+                    shelf,
+                    bench,
+                    out,
+                    err,
+                    meter,
+                    asides,
+                )
             }
             Err(bad) => refuse_time(bad, err),
         },
@@ -205,6 +237,58 @@ fn answer_check<S: Shelf + Reasons, O: Console, E: Console, A: Asides>(
     }
 }
 
+/// Renders the list, and then writes its report, where one is asked for.
+fn render_as<S: Shelf, B: Bench, W: Watch>(
+    alloc: Global,
+    list: &[u8],
+    choice: &RenderChoice,
+    is_reported: bool,
+    shelf: &mut S,
+    bench: &mut B,
+    watch: &mut W,
+) -> Result<RenderedSound, Fault>
+    requires { HaveChannels choice.now.options }
+    ensures { RendersAs S.Shelf B.Bench is_reported choice.now.jobs list.now
+        (rendering.values_of choice.now.options) shelf.old shelf.new bench.old bench.new
+        (ok_map (λ made. made.rendered) result) }
+{
+    if is_reported {
+        let report = RenderReport {
+            program: "adlcons",
+            version: VERSION,
+        };
+        render_reported(alloc, list, choice, report, shelf, bench, watch)
+    } else {
+        render_watched(alloc, list, choice, shelf, bench, watch)
+    }
+}
+
+/// Goes on with the rendering of the list, and then writes its report, where one is asked for.
+fn resume_as<S: Shelf, B: Bench, W: Watch>(
+    alloc: Global,
+    list: &[u8],
+    choice: &RenderChoice,
+    is_reported: bool,
+    shelf: &mut S,
+    bench: &mut B,
+    watch: &mut W,
+) -> Result<ResumedSound, Fault>
+    requires { HaveChannels choice.now.options }
+    ensures { ResumesAs S.Shelf B.Bench is_reported choice.now.jobs list.now
+        (rendering.values_of choice.now.options) shelf.old shelf.new bench.old bench.new
+        (ok_map (λ made. made.resumed) result) }
+{
+    if is_reported {
+        let report = RenderReport {
+            program: "adlcons",
+            version: VERSION,
+        };
+        resume_reported(alloc, list, choice, report, shelf, bench, watch)
+    } else {
+        resume_watched(alloc, list, choice, shelf, bench, watch)
+    }
+}
+
 /// Renders the list, and prints what came of it.
 fn answer_render<
     S: Shelf + Reasons,
@@ -217,6 +301,7 @@ fn answer_render<
     alloc: Global,
     list: &[u8],
     choice: &RenderChoice,
+    is_reported: bool,
     shelf: &mut S,
     bench: &mut B,
     out: &mut O,
@@ -226,11 +311,12 @@ fn answer_render<
 ) -> u8
     requires { HaveChannels choice.now.options }
     ensures answered { IsAnswered
-        (IsRendering S.Shelf B.Bench choice.now.jobs list.now (rendering.values_of choice.now.options) shelf.old shelf.new bench.old bench.new)
+        (RendersAs S.Shelf B.Bench is_reported choice.now.jobs list.now
+        (rendering.values_of choice.now.options) shelf.old shelf.new bench.old bench.new)
         rendered_lines O.Console out.old out.new result }
     ensures statuses { result ≤ 1 }
 {
-    let outcome = render_watched(alloc, list, choice, shelf, bench, meter);
+    let outcome = render_as(alloc, list, choice, is_reported, shelf, bench, meter);
     meter.clear();
     tell_changed(alloc, shelf, err);
     match outcome {
@@ -269,6 +355,7 @@ fn answer_resume<
     alloc: Global,
     list: &[u8],
     choice: &RenderChoice,
+    is_reported: bool,
     shelf: &mut S,
     bench: &mut B,
     out: &mut O,
@@ -278,11 +365,12 @@ fn answer_resume<
 ) -> u8
     requires { HaveChannels choice.now.options }
     ensures answered { IsAnswered
-        (IsResuming S.Shelf B.Bench choice.now.jobs list.now (rendering.values_of choice.now.options) shelf.old shelf.new bench.old bench.new)
+        (ResumesAs S.Shelf B.Bench is_reported choice.now.jobs list.now
+        (rendering.values_of choice.now.options) shelf.old shelf.new bench.old bench.new)
         resumed_lines O.Console out.old out.new result }
     ensures statuses { result ≤ 1 }
 {
-    let outcome = resume_watched(alloc, list, choice, shelf, bench, meter);
+    let outcome = resume_as(alloc, list, choice, is_reported, shelf, bench, meter);
     meter.clear();
     tell_changed(alloc, shelf, err);
     match outcome {
@@ -446,10 +534,16 @@ pub fn answer_error<O: Console, E: Console>(
     err: &mut E,
 ) -> u8
     ensures mistake { is_shown (kind_of error) ≡ false → result ≡ 2 }
+    ensures help { is_shown (kind_of error) ≡ true → result ≡ 0 }
+    ensures ran_out { kind_of error ≡ OutOfMemory
+        → Prints E.contents E.failures err.old err.new no_memory_line }
     ensures shown { result ≢ 1 }
     ensures statuses { result ≤ 2 }
     ensures two { result ≡ 2 → out.new ≡ out.old }
 {
+    if is_out_of_memory(&error) {
+        return refuse_words(err);
+    }
     if error.use_stderr() {
         tell_mistake(alloc, error, err);
         MISTAKE
@@ -457,6 +551,23 @@ pub fn answer_error<O: Console, E: Console>(
         out.print(error);
         DONE
     }
+}
+
+/// Whether no memory was left to read the words.
+fn is_out_of_memory(error: &Error) -> bool
+    ensures { IsTrue result ↔ (kind_of error.now ≡ OutOfMemory) }
+{
+    matches!(error.kind(), ErrorKind::OutOfMemory)
+}
+
+/// Prints that no memory was left to read the words, and answers the status.
+fn refuse_words<E: Console>(err: &mut E) -> u8
+    ensures status { result ≡ 2 }
+    ensures printed { Prints E.contents E.failures err.old err.new no_memory_line }
+{
+    err.put(b"error: out of memory");
+    err.end_line();
+    MISTAKE
 }
 
 /// Prints a mistake in the words, whose control characters are escaped.

@@ -1,13 +1,16 @@
 // Answers with the standard passes.
-ghost use Rattle.std.specs.Prelude.{◌≡◌, ◌≢◌, ◌≤◌, ℕ, Bool, IfOk, OnErr};
+ghost use Rattle.std.specs.Prelude.{◌≡◌, ◌≢◌, ◌≤◌, ℕ, Bool, Err, IfOk, OnErr};
 ghost use Rattle.clap.specs.Walk.{Text};
 ghost use Rattle.commandline.specs.declared.choice.MediaReport as choice;
 ghost use Rattle.commandline.specs.CommandLine as asked;
 ghost use Rattle.commandline.specs.Request.{asked_of};
 ghost use Rattle.consolidate.specs.Commands.{IsConsolidation};
 ghost use Rattle.sound_terms.specs.Passes.{standard_groups};
+ghost use Rattle.console.specs.Printing.{Prints};
+ghost use Rattle.list_terms.specs.Text.{rate_of as rate_at};
 ghost use Rattle.rendering.specs.declared.cutting.JobLength.TheVariants.{Longer};
-ghost use Rattle.answers.specs.Answers.{IsAnswered, RendersBy, ResumesBy, asking, rendered_lines, resumed_lines, written_lines};
+ghost use Rattle.answers.specs.Answers.{IsAnswered, MayBeMistaken, RendersBy, ResumesBy, asking, rendered_lines, resumed_lines, written_lines};
+ghost use Rattle.answers.specs.Times.{bad_time_line, values_of};
 
 use crate::asides::Asides;
 use crate::meter::Meter;
@@ -52,8 +55,22 @@ pub fn answer_standard<
         → IfOk result (λ status. IsAnswered (IsConsolidation S.Shelf B.Bench standard_groups list.now handle
         (asking report list.now) shelf.old shelf.new bench.old bench.new)
         written_lines O.Console out.old out.new status) }
+    // It names a time that can't be read.
+    ensures bad_time { (path media target : Text) (chosen : asked.Chosen) (option : Text)
+        → asked_of request.entry ≡ asked.Render path media target chosen
+        → values_of (rate_at list.now) chosen ≡ Err option → IfOk result
+        (λ status. (status ≡ 2) × Prints E.contents E.failures err.old err.new (bad_time_line option)) }
+    ensures bad_time_resumed { (path media target : Text) (chosen : asked.Chosen) (option : Text)
+        → asked_of request.entry ≡ asked.Resume path media target chosen
+        → values_of (rate_at list.now) chosen ≡ Err option → IfOk result
+        (λ status. (status ≡ 2) × Prints E.contents E.failures err.old err.new (bad_time_line option)) }
     ensures statuses { IfOk result (λ status. status ≤ 2) }
+    ensures mistake { IfOk result (λ status. status ≡ 2
+        → MayBeMistaken E.Console err.old err.new (rate_at list.now) (asked_of request.entry)) }
+    ensures two { IfOk result (λ status. status ≡ 2
+        → (shelf.new ≡ shelf.old) × (bench.new ≡ bench.old) × (out.new ≡ out.old)) }
     ensures nothing { OnErr result (out.new ≡ out.old) }
+    ensures untouched { OnErr result ((shelf.new ≡ shelf.old) × (bench.new ≡ bench.old)) }
 {
     // for speed
     let jobs = JobLength::Longer;

@@ -1,5 +1,5 @@
 // The program as a call: words, a list and stores.
-ghost use Rattle.std.specs.Prelude.{◌≡◌, ◌≢◌, ◌≤◌, ℕ, Bool, None, Some, false};
+ghost use Rattle.std.specs.Prelude.{◌≡◌, ◌≢◌, ◌≤◌, ◌⊎◌, ℕ, Bool, None, Some, false, true};
 ghost use Rattle.clap.specs.Walk.{Text, texts};
 ghost use Rattle.rendering.specs.declared.cutting.JobLength.TheVariants.{OneBlock};
 ghost use Rattle.consolidate.specs.Commands.{IsConsolidation};
@@ -7,7 +7,9 @@ ghost use Rattle.passes.specs.Left.{left_by};
 ghost use Rattle.commandline.specs.declared.choice.MediaReport as choice;
 ghost use Rattle.commandline.specs.CommandLine as asked;
 ghost use Rattle.commandline.specs.CommandLine.{asks_for_help, request_of, verifies};
-ghost use Rattle.answers.specs.Answers.{IsAnswered, IsChecked, RendersBy, ResumesBy, accepted_lines, asking, rendered_lines, resumed_lines, written_lines};
+ghost use Rattle.list_terms.specs.Text.{rate_of as rate_at};
+ghost use Rattle.answers.specs.Answers.{IsAnswered, IsChecked, IsReportPrinted, MayBeMistaken, RendersBy, ResumesBy, accepted_lines, asking, rendered_lines, resumed_lines, written_lines};
+ghost use Rattle.answers.specs.Mistaken.{AreMistaken};
 
 use crate::asides::NoAsides;
 use crate::requests::{answer_error, answer_request, refuse_two_lists};
@@ -53,9 +55,19 @@ pub fn answer<S: Shelf + Reasons, B: Bench + Reasons, O: Console, E: Console>(
         (left_by (λ pass. looking pass) (λ pass. gives pass) passes.items)
         list.now handle (asking report list.now) shelf.old shelf.new bench.old bench.new)
         written_lines O.Console out.old out.new result }
+    ensures reported { (path media : Text) → request_of (texts words.now) ≡ Some (asked.Report path media)
+        → result ≢ 2
+        → IsReportPrinted (S.honest shelf.old) list.now (S.stored shelf.old) O.Console out.old out.new result }
     ensures statuses { result ≤ 2 }
+    ensures help { asks_for_help (texts words.now) ≡ true → result ≢ 1 }
     ensures refused_words { request_of (texts words.now) ≡ None → asks_for_help (texts words.now) ≡ false
         → result ≡ 2 }
+    // The words ask for nothing, a time can't be read, a number is unknown, two lists are wanted, or memory lacks. A time
+    // that can't be read is named on `err`, and nothing else is there.
+    ensures mistake { result ≡ 2 → AreMistaken
+        (λ asked. MayBeMistaken E.Console err.old err.new (rate_at list.now) asked
+        ⊎ (verifies (texts words.now) ≡ true))
+        (texts words.now) E.Console err.old err.new }
     ensures two { result ≡ 2 → (shelf.new ≡ shelf.old) × (bench.new ≡ bench.old) × (out.new ≡ out.old) }
 {
     let parsed = match parse(alloc, words) {

@@ -4,7 +4,7 @@ use Rattle.answers.proofs.requests.answer_render.Goals as goal
 pub returns-in-Ok-clause-answered : goal.returns-in-Ok-clause-answered
 returns-in-Ok-clause-answered g c = record {
   outcome = Ok c.in-Ok.made.rendered;
-  called = c.in-Ok.ensures.renders;
+  called = c.in-Ok.ensures;
   status_is = refl;
   printed = search rules;
 }

@@ -3,9 +3,10 @@ use Rattle.passes.specs.Left.{Leaving, left_by, standard_left}
 use Rattle.provenance.specs.Asked.{AskedReport}
 use Rattle.consolidate.specs.Commands.{IsConsolidation}
 use Rattle.commandline.specs.declared.choice.MediaReport.{MediaReport}
+use Rattle.commandline.specs.CommandLine.{Asked}
 use Rattle.commandline.specs.Request.{asked_of}
 use Rattle.list_terms.specs.Text.{rate_of}
-use Rattle.answers.specs.Answers.{IsAnswered, asking, written_lines}
+use Rattle.answers.specs.Answers.{IsAnswered, MayBeMistaken, asking, written_lines}
 use Rattle.answers.specs.Times.{part_of}
 use Rattle.answers.proofs.Drawn.{show_drawn}
 use Rattle.commandline.specs.RequestLaws.{consolidate_fields}
@@ -44,3 +45,8 @@ pub returns-in-Show-clause-bad_time_shown : goal.returns-in-Show-clause-bad_time
 returns-in-Show-clause-bad_time_shown g c place media handle drawn option request failed =
     let same = show_drawn _ _ place media _ handle _ drawn (ap asked_of (sym c.in-Show.is) ∙ request) in
     c.answer_picture.ensures.bad_time option (ap (part_of (rate_of c.args.list.now)) same ∙ failed)
+
+pub returns-in-Show-clause-mistake : goal.returns-in-Show-clause-mistake
+returns-in-Show-clause-mistake g c = λ two.
+    subst (λ (asked : Asked). MayBeMistaken g.E.Console c.args.err.now c.answer_picture.new.err
+    (rate_of c.args.list.now) asked) (ap asked_of (sym c.in-Show.is)) (c.answer_picture.ensures.mistake two)

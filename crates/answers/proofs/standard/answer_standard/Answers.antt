@@ -72,6 +72,11 @@ returns-in-Check g c = record {
       ]
     ]
   ]);
+  bad_time = c.answer_request-in-Check.ensures.bad_time;
+  bad_time_resumed = c.answer_request-in-Check.ensures.bad_time_resumed;
   statuses = c.answer_request-in-Check.ensures.statuses;
+  mistake = c.answer_request-in-Check.ensures.mistake;
+  two = c.answer_request-in-Check.ensures.two;
   nothing = tt;
+  untouched = tt;
 }
