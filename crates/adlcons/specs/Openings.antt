@@ -1,12 +1,13 @@
 -- Why a command doesn't come to its stores, and what it is to come to them.
-use Rattle.std.specs.Prelude.{◌≡◌, ◌⊎◌, ℕ, IsTrue, false, List, [], codes, Result, Ok, Err}
+use Rattle.std.specs.Prelude.{◌≡◌, ◌⊎◌, ℕ, false, List, codes, Result, Ok, Err}
 use Rattle.work_terms.specs.Refusals.{Refusal, Where, Nowhere, File}
 use Rattle.devices.specs.declared.source.Shelf as source
 use Rattle.shelf.specs.Folder.{OutputFolder, SourceFolder, folder_named}
 use Rattle.shelf.specs.declared.Overwrite.{Overwrite}
 use Rattle.shelf.specs.declared.Overwrite.TheVariants.{Files, Never}
 use Rattle.commandline.specs.declared.choice.MediaReport.{MediaReport}
-use Rattle.commandline.specs.CommandLine.{Asked, Resume, Selected}
+use Rattle.commandline.specs.CommandLine.{Asked, Compare, Resume, Selected}
+use Rattle.list_terms.specs.Text.{rate_of}
 use Rattle.devices.specs.declared.bench.Bench as output
 use Rattle.sound_terms.specs.Passes.{standard_groups}
 use Rattle.consolidate.specs.Commands.{IsConsolidation}
@@ -17,8 +18,9 @@ use Rattle.consolidate.specs.declared.Written.{Written}
 use Rattle.console.specs.declared.console.Console as console
 use Rattle.console.specs.declared.lines.ListOfTwo.{ListOfTwo}
 use Rattle.console.specs.declared.lines.ListOfTwo.TheVariants.{First, Second}
-use Rattle.answers.specs.Answers.{ComparesBy, IsAnswered, IsChecked, IsComparedAs, IsVerified, Tells, accepted_lines, all_of_both, asking, list_refusal_line, refusal_line, written_lines}
-use Rattle.checkreport.specs.Reported.{IsReported, PrintsUnread}
+use Rattle.answers.specs.Answers.{ComparesBy, IsAnswered, IsChecked, IsComparedAs, IsReportPrinted, IsVerified, MayBeMistaken, NamesBadTime, Tells, accepted_lines, all_of_both, asking, list_refusal_line, refusal_line, written_lines}
+use Rattle.answers.specs.Times.{selection_of}
+use Rattle.checkreport.specs.Reported.{PrintsUnread}
 use Rattle.adlcons.specs.declared.folders.OpenFault.{OpenFault}
 use Rattle.adlcons.specs.declared.folders.OpenFault.TheVariants as opened
 use Rattle.adlcons.specs.declared.reading.ReadFault.{ReadFault}
@@ -51,31 +53,36 @@ pub record IsKeptOut {O : Type 0} (out : console.Ghosts O) (list folder : List �
   pub status_is : status ≡ 1
   pub printed : Tells out old new (refusal_line (refusal_of_opening fault list folder))
 
--- the list, or its report, didn't come to be, and the report has that alone
-pub record IsReportKeptOut {O : Type 0} (out : console.Ghosts O) (list : List ℕ) (old new : O) (status : ℕ)
-    : Type 0 where
-  pub fault : OpenFault
+-- a command that writes nothing didn't come to its list or its sources, and that is its line
+pub record IsUnread {O : Type 0} (out : console.Ghosts O) (list : List ℕ) (old new : O) (status : ℕ) : Type 0 where
+  pub fault : ReadFault
   pub status_is : status ≡ 1
-  pub unread : PrintsUnread out old new (refusal_of_opening fault list []).number
-      (refusal_of_opening fault list []).location
+  pub printed : Tells out old new (refusal_line (refusal_of_read fault list))
+
+-- a report didn't come to them, and has that alone
+pub record IsReportUnread {O : Type 0} (out : console.Ghosts O) (list : List ℕ) (old new : O) (status : ℕ)
+    : Type 0 where
+  pub fault : ReadFault
+  pub status_is : status ≡ 1
+  pub unread : PrintsUnread out old new (refusal_of_read fault list).number (refusal_of_read fault list).location
 
 -- the path of one of two lists
 abbrev pub path_of : ListOfTwo → (list other : List ℕ) → List ℕ
 path_of First list other = list
 path_of Second list other = other
 
--- a command didn't come to the sources of one of two lists, which has this path, and that is its line
-pub record IsListKeptOut {O : Type 0} (out : console.Ghosts O) (which : ListOfTwo) (path : List ℕ) (old new : O)
+-- a command didn't come to one of two lists, which has this path, or to its sources, and that is its line
+pub record IsListUnread {O : Type 0} (out : console.Ghosts O) (which : ListOfTwo) (path : List ℕ) (old new : O)
     (status : ℕ) : Type 0 where
-  pub fault : OpenFault
+  pub fault : ReadFault
   pub status_is : status ≡ 1
-  pub printed : Tells out old new (list_refusal_line which (refusal_of_opening fault path []))
+  pub printed : Tells out old new (list_refusal_line which (refusal_of_read fault path))
 
--- a comparison didn't come to the sources of one of its lists
-pub record IsOneKeptOut {O : Type 0} (out : console.Ghosts O) (list other : List ℕ) (old new : O) (status : ℕ)
+-- a comparison didn't come to one of its lists
+pub record IsOneUnread {O : Type 0} (out : console.Ghosts O) (list other : List ℕ) (old new : O) (status : ℕ)
     : Type 0 where
   pub which : ListOfTwo
-  pub kept_out : IsListKeptOut out which (path_of which list other) old new status
+  pub unread : IsListUnread out which (path_of which list other) old new status
 
 -- two lists were compared, each over the files of its folder, with a report or without
 pub record ComparesFolders {O : Type 0} (shelf : source.Ghosts SourceFolder) (out : console.Ghosts O)
@@ -91,22 +98,20 @@ pub record ComparesFolders {O : Type 0} (shelf : source.Ghosts SourceFolder) (ou
   pub answered : IsComparedAs selected.report
       (ComparesBy shelf shelf selected list other before after other_before other_after) out old new status
 
--- a list was checked over the files of this folder
+-- this list was checked over the files of this folder
 pub record ChecksFolder {O : Type 0} (shelf : source.Ghosts SourceFolder) (out : console.Ghosts O)
-    (media : List ℕ) (old new : O) (status : ℕ) : Type 0 where
-  pub list : List ℕ
+    (list media : List ℕ) (old new : O) (status : ℕ) : Type 0 where
   pub before : SourceFolder
   pub after : SourceFolder
   pub folder : before.folder ≡ folder_named media
   pub answered : IsAnswered (IsChecked shelf list before after) accepted_lines out old new status
 
--- a list was checked over the files of this folder, and its report printed
+-- it was checked, and its report printed, whether the folder is honest or not
 pub record ReportsFolder {O : Type 0} (shelf : source.Ghosts SourceFolder) (out : console.Ghosts O)
-    (media : List ℕ) (old new : O) (status : ℕ) : Type 0 where
-  pub list : List ℕ
+    (list media : List ℕ) (old new : O) (status : ℕ) : Type 0 where
   pub before : SourceFolder
   pub folder : before.folder ≡ folder_named media
-  pub reported : IsTrue (shelf.honest before) → IsReported list (shelf.stored before) out old new status
+  pub reported : IsReportPrinted (shelf.honest before) list (shelf.stored before) out old new status
 
 -- a list was compared with one over the files of this folder, where they are the same these lines were printed, and else
 -- what came of it
@@ -127,7 +132,7 @@ abbrev pub AnswersVerified : {O : Type 0} → source.Ghosts SourceFolder → con
 AnswersVerified shelf out list target before old new status (Err fault) =
     (status ≡ 1) × Tells out old new (refusal_line (refusal_of fault))
 AnswersVerified shelf out list target before old new status (Ok told) =
-    IsListKeptOut out Second (codes "consolidated.adl") old new status
+    IsListUnread out Second (codes "consolidated.adl") old new status
     ⊎ ComparesWritten shelf out list (written_lines told) target before old new status
 
 -- a list was consolidated over the files of one folder into another, and where that was done compared with what was
@@ -167,3 +172,10 @@ pub record WorksInFolders {X O : Type 0} (replaced : Overwrite)
   pub output : empty.folder ≡ folder_named target
   pub careful : empty.overwrite ≡ replaced
   pub answered : IsAnswered (call list before after empty full) report_lines out old new status
+
+-- What is asked for can't be done over some list: a time can't be read at the list's rate, and just its option's line was
+-- printed on standard error, or a number may be unknown.
+abbrev pub CantBeDone : {E : Type 0} → console.Ghosts E → (old new : E) → Asked → Type 0
+CantBeDone err old new (Compare list media other other_media selected) =
+    (text : List ℕ) × NamesBadTime err old new (selection_of (rate_of text) selected)
+CantBeDone err old new asked = (text : List ℕ) × MayBeMistaken err old new (rate_of text) asked

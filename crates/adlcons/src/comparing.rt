@@ -1,16 +1,17 @@
 // A comparison of two lists, each over the folder of its media.
-ghost use Rattle.std.specs.Prelude.{◌≡◌, ◌≢◌, ◌≤◌, ◌⊎◌, IfOk, OnErr};
+ghost use Rattle.std.specs.Prelude.{◌≡◌, ◌≢◌, ◌≤◌, ◌⊎◌, ℕ, List, IfOk, OnErr};
+ghost use Rattle.list_terms.specs.Text.{rate_of};
+ghost use Rattle.answers.specs.Answers.{NamesBadTime};
+ghost use Rattle.answers.specs.Times.{selection_of};
 ghost use Rattle.shelf.specs.Folder.{folder_named};
 ghost use Rattle.commandline.specs.Request.{selected_of};
-ghost use Rattle.adlcons.specs.Openings.{ComparesFolders, IsListKeptOut, IsOneKeptOut, path_of};
+ghost use Rattle.adlcons.specs.Openings.{ComparesFolders, IsListUnread, IsOneUnread, path_of};
 
 use crate::asides::FolderAsides;
-use crate::folders::{
-    OpenFault, TIMES, explanation_of, tell_all_further, tell_unlisted, unlisted_reason,
-};
+use crate::folders::{tell_all_further, tell_unlisted, unlisted_reason};
 use crate::media::{Manner, report_found};
 use crate::meter::{Progress, WorkMeter};
-use crate::reading::read_list;
+use crate::reading::{ReadFault, read_list};
 use crate::sources::ShownShelf;
 use answers::{MISTAKE, REFUSED, answer_compare};
 use commandline::{BothPlaces, Selected};
@@ -22,9 +23,9 @@ use std::os::unix::fs::FileExt;
 
 /// Why a comparison didn't come to the sources of one of two lists.
 #[derive(Clone, Copy, Debug)]
-struct Unopened {
+struct Unread {
     list: ListOfTwo,
-    fault: OpenFault,
+    fault: ReadFault,
 }
 
 /// A list as it was read, over the folder of its media.
@@ -54,46 +55,49 @@ where
     R: Files + Input + AllocGlobal + Clone + Drop,
     R::File: FileExt,
     ensures answered { result ≢ 2
-        → IsOneKeptOut O.Console places.entry.list.now places.entry.other_list.now out.old out.new result
+        → IsOneUnread O.Console places.entry.list.now places.entry.other_list.now out.old out.new result
         ⊎ ComparesFolders ⟦<ShownShelf<'static, R, L> as devices::Shelf>⟧ O.Console (selected_of selected.entry)
         places.entry.media.now places.entry.other_media.now out.old out.new result }
     ensures statuses { result ≤ 2 }
+    ensures mistake { result ≡ 2 → (list : List ℕ)
+        × NamesBadTime E.Console err.old err.new (selection_of (rate_of list) (selected_of selected.entry)) }
+    ensures two { result ≡ 2 → out.new ≡ out.old }
 {
     match try_compare(rt, places, selected, manner, out, err, line) {
         Ok(status) => status,
-        Err(unopened) => keep_one_out(unopened, places, out, err),
+        Err(unread) => keep_one_unread(unread, places, out, err),
     }
 }
 
 /// The status of a comparison that doesn't come to the sources of one of its lists. Why is printed.
-fn keep_one_out<O: Console, E: Console>(
-    unopened: Unopened,
+fn keep_one_unread<O: Console, E: Console>(
+    unread: Unread,
     places: BothPlaces<'_>,
     out: &mut O,
     err: &mut E,
 ) -> u8
-    ensures { IsOneKeptOut O.Console places.entry.list.now places.entry.other_list.now out.old out.new result }
+    ensures { IsOneUnread O.Console places.entry.list.now places.entry.other_list.now out.old out.new result }
 {
-    let path = path_of(unopened.list, places);
-    keep_list_out(unopened.list, unopened.fault, path, out, err)
+    let path = path_of(unread.list, places);
+    keep_list_unread(unread.list, unread.fault, path, out, err)
 }
 
 /// The status of a command that doesn't come to the sources of this one of two lists, which has this path. Why is
 /// printed.
-pub fn keep_list_out<O: Console, E: Console>(
+pub fn keep_list_unread<O: Console, E: Console>(
     list: ListOfTwo,
-    fault: OpenFault,
+    fault: ReadFault,
     path: &str,
     out: &mut O,
     err: &mut E,
 ) -> u8
-    ensures { IsListKeptOut O.Console list path.now out.old out.new result }
+    ensures { IsListUnread O.Console list path.now out.old out.new result }
 {
-    let refusal = fault.refusal(path, "");
+    let refusal = fault.refusal(path);
     put_refusal(out, refusal);
     put_in_list(out, list);
     out.end_line();
-    let (list, explanation) = (NamedList(list), explanation_of(fault, refusal.number, None));
+    let (list, explanation) = (NamedList(list), fault.explanation(refusal.number));
     err.print_line(format_args!("{list}: {explanation}"));
     REFUSED
 }
@@ -117,7 +121,7 @@ fn try_compare<'a, R, O: Console, E: Console, L: Progress>(
     out: &mut O,
     err: &mut E,
     line: &L,
-) -> Result<u8, Unopened>
+) -> Result<u8, Unread>
 where
     R: Files + Input + AllocGlobal + Clone + Drop,
     R::File: FileExt,
@@ -125,6 +129,10 @@ where
         → ComparesFolders ⟦<ShownShelf<'static, R, L> as devices::Shelf>⟧ O.Console (selected_of selected.entry)
         places.entry.media.now places.entry.other_media.now out.old out.new status) }
     ensures statuses { IfOk result (λ status. status ≤ 2) }
+    ensures mistake { IfOk result (λ status. status ≡ 2
+        → (list : List ℕ)
+        × NamesBadTime E.Console err.old err.new (selection_of (rate_of list) (selected_of selected.entry))) }
+    ensures two { IfOk result (λ status. status ≡ 2 → out.new ≡ out.old) }
     ensures nothing { OnErr result (out.new ≡ out.old) }
 {
     let mut first = open_one(
@@ -155,21 +163,20 @@ where
         &mut second.shelf,
         out,
         err,
-        &mut WorkMeter(line),
+        &mut WorkMeter::new(line),
         &asides,
         &other_asides,
     );
     if status == MISTAKE {
-        err.print_line(TIMES);
-    } else {
-        if status == REFUSED && manner.tells_all {
-            report_further(rt, places, &first.text, &second.text, manner, err);
-        }
-        report_found(first.shelf.sources(), manner, err);
-        report_found(second.shelf.sources(), manner, err);
-        tell_unlisted(places.media, first.unlisted, err);
-        tell_unlisted(places.other_media, second.unlisted, err);
+        return Ok(status);
     }
+    if status == REFUSED && manner.tells_all {
+        report_further(rt, places, &first.text, &second.text, manner, err);
+    }
+    report_found(first.shelf.sources(), manner, err);
+    report_found(second.shelf.sources(), manner, err);
+    tell_unlisted(places.media, first.unlisted, err);
+    tell_unlisted(places.other_media, second.unlisted, err);
     Ok(status)
 }
 
@@ -181,7 +188,7 @@ fn open_one<'a, R, L: Progress>(
     media: &str,
     manner: Manner,
     line: &'a L,
-) -> Result<OpenedList<'a, R, L>, Unopened>
+) -> Result<OpenedList<'a, R, L>, Unread>
 where
     R: Files + Input + AllocGlobal + Clone + Drop,
     R::File: FileExt,
@@ -189,7 +196,7 @@ where
 {
     match open_list(rt, path, media, manner, line) {
         Ok(opened) => Ok(opened),
-        Err(fault) => Err(Unopened { list, fault }),
+        Err(fault) => Err(Unread { list, fault }),
     }
 }
 
@@ -200,7 +207,7 @@ pub fn open_list<'a, R, L: Progress>(
     media: &str,
     manner: Manner,
     line: &'a L,
-) -> Result<OpenedList<'a, R, L>, OpenFault>
+) -> Result<OpenedList<'a, R, L>, ReadFault>
 where
     R: Files + Input + AllocGlobal + Clone + Drop,
     R::File: FileExt,

@@ -1,16 +1,21 @@
 // The program over the file system.
-ghost use Rattle.std.specs.Prelude.{◌≡◌, ◌≢◌, ◌≤◌, ◌⊎◌, ℕ, Bool, codes, None, Some, Err, Ok, true, false, IfOk, OnErr};
+ghost use Rattle.std.specs.Prelude.{◌≡◌, ◌≢◌, ◌≤◌, ◌⊎◌, ◌++◌, ◌∷◌, [], ℕ, Bool, List, None, Some, Err, Ok, true, false, IfOk, OnErr, OnOk};
 ghost use Rattle.clap.specs.Walk.{Text, texts};
 ghost use Rattle.consolidate.specs.Commands.{IsConsolidation};
 ghost use Rattle.commandline.specs.declared.choice.MediaReport as choice;
 ghost use Rattle.commandline.specs.CommandLine as asked;
 ghost use Rattle.commandline.specs.CommandLine.{asks_for_help, request_of, verifies};
 ghost use Rattle.commandline.specs.Request.{asked_of};
+ghost use Rattle.console.specs.Lines.{refusal_text};
 ghost use Rattle.console.specs.Places.{where_of};
+ghost use Rattle.console.specs.Printing.{Prints};
 ghost use Rattle.sound_terms.specs.Passes.{standard_groups};
 ghost use Rattle.rendering.specs.declared.cutting.JobLength.TheVariants.{Longer};
 ghost use Rattle.answers.specs.Answers.{RendersBy, ResumesBy, asking, rendered_lines, resumed_lines, written_lines};
-ghost use Rattle.adlcons.specs.Openings.{ChecksFolder, ComparesFolders, IsKeptOut, IsOneKeptOut, IsReportKeptOut, ReportsFolder, VerifiesInFolders, WorksInFolders, overwrite_for, refusal_of_opening};
+ghost use Rattle.list_terms.specs.Text.{rate_of};
+ghost use Rattle.answers.specs.Answers.{MayBeMistaken};
+ghost use Rattle.answers.specs.Mistaken.{AreMistaken};
+ghost use Rattle.adlcons.specs.Openings.{CantBeDone, ChecksFolder, ComparesFolders, IsKeptOut, IsOneUnread, IsReportUnread, IsUnread, ReportsFolder, VerifiesInFolders, WorksInFolders, overwrite_for, refusal_of_opening};
 ghost use Rattle.shelf.specs.declared.Overwrite.TheVariants as overwrite;
 
 use crate::asides::{FolderAsides, listed};
@@ -22,25 +27,22 @@ use crate::meter::{Progress, WorkMeter};
 use crate::newer::{newer_sources, report_newer};
 use crate::output::{HeldFolder, Lock, hold_folder, require_ready_folder, require_unshared};
 use crate::reading::{ReadFault, read_list};
+use crate::room::report_room;
 use crate::sources::ShownShelf;
 use crate::verifying::verify_in_folders;
 use answers::{
-    MISTAKE, REFUSED, answer_error, answer_request, answer_standard, explain, explain_notice,
-    tell_further,
+    MISTAKE, REFUSED, answer_error, answer_request, answer_standard, can_be_timed, explain,
+    explain_notice, tell_further,
 };
 use commandline::{MediaReport, Places, Request, parse};
 use console::{Console, Place, Refusal, put_refusal};
-use consolidate::{JobLength, MARKS, check_project};
+use consolidate::{JobLength, MARKS, RENDER_REPORT, SOUND, check_project};
 use explanations::{Explanation, FoundFolder, PrintedName};
 use shelf::{FolderBench, MemoryBench, Overwrite};
 use std::alloc::AllocError;
 use std::fs::Files;
 use std::os::unix::fs::FileExt;
 use std::{fs, io};
-
-/// What a time is, for a user who wrote another.
-pub const TIMES: &str =
-    "a time is hh.mm.ss.ff/rrrr: hours to 24, frames below the list's rate, and samples of a frame";
 
 /// Why a command didn't come to its stores.
 #[derive(Clone, Copy, Debug)]
@@ -125,11 +127,13 @@ where
     R::File: FileExt + Lock,
     // A command was called over a list and folders, and its answer is printed; or what kept it from them is.
     ensures checked { (list media : Text) → request_of (texts words.now) ≡ Some (asked.Check list media) → result ≢ 2
-        → IsKeptOut O.Console list (codes "") out.old out.new result
-        ⊎ ChecksFolder ⟦<ShownShelf<'static, R, L> as devices::Shelf>⟧ O.Console media out.old out.new result }
+        → IsUnread O.Console list out.old out.new result
+        ⊎ (text : List ℕ)
+        × ChecksFolder ⟦<ShownShelf<'static, R, L> as devices::Shelf>⟧ O.Console text media out.old out.new result }
     ensures reported { (list media : Text) → request_of (texts words.now) ≡ Some (asked.Report list media) → result ≢ 2
-        → IsReportKeptOut O.Console list out.old out.new result
-        ⊎ ReportsFolder ⟦<ShownShelf<'static, R, L> as devices::Shelf>⟧ O.Console media out.old out.new result }
+        → IsReportUnread O.Console list out.old out.new result
+        ⊎ (text : List ℕ)
+        × ReportsFolder ⟦<ShownShelf<'static, R, L> as devices::Shelf>⟧ O.Console text media out.old out.new result }
     ensures rendered { (list media target : Text) (chosen : asked.Chosen)
         → request_of (texts words.now) ≡ Some (asked.Render list media target chosen) → result ≢ 2
         → IsKeptOut O.Console list target out.old out.new result
@@ -160,12 +164,17 @@ where
         report media target out.old out.new result }
     ensures compared { (list media other other_media : Text) (selected : asked.Selected)
         → request_of (texts words.now) ≡ Some (asked.Compare list media other other_media selected) → result ≢ 2
-        → IsOneKeptOut O.Console list other out.old out.new result
+        → IsOneUnread O.Console list other out.old out.new result
         ⊎ ComparesFolders ⟦<ShownShelf<'static, R, L> as devices::Shelf>⟧ O.Console selected media other_media out.old out.new
         result }
     ensures statuses { result ≤ 2 }
     ensures help { asks_for_help (texts words.now) ≡ true → result ≢ 1 }
     ensures refused_words { request_of (texts words.now) ≡ None → asks_for_help (texts words.now) ≡ false → result ≡ 2 }
+    // The words ask for nothing, a time can't be read, a number is unknown, or no memory was left to read them. The last and
+    // a time are all that standard error has then.
+    ensures mistake { result ≡ 2 → AreMistaken (CantBeDone E.Console err.old err.new) (texts words.now)
+        E.Console err.old err.new }
+    ensures two { result ≡ 2 → out.new ≡ out.old }
 {
     let parsed = match parse(rt.alloc(), words) {
         Ok(parsed) => parsed,
@@ -226,7 +235,7 @@ where
         → IsKeptOut O.Console places.entry.list.now places.entry.out.now out.old out.new result
         ⊎ VerifiesInFolders ⟦<ShownShelf<'static, R, L> as devices::Shelf>⟧ ⟦<FolderBench<R> as devices::Bench>⟧ O.Console handle
         report places.entry.media.now places.entry.out.now out.old out.new result }
-    ensures statuses { result ≤ 2 }
+    ensures statuses { result ≤ 1 }
 {
     if verifies {
         return verify_in_folders(rt, places, handle, report, manner, out, err, line);
@@ -248,14 +257,42 @@ pub fn keep_out<O: Console, E: Console>(
     ensures { IsKeptOut O.Console list.now folder.now out.old out.new result }
 {
     let refusal = fault.refusal(list, folder);
+    let explanation = explanation_of(fault, refusal.number, inside);
+    refuse_early(refusal, explanation, out, err)
+}
+
+/// The status of a command that writes nothing and doesn't come to this list or its sources. Why is printed.
+pub fn keep_unread<O: Console, E: Console>(
+    fault: ReadFault,
+    list: &str,
+    out: &mut O,
+    err: &mut E,
+) -> u8
+    ensures { IsUnread O.Console list.now out.old out.new result }
+{
+    let refusal = fault.refusal(list);
+    refuse_early(refusal, fault.explanation(refusal.number), out, err)
+}
+
+/// Prints a refusal and what explains it, and answers the status.
+fn refuse_early<O: Console, E: Console>(
+    refusal: Refusal<'_>,
+    explanation: Explanation<'_>,
+    out: &mut O,
+    err: &mut E,
+) -> u8
+    ensures status { result ≡ 1 }
+    ensures printed { Prints O.contents O.failures out.old out.new
+        (refusal_text refusal.entry.number (where_of refusal.entry.location) ++ 10 ∷ []) }
+{
     put_refusal(out, refusal);
     out.end_line();
-    err.print_line(explanation_of(fault, refusal.number, inside));
-    1
+    err.print_line(explanation);
+    REFUSED
 }
 
 /// What is told of such a refusal beside its line.
-pub fn explanation_of(fault: OpenFault, number: u8, inside: Option<&str>) -> Explanation<'_> {
+fn explanation_of(fault: OpenFault, number: u8, inside: Option<&str>) -> Explanation<'_> {
     let explanation = Explanation::by(number, fault.reason(), inside);
     match fault {
         OpenFault::Busy => explanation.with_folder(FoundFolder::Busy),
@@ -265,10 +302,10 @@ pub fn explanation_of(fault: OpenFault, number: u8, inside: Option<&str>) -> Exp
     }
 }
 
-/// Checks this list over this folder, and answers the status.
+/// Checks the list of this path over this folder, and answers the status.
 fn check_folder<R, O: Console, E: Console, L: Progress>(
     rt: &R,
-    list: &str,
+    path: &str,
     media: &str,
     manner: Manner,
     out: &mut O,
@@ -278,51 +315,56 @@ fn check_folder<R, O: Console, E: Console, L: Progress>(
 where
     R: Files + Input + AllocGlobal + Clone + Drop,
     R::File: FileExt,
-    ensures answered { IsKeptOut O.Console list.now (codes "") out.old out.new result
-        ⊎ ChecksFolder ⟦<ShownShelf<'static, R, L> as devices::Shelf>⟧ O.Console media.now out.old out.new result }
+    ensures answered { IsUnread O.Console path.now out.old out.new result
+        ⊎ (text : List ℕ)
+        × ChecksFolder ⟦<ShownShelf<'static, R, L> as devices::Shelf>⟧ O.Console text media.now out.old out.new result }
     ensures statuses { result ≤ 1 }
 {
-    match try_check(rt, list, media, manner, out, err, line) {
+    let list = match read_list(rt, path) {
+        Ok(list) => list,
+        Err(fault) => return keep_unread(fault, path, out, err),
+    };
+    match try_check(rt, path, &list, media, manner, out, err, line) {
         Ok(status) => status,
-        Err(fault) => keep_out(fault, list, "", None, out, err),
+        Err(fault) => keep_unread(fault, path, out, err),
     }
 }
 
-/// Checks this list over this folder, where both can be opened.
+/// Checks this list over this folder, where it can be opened.
 fn try_check<R, O: Console, E: Console, L: Progress>(
     rt: &R,
-    list: &str,
+    path: &str,
+    list: &[u8],
     media: &str,
     manner: Manner,
     out: &mut O,
     err: &mut E,
     line: &L,
-) -> Result<u8, OpenFault>
+) -> Result<u8, ReadFault>
 where
     R: Files + Input + AllocGlobal + Clone + Drop,
     R::File: FileExt,
     ensures answered { IfOk result
-        (λ status. ChecksFolder ⟦<ShownShelf<'static, R, L> as devices::Shelf>⟧ O.Console media.now out.old out.new status) }
+        (λ status. ChecksFolder ⟦<ShownShelf<'static, R, L> as devices::Shelf>⟧ O.Console list.now media.now out.old out.new
+        status) }
     ensures statuses { IfOk result (λ status. status ≤ 1) }
     ensures nothing { OnErr result (out.new ≡ out.old) }
 {
-    let request = Request::Check(list, media);
-    let list = read_list(rt, list)?;
     let mut shelf = ShownShelf::open(rt, media, manner, line)?;
     let mut bench = MemoryBench::new(rt.alloc());
     let unlisted = unlisted_reason(rt, media);
     let asides = FolderAsides::new(rt, media, manner);
     let status = answer_request(
         rt.alloc(),
-        request,
-        &list,
+        Request::Check(path, media),
+        list,
         Vec::new(rt.alloc()),
         JobLength::Longer,
         &mut shelf,
         &mut bench,
         out,
         err,
-        &mut WorkMeter(line),
+        &mut WorkMeter::new(line),
         &asides,
     );
     report_found(shelf.sources(), manner, err);
@@ -363,6 +405,9 @@ where
         list handle (asking report list))
         written_lines O.Console places.entry.media.now places.entry.out.now out.old out.new result }
     ensures statuses { result ≤ 2 }
+    ensures mistake { result ≡ 2 → (list : List ℕ)
+        × MayBeMistaken E.Console err.old err.new (rate_of list) (asked_of request.entry) }
+    ensures two { result ≡ 2 → out.new ≡ out.old }
 {
     match try_places(rt, request, places, manner, out, err, line) {
         Ok(status) => status,
@@ -406,13 +451,19 @@ where
         list handle (asking report list))
         written_lines O.Console places.entry.media.now places.entry.out.now out.old out.new status) }
     ensures statuses { IfOk result (λ status. status ≤ 2) }
+    ensures mistake { IfOk result (λ status. status ≡ 2
+        → (list : List ℕ)
+        × MayBeMistaken E.Console err.old err.new (rate_of list) (asked_of request.entry)) }
+    ensures two { IfOk result (λ status. status ≡ 2 → out.new ≡ out.old) }
     ensures nothing { OnErr result (out.new ≡ out.old) }
 {
-    let list = read_list(rt, places.list)?;
+    let text = read_list(rt, places.list)?;
+    let list = text.as_slice();
     let overwrite = overwrite_for(&request);
-    let _held = ready_output(rt, places, &list, overwrite, err)?;
-    let changed = changed_position(rt, request, &list);
-    let newer = newer_sources(rt, request, &list);
+    let held = ready_output(rt, places, list, overwrite, files_of(&request), err)?;
+    warn_unlocked(&held, request, list, places.out, err);
+    let changed = changed_position(rt, request, list);
+    let newer = newer_sources(rt, request, list);
     let mut bench = FolderBench::new(rt.alloc(), rt.clone()?, places.out, overwrite)?;
     let mut shelf = ShownShelf::open(rt, places.media, manner, line)?;
     let unlisted = unlisted_reason(rt, places.media);
@@ -420,32 +471,32 @@ where
     let answered = answer_standard(
         rt.alloc(),
         request,
-        &list,
+        list,
         &mut shelf,
         &mut bench,
         out,
         err,
-        &mut WorkMeter(line),
+        &mut WorkMeter::of_request(line, request),
         &asides,
     );
     let Ok(status) = answered else {
         return Err(OpenFault::Passes);
     };
-    if status == REFUSED && manner.tells_all {
-        tell_all_further(rt, &list, places.media, manner, err);
+    if status == MISTAKE {
+        return Ok(status);
     }
+    if status == REFUSED && manner.tells_all {
+        tell_all_further(rt, list, places.media, manner, err);
+    }
+    report_room(rt, request, list, manner, status, &bench, err);
     if let (0, Some(position)) = (status, changed) {
         report_change(places.out, position, err);
     }
     if let (0, Some(names)) = (status, &newer) {
         report_newer(names, err);
     }
-    if status == MISTAKE {
-        err.print_line(TIMES);
-    } else {
-        report_found(shelf.sources(), manner, err);
-        tell_unlisted(places.media, unlisted, err);
-    }
+    report_found(shelf.sources(), manner, err);
+    tell_unlisted(places.media, unlisted, err);
     Ok(status)
 }
 
@@ -459,25 +510,52 @@ fn overwrite_for(request: &Request<'_>) -> Overwrite
     }
 }
 
+/// The files of a rendering that a request may replace.
+fn files_of(request: &Request<'_>) -> &'static [&'static str] {
+    match request {
+        Request::Resume(_, chosen) if chosen.report => &[SOUND, MARKS, RENDER_REPORT],
+        _ => &[SOUND, MARKS],
+    }
+}
+
+/// Prints that others aren't kept from the folder of the output, where they aren't. A time that can't be read is all that is
+/// printed.
+fn warn_unlocked<F: Drop, E: Console>(
+    held: &HeldFolder<F>,
+    request: Request<'_>,
+    list: &[u8],
+    folder: &str,
+    err: &mut E,
+)
+    ensures { (last : E) → MayBeMistaken E.Console err.new last (rate_of list.now) (asked_of request.entry)
+        → MayBeMistaken E.Console err.old last (rate_of list.now) (asked_of request.entry) }
+{
+    if !can_be_timed(request, list) {
+        return;
+    }
+    held.tell_unlocked(folder, err);
+}
+
 /// Holds the folder of the output, once it is ready for a command that writes: locked, empty or one where files may be
-/// replaced, and with none of them that is given too.
+/// replaced, and with none of those that are written that is given too, which is printed.
 pub fn ready_output<R, E: Console>(
     rt: &R,
     places: Places<'_>,
     list: &[u8],
     overwrite: Overwrite,
+    written: &[&str],
     err: &mut E,
 ) -> Result<HeldFolder<R::File>, OpenFault>
 where
     R: Files + AllocGlobal + Clone + Drop,
     R::File: Lock,
+    ensures { OnOk result (err.new ≡ err.old) }
 {
     let held = hold_folder(rt, places.out)?;
     require_ready_folder(rt, places.out, places.media, overwrite)?;
     if overwrite == Overwrite::Files {
-        require_unshared(rt, places, list, err)?;
+        require_unshared(rt, places, list, written, err)?;
     }
-    held.tell_unlocked(places.out, err);
     Ok(held)
 }
 
@@ -523,8 +601,13 @@ pub fn unlisted_reason<R: Files + AllocGlobal + Clone + Drop>(
     }
 }
 
-/// Tells why a folder of media can't be listed, if it can't.
+/// Tells why a folder of media can't be listed, if it can't, and that an empty name is the current folder.
 pub fn tell_unlisted<E: Console>(media: &str, reason: Option<io::Error>, err: &mut E) {
+    if media.is_empty() {
+        err.print_line(
+            "the name of the folder of the media is empty: the current folder was taken",
+        );
+    }
     if let Some(reason) = reason {
         let folder = PrintedName(media);
         err.print_line(format_args!("the folder {folder} can't be read: {reason}"));

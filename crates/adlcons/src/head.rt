@@ -68,7 +68,7 @@ where
 }
 
 /// What the head of the rendering tells.
-fn info_of(alloc: Global, project: &Project, chosen: Chosen<'_>) -> Option<SoundInfo> {
+pub fn info_of(alloc: Global, project: &Project, chosen: Chosen<'_>) -> Option<SoundInfo> {
     let events = project.events();
     let from = time_or(chosen.from, project.rate(), first_in(events))?;
     let to = time_or(chosen.to, project.rate(), last_out(events))?;

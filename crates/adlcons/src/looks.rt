@@ -1,14 +1,16 @@
 // Reports and pictures of a list over the folder of its media.
-ghost use Rattle.std.specs.Prelude.{◌≡◌, ◌≤◌, ◌⊎◌, IfOk, OnErr};
-ghost use Rattle.adlcons.specs.Openings.{IsReportKeptOut, ReportsFolder};
+ghost use Rattle.std.specs.Prelude.{◌≡◌, ◌≤◌, ◌⊎◌, ℕ, List, IfOk, OnErr};
+ghost use Rattle.commandline.specs.Request.{drawn_of};
+ghost use Rattle.list_terms.specs.Text.{rate_of};
+ghost use Rattle.answers.specs.Answers.{NamesBadTime};
+ghost use Rattle.answers.specs.Times.{part_of};
+ghost use Rattle.adlcons.specs.Openings.{IsReportUnread, ReportsFolder};
 
 use crate::asides::FolderAsides;
-use crate::folders::{
-    OpenFault, TIMES, explanation_of, keep_out, tell_all_further, tell_unlisted, unlisted_reason,
-};
+use crate::folders::{keep_unread, tell_all_further, tell_unlisted, unlisted_reason};
 use crate::media::{Manner, report_found};
 use crate::meter::Progress;
-use crate::reading::read_list;
+use crate::reading::{ReadFault, read_list};
 use crate::sources::ShownShelf;
 use answers::{MISTAKE, REFUSED, answer_picture, answer_report, explained_unread};
 use checkreport::{put_no_memory, put_unread};
@@ -18,10 +20,11 @@ use std::alloc::Global;
 use std::fs::Files;
 use std::os::unix::fs::FileExt;
 
-/// Prints the report of this list over this folder, and answers the status. All that is at fault may stand on `err`.
+/// Prints the report of the list of this path over this folder, and answers the status. All that is at fault may stand on
+/// `err`.
 pub fn report_folder<R, O: Console, E: Console, L: Progress>(
     rt: &R,
-    list: &str,
+    path: &str,
     media: &str,
     manner: Manner,
     out: &mut O,
@@ -31,28 +34,33 @@ pub fn report_folder<R, O: Console, E: Console, L: Progress>(
 where
     R: Files + Input + AllocGlobal + Clone + Drop,
     R::File: FileExt,
-    ensures reported { IsReportKeptOut O.Console list.now out.old out.new result
-        ⊎ ReportsFolder ⟦<ShownShelf<'static, R, L> as devices::Shelf>⟧ O.Console media.now out.old out.new result }
+    ensures reported { IsReportUnread O.Console path.now out.old out.new result
+        ⊎ (text : List ℕ)
+        × ReportsFolder ⟦<ShownShelf<'static, R, L> as devices::Shelf>⟧ O.Console text media.now out.old out.new result }
     ensures statuses { result ≤ 1 }
 {
-    match try_report(rt, list, media, manner, out, err, line) {
+    let list = match read_list(rt, path) {
+        Ok(list) => list,
+        Err(fault) => return report_unread(rt.alloc(), fault, path, out, err),
+    };
+    match try_report(rt, &list, media, manner, out, err, line) {
         Ok(status) => status,
-        Err(fault) => report_unread(rt.alloc(), fault, list, out, err),
+        Err(fault) => report_unread(rt.alloc(), fault, path, out, err),
     }
 }
 
 /// Prints the report of the list of this path, which isn't read, and answers the status.
 fn report_unread<O: Console, E: Console>(
     alloc: Global,
-    fault: OpenFault,
-    list: &str,
+    fault: ReadFault,
+    path: &str,
     out: &mut O,
     err: &mut E,
 ) -> u8
-    ensures { IsReportKeptOut O.Console list.now out.old out.new result }
+    ensures { IsReportUnread O.Console path.now out.old out.new result }
 {
-    let refusal = fault.refusal(list, "");
-    let explanation = explanation_of(fault, refusal.number, None);
+    let refusal = fault.refusal(path);
+    let explanation = fault.explanation(refusal.number);
     err.print_line(explanation);
     let Place::File(name) = refusal.location else {
         return put_no_memory(out);
@@ -66,31 +74,31 @@ fn report_unread<O: Console, E: Console>(
     }
 }
 
-/// Prints this report where the list and the folder can be opened.
+/// Prints the report of this list where the folder can be opened.
 fn try_report<R, O: Console, E: Console, L: Progress>(
     rt: &R,
-    list: &str,
+    list: &[u8],
     media: &str,
     manner: Manner,
     out: &mut O,
     err: &mut E,
     line: &L,
-) -> Result<u8, OpenFault>
+) -> Result<u8, ReadFault>
 where
     R: Files + Input + AllocGlobal + Clone + Drop,
     R::File: FileExt,
     ensures reported { IfOk result
-        (λ status. ReportsFolder ⟦<ShownShelf<'static, R, L> as devices::Shelf>⟧ O.Console media.now out.old out.new status) }
+        (λ status. ReportsFolder ⟦<ShownShelf<'static, R, L> as devices::Shelf>⟧ O.Console list.now media.now out.old out.new
+        status) }
     ensures statuses { IfOk result (λ status. status ≤ 1) }
     ensures nothing { OnErr result (out.new ≡ out.old) }
 {
-    let list = read_list(rt, list)?;
     let mut shelf = ShownShelf::open(rt, media, manner, line)?;
     let unlisted = unlisted_reason(rt, media);
     let asides = FolderAsides::new(rt, media, manner);
-    let status = answer_report(rt.alloc(), &list, &mut shelf, out, err, &asides);
+    let status = answer_report(rt.alloc(), list, &mut shelf, out, err, &asides);
     if status == REFUSED && manner.tells_all {
-        tell_all_further(rt, &list, media, manner, err);
+        tell_all_further(rt, list, media, manner, err);
     }
     report_found(shelf.sources(), manner, err);
     tell_unlisted(media, unlisted, err);
@@ -113,11 +121,14 @@ pub fn show_folder<R, O: Console, E: Console, L: Progress>(
 where
     R: Files + Input + AllocGlobal + Clone + Drop,
     R::File: FileExt,
-    ensures { result ≤ 2 }
+    ensures statuses { result ≤ 2 }
+    ensures mistake { result ≡ 2 → (list : List ℕ)
+        × NamesBadTime E.Console err.old err.new (part_of (rate_of list) (drawn_of drawn.entry)) }
+    ensures two { result ≡ 2 → out.new ≡ out.old }
 {
     match try_show(rt, list, media, handle, drawn, manner, out, err, line) {
         Ok(status) => status,
-        Err(fault) => keep_out(fault, list, "", None, out, err),
+        Err(fault) => keep_unread(fault, list, out, err),
     }
 }
 
@@ -132,11 +143,15 @@ fn try_show<R, O: Console, E: Console, L: Progress>(
     out: &mut O,
     err: &mut E,
     line: &L,
-) -> Result<u8, OpenFault>
+) -> Result<u8, ReadFault>
 where
     R: Files + Input + AllocGlobal + Clone + Drop,
     R::File: FileExt,
-    ensures { IfOk result (λ status. status ≤ 2) }
+    ensures statuses { IfOk result (λ status. status ≤ 2) }
+    ensures mistake { IfOk result (λ status. status ≡ 2 → (list : List ℕ)
+        × NamesBadTime E.Console err.old err.new (part_of (rate_of list) (drawn_of drawn.entry))) }
+    ensures two { IfOk result (λ status. status ≡ 2 → out.new ≡ out.old) }
+    ensures nothing { OnErr result (out.new ≡ out.old) }
 {
     let text = read_list(rt, list)?;
     let mut shelf = ShownShelf::open(rt, media, manner, line)?;
@@ -154,7 +169,6 @@ where
         &asides,
     );
     if status == MISTAKE {
-        err.print_line(TIMES);
         return Ok(status);
     }
     if status == REFUSED && manner.tells_all {

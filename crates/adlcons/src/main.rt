@@ -13,6 +13,7 @@ mod meter;
 mod newer;
 mod output;
 mod reading;
+mod room;
 mod sources;
 mod stored;
 mod verifying;

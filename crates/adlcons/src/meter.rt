@@ -2,6 +2,7 @@
 ghost use Rattle.std.specs.Prelude.{◌≤◌};
 
 use answers::Meter;
+use commandline::Request;
 use console::Console;
 use devices::Watch;
 use explanations::Shown;
@@ -11,6 +12,10 @@ use std::time::{Clock, Duration, Instant};
 
 /// How many bytes of a source's name are shown.
 const NAME_BYTES: usize = 40;
+
+/// What stands behind the frames of a rendering: it is still there to be read once Ctrl-C has stopped the program, which
+/// no program of the kit can catch.
+const STOPPED: &str = " (if stopped, adlcons resume goes on)";
 
 /// Shows how far a command has come. It is shared by the sources that the command reads and by its work.
 pub trait Progress {
@@ -120,21 +125,41 @@ impl<C: Clock, O: Console + Drop> Progress for ProgressLine<'_, C, O> {
 
 /// What a command's work reports to the line that shows how far it has come.
 #[derive(Drop)]
-pub struct WorkMeter<'a, L: Progress>(pub &'a L);
+pub struct WorkMeter<'a, L: Progress> {
+    line: &'a L,
+    /// What stands behind the frames.
+    how: &'static str,
+}
+
+impl<'a, L: Progress> WorkMeter<'a, L> {
+    /// Of a work that can't be resumed.
+    pub fn new(line: &'a L) -> Self {
+        WorkMeter { line, how: "" }
+    }
+
+    /// Of the work of a request.
+    pub fn of_request(line: &'a L, request: Request<'_>) -> Self {
+        let how = match request {
+            Request::Render(_, _) | Request::Resume(_, _) => STOPPED,
+            _ => "",
+        };
+        WorkMeter { line, how }
+    }
+}
 
 impl<L: Progress> Watch for WorkMeter<'_, L> {
     fn reached(&mut self, done: u64, whole: u64) {
-        self.0.reached(done, whole, "");
+        self.line.reached(done, whole, self.how);
     }
 
     fn looked(&mut self, done: u64, whole: u64) {
-        self.0.reached(done, whole, " looked at for silence");
+        self.line.reached(done, whole, " looked at for silence");
     }
 }
 
 impl<L: Progress> Meter for WorkMeter<'_, L> {
     fn clear(&mut self) {
-        self.0.clear();
+        self.line.clear();
     }
 }
 

@@ -1,10 +1,11 @@
 // The folder that a command writes to, looked at before its first write.
+ghost use Rattle.std.specs.Prelude.{◌≡◌, OnOk};
+
 use crate::asides::listed;
 use crate::folders::OpenFault;
 use adlmodel::{Project, place_of};
 use commandline::Places;
 use console::Console;
-use consolidate::{MARKS, SOUND};
 use explanations::PrintedName;
 use shelf::Overwrite;
 use std::alloc::AllocError;
@@ -117,18 +118,20 @@ fn is_found_at<R: Files>(rt: &R, found: &Metadata, path: &str) -> bool {
     }
 }
 
-/// Fails where a file that a rendering would write to or empty is the list or a source of it too, or has more names than
-/// this one, and tells which. What isn't there, or is no plain file, is never written to.
+/// Fails where one of these files, which a rendering would write to or empty, is the list or a source of it too, or has
+/// more names than this one, and tells which. What isn't there, or is no plain file, is never written to.
 pub fn require_unshared<R, E: Console>(
     rt: &R,
     places: Places<'_>,
     list: &[u8],
+    written: &[&str],
     err: &mut E,
 ) -> Result<(), OpenFault>
 where
     R: Files + AllocGlobal,
+    ensures { OnOk result (err.new ≡ err.old) }
 {
-    for name in [SOUND, MARKS] {
+    for name in written {
         let folder = places.out;
         let path = format!(in rt.alloc(); "{folder}/{name}")?;
         let Ok(found) = fs::symlink_metadata(rt, &path) else {

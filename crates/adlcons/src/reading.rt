@@ -5,6 +5,7 @@ ghost use Rattle.adlcons.specs.Reading.{reason_of_read};
 ghost use Rattle.console.specs.Places.{where_of};
 
 use console::Refusal;
+use explanations::Explanation;
 use std::alloc::{AllocError, Global};
 use std::fs::Files;
 use std::io::{Error, ErrorKind, Read};
@@ -57,6 +58,11 @@ impl ReadFault {
             ReadFault::Unreadable(error) => Some(error),
             ReadFault::Endless | ReadFault::Memory => None,
         }
+    }
+
+    /// What explains such a refusal of this number.
+    pub fn explanation(self, number: u8) -> Explanation<'static> {
+        Explanation::by(number, self.reason(), None)
     }
 }
 

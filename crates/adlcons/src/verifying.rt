@@ -3,10 +3,10 @@ ghost use Rattle.std.specs.Prelude.{◌≡◌, ◌≢◌, ◌≤◌, ◌⊎◌, 
 ghost use Rattle.shelf.specs.Folder.{folder_named};
 ghost use Rattle.console.specs.Printing.{Prints};
 ghost use Rattle.console.specs.declared.lines.ListOfTwo.TheVariants.{Second};
-ghost use Rattle.adlcons.specs.Openings.{ComparesWritten, IsKeptOut, IsListKeptOut, VerifiesInFolders};
+ghost use Rattle.adlcons.specs.Openings.{ComparesWritten, IsKeptOut, IsListUnread, VerifiesInFolders};
 
 use crate::asides::{FolderAsides, listed};
-use crate::comparing::{OpenedList, keep_list_out, open_list};
+use crate::comparing::{OpenedList, keep_list_unread, open_list};
 use crate::folders::{
     OpenFault, keep_out, name_inside, ready_output, tell_all_further, tell_unlisted,
     unlisted_reason,
@@ -14,7 +14,8 @@ use crate::folders::{
 use crate::media::{Manner, report_found};
 use crate::meter::{Progress, WorkMeter};
 use crate::output::Lock;
-use crate::reading::read_list;
+use crate::reading::{ReadFault, read_list};
+use crate::room::report_room;
 use crate::sources::ShownShelf;
 use answers::{HeldLines, REFUSED, answer_standard, answer_verified, put_lines};
 use commandline::{MediaReport, Places, Request};
@@ -84,7 +85,8 @@ where
 {
     let text = read_list(rt, places.list)?;
     let list = text.as_slice();
-    let _lock = ready_output(rt, places, list, Overwrite::Never, err)?;
+    let lock = ready_output(rt, places, list, Overwrite::Never, &[], err)?;
+    lock.tell_unlocked(places.out, err);
     let mut bench = FolderBench::new(rt.alloc(), rt.clone()?, places.out, Overwrite::Never)?;
     let mut shelf = ShownShelf::open(rt, places.media, manner, line)?;
     let unlisted = unlisted_reason(rt, places.media);
@@ -99,7 +101,7 @@ where
         &mut bench,
         &mut lines,
         err,
-        &mut WorkMeter(line),
+        &mut WorkMeter::new(line),
         &asides,
     );
     let Ok(answer) = answered else {
@@ -111,6 +113,7 @@ where
     let status = put_answer(
         rt, places, answer, list, held, &mut shelf, manner, out, err, line,
     );
+    report_room(rt, request, list, manner, answer, &bench, err);
     report_found(shelf.sources(), manner, err);
     tell_unlisted(places.media, unlisted, err);
     Ok(status)
@@ -135,7 +138,7 @@ where
     R::File: FileExt,
     ensures refused { answer ≡ 1 → (result ≡ 1) × Prints O.contents O.failures out.old out.new lines.now }
     ensures done { answer ≢ 1
-        → IsListKeptOut O.Console Second (codes "consolidated.adl") out.old out.new result
+        → IsListUnread O.Console Second (codes "consolidated.adl") out.old out.new result
         ⊎ ComparesWritten ⟦<ShownShelf<'static, R, L> as devices::Shelf>⟧ O.Console list.now lines.now places.entry.out.now
         shelf.old out.old out.new result }
     ensures statuses { result ≤ 1 }
@@ -151,7 +154,7 @@ where
         Ok(written) => put_verified(
             rt, places, list, lines, shelf, written, manner, out, err, line,
         ),
-        Err(fault) => keep_list_out(ListOfTwo::Second, fault, LIST, out, err),
+        Err(fault) => keep_list_unread(ListOfTwo::Second, fault, LIST, out, err),
     }
 }
 
@@ -188,7 +191,7 @@ where
         &mut written.shelf,
         out,
         err,
-        &mut WorkMeter(line),
+        &mut WorkMeter::new(line),
         &asides,
         &written_asides,
     )
@@ -199,7 +202,7 @@ fn open_written<'a, R, L: Progress>(
     rt: &R,
     folder: &str,
     line: &'a L,
-) -> Result<OpenedList<'a, R, L>, OpenFault>
+) -> Result<OpenedList<'a, R, L>, ReadFault>
 where
     R: Files + Input + AllocGlobal + Clone + Drop,
     R::File: FileExt,

@@ -12,3 +12,13 @@ returns-clause-answered g c = λ some. record {
   other_folder = c.in_ok-second.ensures;
   answered = c.answer_compare-status.ensures.compared some;
 }
+
+pub returns-then-status-eq-MISTAKE-clause-answered : goal.returns-then-status-eq-MISTAKE-clause-answered
+returns-then-status-eq-MISTAKE-clause-answered g c = λ some. absurd (some c.if-status-eq-MISTAKE.true)
+
+pub returns-then-status-eq-MISTAKE-clause-mistake : goal.returns-then-status-eq-MISTAKE-clause-mistake
+returns-then-status-eq-MISTAKE-clause-mistake g c = λ two.
+    (c.deref.result.now, c.answer_compare-status.ensures.mistake two)
+
+pub returns-clause-mistake : goal.returns-clause-mistake
+returns-clause-mistake g c = λ two. absurd (c.if-status-eq-MISTAKE.false two)

@@ -1,6 +1,11 @@
-use Rattle.std.proofs.Common.{◌≡◌, ◌∙◌, Some, refl, rules}
-use Rattle.commandline.specs.CommandLine.{Compare, Consolidate, Render, Resume}
-use Rattle.commandline.specs.Request.{chosen_of, selected_of}
+use Rattle.std.proofs.Common.{◌≡◌, ◌∙◌, List, [], Some, ap, inl, inr, refl, rules, subst, sym}
+use Rattle.clap.specs.Walk.{Text, texts}
+use Rattle.clap.specs.Words.{kind_of}
+use Rattle.commandline.specs.CommandLine.{Asked, Compare, Consolidate, Render, Resume, request_of}
+use Rattle.commandline.specs.Request.{asked_of, chosen_of, selected_of}
+use Rattle.console.specs.declared.console.Console as console
+use Rattle.answers.specs.MistakenLaws.{mistaken_words}
+use Rattle.adlcons.specs.Openings.{CantBeDone}
 use Rattle.commandline.specs.RequestLaws.{compare_fields, consolidate_fields, render_fields, resume_fields}
 use Rattle.adlcons.proofs.folders.answer_words.Goals as goal
 
@@ -77,3 +82,45 @@ returns-in-Compare-clause-compared g c = λ list media other other_media selecte
     let the_other_media : places.other_media.now ≡ other_media = parts.3 in
     let the_choice : selected_of c.in-Compare.selected ≡ selected = parts.4 in
     rw (← the_list, ← the_media, ← the_other, ← the_other_media, ← the_choice) c.compare_folders.ensures.answered
+
+-- words that ask for what can't be done
+because : {E : Type 0} (err : console.Ghosts E) (before after : E) (words : List Text) (asked same : Asked)
+    → request_of words ≡ Some asked → asked ≡ same → CantBeDone err before after same
+    → (asked : Asked) × (request_of words ≡ Some asked) × CantBeDone err before after asked
+because err before after words asked same read is mistaken =
+    (asked, read, subst (CantBeDone err before after) (sym is) mistaken)
+
+pub returns-in-Err-clause-mistake : goal.returns-in-Err-clause-mistake
+returns-in-Err-clause-mistake g c = λ two.
+    mistaken_words (CantBeDone g.E.Console c.args.err.now c.answer_error.new.err) (texts c.args.words.now) g.E.Console
+    c.args.err.now c.answer_error.new.err
+    (kind_of c.in-Err.error) c.answer_error.result c.in-Err.ensures.refused c.in-Err.ensures.help
+    c.answer_error.ensures.help c.answer_error.ensures.ran_out two
+
+pub returns-in-Explain-clause-mistake : goal.returns-in-Explain-clause-mistake
+returns-in-Explain-clause-mistake g c = λ two.
+    inr (inl (because g.E.Console _ _ (texts c.args.words.now) _ _ c.in-Ok.ensures.read (ap asked_of c.in-Explain.is) ([], tt)))
+
+pub returns-in-ExplainNotice-clause-mistake : goal.returns-in-ExplainNotice-clause-mistake
+returns-in-ExplainNotice-clause-mistake g c = λ two.
+    inr (inl (because g.E.Console _ _ (texts c.args.words.now) _ _ c.in-Ok.ensures.read (ap asked_of c.in-ExplainNotice.is) ([], tt)))
+
+pub returns-in-Compare-clause-mistake : goal.returns-in-Compare-clause-mistake
+returns-in-Compare-clause-mistake g c = λ two.
+    inr (inl (because g.E.Console _ _ (texts c.args.words.now) _ _ c.in-Ok.ensures.read (ap asked_of c.in-Compare.is)
+    (c.compare_folders.ensures.mistake two)))
+
+pub returns-in-Show-clause-mistake : goal.returns-in-Show-clause-mistake
+returns-in-Show-clause-mistake g c = λ two.
+    inr (inl (because g.E.Console _ _ (texts c.args.words.now) _ _ c.in-Ok.ensures.read (ap asked_of c.in-Show.is)
+    (c.show_folder.ensures.mistake two)))
+
+pub returns-in-Render-clause-mistake : goal.returns-in-Render-clause-mistake
+returns-in-Render-clause-mistake g c = λ two.
+    inr (inl (because g.E.Console _ _ (texts c.args.words.now) _ _ c.in-Ok.ensures.read (ap asked_of c.in-Render.is)
+    (c.work_in_folders.ensures.mistake two)))
+
+pub returns-in-Resume-clause-mistake : goal.returns-in-Resume-clause-mistake
+returns-in-Resume-clause-mistake g c = λ two.
+    inr (inl (because g.E.Console _ _ (texts c.args.words.now) _ _ c.in-Ok.ensures.read (ap asked_of c.in-Resume.is)
+    (c.work_in_folders-in-Resume.ensures.mistake two)))

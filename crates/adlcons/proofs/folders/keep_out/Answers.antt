@@ -1,23 +1,15 @@
-use Rattle.std.proofs.Common.{◌≡◌, ◌++◌, ◌∷◌, [], ℕ, List, refl, subst}
-use Rattle.work_terms.specs.Refusals.{Where}
-use Rattle.console.specs.Lines.{refusal_text}
-use Rattle.console.specs.Printing.{Prints}
-use Rattle.console.specs.PrintingLaws.{prints_more}
+use Rattle.std.proofs.Common.{ℕ, List, subst}
+use Rattle.answers.specs.Answers.{Tells}
+use Rattle.adlcons.specs.Openings.{refusal_of_opening}
+use Rattle.adlcons.proofs.Refused.{same_line}
 use Rattle.adlcons.proofs.folders.keep_out.Goals as goal
 
-alike : (number other : ℕ) (place there : Where) → number ≡ other → place ≡ there
-    → refusal_text number place ≡ refusal_text other there
-alike number other place there one two = rw (one, two) refl
-
 pub returns : goal.returns
-returns g c =
-    let contents = g.O.Console.contents in
-    let failures = g.O.Console.failures in
-    record {
-      fault = c.args.fault;
-      status_is = refl;
-      printed = subst
-          (λ (text : List ℕ). Prints contents failures c.args.out.now c.end_line.new.self (text ++ 10 ∷ []))
-          (alike _ _ _ _ c.refusal-refusal.ensures.number c.refusal-refusal.ensures.location)
-          (prints_more contents failures c.put_refusal.ensures c.end_line.ensures);
-    }
+returns g c = record {
+  fault = c.args.fault;
+  status_is = c.refuse_early.ensures.status;
+  printed = subst (λ (text : List ℕ). Tells g.O.Console c.args.out.now c.refuse_early.new.out text)
+      (same_line (refusal_of_opening c.args.fault c.args.list.now c.args.folder.now) _ _
+      c.refusal-refusal.ensures.number c.refusal-refusal.ensures.location)
+      c.refuse_early.ensures.printed;
+}

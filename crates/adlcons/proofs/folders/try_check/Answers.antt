@@ -3,7 +3,6 @@ use Rattle.adlcons.proofs.folders.try_check.Goals as goal
 
 pub returns-clause-answered : goal.returns-clause-answered
 returns-clause-answered g c = record {
-  list = c.deref.result.now;
   before = c.in_ok-shelf.shelf;
   after = c.answer_request-status.new.shelf;
   folder = c.in_ok-shelf.ensures.folder;

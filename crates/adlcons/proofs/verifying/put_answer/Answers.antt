@@ -5,4 +5,4 @@ pub returns-in-Ok-clause-done : goal.returns-in-Ok-clause-done
 returns-in-Ok-clause-done g c = λ some. inr c.put_verified.ensures.compared
 
 pub returns-in-Err-clause-done : goal.returns-in-Err-clause-done
-returns-in-Err-clause-done g c = λ some. inl c.keep_list_out.ensures
+returns-in-Err-clause-done g c = λ some. inl c.keep_list_unread.ensures

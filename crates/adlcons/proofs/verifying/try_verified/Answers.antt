@@ -12,7 +12,7 @@ use Rattle.console.specs.declared.lines.ListOfTwo.TheVariants.{Second}
 use Rattle.consolidate.specs.declared.Fault.{Fault}
 use Rattle.consolidate.specs.declared.Written.{Written}
 use Rattle.answers.specs.Answers.{IsAnswered, Tells, asking, lines_of, status_of, written_lines}
-use Rattle.adlcons.specs.Openings.{AnswersVerified, ComparesWritten, IsListKeptOut, VerifiesInFolders}
+use Rattle.adlcons.specs.Openings.{AnswersVerified, ComparesWritten, IsListUnread, VerifiesInFolders}
 use Rattle.adlcons.proofs.verifying.try_verified.Goals as goal
 
 -- by what is printed of held lines, which are those of an outcome
@@ -20,11 +20,11 @@ answers_by : {O : Type 0} (shelf : source.Ghosts SourceFolder) (out : console.Gh
     (before : SourceFolder) (old new : O) (answer status : ℕ) (outcome : Result Written Fault)
     → held ≡ lines_of written_lines outcome → answer ≡ status_of outcome
     → (answer ≡ 1 → (status ≡ 1) × Tells out old new held)
-    → (answer ≢ 1 → IsListKeptOut out Second (codes "consolidated.adl") old new status
+    → (answer ≢ 1 → IsListUnread out Second (codes "consolidated.adl") old new status
     ⊎ ComparesWritten shelf out list held target before old new status)
     → AnswersVerified shelf out list target before old new status outcome
 answers_by shelf out list target held before old new answer status (Ok told) lines answered refused done =
-    subst (λ (text : List ℕ). IsListKeptOut out Second (codes "consolidated.adl") old new status
+    subst (λ (text : List ℕ). IsListUnread out Second (codes "consolidated.adl") old new status
     ⊎ ComparesWritten shelf out list text target before old new status) lines (done (λ one. cc))
 answers_by shelf out list target held before old new answer status (Err fault) lines answered refused done =
     subst (λ (text : List ℕ). (status ≡ 1) × Tells out old new text) lines (refused answered)
@@ -43,7 +43,7 @@ ends : {O H : Type 0} (shelf : source.Ghosts SourceFolder) (bench : output.Ghost
     → hold.contents begun ≡ Some [] → hold.contents ended ≡ Some held
     → hold.failures begun ≡ 0 → hold.failures ended ≡ 0
     → (answer ≡ 1 → (status ≡ 1) × Tells out old new held)
-    → (answer ≢ 1 → IsListKeptOut out Second (codes "consolidated.adl") old new status
+    → (answer ≢ 1 → IsListUnread out Second (codes "consolidated.adl") old new status
     ⊎ ComparesWritten shelf out list held target after old new status)
     → VerifiesInFolders shelf bench out handle report media target old new status
 ends shelf bench out hold list media target held handle report before after empty full begun ended old new answer status

@@ -1,0 +1,15 @@
+use Rattle.std.proofs.Common.{ℕ, List, subst}
+use Rattle.answers.specs.Answers.{Tells}
+use Rattle.adlcons.specs.Openings.{refusal_of_read}
+use Rattle.adlcons.proofs.Refused.{same_line}
+use Rattle.adlcons.proofs.folders.keep_unread.Goals as goal
+
+pub returns : goal.returns
+returns g c = record {
+  fault = c.args.fault;
+  status_is = c.refuse_early.ensures.status;
+  printed = subst (λ (text : List ℕ). Tells g.O.Console c.args.out.now c.refuse_early.new.out text)
+      (same_line (refusal_of_read c.args.fault c.args.list.now) _ _
+      c.refusal-refusal.ensures.number c.refusal-refusal.ensures.location)
+      c.refuse_early.ensures.printed;
+}
