@@ -1,47 +1,12 @@
 // Blocks of a rendering: their plan, their programs, the machine.
-ghost use Rattle.std.specs.Prelude.{◌≡◌, ◌+◌, ◌<◌, ◌*◌, length};
-ghost use Rattle.std.specs.List.{All};
-ghost use Rattle.sound_terms.specs.Blocks.{block_count, block_frames};
-ghost use Rattle.sound_terms.specs.Groups.{IsBounded, pieces_of};
-ghost use Rattle.sound_terms.specs.Media.{IsPieceOf};
-ghost use Rattle.list_terms.specs.Heard.{sounds_of};
-
-use blockmachine::{Machine, MachineFault};
-use interval::Intervals;
+use anyhow::Result;
+use blockmachine::Machine;
+use interval::from_checked;
+use projectcheck::Checked;
 use renderplan::{Depth, Instruction, Plan, PlanFault, Program};
 use sampletime::SampleTime;
 use shelf::Shelf;
-use sourceindex::Bound;
 use std::alloc::Global;
-
-/// The plan of a range.
-pub fn plan_of(
-    alloc: Global,
-    intervals: Intervals,
-    from: SampleTime,
-    to: SampleTime,
-) -> Result<Plan, PlanFault>
-    requires { IsBounded 32767 (pieces_of intervals) }
-{
-    Plan::new(alloc, intervals, from, to, 2, Depth::TwentyFour)
-}
-
-/// How many blocks a plan has, and the file and the frame at which the sound of one begins.
-pub fn blocks_of(plan: &Plan, k: u64) -> (u64, Option<(u32, u64)>) {
-    (plan.blocks(), plan.source_of(k))
-}
-
-/// A machine for two channels.
-pub fn machine_of(alloc: Global) -> Result<Machine, MachineFault> {
-    Machine::new(alloc, 4096, 2)
-}
-
-/// The program of a block.
-pub fn program_of(alloc: Global, plan: &Plan, k: u64) -> Result<Program, PlanFault>
-    requires { k < block_count plan.now.range }
-{
-    plan.block(alloc, k)
-}
 
 /// How many instructions of a program add a sound.
 pub fn additions_in(program: &Program) -> usize {
@@ -55,22 +20,59 @@ pub fn additions_in(program: &Program) -> usize {
         .count()
 }
 
-/// The samples of a block, run by its program.
-pub fn played<S: Shelf>(
-    plan: &Plan,
-    k: u64,
-    machine: &mut Machine,
-    program: &mut Program,
-    bound: &Bound,
+/// How many instructions of a block add a sound, by a program that is made for it; `None` behind the last block.
+pub fn additions_of(alloc: Global, plan: &Plan, k: u64) -> Result<Option<usize>, PlanFault> {
+    if k >= plan.blocks() {
+        return Ok(None);
+    }
+    let program = plan.block(alloc, k)?;
+    Ok(Some(additions_in(&program)))
+}
+
+/// The file and the frame at which the sound of a project's first block begins, on two channels.
+pub fn first_source(
+    alloc: Global,
+    checked: &Checked,
+    end: SampleTime,
+) -> Result<Option<(u32, u64)>> {
+    let intervals = from_checked(alloc, checked)?;
+    let plan = Plan::new(
+        alloc,
+        intervals,
+        SampleTime::ZERO,
+        end,
+        2,
+        Depth::TwentyFour,
+    )?;
+    Ok(plan.source_of(0))
+}
+
+/// The samples of a project from midnight up to a time, on two channels at 24 bits, block by block. All blocks have one
+/// program, in turn.
+pub fn samples_of<S: Shelf>(
+    alloc: Global,
+    checked: &Checked,
+    end: SampleTime,
     shelf: &mut S,
-    out: &mut [i32],
-) -> Result<(), MachineFault>
-    requires here { k < block_count plan.now.range }
-    requires inside { All (IsPieceOf (sounds_of bound.now)) plan.now.pieces }
-    requires machine { machine.old ≡ record { frames = 4096; channels = plan.now.range.channels } }
-    requires program { program.old.room ≡ length plan.now.pieces + 2 }
-    requires room { length out.old ≡ block_frames plan.now.range k * plan.now.range.channels }
-{
-    plan.fill(k, program);
-    machine.run(program, bound, shelf, out)
+) -> Result<Vec<i32>> {
+    let intervals = from_checked(alloc, checked)?;
+    let plan = Plan::new(
+        alloc,
+        intervals,
+        SampleTime::ZERO,
+        end,
+        2,
+        Depth::TwentyFour,
+    )?;
+    let mut machine = Machine::new(alloc, 4096, 2)?;
+    let mut program = Program::with_room(alloc, plan.most_instructions())?;
+    let mut samples = Vec::new(alloc);
+    for k in 0..plan.blocks() {
+        let mut block = Vec::new(alloc);
+        block.resize(plan.frames_of(k) as usize * 2, 0)?;
+        plan.fill(k, &mut program);
+        machine.run(&program, checked.bound(), shelf, block.as_mut_slice())?;
+        samples.extend_from_slice(block.as_slice())?;
+    }
+    Ok(samples)
 }

@@ -1,28 +1,18 @@
 // The board of jobs.
-ghost use Rattle.std.specs.Prelude.{◌≡◌, length};
-ghost use Rattle.workboard.specs.Indexed.{IsOrder};
-
+use anyhow::Result;
 use std::alloc::Global;
 use workboard::{Board, BoardFault, Counts, Ticket};
 
-/// A board of open jobs.
-pub fn new_board(alloc: Global, jobs: u32, order: Vec<u32>) -> Result<Board, BoardFault>
-    requires { IsOrder jobs order.items }
-{
-    Board::new(alloc, jobs, order)
+/// A board of two open jobs, the second of which is given first.
+pub fn new_board(alloc: Global) -> Result<Board> {
+    let board = Board::new(alloc, 2, vec![in alloc; 1, 0]?)?;
+    Ok(board)
 }
 
-/// A board of which some jobs are done.
-pub fn resumed_board(
-    alloc: Global,
-    jobs: u32,
-    order: Vec<u32>,
-    done: &[bool],
-) -> Result<Board, BoardFault>
-    requires order { IsOrder jobs order.items }
-    requires done { length done.now ≡ jobs }
-{
-    Board::with_done(alloc, jobs, order, done)
+/// The same, where the first job is done.
+pub fn resumed_board(alloc: Global) -> Result<Board> {
+    let board = Board::with_done(alloc, 2, vec![in alloc; 1, 0]?, &[true, false])?;
+    Ok(board)
 }
 
 /// A worker's round: a job is handed out, and delivered where nobody took it back.
@@ -42,7 +32,7 @@ pub fn failed(board: &mut Board, worker: u32, job: u32) -> Result<bool, BoardFau
 }
 
 /// How many jobs are open, handed out and done.
-pub fn counted(board: &Board) -> (u32, u32, u32) {
-    let counts: Counts = board.counts();
-    (counts.idle, counts.out, counts.done)
+pub fn counted(board: &Board) -> [u32; 3] {
+    let Counts { idle, out, done } = board.counts();
+    [idle, out, done]
 }

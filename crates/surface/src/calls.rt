@@ -1,9 +1,6 @@
 // The calls of the product: a list is checked, consolidated, rendered, gone on with, or done by the events of workers.
-ghost use Rattle.std.specs.Prelude.{◌≡◌};
-ghost use Rattle.rendering.specs.Rendering.{HaveChannels};
-
 use consolidate::{
-    Accepted, BoardEvent, Fault, Options, Order, Progress, Rendered, Resumed, Work, Written,
+    Accepted, BoardEvent, Depth, Fault, Options, Order, Progress, Rendered, Resumed, Work, Written,
     check_project, consolidate, render, resume, run_schedule,
 };
 use passes::Pass;
@@ -15,7 +12,7 @@ pub fn checked<S: Shelf>(alloc: Global, list: &[u8], shelf: &mut S) -> Result<Ac
     check_project(alloc, list, shelf)
 }
 
-/// A list is consolidated.
+/// A list is consolidated, with a second before and after what is played.
 pub fn consolidated<S: Shelf, B: Bench>(
     alloc: Global,
     list: &[u8],
@@ -26,58 +23,79 @@ pub fn consolidated<S: Shelf, B: Bench>(
     consolidate(alloc, list, 48_000, passes, shelf, bench)
 }
 
-/// A list is rendered.
+/// All of a list is rendered, on two channels at 24 bits.
 pub fn rendered<S: Shelf, B: Bench>(
     alloc: Global,
     list: &[u8],
-    options: &Options,
     shelf: &mut S,
     bench: &mut B,
-) -> Result<Rendered, Fault>
-    requires { HaveChannels options.now }
-{
-    render(alloc, list, options, shelf, bench)
+) -> Result<Rendered, Fault> {
+    let options = Options {
+        channels: Some(2),
+        ..Options::default()
+    };
+    render(alloc, list, &options, shelf, bench)
 }
 
-/// A rendering is gone on with.
+/// The same is gone on with after a stop.
 pub fn resumed<S: Shelf, B: Bench>(
     alloc: Global,
     list: &[u8],
-    options: &Options,
     shelf: &mut S,
     bench: &mut B,
-) -> Result<Resumed, Fault>
-    requires { HaveChannels options.now }
-{
-    resume(alloc, list, options, shelf, bench)
+) -> Result<Resumed, Fault> {
+    let options = Options {
+        channels: Some(2),
+        ..Options::default()
+    };
+    resume(alloc, list, &options, shelf, bench)
 }
 
-/// A consolidation as a work.
-pub fn media_of(list: &[u8], passes: Vec<Box<dyn Pass>>) -> Work<'_> {
-    Work::Consolidate {
+/// Two workers take a piece of a consolidation each. The first one's fails, and the second is lost with its piece.
+pub fn consolidated_in_part<S: Shelf, B: Bench>(
+    alloc: Global,
+    list: &[u8],
+    passes: Vec<Box<dyn Pass>>,
+    shelf: &mut S,
+    bench: &mut B,
+) -> Result<Progress, Fault> {
+    let work = Work::Consolidate {
         list,
         handle: 0,
         passes,
         order: Order::BySource,
-    }
+    };
+    let events = [
+        BoardEvent::Give(1),
+        BoardEvent::Give(2),
+        BoardEvent::Fault(1),
+        BoardEvent::Lose(2),
+    ];
+    run_schedule(alloc, work, &events, shelf, bench)
 }
 
-/// A rendering as a work.
-pub fn rendering_of(list: &[u8], options: Options) -> Work<'_> {
-    Work::Render { list, options }
-}
-
-/// A work is done by the events of workers.
-pub fn scheduled<S: Shelf, B: Bench>(
+/// A worker renders the first block at 16 bits, and then one that is taken back from it.
+pub fn rendered_in_part<S: Shelf, B: Bench>(
     alloc: Global,
-    work: Work<'_>,
-    events: &[BoardEvent],
+    list: &[u8],
     shelf: &mut S,
     bench: &mut B,
-) -> Result<Progress, Fault>
-    requires { (list : _) (options : _) → work ≡ Work.Render list options → HaveChannels options }
-{
-    run_schedule(alloc, work, events, shelf, bench)
+) -> Result<Progress, Fault> {
+    let options = Options {
+        from: None,
+        to: None,
+        channels: None,
+        depth: Depth::Sixteen,
+        order: Order::ByTime,
+    };
+    let events = [
+        BoardEvent::Give(1),
+        BoardEvent::Work(1),
+        BoardEvent::Deliver(1),
+        BoardEvent::Give(1),
+        BoardEvent::Reclaim(1),
+    ];
+    run_schedule(alloc, Work::Render { list, options }, &events, shelf, bench)
 }
 
 /// The number of a refusal.

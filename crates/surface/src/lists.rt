@@ -2,12 +2,14 @@
 
 use adlmodel::{Channels, Event, Fade, Place, Project, Source, Sources, place_of};
 use adlread::{AdlFault, rate_of, read};
-use adltoken::{Lines, TokenFault, TokenKind, Tokens};
+use adltoken::{Lines, Token, TokenFault, TokenKind, Tokens};
 use adlwrite::{WriteFault, write};
-use projectcheck::{Checked, EventFault, check};
+use anyhow::Result;
+use list_terms::Notice;
+use projectcheck::{Checked, check};
 use sampletime::{Rate, SampleTime, Separators, parse_time, text_of};
 use shelf::{Bench, Shelf};
-use sourceindex::{BindFault, Bound, bind};
+use sourceindex::{Bound, bind};
 use std::alloc::{AllocError, Global};
 
 /// A time's text, read and written again.
@@ -25,7 +27,8 @@ pub fn first_line(text: &[u8]) -> Option<&[u8]> {
 /// The kind of the first token of a line, its first byte in the line, its length, and that of its content.
 pub fn first_token(line: &[u8]) -> Result<Option<(TokenKind, usize, usize, usize)>, TokenFault> {
     let mut tokens = Tokens::new(line);
-    let Some(token) = tokens.next_token()? else {
+    let next: Option<Token> = tokens.next_token()?;
+    let Some(token) = next else {
         return Ok(None);
     };
     let span = token.span();
@@ -50,6 +53,13 @@ pub fn write_list<B: Bench>(project: &Project, bench: &mut B) -> Result<(), Writ
 /// A copy of a project.
 pub fn copied(project: &Project) -> Result<Project, AllocError> {
     project.try_copy()
+}
+
+/// A project of the same sources and events.
+pub fn made_anew(alloc: Global, project: &Project) -> Result<Project, AllocError> {
+    let sources = Sources::from_slice(alloc, project.sources().as_slice())?;
+    let events = Vec::from_slice(alloc, project.events())?;
+    project.with(sources, events)
 }
 
 /// Whether a project has an index of this number, and how many indexes, entries and notices it has.
@@ -83,9 +93,18 @@ pub fn bound_and_checked<S: Shelf>(
     alloc: Global,
     project: Project,
     shelf: &mut S,
-) -> Result<Result<Checked, EventFault>, BindFault> {
+) -> Result<Checked> {
     let bound: Bound = bind(alloc, &project, shelf)?;
-    Ok(check(project, bound))
+    let checked = check(project, bound)?;
+    Ok(checked)
+}
+
+/// How many entries a checked project has, and how many files it is bound to.
+pub fn sizes_of_checked(checked: &Checked) -> (usize, usize) {
+    (
+        checked.project().events().len(),
+        checked.bound().sounds().len(),
+    )
 }
 
 /// The files of a binding, its indexes and its notices, and the base of its first file.

@@ -1,6 +1,4 @@
 // The marks of a rendering.
-ghost use Rattle.std.specs.Prelude.{◌≤◌, ◌-◌};
-
 use markfile::{
     FreshMarks, MarkFault, MarkedFile, Marks, RunId, RunRange, mark, mark_all, open_marks, start,
     start_fresh,
@@ -13,21 +11,11 @@ pub fn run_of(list: &[u8], range: &RunRange, blocks: u32, length: u64) -> RunId 
     RunId::new(list, range, blocks, length)
 }
 
-/// New marks of a run, that of one block, and those of some more.
-pub fn marked<B: Bench>(
-    alloc: Global,
-    bench: &mut B,
-    run: &RunId,
-    block: u32,
-    from: u32,
-    end: u32,
-) -> Result<(), MarkFault>
-    requires order { from ≤ end }
-    requires few { end - from ≤ 2048 }
-{
+/// New marks of a run, of which the first one and the next seven are set.
+pub fn marked<B: Bench>(alloc: Global, bench: &mut B, run: &RunId) -> Result<(), MarkFault> {
     start(alloc, bench, run)?;
-    mark(bench, block)?;
-    mark_all(bench, from, end)
+    mark(bench, 0)?;
+    mark_all(bench, 1, 8)
 }
 
 /// The marks of a run, for which memory is taken before anything is written.

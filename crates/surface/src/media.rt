@@ -1,65 +1,146 @@
-// Media: laid out, and filled piece by piece.
-ghost use Rattle.std.specs.Prelude.{◌≡◌, length};
-ghost use Rattle.list_terms.specs.Heard.{sounds_of};
-ghost use Rattle.wavwrite.specs.Info.{Fits};
-ghost use Rattle.mediacopy.specs.Pieces.{IsPieceOf, piece_length};
-
-use mediacopy::{CopyFault, CopyJob, copy_piece, fetch_piece, lay_out, place_piece};
-use mediaset::Run;
+// A consolidation by its parts: media that are laid out and filled piece by piece, and the list over them.
+use adlwrite::write;
+use anyhow::{Context, Result, bail};
+use interval::from_checked;
+use mediacopy::{
+    CopyFault, CopyJob, copy_piece, fetch_piece, is_piece, lay_out, length_of, medium_name,
+    place_piece,
+};
+use mediaset::{Run, runs};
+use projectcheck::Checked;
+use relink::relink;
 use shelf::{Bench, Shelf};
 use sourceindex::Bound;
-use wavwrite::SoundInfo;
+use std::alloc::Global;
+use wavread::Sound;
+use wavwrite::{Bext, SoundInfo, fits};
 
-/// A medium at its full length.
-pub fn laid_out<B: Bench>(bench: &mut B, name: &str, info: &SoundInfo) -> Result<(), CopyFault>
-    requires { Fits info.now }
-{
-    lay_out(bench, name, info)
+/// How many frames are copied at once.
+const PIECE: u64 = 65_536;
+
+/// The name of the list.
+const LIST: &str = "consolidated.adl";
+
+/// What the medium of a run tells of itself, where the source's first frame stands at `base`.
+fn info_of(alloc: Global, sound: &Sound, base: u64, run: &Run) -> Result<SoundInfo> {
+    let text = match sound.bext() {
+        Some(bext) => bext.text,
+        None => [0; 338],
+    };
+    let bext = Bext {
+        text,
+        time_reference: base.checked_add(run.first).context("no time")?,
+    };
+    let history = Vec::from_slice(alloc, sound.history())?;
+    SoundInfo::new(sound.channels(), sound.depth(), run.length, bext, history).context(
+        "no sound file",
+    )
 }
 
-/// A piece of a run, by the run's place, its first frame in the run and its count of frames.
-pub fn piece_of(run: u32, from: u64, frames: u32) -> CopyJob {
-    CopyJob { run, from, frames }
-}
-
-/// The bytes of a piece in its source.
-pub fn fetched<S: Shelf>(
-    shelf: &mut S,
-    bound: &Bound,
-    runs: &[Run],
-    job: CopyJob,
-    bytes: &mut [u8],
-) -> Result<(), CopyFault>
-    requires piece { IsPieceOf (sounds_of bound.now) runs.now job }
-    requires room { length bytes.old ≡ piece_length (sounds_of bound.now) runs.now job }
-{
-    fetch_piece(shelf, bound, runs, job, bytes)
-}
-
-/// These bytes, as a piece of a medium.
-pub fn placed<B: Bench>(
+/// The medium of run `k`, with all its samples zero.
+pub fn laid_out<B: Bench>(
+    alloc: Global,
     bench: &mut B,
     bound: &Bound,
-    runs: &[Run],
-    job: CopyJob,
-    bytes: &[u8],
-) -> Result<(), CopyFault>
-    requires piece { IsPieceOf (sounds_of bound.now) runs.now job }
-{
-    place_piece(bench, bound, runs, job, bytes)
+    k: u32,
+    run: &Run,
+) -> Result<()> {
+    let sound = bound.sounds().get(run.file as usize).context("no file")?;
+    let home = bound.home(run.file).context("no index")?;
+    let info = info_of(alloc, sound, home.base, run)?;
+    if !fits(&info) {
+        bail!("too long");
+    }
+    lay_out(bench, medium_name(u64::from(k) + 1).as_str(), &info)?;
+    Ok(())
 }
 
-/// Both in turn.
+/// Copies a piece of a medium; false where it is none.
 pub fn copied<S: Shelf, B: Bench>(
+    alloc: Global,
     shelf: &mut S,
     bench: &mut B,
     bound: &Bound,
     runs: &[Run],
     job: CopyJob,
-    bytes: &mut [u8],
-) -> Result<(), CopyFault>
-    requires piece { IsPieceOf (sounds_of bound.now) runs.now job }
-    requires room { length bytes.old ≡ piece_length (sounds_of bound.now) runs.now job }
-{
-    copy_piece(shelf, bench, bound, runs, job, bytes)
+) -> Result<bool> {
+    if !is_piece(bound, runs, job) {
+        return Ok(false);
+    }
+    let mut bytes = Vec::new(alloc);
+    bytes.resize(length_of(bound, runs, job), 0)?;
+    copy_piece(shelf, bench, bound, runs, job, bytes.as_mut_slice())?;
+    Ok(true)
+}
+
+/// The same by its halves, the second of which another worker may do.
+pub fn copied_by_halves<S: Shelf, B: Bench>(
+    alloc: Global,
+    shelf: &mut S,
+    bench: &mut B,
+    bound: &Bound,
+    runs: &[Run],
+    job: CopyJob,
+) -> Result<bool> {
+    if !is_piece(bound, runs, job) {
+        return Ok(false);
+    }
+    let mut bytes = Vec::new(alloc);
+    bytes.resize(length_of(bound, runs, job), 0)?;
+    fetch_piece(shelf, bound, runs, job, bytes.as_mut_slice())?;
+    place_piece(bench, bound, runs, job, bytes.as_slice())?;
+    Ok(true)
+}
+
+/// Lays out the medium of run `k` and fills it, each other piece by its halves.
+fn copy_run<S: Shelf, B: Bench>(
+    alloc: Global,
+    shelf: &mut S,
+    bench: &mut B,
+    bound: &Bound,
+    runs: &[Run],
+    k: u32,
+    run: &Run,
+) -> Result<()> {
+    laid_out(alloc, bench, bound, k, run)?;
+    for i in 0..run.length.div_ceil(PIECE) {
+        let from = i * PIECE;
+        let frames = (run.length - from).min(PIECE) as u32;
+        let job = CopyJob {
+            run: k,
+            from,
+            frames,
+        };
+        let is_copied = if i % 2 == 0 {
+            copied(alloc, shelf, bench, bound, runs, job)?
+        } else {
+            copied_by_halves(alloc, shelf, bench, bound, runs, job)?
+        };
+        if !is_copied {
+            bail!("no piece");
+        }
+    }
+    bench.sync(medium_name(u64::from(k) + 1).as_str())?;
+    Ok(())
+}
+
+/// Writes media of what a project plays, with so many samples before and after it, and last the list over them.
+pub fn consolidated_by_parts<S: Shelf, B: Bench>(
+    alloc: Global,
+    checked: &Checked,
+    handle: u64,
+    shelf: &mut S,
+    bench: &mut B,
+) -> Result<()> {
+    let intervals = from_checked(alloc, checked)?;
+    let bound = checked.bound();
+    let kept = runs(alloc, &intervals, bound, handle)?;
+    let renewed = relink(alloc, intervals, kept.as_slice(), checked)?;
+    for (k, run) in kept.iter().enumerate() {
+        copy_run(alloc, shelf, bench, bound, kept.as_slice(), k as u32, run)?;
+    }
+    bench.create(LIST)?;
+    write(&renewed, bench, LIST)?;
+    bench.sync(LIST)?;
+    Ok(())
 }

@@ -1,7 +1,4 @@
 // Samples: their bytes, their shares under a fade, their sums.
-ghost use Rattle.std.specs.Prelude.{◌≤◌, ◌<◌};
-ghost use Rattle.sampletime.specs.TimeCode.{day};
-
 use pcm::{Depth, all_zero, pack, unpack};
 use soundlaw::{contribution, finish, widen};
 
@@ -14,16 +11,9 @@ pub fn pair_of_samples(bytes: &[u8; 6]) -> ([u8; 6], bool) {
     (again, all_zero(&samples))
 }
 
-/// What a 32-bit sample adds under a fraction.
-pub fn shared(sample: i32, num: u64, den: u64) -> i64
-    requires fraction { num ≤ den }
-    requires some { 0 < den }
-    requires in_day { den ≤ day }
-{
-    contribution(widen(sample, Depth::ThirtyTwo), num, den)
-}
-
-/// A sum, rounded and clipped to 16 bits.
-pub fn finished(sum: i64) -> i32 {
-    finish(sum, Depth::Sixteen)
+/// What two 32-bit samples are at 16 bits where the one is in a quarter of its fade and the other in three.
+pub fn crossfaded(out: i32, into: i32) -> i32 {
+    let out = contribution(widen(out, Depth::ThirtyTwo), 3, 4);
+    let into = contribution(widen(into, Depth::ThirtyTwo), 1, 4);
+    finish(out + into, Depth::Sixteen)
 }

@@ -1,32 +1,25 @@
-// The sound as groups of pieces, what passes leave of it, what is kept of its files.
-ghost use Rattle.std.specs.Prelude.{ℕ, IsTrue};
-ghost use Rattle.std.specs.List.{All};
-ghost use Rattle.sound_terms.specs.Groups.{AreGroups, are_whole, pieces_of};
-ghost use Rattle.sound_terms.specs.Homes.{LiesAtHome, kept_of, place_by};
-ghost use Rattle.sound_terms.specs.Kept.{AreRuns};
-ghost use Rattle.list_terms.specs.BoundHomes.{homes_of};
-ghost use Rattle.mediaset.specs.Runs.{AreIndexable, homed};
-
-use adlmodel::Project;
-use interval::{Group, IntervalFault, Intervals, Piece, Placed, from_checked};
-use mediaset::{Run, RunFault, runs};
+// The sound as groups of pieces, and what passes leave of it.
+use anyhow::Result;
+use interval::{Group, IntervalFault, Intervals, Piece, Placed, Shape};
 use passes::{DropSilent, JoinCuts, Pass, PassFault, Regroup, Samples, SplitFades, run, silent_of};
-use projectcheck::Checked;
-use relink::{RelinkFault, relink};
 use sampletime::SampleTime;
-use sourceindex::Bound;
+use shelf::ShelfFault;
 use std::alloc::{AllocError, Global};
 
-/// The groups of a checked project.
-pub fn intervals_of(alloc: Global, checked: &Checked) -> Result<Intervals, IntervalFault> {
-    from_checked(alloc, checked)
-}
-
-/// These groups.
-pub fn given(groups: Vec<Group>) -> Intervals
-    requires { AreGroups groups.items }
-{
-    Intervals::of(groups)
+/// The first second of the first file, at midnight on the first channel.
+pub fn one_second(alloc: Global) -> Result<Intervals, AllocError> {
+    let piece = Piece {
+        start: 0,
+        length: 48_000,
+        frame: 0,
+        file: 0,
+        first: 1,
+        dest: 1,
+        width: 1,
+        shape: Shape::Flat,
+    };
+    let groups = vec![in alloc; Group::alone(alloc, piece)]?;
+    Ok(Intervals::of(groups))
 }
 
 /// The pieces of the first group.
@@ -49,6 +42,11 @@ pub fn placed(intervals: &Intervals) -> Result<Option<Vec<Placed>>, IntervalFaul
     Ok(Some(events))
 }
 
+/// Whether the first second of a stereo file is silent.
+pub fn begins_silent<P: Samples>(samples: &mut P) -> Result<bool, ShelfFault> {
+    samples.all_zero(0, 1, 2, 0, 48_000)
+}
+
 /// Which pieces are silent.
 pub fn silences<P: Samples>(
     alloc: Global,
@@ -63,13 +61,14 @@ pub fn after_passes<P: Samples>(
     alloc: Global,
     intervals: Intervals,
     samples: &mut P,
-) -> Result<Result<Intervals, PassFault>, AllocError> {
+) -> Result<Intervals> {
     let splitting: Box<dyn Pass> = Box::new(alloc, SplitFades)?;
     let leaving_out: Box<dyn Pass> = Box::new(alloc, DropSilent)?;
     let joining: Box<dyn Pass> = Box::new(alloc, JoinCuts)?;
     let grouping: Box<dyn Pass> = Box::new(alloc, Regroup)?;
     let passes = vec![in alloc; splitting, leaving_out, joining, grouping]?;
-    Ok(run(alloc, passes, intervals, samples))
+    let left = run(alloc, passes, intervals, samples)?;
+    Ok(left)
 }
 
 /// Whether a pass looks at samples, and the groups that it leaves.
@@ -82,30 +81,4 @@ pub fn after_pass<P: Pass>(
     let looks = pass.looks();
     let groups = pass.apply(alloc, intervals, silent)?;
     Ok((looks, groups))
-}
-
-/// The frames that are kept, as runs.
-pub fn kept_runs(
-    alloc: Global,
-    intervals: &Intervals,
-    bound: &Bound,
-    handle: u64,
-) -> Result<Vec<Run>, RunFault> {
-    runs(alloc, intervals, bound, handle)
-}
-
-/// The project over the media of these runs.
-pub fn listed_again(
-    alloc: Global,
-    intervals: Intervals,
-    runs: &[Run],
-    checked: &Checked,
-) -> Result<Project, RelinkFault>
-    requires whole { IsTrue (are_whole intervals) }
-    requires sound { AreIndexable (homed (homes_of checked.now.bound) runs.now) }
-    requires runs { (handle : ℕ) × AreRuns (kept_of intervals (homes_of checked.now.bound) handle)
-        (place_by (homes_of checked.now.bound)) runs.now }
-    requires at_home { All (LiesAtHome (homes_of checked.now.bound)) (pieces_of intervals) }
-{
-    relink(alloc, intervals, runs, checked)
 }

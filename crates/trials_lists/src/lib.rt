@@ -1,4 +1,4 @@
-//! Tests of lists: copies of their projects, comparisons, consolidations by any passes, and works by the events of any
+//! Tests of lists: their tokens, copies of their projects, comparisons, consolidations by any passes, and works by the events of any
 //! workers.
 #![tactic(auto)]
 
@@ -18,3 +18,5 @@ mod media_schedules;
 mod orders;
 #[cfg(test)]
 mod schedules;
+#[cfg(test)]
+mod tokens;

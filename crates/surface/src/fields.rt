@@ -1,0 +1,199 @@
+// The fields of the types that calls take and answer, each read once.
+use adlmodel::{Event, Source};
+use consolidate::{Accepted, Progress, Rendered, Resumed, Written};
+use interval::{Piece, Placed, Shape};
+use list_terms::Notice;
+use mediacopy::CopyJob;
+use mediaset::Run;
+use rf64::Ds64;
+use riff::{Chunks, Format};
+use sampletime::SampleTime;
+use wavread::{Depth, Sound};
+use workboard::Ticket;
+
+/// The number, the URL, the identifier, the start and the length of a source.
+pub fn of_source(source: &Source) -> (u32, &[u8], &[u8], [Option<SampleTime>; 2]) {
+    (
+        source.number(),
+        source.url(),
+        source.uid(),
+        [source.start(), source.length()],
+    )
+}
+
+/// The number, the index, the channels, the times and the fades of an entry.
+pub fn of_event(event: &Event) -> ([u32; 2], [u8; 4], [SampleTime; 5]) {
+    (
+        [event.number, event.index],
+        [
+            event.source.first,
+            event.source.last,
+            event.dest.first,
+            event.dest.last,
+        ],
+        [
+            event.source_in,
+            event.dest_in,
+            event.dest_out,
+            event.rise.length,
+            event.fall.length,
+        ],
+    )
+}
+
+/// The kind of a notice, and the line or the index that it is about.
+pub fn of_notice(notice: &Notice) -> (u8, u64) {
+    let Notice { kind, at } = *notice;
+    (kind, at)
+}
+
+/// Where the chunks of a file lie: `fmt `, `data`, and `bext` if it is there; whether it has others.
+pub fn of_chunks(chunks: &Chunks) -> ([u64; 4], Option<(u64, u64)>, bool) {
+    let bext = match chunks.bext {
+        Some(bext) => Some((bext.at, bext.length)),
+        None => None,
+    };
+    (
+        [
+            chunks.format.at,
+            chunks.format.length,
+            chunks.sound.at,
+            chunks.sound.length,
+        ],
+        bext,
+        chunks.others,
+    )
+}
+
+/// The channels and the depth of a format.
+pub fn of_format(format: Format) -> (u8, Depth) {
+    let Format { channels, depth } = format;
+    (channels, depth)
+}
+
+/// The fields of `ds64`.
+pub fn of_sizes(sizes: Ds64) -> ([u64; 3], u32) {
+    let Ds64 {
+        riff_size,
+        data_size,
+        samples,
+        entries,
+    } = sizes;
+    ([riff_size, data_size, samples], entries)
+}
+
+/// The channels, the depth, the frames and the CodingHistory of a file, and what its user should know of.
+pub fn of_sound(sound: &Sound) -> (u8, Depth, u64, &[u8], [bool; 4]) {
+    (
+        sound.channels(),
+        sound.depth(),
+        sound.frames(),
+        sound.history(),
+        [
+            sound.bext().is_some(),
+            sound.short_bext(),
+            sound.history_cut(),
+            sound.others(),
+        ],
+    )
+}
+
+/// The times, the file, the channels and the shape of a piece.
+pub fn of_piece(piece: &Piece) -> ([u64; 3], u32, [u8; 3], Option<(u64, u64)>) {
+    let Piece {
+        start,
+        length,
+        frame,
+        file,
+        first,
+        dest,
+        width,
+        shape,
+    } = *piece;
+    let ramp = match shape {
+        Shape::Flat => None,
+        Shape::Rise { offset, den } | Shape::Fall { offset, den } => Some((offset, den)),
+    };
+    ([start, length, frame], file, [first, dest, width], ramp)
+}
+
+/// The times, the file, the channels and the fades of a group's event.
+pub fn of_placed(placed: &Placed) -> ([u64; 5], u32, [u8; 3]) {
+    let Placed {
+        start,
+        length,
+        frame,
+        file,
+        first,
+        dest,
+        width,
+        rise,
+        fall,
+    } = *placed;
+    (
+        [start, length, frame, rise, fall],
+        file,
+        [first, dest, width],
+    )
+}
+
+/// A run's file, its first frame and its frames, and the whole of it as a piece of its medium, where it isn't too long.
+pub fn of_run(place: u32, run: &Run) -> (u32, u64, CopyJob) {
+    let Run {
+        file,
+        first,
+        length,
+    } = *run;
+    let job = CopyJob {
+        run: place,
+        from: 0,
+        frames: length.min(65_536) as u32,
+    };
+    (file, first, job)
+}
+
+/// The job and the serial number of a ticket.
+pub fn of_ticket(ticket: Ticket) -> [u32; 2] {
+    let Ticket { job, serial } = ticket;
+    [job, serial]
+}
+
+/// How far a schedule has come.
+pub fn of_progress(progress: Progress) -> ([u32; 3], u64, bool) {
+    let Progress {
+        idle,
+        out,
+        done,
+        stale,
+        finished,
+    } = progress;
+    ([idle, out, done], stale, finished)
+}
+
+/// The entries and the indexes of a list that was checked, and its notices.
+pub fn of_accepted(accepted: &Accepted) -> (u32, u32, &[Notice]) {
+    (
+        accepted.entries,
+        accepted.indexes,
+        accepted.notices.as_slice(),
+    )
+}
+
+/// The media and the entries of a consolidation, and its notices.
+pub fn of_written(written: &Written) -> (u32, u32, &[Notice]) {
+    (written.media, written.entries, written.notices.as_slice())
+}
+
+/// The frames and the channels of a rendering, and its notices.
+pub fn of_rendered(rendered: &Rendered) -> (u64, u32, &[Notice]) {
+    (
+        rendered.frames,
+        rendered.channels,
+        rendered.notices.as_slice(),
+    )
+}
+
+/// The frames of a rendering that was gone on with, how many blocks were marked before, and its notices.
+pub fn of_resumed(resumed: &Resumed) -> (u64, u32, &[Notice]) {
+    (resumed.frames, resumed.marked, resumed.notices.as_slice())
+}

@@ -1,0 +1,31 @@
+// Tokens of a line, cut one after another.
+use adltoken::{Span, Token, TokenFault, TokenKind, Tokens};
+use std::test::Fail;
+
+/// Whether a token is of this kind, has this content, and stands so in its line.
+fn is_token(
+    token: Option<Token<'_>>,
+    kind: TokenKind,
+    content: &[u8],
+    at: usize,
+    length: usize,
+) -> bool {
+    token.is_some_and(|token| {
+        token.kind == kind && token.content == content && token.span() == Span { at, length }
+    })
+}
+
+#[test]
+fn a_line_is_cut_up_to_its_fault(rt: HostRuntime) -> Result<(), Fail> {
+    let mut tokens = Tokens::numbered(b" (Entry) \"a b\"_ \x01 C", 12);
+    assert!(rt; is_token(tokens.next_token()?, TokenKind::Keyword, b"Entry", 1, 7));
+    assert!(rt; is_token(tokens.next_token()?, TokenKind::Quoted, b"a b", 9, 5));
+    assert!(rt; is_token(tokens.next_token()?, TokenKind::Word, b"_", 14, 1));
+    for _ in 0..2 {
+        let fault = tokens.next_token().err();
+        assert!(rt; fault == Some(TokenFault::BadByte { line: 12 }));
+        assert_eq!(rt; tokens.rest, b" \x01 C".as_slice());
+        assert_eq!(rt; tokens.at, 15);
+    }
+    Ok(())
+}
