@@ -24,7 +24,7 @@ MISTAKES = {
     "a depth of 20 to go on with": ("resume", LIST, MEDIA, OUT, "--depth", "20"),
     "an output of a picture": ("show", LIST, MEDIA, OUT),
     "a picture with a handle of more than a day": ("show", LIST, MEDIA, "--handle", "4147200001"),
-    "a report of a rendering": ("render", LIST, MEDIA, OUT, "--report"),
+    "digests of a rendering": ("render", LIST, MEDIA, OUT, "--digests"),
     "an order by name": ("render", LIST, MEDIA, OUT, "--order", "name"),
     "an order in capitals": ("render", LIST, MEDIA, OUT, "--order", "TIME"),
     "no channels": ("render", LIST, MEDIA, OUT, "--channels", "0"),
@@ -257,9 +257,6 @@ def option_forms(scene: Scene) -> None:
         scene.empty_out()
 
 
-TIME_FORM = b"a time is hh.mm.ss.ff/rrrr: hours to 24, frames below the list's rate, and samples of a frame\n"
-
-
 def bad_times(scene: Scene) -> None:
     """A time that can't be read is told before all faults in the list, and behind places that can't be used."""
     good, bad = "01.00.00.00/0000", ("1", "", "24.00.00.00/0001", "00.00.00.25/0000", "00.00.00.00/1920")
@@ -271,7 +268,7 @@ def bad_times(scene: Scene) -> None:
                 ("--to", ("--from", good, f"--to={time}")), ("--from", (f"--to={time}", f"--from={time}")),
             ):
                 got = scene.run("render", LIST, MEDIA, OUT, *words)
-                same(f"the answer of {words}", got, Outcome(2, b"", f"bad time: {option}\n".encode() + TIME_FORM))
+                same(f"the answer of {words}", got, Outcome(2, b"", f"bad time: {option}\n".encode()))
     same_files(scene.files(), {})
     full = scene.run("render", LIST, MEDIA, MEDIA, "--from=1")
     same("the output first", full.output, f"refused 20 at file {MEDIA}\n".encode())

@@ -143,12 +143,14 @@ def on_small_disk(body: Callable[[Scene], None]):
 
 def full_disk_rendered(scene: Scene) -> None:
     put_long(scene, 1)
-    same_outcome(scene.run("render", LIST, MEDIA, OUT), 1, "refused 66 at job 2")
+    room = r"render\.wav and render\.marks take \d+ bytes in all\n"
+    same_outcome(scene.run("render", LIST, MEDIA, OUT), 1, "refused 66 at job 2", room=room)
 
 
 def full_disk_consolidated(scene: Scene) -> None:
     put_long(scene, 2)
-    same_outcome(scene.run("consolidate", LIST, MEDIA, OUT), 1, "refused 66 at job 0")
+    room = r"the media take at most \d+ bytes in all\n"
+    same_outcome(scene.run("consolidate", LIST, MEDIA, OUT), 1, "refused 66 at job 0", room=room)
     if "consolidated.adl" in scene.files():
         raise Mismatch("there is a list on a full disk")
 

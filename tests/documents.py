@@ -1,5 +1,6 @@
 """What the documents say of the program: transcripts, examples, options, and the files that they name."""
 
+import os
 import re
 import shlex
 import shutil
@@ -69,13 +70,48 @@ def library_example(_: Scene) -> None:
 def reports(scene: Scene) -> None:
     """The reports of REPORT.md are those of the first list, and of one with another sample."""
     scene.put(FIRST_LIST, {"A.wav": wave()})
-    checked, compared, consolidated = ("".join(block) + "\n" for block in blocks_of(DOCS / "REPORT.md"))
+    checked, compared, consolidated, rendered = ("".join(block) + "\n" for block in blocks_of(DOCS / "REPORT.md"))
     (scene.folder / "M2").mkdir()
     (scene.folder / "M2/A.wav").write_bytes(wave([1000, -1000, 32766, -32768]))
     same("of a comparison", scene.run("compare", LIST, MEDIA, LIST, "M2", "--report").output.decode(), compared)
     same("of a check", scene.run("check", LIST, MEDIA, "--report").output.decode(), checked)
     scene.run("consolidate", LIST, MEDIA, OUT, "--report", "--handle", "0")
     same("of a consolidation", scene.files()["consolidated.json"].decode(), consolidated)
+    scene.empty_out()
+    scene.run("render", LIST, MEDIA, OUT, "--report")
+    same("of a rendering", scene.files()["render.json"].decode(), rendered)
+
+
+def batch(scene: Scene) -> None:
+    """The batch of ARCHIVE.md makes again just the outputs that aren't finished, and notes the lists that are refused."""
+    if not shutil.which("bash"):
+        raise Skipped("bash isn't installed (Debian package bash)")
+    script = next(block for block in blocks_of(DOCS / "ARCHIVE.md") if block[0].startswith("for list in"))
+    for name in ("lists", "media", "out", "path"):
+        (scene.folder / name).mkdir()
+    (scene.folder / "path/adlcons").symlink_to(scene.program)
+    (scene.folder / "media/A.wav").write_bytes(wave())
+    for name, text in (("one", FIRST_LIST), ("two", FIRST_LIST), ("whole", FIRST_LIST), ("bad", b"no list")):
+        (scene.folder / f"lists/{name}.adl").write_bytes(text)
+    environment = {**os.environ, "PATH": f"{scene.folder / 'path'}:{os.environ['PATH']}"}
+
+    def made() -> dict:
+        subprocess.run(["bash", "-c", "\n".join(script)], cwd=scene.folder, env=environment, check=False,
+                       capture_output=True, timeout=TIMEOUT)
+        same("the lists that are refused", (scene.folder / "refused").read_text(), "lists/bad.adl\n")
+        (scene.folder / "refused").unlink()
+        for name in ("one", "two", "whole"):
+            subprocess.run(["sha256sum", "-c", "--status", "SHA256SUMS"], cwd=scene.folder / "out" / name, check=True)
+        return {path: path.stat().st_mtime_ns for path in (scene.folder / "out").glob("*/M00001.wav")}
+
+    before = made()
+    # One was stopped before its list, and one in the midst of a medium.
+    (scene.folder / "out/one/consolidated.adl").unlink()
+    with open(scene.folder / "out/two/M00001.wav", "r+b") as file:
+        file.truncate(100)
+    (scene.folder / "out/two/consolidated.adl").unlink()
+    after = made()
+    same("what is left alone", [path.parent.name for path in sorted(before) if before[path] == after[path]], ["whole"])
 
 
 def helped(scene: Scene) -> dict:
@@ -331,6 +367,7 @@ def run(suite: Suite) -> None:
     suite.case("the commands of MANY_MACHINES.md", many_machines)
     suite.case("the example of LIBRARY.md", library_example)
     suite.case("the reports of REPORT.md", reports)
+    suite.case("the batch of ARCHIVE.md", batch)
     suite.case("the man page", man_page)
     suite.case("man shows the page", man_shows_page)
     suite.case("the completion", completion)

@@ -1,6 +1,8 @@
 """Each system call on a file of a project fails once, and three times in a row: strace answers EIO in its place. A
 rendering is killed at each, too, and gone on with."""
 
+import hashlib
+import json
 import re
 import shutil
 import signal
@@ -14,6 +16,7 @@ from harness import (
 )
 from tables import wave
 
+REPORT = "render.json"
 FRAMES = 9_000
 SOURCES = ("A.wav", "B.wav")
 MEDIA_COUNT = 40
@@ -85,7 +88,7 @@ def refusals_of(call: Call) -> set:
     if file:
         return {(62, file)}
     return {(20, OUT), *((62, name) for name in (
-        "render.wav", "render.marks", "M00001.wav", "SHA256SUMS", "consolidated.json", "consolidated.adl"))}
+        "render.wav", "render.marks", REPORT, "M00001.wav", "SHA256SUMS", "consolidated.json", "consolidated.adl"))}
 
 
 def check_failed(got: Outcome, failed: list, times: int, written: dict, begun: dict, whole: tuple) -> None:
@@ -142,10 +145,15 @@ def calls_of(scene: Scene, command: str, words: tuple = ()) -> tuple:
     return (done.output, scene.files()), calls
 
 
-def expect_whole(scene: Scene, files: dict) -> None:
-    """What is left of a rendering is gone on with, now that nothing fails."""
-    same("the status once nothing fails", scene.run("resume", LIST, MEDIA, OUT).status, 0)
-    same_files(scene.files(), files)
+def expect_whole(scene: Scene, files: dict, words: tuple = ()) -> None:
+    """What is left of a rendering is gone on with, now that nothing fails. Its report is one of the same file."""
+    same("the status once nothing fails", scene.run("resume", LIST, MEDIA, OUT, *words).status, 0)
+    written = scene.files()
+    if "--report" in words:
+        digest = json.loads(written[REPORT])["sha256"]
+        same("the digest in the report", digest, hashlib.sha256(files["render.wav"]).hexdigest())
+        written[REPORT] = files[REPORT]
+    same_files(written, files)
 
 
 def each_call(command: str, times: int, before=nothing, words: tuple = ()):
@@ -164,7 +172,7 @@ def each_call(command: str, times: int, before=nothing, words: tuple = ()):
             try:
                 check_failed(got, failed, times, scene.files(), begun, whole)
                 if got.status and command != "consolidate":
-                    expect_whole(scene, whole[1])
+                    expect_whole(scene, whole[1], words)
             except Mismatch as fault:
                 raise Mismatch(f"{call.name} {call.number} on {call.file} failed: {fault}") from fault
     return body
@@ -244,8 +252,9 @@ def run(suite: Suite) -> None:
         suite.case(f"each call of {command} fails once", each_call(command, 1))
         suite.case(f"each call of {command} fails three times in a row", each_call(command, 3))
     for times, often in ((1, "once"), (3, "three times in a row")):
-        case = each_call("consolidate", times, words=("--report",))
-        suite.case(f"each call of consolidate with a report fails {often}", case)
+        for command in ("consolidate", "render"):
+            case = each_call(command, times, words=("--report",))
+            suite.case(f"each call of {command} with a report fails {often}", case)
     suite.case("a consolidation with a report is killed at each call", killed_with_a_report)
     suite.case("each call of resume fails once", each_call("resume", 1, stopped))
     suite.case("each call of resume fails three times in a row", each_call("resume", 3, stopped))

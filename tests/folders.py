@@ -157,7 +157,7 @@ def told_reasons(scene: Scene) -> None:
     if b"; the line is: (SEQ_FRAME_RATE) 24 %C3%A4%01;" not in got.error:
         raise Mismatch(f"the line at fault isn't told: {got.error!r}")
     got = scene.run("render", "none.adl", MEDIA, OUT)
-    if b"; the system says: No such file or directory" not in got.error:
+    if b": No such file or directory" not in got.error:
         raise Mismatch(f"the system's word isn't told: {got.error!r}")
 
 

@@ -60,11 +60,24 @@ def check_full(got, written: dict) -> None:
     """It is refused for a file that isn't whole, or for a job, and there is no list beside media that aren't whole.
     Standard error says that the disk is full, and to make room."""
     same("the status", got.status, 1)
-    for said in (b"; the disk is full: No space left on device (os error 28); ", b"; make room, and "):
-        same(f"whether it says {said}", said in got.error, True)
     name = refused_file(got.output)
+    for said in (b": the disk is full: No space left on device (os error 28); ", b"; make room, and "):
+        same(f"whether it says {said}", said in got.error, True)
+    if not name and "render.wav" in written:
+        same("whether the file of the job is named", b"; unfinished in the output: render.wav and " in got.error, True)
     if name != "consolidated.adl":
         same("whether a list is there", "consolidated.adl" in written, False)
+
+
+def check_room(command: str, error: bytes, files: dict) -> None:
+    """Standard error says how many bytes the whole output takes, these files: of a rendering just so many, and of media at
+    most so many, of which silence may leave out some."""
+    told = re.search(rb"^(?:render\.wav and render\.marks take|the media take at most) (\d+) bytes in all$", error, re.M)
+    if not told:
+        raise Mismatch(f"standard error doesn't say how much room is wanted: {error!r}")
+    size = int(told[1])
+    whole = sum(len(data) for name, data in files.items() if name.endswith((".wav", ".marks")))
+    same(f"whether {size} bytes are told of {whole}", size == whole if command == "render" else whole <= size <= 2 * whole, True)
 
 
 def marked_in(files: dict) -> int:
@@ -98,6 +111,7 @@ def each_size(command: str, measure: str, *options: str):
                 got = scene.run(*words)
                 if got.status != 0:
                     check_full(got, scene.files())
+                    check_room(command, got.error, files)
                     make_room(scene)
                     goes_on(scene, words, whole)
                 same_files(scene.files(), files)

@@ -116,14 +116,15 @@ def meanings_of(notices: tuple) -> str:
 
 
 def same_outcome(
-        got: Outcome, status: int, line: str, notices: tuple = (), further: tuple = (), clipped: str = "") -> None:
+        got: Outcome, status: int, line: str, notices: tuple = (), further: tuple = (), clipped: str = "",
+        room: str = "") -> None:
     """Notices and one line on standard output. On standard error one line that explains the refusal, with one for each
-    further fault; or one that tells what a consolidation saved, one for each kind of notice, what isn't honoured, and
+    further fault, and of a full disk what the output takes; or one that tells what a consolidation saved, one for each kind of notice, what isn't honoured, and
     what of a rendering is clipped."""
     same("standard output", got.output.decode(), "".join(f"{each}\n" for each in (*notices, line)))
     if status == 1:
         told = "".join(FURTHER % re.escape(each) for each in further)
-        same_shape(f"the explanation of {line}", got.error, EXPLANATION % int(line.split()[1]) + told)
+        same_shape(f"the explanation of {line}", got.error, EXPLANATION % int(line.split()[1]) + told + room)
     else:
         saved = SAVED if line.startswith("written") else ""
         same_shape("standard error", got.error, saved + meanings_of(notices) + PASSED_OVER + re.escape(clipped))

@@ -56,13 +56,13 @@ def not_permitted(scene: Scene) -> None:
     (scene.folder / OUT).chmod(0o555)
     for command, name in (("render", "render.wav"), ("consolidate", "M00001.wav")):
         got = scene.run(command, LIST, MEDIA, OUT, preexec_fn=without_rights)
-        said = "; the system says: Permission denied (os error 13); get permission to write there, or name another empty folder "
+        said = ": Permission denied (os error 13); get permission to write there, or name another empty folder "
         expect_said(got, f"refused 62 at file {name}", (said,), ("unfinished", "make room"))
         same("the output", scene.files(), {})
     (scene.folder / OUT).chmod(0o755)
     (scene.folder / MEDIA / "A.wav").chmod(0)
     got = scene.run("check", LIST, MEDIA, preexec_fn=without_rights)
-    said = "; the system says: Permission denied (os error 13); get permission to read it "
+    said = ": Permission denied (os error 13); get permission to read it "
     expect_said(got, "refused 22 at index 1 file A.wav", (said,))
     (scene.folder / LIST).chmod(0)
     got = scene.run("check", LIST, MEDIA, preexec_fn=without_rights)
@@ -75,7 +75,7 @@ def no_plain_file(scene: Scene) -> None:
         path = scene.folder / MEDIA / "A.wav"
         make(path)
         got = scene.run("check", LIST, MEDIA)
-        expect_said(got, "refused 22 at index 1 file A.wav", ("; it isn't a plain file; put a plain file there ",))
+        expect_said(got, "refused 22 at index 1 file A.wav", (": it isn't a plain file; put a plain file there ",))
         path.rmdir() if path.is_dir() else path.unlink()
 
 
@@ -84,9 +84,10 @@ def in_the_output(scene: Scene) -> None:
     scene.put(FIRST_LIST, MEDIA_FILES)
     (scene.folder / OUT / "lost+\nfound").mkdir()
     got = scene.run("render", LIST, MEDIA, OUT)
-    expect_said(got, f"refused 20 at file {OUT}", ("; in it lies: lost+%0Afound; make an empty folder and name that ",))
+    expect_said(got, f"refused 20 at file {OUT}", (
+        ": it already contains lost+%0Afound; make an empty folder and name that ",))
     for name, said in (("none", "; make that folder first "), (LIST, "; name a folder, which this isn't ")):
-        expect_said(scene.run("render", LIST, MEDIA, name), f"refused 20 at file {name}", (said,), ("in it lies",))
+        expect_said(scene.run("render", LIST, MEDIA, name), f"refused 20 at file {name}", (said,), ("contains",))
 
 
 def gone_meanwhile(scene: Scene) -> None:
@@ -96,7 +97,7 @@ def gone_meanwhile(scene: Scene) -> None:
     marks = scene.folder / OUT / "render.marks"
     for is_so in (path.exists, marks.exists):
         for meddle, found in (
-            (path.unlink, r"the system says: No such file or directory \(os error 2\)|it is gone"),
+            (path.unlink, r"No such file or directory \(os error 2\)|it is gone"),
             (lambda: other.replace(path), "it was changed meanwhile|it is shorter than it was"),
         ):
             other.write_bytes(b"another file")
@@ -105,7 +106,7 @@ def gone_meanwhile(scene: Scene) -> None:
             if not re.fullmatch(r"refused (62 at file render\.wav|66 at job \d+)", line):
                 raise Mismatch(f"an output that was taken away is answered with {line!r}")
             expect_said(got, line, ("run again into an empty folder",), ("adlcons resume",))
-            if not re.search(rf"; ({found}); ", got.error.decode()):
+            if not re.search(rf": ({found}); ", got.error.decode()):
                 raise Mismatch(f"what became of the output isn't told: {got.error!r}")
             scene.empty_out()
 
@@ -123,7 +124,7 @@ def marks_gone_meanwhile(scene: Scene) -> None:
         got = meddled(scene, words_of("render"), is_so, marks.unlink)
         said = "; unfinished in the output: render.wav; run again into an empty folder"
         expect_said(got, "refused 62 at file render.marks", (said,))
-        found = r"; (the system says: No such file or directory \(os error 2\)|it is gone); "
+        found = r": (No such file or directory \(os error 2\)|it is gone); "
         if not re.search(found, got.error.decode()):
             raise Mismatch(f"what became of the marks isn't told: {got.error!r}")
         scene.empty_out()
@@ -135,7 +136,7 @@ def medium_gone_meanwhile(scene: Scene) -> None:
     for number in (1, 2):
         path = scene.folder / OUT / f"M{number:05d}.wav"
         got = meddled(scene, words_of("consolidate", model.Options(handle=0)), path.exists, path.unlink)
-        said = "; the system says: No such file or directory (os error 2); run again"
+        said = ": No such file or directory (os error 2); run again"
         expect_said(got, f"refused 62 at file {path.name}", (said,), ("unfinished",))
         same("whether there is a list", (scene.folder / OUT / "consolidated.adl").exists(), False)
         scene.empty_out()
@@ -170,10 +171,19 @@ def cut_source(scene: Scene) -> None:
 
 
 def current_folder(scene: Scene) -> None:
-    """An empty name of the media is the current folder, which can be read."""
+    """An empty name of the media is the current folder, which can be read. Standard error says so, and of another name
+    nothing."""
     scene.put(FIRST_LIST)
+    told = b"the name of the folder of the media is empty: the current folder was taken\n"
+    for command in model.COMMANDS:
+        got = scene.run(*["" if word == MEDIA else word for word in words_of(command)])
+        same("what is said of the name", got.error[-len(told):], told)
+        same_outcome(got._replace(error=got.error[:-len(told)]), 1, "refused 21 at index 1 file A.wav")
     (scene.folder / "A.wav").write_bytes(wave())
-    same_outcome(scene.run("check", LIST, ""), 0, "accepted 1 entries 1 indexes")
+    accepted = "accepted 1 entries 1 indexes"
+    for media, said in (("", told), (".", b"")):
+        same("a check", scene.run("check", LIST, media), Outcome(0, f"{accepted}\n".encode(), said))
+    same("both of a comparison", scene.run("compare", LIST, "", LIST, ""), Outcome(0, b"same 4 frames 1 channels\n", 2 * told))
 
 
 def empty_ranges(scene: Scene) -> None:
@@ -188,10 +198,13 @@ def empty_ranges(scene: Scene) -> None:
         expect_said(scene.run("render", LIST, MEDIA, OUT, *words), "refused 58", said, ("no entry has a length",))
     silent = "--from", "02.00.00.00/0000", "--to", "02.00.00.00/0010"
     same_outcome(scene.run("render", LIST, MEDIA, OUT, *silent), 0, "rendered 10 frames 1 channels")
+    scene.empty_out()
+    scene.put(texts[0], {})
+    same_outcome(scene.run("render", LIST, MEDIA, OUT, "--to", "00.00.00.00/0010"), 0, "rendered 10 frames 1 channels")
 
 
 def words_that_fail(scene: Scene) -> None:
-    """A word that isn't UTF-8 is named, a mistake names its option, and a bad time tells its form."""
+    """A word that isn't UTF-8 is named, a mistake names its option, and of a bad time just its option is named."""
     scene.put(FIRST_LIST, MEDIA_FILES)
     got = scene.run("check", LIST, b"M\xe9dia")
     same("a word in Latin-1", got, Outcome(2, b"", b"error: word 3 isn't UTF-8: M%E9dia\n"))
@@ -204,7 +217,7 @@ def words_that_fail(scene: Scene) -> None:
         if not got.error.startswith(b"error: " + said + b"\n"):
             raise Mismatch(f"{option} {value} is answered with {got.error!r}")
     got = scene.run("render", LIST, MEDIA, OUT, "--from", "1 h")
-    same_shape("a bad time", got.error, r"bad time: --from\na time is hh\.mm\.ss\.ff/rrrr[^\n]*\n")
+    same("a bad time", got, Outcome(2, b"", b"bad time: --from\n"))
 
 
 def control_characters(scene: Scene) -> None:
@@ -250,8 +263,11 @@ HONOURED = FIRST_LIST.replace(b"<SEQUENCE>", b"""<TRACKLIST>
 def passed_over(scene: Scene) -> None:
     """What may be meant to be heard and is passed over is told by its line, in every command that is done."""
     told = "".join(f"not honoured at line {line}: {word}\n" for line, word in (
-        (4, "(MUTE) (Gain) -6.0"), (5, "(Pan) 0"), (8, "(SYS_XFADE_LENGTH) 00.00.00.10/0000"), (10, "<LEVEL_LIST>"),
-        (21, "MUTE")))
+        (4, "(MUTE) (Gain) -6.0; gain, pan and mute of a track aren't applied"),
+        (5, "(Pan) 0; gain, pan and mute of a track aren't applied"),
+        (8, "(SYS_XFADE_LENGTH) 00.00.00.10/0000; default crossfades aren't heard"),
+        (10, "<LEVEL_LIST>; levels and volumes aren't applied"),
+        (21, "MUTE; what follows the fields of an entry is ignored")))
     lists = [(PASSED, told), (HONOURED, "")]
     lists += [(text.replace(b"\n", b"\r\n"), wanted) for text, wanted in lists]
     for text, wanted in lists:
@@ -388,7 +404,7 @@ def said_of_file(data: bytes, number: int, said: str):
         entries = [model.entry_line(each, each, MIDNIGHT, MIDNIGHT, model.time_text(3)) for each in (1, 2)]
         scene.put(model.list_text(lines, entries))
         further = scene.run("check", LIST, MEDIA).error.decode().splitlines()[-1]
-        same("its end", further.endswith(": " + said.split("; ")[0]), True)
+        same("what is said of it behind its place", further.partition(": ")[2].partition(": ")[2][:len(said)], said)
     return body
 
 
@@ -418,24 +434,31 @@ def said_of_entries(scene: Scene) -> None:
         same("the line", got.output, b"refused 41 at entry 1\n")
         if b": entry 1 plays index 7, which SOURCE_INDEX doesn't have; add the index" not in got.error:
             raise Mismatch(f"41 is explained so: {got.error!r}")
-        further = said.split("; correct")[0].replace("entry 1", "entry 2")
-        same("its end", got.error.decode().splitlines()[-1].endswith(f": {further}"), True)
+        further = got.error.decode().splitlines()[-1].partition(": ")[2].partition(": ")[2]
+        same("what is said of it behind its place", further[:len(said)], said.replace("entry 1", "entry 2"))
+
+
+OF_GAINS = "only a gain of zero is supported: another one changes the sound"
+NOT_SKIPPED = "export the project again with this rendered into its sound files, or without it if it needn't be heard"
 
 
 def further_words(scene: Scene) -> None:
-    """Each further line tells its column and its word, also behind the bad number of an index or an entry."""
+    """Each further line tells its column and its word, also behind the bad number of an index or an entry, and the first
+    one of a number what to do."""
     lines = FIRST_LIST.splitlines(keepends=True)
     index, entry = lines[6], lines[9]
     text = b"".join((
         *lines[:6], index.replace(b"0001", b"0"), *lines[6:9],
         entry.replace(b"0001 (Cut)", b"0 (Cut)") + b"(Infade) 00.00.00.00/0001 COS\n",
-        entry.replace(b"0001 (Cut)", b"0002 (Cut)") + b"(Gain) _ _ -3.00\n",
+        entry.replace(b"0001 (Cut)", b"0002 (Cut)") + b"(Gain) _ _ -3.00\n(Gain) _ _ -6.00\n",
         entry.replace(b"0001 (Cut)", b"0003 (Cut)").replace(b"01.00.00.00/0004", b"01.00.00.25/0000"), *lines[10:]))
     told = (
         "also 07 at line 11: bad number of an index or an entry: such a number is 1 to 32767, in at most six digits; at "
-        "column 9 stands: 0",
-        "also 13 at line 14 entry 2: unsupported line; at column 12 stands: -3.00; of gains only zero is read",
-        "also 06 at line 15 entry 3: bad time; at column 65 stands: 01.00.00.25/0000; the list has 25 frames a second")
+        "column 9 stands: 0; number indexes and entries from 1",
+        f"also 13 at line 14 entry 2: unsupported line; at column 12 stands: -3.00; {OF_GAINS}; {NOT_SKIPPED}",
+        f"also 13 at line 15 entry 2: unsupported line; at column 12 stands: -6.00; {OF_GAINS}",
+        "also 06 at line 16 entry 3: bad time; at column 65 stands: 01.00.00.25/0000; the list has 25 frames a second; "
+        "correct the time; the day's end is 24.00.00.00/0000")
     expect_refused(scene, text, MEDIA_FILES, "refused 07 at line 7")
     same("what is told", tuple(scene.run("check", LIST, MEDIA).error.decode().splitlines()[1:]), told)
 
@@ -488,16 +511,16 @@ OF_LISTS = {
     "a list of UTF-16": (
         FIRST_LIST.decode().encode("utf-16"), "refused 03 at line 1", "; the list is UTF-16: save it as UTF-8;"),
     "an index of another kind": (
-        FIRST_LIST.replace(b"(F)", b"(M)"), "refused 13 at line 7 index 1", "; of an index only (F) is read; export"),
+        FIRST_LIST.replace(b"(F)", b"(M)"), "refused 13 at line 7 index 1", "; of indexes only files, (F), are supported; export"),
     "an entry of another kind": (
         FIRST_LIST.replace(b"(Cut)", b"(Silence)"), "refused 13 at line 10 entry 1",
-        "; of an entry only (Cut) I is read; export"),
+        "; of entries only (Cut) I is supported, with a capital I; export"),
     "a curve": (
         FIRST_LIST.replace(b"</EVENT_LIST>", b"(Infade) 00.00.00.00/0001 COS\n</EVENT_LIST>"),
-        "refused 13 at line 11 entry 1", "; of curves only LIN is read; export"),
+        "refused 13 at line 11 entry 1", "; of curves only LIN is supported; export"),
     "a gain": (
         FIRST_LIST.replace(b"</EVENT_LIST>", b"(Gain) _ _ -3.00\n</EVENT_LIST>"), "refused 13 at line 11 entry 1",
-        "; of gains only zero is read; export"),
+        f"; {OF_GAINS}; {NOT_SKIPPED}"),
     "a line with tabs": (
         changed(10, b"(Entry)\t0001\t(Cut)\tI"), "refused 10 at line 10 entry 1", "; the line is: (Entry) 0001 (Cut) I;"),
 }

@@ -183,7 +183,7 @@ def at_work(scene: Scene) -> None:
             for command in ("consolidate", "render", "resume"):
                 got = scene.run(command, LIST, MEDIA, OUT)
                 same_outcome(got, 1, BUSY)
-                if b"; another command is at work there; " not in got.error:
+                if b": another command is at work there; " not in got.error:
                     raise Mismatch(f"standard error doesn't say why: {got.error!r}")
                 same_files(scene.files(), files)
             same_outcome(scene.run("check", LIST, MEDIA), 0, "accepted 1 entries 1 indexes")

@@ -1,6 +1,7 @@
 """The Debian package that sh package makes: its bytes, what lintian says of it, and the program as it is unpacked."""
 
 import os
+import re
 import shutil
 import subprocess
 import sys
@@ -85,6 +86,17 @@ def pages_and_words(scene: Scene) -> None:
                (TOP / "share/adlcons.bash").read_bytes())
 
 
+def documents_of_outputs(scene: Scene) -> None:
+    """The pages that tell what an output says are there, and each page of docs/ that one of an archive names."""
+    folder = unpacked(scene) / "usr/share/doc/adlcons"
+    pages = sorted(path.name for path in (folder / "docs").iterdir())
+    for name in pages:
+        same_bytes(name, (folder / "docs" / name).read_bytes(), (TOP / "docs" / name).read_bytes())
+    for page in ("ARCHIVE.md", "LIST.md", "REFUSALS.md", "REPORT.md"):
+        for name in re.findall(r"docs/[\w.]*\w|[\w.]+\.schema\.json", (folder / "docs" / page).read_text()):
+            same(f"whether {name}, which {page} names, is there", name.removeprefix("docs/") in pages, True)
+
+
 def tells_its_version(scene: Scene) -> None:
     package = packed(scene, "made")
     field = subprocess.run(
@@ -97,4 +109,5 @@ def run(suite: Suite) -> None:
     suite.case("lintian finds no error", without_errors)
     suite.case("the unpacked program shows an example", shows_example)
     suite.case("the unpacked page and completion", pages_and_words)
+    suite.case("the documents in a package", documents_of_outputs)
     suite.case("a package tells the program's version", tells_its_version)

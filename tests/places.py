@@ -68,7 +68,7 @@ def odd_standard_input(scene: Scene) -> None:
     same_outcome(scene.run("render", "-", MEDIA, OUT, *DEPTH, given=FIRST_LIST, env=slow), 0, RENDERED.line)
     same_files(scene.files(), RENDERED.files)
     scene.empty_out()
-    for how, word in (("broken", b"; the system says: Input/output error"), ("endless", b"or doesn't end; check")):
+    for how, word in (("broken", b": Input/output error"), ("endless", b"or doesn't end; check")):
         got = scene.run("render", "-", MEDIA, OUT, given=FIRST_LIST, env=preloaded(scene, INPUT=how))
         same_outcome(got, 1, "refused 21 at file -")
         if word not in got.error:
@@ -205,7 +205,7 @@ def list_is_device(scene: Scene) -> None:
         for command in model.COMMANDS:
             got = scene.run(*[path if word == LIST else word for word in words_of(command)])
             same_outcome(got, 1, f"refused 21 at file {path}")
-            if b"; it isn't a plain file; name a file or a pipe, or - for standard input (" not in got.error:
+            if b": it isn't a plain file; name a file or a pipe, or - for standard input (" not in got.error:
                 raise Mismatch(f"standard error says {got.error!r}")
     with open("/dev/zero", "rb") as zeros:
         done = subprocess.run(

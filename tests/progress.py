@@ -33,6 +33,8 @@ SLOW_READS = {"SLOW_READS": "1000000"}
 QUICK = {"SLOW": "25000"}
 LOOKED = rb"\r(\d+) %%: (\d+) of %d frames looked at for silence\x1b\[K"
 LINE = rb"\r(\d+) %%: (\d+) of %d frames\x1b\[K"
+# That of a rendering stays on the terminal where Ctrl-C ends the program, and says what goes on then.
+RENDERING = rb"\r(\d+) %%: (\d+) of %d frames \(if stopped, adlcons resume goes on\)\x1b\[K"
 READ = rb"\r(\d+) %%: (\d+) of %d bytes of A\.wav\x1b\[K"
 # A source is read by the head of its form, and then by blocks, longer ones where chunks lie close together.
 FORM, AHEAD, FAR_AHEAD = 12, 4096, 16_384
@@ -67,13 +69,13 @@ def counts_in(shown: bytes, line: bytes, whole: int) -> list:
     return [done for _, done in told]
 
 
-def without_lines(shown: Outcome, whole: int, counts: list) -> Outcome:
+def without_lines(shown: Outcome, whole: int, counts: list, line: bytes = LINE) -> Outcome:
     """What a terminal got besides the lines that tell how far the work has come. These tell just so many frames, and
     are taken off before anything else is told."""
-    found = re.fullmatch(rb"((?:%s)+)%s([^\r]*)" % (LINE % whole, CLEARED), shown.error)
+    found = re.fullmatch(rb"((?:%s)+)%s([^\r]*)" % (line % whole, CLEARED), shown.error)
     if not found:
         raise Mismatch(f"no line that is taken off again: {shown.error!r}")
-    same("the frames that are told", counts_in(found.group(1), LINE, whole), counts)
+    same("the frames that are told", counts_in(found.group(1), line, whole), counts)
     return shown._replace(error=found.group(4))
 
 
@@ -109,7 +111,7 @@ def rendering(scene: Scene) -> None:
     line = f"rendered {frames} frames 1 channels"
     environment = preloaded(scene, **SLOW)
     shown = on_terminal(scene, words_of("render"), env=environment)
-    same_outcome(without_lines(shown, frames, multiples(BLOCK, BLOCKS)), 0, line)
+    same_outcome(without_lines(shown, frames, multiples(BLOCK, BLOCKS), RENDERING), 0, line)
     scene.empty_out()
     same_outcome(scene.run(*words_of("render"), env=environment), 0, line)
 
@@ -118,10 +120,10 @@ def ten_a_second(scene: Scene) -> None:
     """The line is shown once a second has passed, and then as soon as a tenth of a second has."""
     frames = put_sound(scene, MANY_BLOCKS * BLOCK)
     shown = on_terminal(scene, words_of("render"), env=preloaded(scene, **QUICK))
-    counts = counts_in(shown.error, LINE, frames)
+    counts = counts_in(shown.error, RENDERING, frames)
     first = counts[0] // BLOCK
     same("whether the first line comes with a second's blocks", MANY_BLOCKS // 4 < first <= MANY_BLOCKS // 2, True)
-    rest = without_lines(shown, frames, list(range(counts[0], frames + 1, 2 * BLOCK)))
+    rest = without_lines(shown, frames, list(range(counts[0], frames + 1, 2 * BLOCK)), RENDERING)
     same_outcome(rest, 0, f"rendered {frames} frames 1 channels")
 
 
@@ -133,7 +135,7 @@ def resumed(scene: Scene) -> None:
     head = path.read_bytes()[:model.FRONT]
     path.write_bytes(head + b"\1" * MARKED + bytes(BLOCKS - MARKED))
     shown = on_terminal(scene, words_of("resume"), env=preloaded(scene, **SLOW))
-    rest = without_lines(shown, frames, multiples(BLOCK, BLOCKS, MARKED + 1))
+    rest = without_lines(shown, frames, multiples(BLOCK, BLOCKS, MARKED + 1), RENDERING)
     same_outcome(rest, 0, f"resumed {frames} frames {MARKED} blocks were marked")
 
 
@@ -207,8 +209,8 @@ def refused(scene: Scene) -> None:
     """Where a job fails later on, the line is taken off before the refusal is explained."""
     frames = put_sound(scene)
     shown = on_terminal(scene, words_of("render"), env=preloaded(scene, WRITE_FAILS=str(BLOCKS), **SLOW))
-    done = counts_in(shown.error, LINE, frames)
-    rest = without_lines(shown, frames, multiples(BLOCK, max(1, len(done))))
+    done = counts_in(shown.error, RENDERING, frames)
+    rest = without_lines(shown, frames, multiples(BLOCK, max(1, len(done))), RENDERING)
     same_shape("the explanation", rest.error, EXPLANATION % 66)
     same("the answer", (rest.output, rest.status), (b"refused 66 at job %d\n" % len(done), 1))
 

@@ -178,7 +178,7 @@ def not_honoured(scene: Scene) -> None:
         {"line": place + 1, "words": '"x" (Mute)'}])
     said = scene.run("check", LIST, MEDIA).error.decode()
     for each in reported(scene, 0)["not_honoured"]:
-        same("what standard error says", f"not honoured at line {each['line']}: {each['words']}\n" in said, True)
+        same("what standard error says", f"not honoured at line {each['line']}: {each['words']}; " in said, True)
 
 
 def explained(scene: Scene) -> None:
@@ -193,7 +193,7 @@ def explained(scene: Scene) -> None:
     one, other = (fault["explained"] for fault in reported(scene, 1)["faults"])
     same("the members", sorted(one), sorted(MEMBERS))
     same("a gain", [one[name] for name in ("meaning", "cause", "column", "word", "text")], [
-        "unsupported line", "of gains only zero is read", 12, "-3.00", "(Gain) _ _ -3.00"])
+        "unsupported line", "only a gain of zero is supported: another one changes the sound", 12, "-3.00", "(Gain) _ _ -3.00"])
     same("a time", [other[name] for name in ("meaning", "cause", "column", "word")], [
         "bad time", "the list has 25 frames a second", 65, "01.00.00.25/0000"])
     float_file = riff_file(format_chunk(tag=3, bits=32), data_chunk((1, 2)))

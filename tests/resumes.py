@@ -399,7 +399,7 @@ def among_media(scene: Scene) -> None:
     for name in (MEDIA, f"{OUT}/../{MEDIA}/", "link"):
         got = scene.run("resume", LIST, MEDIA, name)
         same_outcome(got, 1, f"refused 20 at file {name}")
-        if b"; it is the folder of the media; name the folder of the rendering" not in got.error:
+        if b": it is the folder of the media; name the folder of the rendering" not in got.error:
             raise Mismatch(f"standard error says {got.error!r}")
         same_files(scene.files(MEDIA), media)
 
