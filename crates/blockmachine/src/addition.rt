@@ -7,10 +7,9 @@ ghost use Rattle.sound_terms.specs.Blocks.{held};
 ghost use Rattle.blockmachine.specs.Sums.{HasAdded, HasAddedTo, HasPlayed, TakeRows, TakeSamples, TakeShare, TakeStretch, block_of};
 
 use crate::frames::{Frames, Lanes, Played, Row};
-use crate::scale::Scale;
 use crate::slope::Slope;
 use sound_terms::{Depth, Shape};
-use soundlaw::Gain;
+use soundlaw::{Gain, Scale};
 use std::simd::prelude::*;
 
 /// A sum and a share more. What is small can't leave 64 bits.
@@ -33,7 +32,7 @@ fn full_sample(row: &Row, k: usize) -> i64
     ensures value { result ≡ full_scale (bits_of row.now.scale.depth) (slice_index_or row.now.samples.now k (pos 0)) }
     ensures within { (neg_ℤ (pos (2 ^ 47)) ≤ℤ result) × (result ≤ℤ pos (2 ^ 47)) }
 {
-    i64::from(row.samples[k]) * row.scale.factor
+    row.scale.widen(row.samples[k])
 }
 
 /// Two small sums, each with a sample more.
@@ -82,7 +81,8 @@ fn add_flat(row: &Row, is_small: bool, sums: &mut [i64])
 #[inline(always)]
 fn add_shares(gain: Gain, row: &Row, is_small: bool, sums: &mut [i64])
     requires { TakeSamples (length row.now.samples.now) 32766 is_small sums.old sums.old }
-    ensures { HasAdded (gain.num, gain.den) (bits_of row.now.scale.depth) row.now.samples.now sums.old sums.new }
+    ensures { HasAdded (gain.fraction.num, gain.fraction.den) (bits_of row.now.scale.depth)
+        row.now.samples.now sums.old sums.new }
 {
     for (i, sum) in sums.iter_mut().enumerate() {
         let sample = full_sample(row, i);
@@ -95,7 +95,7 @@ fn add_shares(gain: Gain, row: &Row, is_small: bool, sums: &mut [i64])
 #[inline(always)]
 fn add_row(gain: Gain, row: &Row, is_flat: bool, is_small: bool, sums: &mut [i64])
     requires { TakeSamples (length row.now.samples.now) 32766 is_small sums.old sums.old }
-    ensures { HasAdded (if is_flat then (1, 1) else (gain.num, gain.den)) (bits_of row.now.scale.depth)
+    ensures { HasAdded (if is_flat then (1, 1) else (gain.fraction.num, gain.fraction.den)) (bits_of row.now.scale.depth)
         row.now.samples.now sums.old sums.new }
 {
     if is_flat {

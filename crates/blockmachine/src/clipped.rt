@@ -7,10 +7,10 @@ ghost use Rattle.clipping.specs.Clips.{IsClippingOf, block_sums};
 ghost use Rattle.blockmachine.specs.Clipped.{IsBetween};
 ghost use Rattle.blockmachine.specs.Sums.{AreSums};
 
-use crate::layers::at_full_scale;
 use crate::sums::Sums;
 use clipping::Clips;
 use sound_terms::Depth;
+use soundlaw::widen;
 
 /// The least and the greatest of these samples.
 fn bounds_of(samples: &[i32]) -> (i32, i32)
@@ -44,7 +44,7 @@ impl Sums {
         ensures { result ≡ slice_index_or self.now.values k (pos 0) }
     {
         if self.at_depth {
-            at_full_scale(self.layers[k], self.depth)
+            widen(self.layers[k], self.depth)
         } else {
             self.values[k]
         }

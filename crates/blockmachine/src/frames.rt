@@ -7,8 +7,8 @@ ghost use Rattle.pcm.specs.Laws.{AreBytes};
 ghost use Rattle.pcm.specs.Samples.{FitsDepth};
 ghost use Rattle.blockmachine.specs.Playing.{IsRamp-prop};
 
-use crate::scale::Scale;
 use sound_terms::{Depth, Shape, Stretch};
+use soundlaw::Scale;
 
 /// How the sums of a block lie one behind the other: those of its first frame, channel by channel, then of the second.
 #[derive(Clone, Copy, Drop)]

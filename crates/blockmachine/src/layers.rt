@@ -11,7 +11,7 @@ use crate::addition::is_run;
 use crate::frames::{Frames, Lanes, Played, Stored};
 use pcm::add_unpacked;
 use sound_terms::{Depth, Shape};
-use soundlaw::finish;
+use soundlaw::{Scale, finish, widen};
 
 /// So many samples of 24 bits have a sum in 32 bits.
 pub const FEW_LAYERS: u32 = 255;
@@ -120,19 +120,6 @@ pub fn add_stored_layer(stored: &Stored, lanes: Lanes, sums: &mut [i32])
     add_unpacked(stored.depth, stored.bytes, run);
 }
 
-/// A sum at full scale.
-#[inline(always)]
-pub fn at_full_scale(sum: i32, depth: Depth) -> i64
-    ensures { result ≡ full_scale (bits_of depth) sum }
-{
-    let sum = i64::from(sum);
-    match depth {
-        Depth::Sixteen => sum << 32,
-        Depth::TwentyFour => sum << 24,
-        Depth::ThirtyTwo => sum << 16,
-    }
-}
-
 /// Where sums are kept at a depth, puts them at full scale over others. They are zero where nothing was added.
 pub fn widen_layers(
     at_depth: bool,
@@ -151,13 +138,26 @@ pub fn widen_layers(
     }
 }
 
-/// Puts sums that are kept at a depth at full scale over others.
+/// Puts sums that are kept at a depth at full scale over others. Each depth has a loop of its own.
 pub fn widen_all(depth: Depth, layers: &[i32], values: &mut [i64])
     requires { length layers.now ≡ length values.old }
     ensures { values.new ≡ widened (bits_of depth) layers.now }
 {
+    match depth {
+        Depth::Sixteen => widen_by(Scale::of(Depth::Sixteen), layers, values),
+        Depth::TwentyFour => widen_by(Scale::of(Depth::TwentyFour), layers, values),
+        Depth::ThirtyTwo => widen_by(Scale::of(Depth::ThirtyTwo), layers, values),
+    }
+}
+
+/// The same at the scale of the depth.
+#[inline(always)]
+fn widen_by(scale: Scale, layers: &[i32], values: &mut [i64])
+    requires { length layers.now ≡ length values.old }
+    ensures { values.new ≡ widened (bits_of scale.depth) layers.now }
+{
     for (i, value) in values.iter_mut().enumerate() {
-        *value = at_full_scale(layers[i], depth);
+        *value = scale.widen(layers[i]);
     }
 }
 
@@ -209,7 +209,7 @@ fn finish_layers(sums: &[i32], kept: Depth, depth: Depth, out: &mut [i32])
         ≡ quantized (bits_of depth) (full_scale (bits_of kept) (slice_index_or sums.now k (pos 0))) }
 {
     for (k, sample) in out.iter_mut().enumerate() {
-        *sample = finish(at_full_scale(sums[k], kept), depth);
+        *sample = finish(widen(sums[k], kept), depth);
     }
 }
 

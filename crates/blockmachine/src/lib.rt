@@ -12,7 +12,6 @@ mod frames;
 mod layers;
 mod machine;
 mod output;
-mod scale;
 mod slope;
 mod stretches;
 mod sums;

@@ -4,7 +4,7 @@ ghost use Rattle.sound_terms.specs.Groups.{IsRamp};
 ghost use Rattle.blockmachine.specs.Slopes.{HasFrame, IsAt, fraction_at};
 
 use sound_terms::Shape;
-use soundlaw::{Gain, Rise};
+use soundlaw::{Fraction, Gain, Rise};
 
 /// A shape from one of its frames on: what rises with each frame, and whether the fraction is that or what it leaves of
 /// one.
@@ -18,20 +18,20 @@ impl Slope {
     /// A shape from its first frame on.
     pub fn of(shape: Shape) -> Self
         requires { IsRamp shape 1 }
-        ensures { IsAt shape 0 result.falls result.rise.num result.rise.den result.rise.by }
+        ensures { IsAt shape 0 result.falls result.rise.fraction.num result.rise.fraction.den result.rise.by }
     {
         match shape {
             Shape::Flat => Slope {
                 falls: false,
-                rise: Rise::of(1, 1, 0),
+                rise: Rise::of(Fraction { num: 1, den: 1 }, 0),
             },
             Shape::Rise { offset, den } => Slope {
                 falls: false,
-                rise: Rise::of(offset, den, 1),
+                rise: Rise::of(Fraction { num: offset, den }, 1),
             },
             Shape::Fall { offset, den } => Slope {
                 falls: true,
-                rise: Rise::of(offset, den, 1),
+                rise: Rise::of(Fraction { num: offset, den }, 1),
             },
         }
     }
@@ -39,11 +39,13 @@ impl Slope {
     /// The fraction of this frame; the shape goes on to the next one.
     #[inline(always)]
     pub fn step(&mut self) -> Gain
-        requires { HasFrame self.old.falls self.old.rise.num self.old.rise.den self.old.rise.by }
-        ensures gain { (result.num, result.den) ≡ fraction_at self.old.falls self.old.rise.num self.old.rise.den }
+        requires { HasFrame self.old.falls self.old.rise.fraction.num self.old.rise.fraction.den
+            self.old.rise.by }
+        ensures gain { (result.fraction.num, result.fraction.den)
+            ≡ fraction_at self.old.falls self.old.rise.fraction.num self.old.rise.fraction.den }
         ensures falls { self.new.falls ≡ self.old.falls }
-        ensures num { self.new.rise.num ≡ self.old.rise.num + self.old.rise.by }
-        ensures den { self.new.rise.den ≡ self.old.rise.den }
+        ensures num { self.new.rise.fraction.num ≡ self.old.rise.fraction.num + self.old.rise.by }
+        ensures den { self.new.rise.fraction.den ≡ self.old.rise.fraction.den }
         ensures by { self.new.rise.by ≡ self.old.rise.by }
     {
         let rise = self.rise;

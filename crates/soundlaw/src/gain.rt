@@ -1,47 +1,28 @@
 // The share of a sample under a fraction, by a product of 128 bits.
-ghost use Rattle.std.specs.Prelude.{◌≡◌, ◌+◌, ◌*◌, ◌^◌, ◌<◌, ◌≤◌, pos, neg_ℤ, ◌+ℤ◌, ◌*ℤ◌, ◌≤ℤ◌};
+ghost use Rattle.std.specs.Prelude.{◌≡◌, ◌+◌, ◌*◌, ◌^◌, ◌≤◌, pos, neg_ℤ, ◌+ℤ◌, ◌*ℤ◌, ◌≤ℤ◌};
 ghost use Rattle.std.specs.Int.{int_div_euclid};
-ghost use Rattle.sampletime.specs.TimeCode.{day};
 ghost use Rattle.sound_terms.specs.Mix.{share_of};
 
-use crate::contribution;
+use crate::{Fraction, contribution};
 
-/// A fraction `num` / `den` of at most one. It lies between `parts` and the next parts of 2^62.
+/// A fraction, which lies between `parts` and the next parts of 2^62.
 #[derive(Clone, Copy)]
 pub struct Gain {
-    pub num: u64,
-    pub den: u64,
-    parts: u64,
-    ghost fraction: { num ≤ den },
-    ghost some: { 0 < den },
-    ghost in_day: { den ≤ day },
-    ghost low: { parts * den ≤ num * 2 ^ 62 },
-    ghost high: { num * 2 ^ 62 ≤ (parts + 1) * den },
+    pub fraction: Fraction,
+    pub(crate) parts: u64,
+    ghost low: { parts * fraction.den ≤ fraction.num * 2 ^ 62 },
+    ghost high: { fraction.num * 2 ^ 62 ≤ (parts + 1) * fraction.den },
     ghost most: { parts ≤ 2 ^ 62 },
 }
 
 impl Gain {
-    /// The fraction with these parts.
-    #[inline(always)]
-    pub fn of(num: u64, den: u64, parts: u64) -> Self
-        requires fraction { num ≤ den }
-        requires some { 0 < den }
-        requires in_day { den ≤ day }
-        requires low { parts * den ≤ num * 2 ^ 62 }
-        requires high { num * 2 ^ 62 ≤ (parts + 1) * den }
-        ensures num { result.num ≡ num }
-        ensures den { result.den ≡ den }
-    {
-        Gain { num, den, parts }
-    }
-
     /// The share of a sample at full scale: this fraction of it, rounded down. Where both parts round it alike, no
     /// division is needed.
     #[inline(always)]
     pub fn share(&self, v: i64) -> i64
         requires low { neg_ℤ (pos (2 ^ 47)) ≤ℤ v }
         requires high { v ≤ℤ pos (2 ^ 47) }
-        ensures share { result ≡ share_of v (self.now.num, self.now.den) }
+        ensures share { result ≡ share_of v (self.now.fraction.num, self.now.fraction.den) }
         ensures within { (neg_ℤ (pos (2 ^ 47)) ≤ℤ result) × (result ≤ℤ pos (2 ^ 47)) }
     {
         let scaled = 4 * v;
@@ -50,7 +31,7 @@ impl Gain {
         if upper(low + i128::from(scaled)) == share {
             share
         } else {
-            contribution(v, self.num, self.den)
+            contribution(v, self.fraction.num, self.fraction.den)
         }
     }
 }

@@ -8,40 +8,37 @@ ghost use Rattle.sound_terms.specs.Mix.{full_scale, quantized, share_of};
 ghost use Rattle.pcm.specs.Samples.{FitsDepth};
 ghost use Rattle.soundlaw.specs.Crossfade.{IsCrossfadeExact};
 
+mod fraction;
 mod gain;
 mod rise;
+mod scale;
 
+pub use fraction::Fraction;
 pub use gain::Gain;
 use pcm::Depth;
 pub use rise::Rise;
+pub use scale::Scale;
 
 /// A sample of this depth at full scale: from -2^47 to 2^47 where it lies within the range of the depth.
+#[inline(always)]
 pub fn widen(x: i32, depth: Depth) -> i64
     ensures value { result ≡ full_scale (bits_of depth) x }
     ensures within { FitsDepth (bits_of depth) x → (neg_ℤ (pos (2 ^ 47)) ≤ℤ result) × (result ≤ℤ pos (2 ^ 47)) }
 {
-    let sample = i64::from(x);
-    match depth {
-        Depth::Sixteen => sample << 32,
-        Depth::TwentyFour => sample << 24,
-        Depth::ThirtyTwo => sample << 16,
-    }
+    Scale::of(depth).widen(x)
 }
 
 /// This fraction of a sample's size, rounded down, and whether nothing was rounded away.
-fn scaled(size: u64, num: u64, den: u64) -> (u64, bool)
-    requires full_scale { size ≤ 2 ^ 47 }
-    requires fraction { num ≤ den }
-    requires some { 0 < den }
-    requires in_day { den ≤ day }
-    ensures quotient { result.0 ≡ size * num / den }
-    ensures exact { result.1 ≡ (size * num % den == 0) }
+fn scaled(size: u64, fraction: Fraction) -> (u64, bool)
+    requires { size ≤ 2 ^ 47 }
+    ensures quotient { result.0 ≡ size * fraction.num / fraction.den }
+    ensures exact { result.1 ≡ (size * fraction.num % fraction.den == 0) }
     ensures no_larger { result.0 ≤ size }
     ensures smaller { result.1 ≡ false → result.0 < size }
 {
-    let whole = size / den * num;
-    let rest = size % den * num;
-    (whole + rest / den, rest % den == 0)
+    let whole = size / fraction.den * fraction.num;
+    let rest = size % fraction.den * fraction.num;
+    (whole + rest / fraction.den, rest % fraction.den == 0)
 }
 
 /// A size below zero: where something was rounded away, the next number down.
@@ -66,7 +63,8 @@ pub fn contribution(v: i64, num: u64, den: u64) -> i64
     ensures share { result ≡ share_of v (num, den) }
     ensures within { (neg_ℤ (pos (2 ^ 47)) ≤ℤ result) × (result ≤ℤ pos (2 ^ 47)) }
 {
-    let (share, is_exact) = scaled(v.unsigned_abs(), num, den);
+    let fraction = Fraction { num, den };
+    let (share, is_exact) = scaled(v.unsigned_abs(), fraction);
     if v >= 0 {
         share as i64
     } else {

@@ -47,13 +47,13 @@ loop-i-preserved c =
     let rise = slope.rise in
     let next = c.step-gain.ensures in
     let gain = c.step-gain.result in
-    let part : ℕ × ℕ = if c.args.is_flat then (1, 1) else (gain.num, gain.den) in
+    let part : ℕ × ℕ = if c.args.is_flat then (1, 1) else (gain.fraction.num, gain.fraction.den) in
     let fraction : fraction_of played.shape i ≡ part =
-    as_it_is c.args.is_flat played.shape i (gain.num, gain.den) c.requires.flat
+    as_it_is c.args.is_flat played.shape i (gain.fraction.num, gain.fraction.den) c.requires.flat
     (sym (next.gain
-    ∙ slope_fraction played.shape i slope.falls rise.num rise.den rise.by c.loop-i.invariant.slope)) in
+    ∙ slope_fraction played.shape i slope.falls rise.fraction.num rise.fraction.den rise.by c.loop-i.invariant.slope)) in
     record {
-      slope = slope_next played.shape i slope.falls _ rise.num rise.den rise.by _ _ _ c.loop-i.invariant.slope
+      slope = slope_next played.shape i slope.falls _ rise.fraction.num rise.fraction.den rise.by _ _ _ c.loop-i.invariant.slope
           next.falls next.num next.den next.by;
       same_length = length-put_mid a k old new fit whole ∙ same;
       played = λ reading plays before are.
@@ -93,7 +93,7 @@ step-gain-requires c =
     let played = c.args.played.now in
     let i = c.loop-i.i in
     let rise = c.loop-i.slope.rise in
-    slope_more played.shape i c.loop-i.slope.falls rise.num rise.den rise.by c.loop-i.invariant.slope
+    slope_more played.shape i c.loop-i.slope.falls rise.fraction.num rise.fraction.den rise.by c.loop-i.invariant.slope
     (ramp_shorter played.shape played.stretch.length (i + 1) (omega arith) played.ramp)
 
 pub add_row-requires : goal.add_row-requires

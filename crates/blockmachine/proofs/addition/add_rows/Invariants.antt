@@ -10,7 +10,7 @@ use Rattle.blockmachine.proofs.addition.add_rows.Given as goal
 
 abbrev pub invariant-loop-i : goal.invariant-loop-i
 invariant-loop-i l = record {
-  slope : IsAt l.played.shape l.i l.slope.falls l.slope.rise.num l.slope.rise.den l.slope.rise.by;
+  slope : IsAt l.played.shape l.i l.slope.falls l.slope.rise.fraction.num l.slope.rise.fraction.den l.slope.rise.by;
   same_length : length l.sums ≡ length l.fn.sums;
   played : (reading : Reading)
       → Plays reading l.played.stretch l.played.frames.channels (bits_of l.played.frames.depth) l.played.frames.samples.now

@@ -23,7 +23,7 @@ loop-i-preserved c =
     let value =
     to_z-of_z w64 c.added.result fits ∙ sum
     ∙ ap (λ z. held (get_or sums n (pos 0) +ℤ z)) (rw (← c.full_sample-sample.ensures.value) share) in
-    added_more n (c.args.gain.num, c.args.gain.den) (bits_of c.args.row.now.scale.depth) c.args.row.now.samples.now c.args.sums.now sums _
+    added_more n (c.args.gain.fraction.num, c.args.gain.fraction.den) (bits_of c.args.row.now.scale.depth) c.args.row.now.samples.now c.args.sums.now sums _
     inside c.loop-i.invariant value
 
 pub added-requires : goal.added-requires

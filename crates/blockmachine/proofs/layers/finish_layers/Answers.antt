@@ -17,8 +17,8 @@ loop-k-preserved c =
     let inside : n < length out = omega arith in
     let sum_fits : SFits w32 (get_or sums n (pos 0)) = search rules in
     let fits : SFits w32 c.finish.result = search rules in
-    let wide : SFits w64 c.at_full_scale.result = search rules in
-    let full = rw (to_z-of_z w32 (get_or sums n (pos 0)) sum_fits) at c.at_full_scale.ensures in
-    let told = rw (to_z-of_z w64 c.at_full_scale.result wide) at c.finish.ensures.rounded in
+    let wide : SFits w64 c.widen.result = search rules in
+    let full = rw (to_z-of_z w32 (get_or sums n (pos 0)) sum_fits) at c.widen.ensures.value in
+    let told = rw (to_z-of_z w64 c.widen.result wide) at c.finish.ensures.rounded in
     entry_more (λ k z. z ≡ quantized depth (full_scale (bits_of c.args.kept) (get_or sums k (pos 0)))) n out _ inside
     c.loop-k.invariant (to_z-of_z w32 c.finish.result fits ∙ told ∙ ap (quantized depth) full)

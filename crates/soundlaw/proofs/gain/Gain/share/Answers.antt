@@ -8,7 +8,7 @@ use Rattle.soundlaw.proofs.Floors.{share_within}
 use Rattle.soundlaw.proofs.Parts.{share_between}
 use Rattle.soundlaw.proofs.gain.Gain.share.Goals as goal
 
-right : (c : goal.Then-upper-share) → c.upper-share.result ≡ share_of c.args.v (c.args.self.now.num, c.args.self.now.den)
+right : (c : goal.Then-upper-share) → c.upper-share.result ≡ share_of c.args.v (c.args.self.now.fraction.num, c.args.self.now.fraction.den)
 right c =
     let gain = c.args.self.now in
     let v_fits : SFits w64 c.args.v = c.ranges.v in
@@ -31,7 +31,7 @@ right c =
     let same : c.upper-share.result ≡ c.upper.result =
     sym (to_z-of_z w64 c.upper-share.result fits) ∙ ap (to_z w64) (sym c.if-upper-share.true)
     ∙ to_z-of_z w64 c.upper.result next_fits in
-    share_between gain.num gain.den gain.parts gain.some gain.low gain.high c.args.v s l c.upper-share.result refl
+    share_between gain.fraction.num gain.fraction.den gain.parts gain.fraction.some gain.low gain.high c.args.v s l c.upper-share.result refl
     product first (same ∙ second)
 
 pub returns-then-upper-share-clause-share : goal.returns-then-upper-share-clause-share
@@ -43,5 +43,5 @@ pub returns-then-upper-share-clause-within : goal.returns-then-upper-share-claus
 returns-then-upper-share-clause-within c =
     let gain = c.args.self.now in
     let fits : SFits w64 c.upper-share.result = search rules in
-    let within = share_within c.args.v (2 ^ 47) gain.num gain.den gain.fraction gain.some c.requires.low c.requires.high in
+    let within = share_within c.args.v (2 ^ 47) gain.fraction.num gain.fraction.den gain.fraction.at_most_one gain.fraction.some c.requires.low c.requires.high in
     rw (to_z-of_z w64 c.upper-share.result fits, right c) within
