@@ -80,13 +80,15 @@ impl Group {
         }
     }
 
-    /// Adds the pieces of a group that may follow this one.
+    /// Adds the pieces of a group that may follow this one, and makes room for just these.
     pub fn append(&mut self, later: Group) -> Result<(), AllocError>
         requires { IsTrue (is_followed_by self.old later) }
         ensures appended { OnOk result (self.new ≡ self.old ++ later) }
         ensures unchanged { OnErr result (self.new ≡ self.old) }
     {
-        self.pieces.extend_from_slice(later.pieces.as_slice())?;
+        let pieces = later.pieces.as_slice();
+        self.pieces.reserve_exact(pieces.len())?;
+        self.pieces.extend_from_slice(pieces)?;
         Ok(())
     }
 

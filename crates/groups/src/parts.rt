@@ -11,19 +11,28 @@ use crate::{Group, Piece, Shape};
 use sound_terms::{BoundIndex, Event};
 use std::alloc::{AllocError, Global};
 
-/// Adds so many samples of an event, from its sample `at` on, in this shape; nothing where there are none.
+/// An event over its index, with stretches that are pieces.
+#[derive(Clone, Copy)]
+struct Entry<'a> {
+    index: &'a BoundIndex,
+    event: &'a Event,
+    ghost playable: { IsPlayable index.now event.now },
+}
+
+/// Adds so many samples of an entry, from its sample `at` on, in this shape; nothing where there are none.
 fn push_stretch(
     pieces: &mut Pieces,
-    index: &BoundIndex,
-    event: &Event,
+    entry: &Entry,
     at: u64,
     length: u64,
     shape: Shape,
 ) -> Result<(), AllocError>
-    requires playable { IsPlayable index.now event.now }
-    requires inside { at ≤ day }
-    ensures { OnOk result (pieces.new.items ≡ pieces.old.items ++ stretch_of index.now event.now at length shape) }
+    requires { at ≤ day }
+    ensures { OnOk result (pieces.new.items
+        ≡ pieces.old.items ++ stretch_of entry.now.index.now entry.now.event.now at length shape) }
 {
+    let index = entry.index;
+    let event = entry.event;
     if length > 0 {
         pieces.push(Piece {
             start: event.dest_in.get() + at,
@@ -39,33 +48,28 @@ fn push_stretch(
     Ok(())
 }
 
-/// The pieces of an event.
-fn pieces_of(alloc: Global, index: &BoundIndex, event: &Event) -> Result<Pieces, AllocError>
-    requires { IsPlayable index.now event.now }
-    ensures { IfOk result (λ pieces. pieces.items ≡ parts_of index.now event.now) }
+/// The pieces of an entry, with room for just these.
+fn pieces_of(alloc: Global, entry: &Entry) -> Result<Pieces, AllocError>
+    ensures { IfOk result (λ pieces. pieces.items ≡ parts_of entry.now.index.now entry.now.event.now) }
 {
+    let event = entry.event;
     let length = event.dest_out.get() - event.dest_in.get();
     let rise = event.rise.length.get();
     let fall = event.fall.length.get();
-    let mut pieces = Pieces::new(alloc);
+    let middle = length - fall - rise;
+    let count = usize::from(rise > 0) + usize::from(middle > 0) + usize::from(fall > 0);
+    let mut pieces = Pieces::with_capacity(alloc, count)?;
     let rising = Shape::Rise {
         offset: 0,
         den: rise,
     };
-    push_stretch(&mut pieces, index, event, 0, rise, rising)?;
-    push_stretch(
-        &mut pieces,
-        index,
-        event,
-        rise,
-        length - fall - rise,
-        Shape::Flat,
-    )?;
+    push_stretch(&mut pieces, entry, 0, rise, rising)?;
+    push_stretch(&mut pieces, entry, rise, middle, Shape::Flat)?;
     let falling = Shape::Fall {
         offset: 0,
         den: fall,
     };
-    push_stretch(&mut pieces, index, event, length - fall, fall, falling)?;
+    push_stretch(&mut pieces, entry, length - fall, fall, falling)?;
     Ok(pieces)
 }
 
@@ -84,6 +88,6 @@ pub fn group_of(
         ≡ contribution_at reading (Some index.now) event.now channel time }
     ensures whole { IsTrue (list_all is_whole (parts_of index.now event.now)) }
 {
-    let pieces = pieces_of(alloc, index, event)?;
+    let pieces = pieces_of(alloc, &Entry { index, event })?;
     Ok(Group::of(pieces))
 }

@@ -11,5 +11,5 @@ invariant_of-self-2 c =
     let back = c.later.invariant in
     let follows : IsTrue (is_followed_by c.self.inside.pieces.items c.later.inside.pieces.items) =
     rw (c.self.view_is, c.later.view_is) c.requires in
-    rw (c.in_ok-extend_from_slice.ensures.ok, c.as_slice.ensures)
+    rw (c.in_ok-extend_from_slice.ensures.ok, c.reserve_exact.ensures.items, c.as_slice-pieces.ensures)
     (IsGroup-append _ _ front.0 back.0 follows, All-append IsPiece _ _ front.1 back.1)
