@@ -14,6 +14,7 @@ ghost use Rattle.mediaset.specs.Runs.{AreIndexable, homed};
 ghost use Rattle.relink.specs.Linked.{HaveChannels};
 ghost use Rattle.relink.specs.declared.fault.RelinkFault.TheVariants.{TooManyEntries};
 
+use crate::relinking::MOST_ENTRIES;
 use crate::{RelinkFault, relink_homed};
 use adlmodel::Project;
 use groups::Intervals;
@@ -37,7 +38,7 @@ pub fn relink(
     requires at_home { All (LiesAtHome (homes_of checked.now.bound)) (pieces_of intervals) }
     ensures renewed { IfOk result (λ renewed. renewed
         ≡ consolidated_project checked.now.project (homes_of checked.now.bound) intervals runs.now) }
-    ensures too_many { IsErrOf result TooManyEntries → 32767 < length intervals }
+    ensures too_many { IsErrOf result TooManyEntries ↔ (32767 < length intervals) }
     ensures few { OnOk result (length intervals ≤ 32767) }
     ensures all_used { OnOk result ((k : ℕ) → k < length runs.now → is_used (consolidated_project checked.now.project
         (homes_of checked.now.bound) intervals runs.now).events (1 + k) ≡ true) }
@@ -50,6 +51,10 @@ pub fn relink(
         → HaveChannels (pieces_of intervals) runs.now binding.files → event_fault binding (consolidated_project
         checked.now.project (homes_of checked.now.bound) intervals runs.now).events ≡ None) }
 {
+    // Asked before any memory is taken: where there are too many, that is what is told.
+    if intervals.groups().len() > MOST_ENTRIES {
+        return Err(RelinkFault::TooManyEntries);
+    }
     let homes = checked.bound().homes(alloc)?;
     let kept = Runs::with(homes, runs.to_vec(alloc)?);
     relink_homed(alloc, &intervals, &kept, checked.project())

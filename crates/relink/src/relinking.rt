@@ -22,7 +22,7 @@ use mediaset::Runs;
 use std::alloc::Global;
 
 /// The entries that a list can have.
-const MOST_ENTRIES: usize = 32_767;
+pub(crate) const MOST_ENTRIES: usize = 32_767;
 
 /// The list over the media of these runs, where all of its indexes and entries can be made.
 fn linked(

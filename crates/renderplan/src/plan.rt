@@ -193,10 +193,11 @@ impl Plan {
         self.write_block(k, program);
     }
 
-    /// The program of block k, counted from 0.
+    /// The program of block k, counted from 0, with room for that of any other block.
     pub fn block(&self, alloc: Global, k: u64) -> Result<Program, PlanFault>
         requires { k < block_count self.now.range }
         ensures program { IfOk result (λ program. program.lines ≡ program_of self.now.pieces self.now.range k) }
+        ensures room { IfOk result (λ program. program.room ≡ length self.now.pieces + 2) }
         ensures sums { IfOk result (λ program. (reading : Reading) → All (PlaysFull reading) program.lines
             → (start : BlockState) → (executed_all reading self.now.range.channels program.lines start).out
             ≡ mixed_block self.now.range (sum_of reading self.now.pieces) k) }

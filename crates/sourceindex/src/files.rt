@@ -1,5 +1,5 @@
 // The files that are opened, each found by its name.
-ghost use Rattle.std.specs.Prelude.{◌≡◌, ◌<◌, ◌∷◌, ◌++◌, [], IfOk, None, OnOk, Some, length, map, slice_get, string_bytes};
+ghost use Rattle.std.specs.Prelude.{◌≡◌, ◌<◌, ◌∷◌, ◌++◌, [], IfOk, None, OnErr, OnOk, Some, length, map, slice_get, string_bytes};
 ghost use Rattle.list_terms.specs.Binding.{OpenedFile, file_named};
 
 use adlmodel::Bytes;
@@ -85,6 +85,7 @@ impl Files {
         requires missing { file_named sound.name self.old ≡ None }
         ensures position { IfOk result (λ position. position ≡ length self.old) }
         ensures pushed { OnOk result (self.new ≡ self.old ++ record { path = path; facts = sound } ∷ []) }
+        ensures unchanged { OnErr result (self.new ≡ self.old) }
     {
         let Ok(position) = u32::try_from(self.sounds.len()) else {
             return Err(AllocError);

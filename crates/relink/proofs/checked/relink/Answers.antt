@@ -1,9 +1,9 @@
-use Rattle.std.proofs.Common.{◌≡◌, ◌∙◌, ℕ, List, Ok, Err, Result, ap}
+use Rattle.std.proofs.Common.{◌≡◌, ◌∙◌, List, Ok, Err, Result, ap}
 use Rattle.std.specs.Prelude.{OnOk}
 use Rattle.sound_terms.specs.declared.piece.Home.{Home}
 use Rattle.sound_terms.specs.declared.piece.Run.{Run}
 use Rattle.list_terms.specs.BoundHomes.{homes_of}
-use Rattle.mediaset.specs.Runs.{HomedRuns, homed}
+use Rattle.mediaset.specs.Runs.{homed}
 use Rattle.relink.proofs.checked.relink.Goals as goal
 
 on_ok : {X E : Type 0} {P : Type 0} (result : Result X E) → P → OnOk result P
