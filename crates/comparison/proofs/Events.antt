@@ -1,7 +1,9 @@
 -- The least and the greatest of events, and the channels that they may name.
 use Rattle.std.proofs.Common.{◌≡◌, ℕ, ◌≤◌, true, false, List, [], ◌∷◌, ◌++◌, length, refl, sym, ap, ◌∙◌, arith}
 use Rattle.std.specs.Prelude.{◌==◌, max, min}
+use Rattle.std.specs.List.{list_all}
 use Rattle.std.proofs.lemmas.Bool.Decides.{nat_tests}
+use Rattle.facts.specs.Tests.{and_left, and_right}
 use Rattle.sound_terms.specs.declared.Event.{Event}
 use Rattle.list_terms.specs.Accepted.{greatest_of, least_of}
 use Rattle.list_terms.specs.WholeProject.{is_event}
@@ -49,3 +51,12 @@ greatest_of-append f [] others =
     let zero : max 0 (greatest_of f others) ≡ greatest_of f others = omega arith in sym zero
 greatest_of-append f (event ∷ events) others =
     let rest = greatest_of-append f events others in omega (arith, rest)
+
+-- all of two lists are whole
+pub all_events : (events others : List Event) → list_all is_event events ≡ true → list_all is_event others ≡ true
+    → list_all is_event (events ++ others) ≡ true
+all_events [] others whole others_whole = others_whole
+all_events (event ∷ events) others whole others_whole =
+    let first = and_left (is_event event) (list_all is_event events) whole in
+    let rest = all_events events others (and_right (is_event event) (list_all is_event events) whole) others_whole in
+    rw (first, rest) refl

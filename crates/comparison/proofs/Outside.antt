@@ -64,15 +64,6 @@ silent_mix reading indexes e (event ∷ events) channel time lie none =
     let rest = silent_mix reading indexes e events channel time lie.4 none in
     rw (first, rest) refl
 
--- two lists of events, each of which lies where both may be heard
-all_events : (events others : List Event) → list_all is_event events ≡ true → list_all is_event others ≡ true
-    → list_all is_event (events ++ others) ≡ true
-all_events [] others whole others_whole = others_whole
-all_events (event ∷ events) others whole others_whole =
-    let first = and_left (is_event event) (list_all is_event events) whole in
-    let rest = all_events events others (and_right (is_event event) (list_all is_event events) whole) others_whole in
-    rw (first, rest) refl
-
 front_lies : (e : Extent) (events others : List Event) → LieIn e (events ++ others) → LieIn e events
 front_lies e [] others lie = tt
 front_lies e (event ∷ events) others lie = (lie.0, lie.1, lie.2, lie.3, front_lies e events others lie.4)
@@ -81,31 +72,28 @@ rest_lies : (e : Extent) (events others : List Event) → LieIn e (events ++ oth
 rest_lies e [] others lie = lie
 rest_lies e (event ∷ events) others lie = rest_lies e events others lie.4
 
-both_lie : (events others : List Event) → list_all is_event events ≡ true → list_all is_event others ≡ true
-    → LieIn (extent_of (events ++ others)) (events ++ others)
-both_lie events others whole others_whole =
-    events_lie (extent_of (events ++ others)) (events ++ others) (all_events events others whole others_whole)
-    (omega arith) (omega arith) (omega arith)
+both_lie : (events : List Event) → list_all is_event events ≡ true → LieIn (extent_of events) events
+both_lie events whole = events_lie (extent_of events) events whole (omega arith) (omega arith) (omega arith)
 
 -- outside of where the events of two projects may be heard the first one is silent
 pub first_silent : (files : Files) (project : ListProject) (binding : Binding) (events others : List Event)
-    → events ≡ project.events → list_all is_event events ≡ true → list_all is_event others ≡ true
+    → events ≡ project.events → list_all is_event (events ++ others) ≡ true
     → (channel time : ℕ) → is_inside (extent_of (events ++ others)) channel time ≡ false
     → project_mix files project binding channel time ≡ pos 0
-first_silent files project binding events others same whole others_whole channel time none =
+first_silent files project binding events others same whole channel time none =
     subst (λ (es : List Event). mix_at (reading_of files binding) binding.indexes es channel time ≡ pos 0) same
     (silent_mix (reading_of files binding) binding.indexes (extent_of (events ++ others)) events channel time
-    (front_lies (extent_of (events ++ others)) events others (both_lie events others whole others_whole)) none)
+    (front_lies (extent_of (events ++ others)) events others (both_lie (events ++ others) whole)) none)
 
 -- and so is the second one
 pub second_silent : (files : Files) (project : ListProject) (binding : Binding) (events others : List Event)
-    → others ≡ project.events → list_all is_event events ≡ true → list_all is_event others ≡ true
+    → others ≡ project.events → list_all is_event (events ++ others) ≡ true
     → (channel time : ℕ) → is_inside (extent_of (events ++ others)) channel time ≡ false
     → project_mix files project binding channel time ≡ pos 0
-second_silent files project binding events others same whole others_whole channel time none =
+second_silent files project binding events others same whole channel time none =
     subst (λ (es : List Event). mix_at (reading_of files binding) binding.indexes es channel time ≡ pos 0) same
     (silent_mix (reading_of files binding) binding.indexes (extent_of (events ++ others)) others channel time
-    (rest_lies (extent_of (events ++ others)) events others (both_lie events others whole others_whole)) none)
+    (rest_lies (extent_of (events ++ others)) events others (both_lie (events ++ others) whole)) none)
 
 -- what was chosen, or else a default, in both directions
 from_chosen : (choice : Option ℕ) (least time : ℕ) → IfSome choice (λ from. from ≤ time) → least ≤ time

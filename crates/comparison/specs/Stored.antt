@@ -7,12 +7,18 @@ use Rattle.sound_terms.specs.Depth.{bits_of}
 use Rattle.sound_terms.specs.Mix.{Reading, full_scale}
 use Rattle.sound_terms.specs.Sounds.{SoundFacts}
 use Rattle.pcm.specs.Samples.{samples_in}
+use Rattle.comparison.specs.declared.counterparts.Counterparts.{Counterparts}
 use Rattle.comparison.specs.declared.matches.Match.{Match}
 use Rattle.comparison.specs.Matched.{LieInBoth}
 
 -- the first n samples of bytes of this depth, at full scale
 abbrev pub full_samples : (depth n : ℕ) → List ℕ → List ℤ
 full_samples depth n bytes = map (full_scale depth) (samples_in depth n bytes)
+
+-- the samples of both depths sound the same at full scale
+abbrev pub SoundSame : Counterparts → Type 0
+SoundSame pair =
+    full_samples (bits_of pair.depth) pair.count pair.bytes.now ≡ full_samples (bits_of pair.other) pair.count pair.others.now
 
 -- so many bytes as whole frames of an opened file have, from this one on
 pub record AreFrames (sounds : List SoundFacts) (file from : ℕ) (bytes : List ℕ) : Type 0 where

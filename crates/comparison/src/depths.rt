@@ -3,8 +3,9 @@ ghost use Rattle.std.specs.Prelude.{◌≡◌, ◌+◌, ◌*◌, ◌/◌, ◌≤
 ghost use Rattle.sound_terms.specs.Depth.{bits_of};
 ghost use Rattle.sound_terms.specs.Mix.{full_scale};
 ghost use Rattle.sound_terms.specs.Waves.{sample_of};
-ghost use Rattle.comparison.specs.Stored.{full_samples};
+ghost use Rattle.comparison.specs.Stored.{SoundSame, full_samples};
 
+use crate::counterparts::Counterparts;
 use pcm::unpack;
 use sound_terms::Depth;
 use std::simd::prelude::*;
@@ -55,18 +56,21 @@ fn are_equal(bytes: u8x16, others: u8x16) -> bool
 
 /// How many samples from the front on are the same at full scale, four at a time, as long as eight remain.
 #[inline(always)]
-fn same_lanes(depth: Depth, bytes: &[u8], other: Depth, others: &[u8], count: usize) -> usize
-    requires bytes { length bytes.now ≡ count * (bits_of depth / 8) }
-    requires others { length others.now ≡ count * (bits_of other / 8) }
-    ensures some { result ≤ count }
-    ensures same { full_samples (bits_of depth) result bytes.now ≡ full_samples (bits_of other) result others.now }
+fn same_lanes(pair: &Counterparts) -> usize
+    ensures some { result ≤ pair.now.count }
+    ensures same { full_samples (bits_of pair.now.depth) result pair.now.bytes.now
+        ≡ full_samples (bits_of pair.now.other) result pair.now.others.now }
 {
-    let width = usize::from(depth.bits() / 8);
-    let other_width = usize::from(other.bits() / 8);
+    let (bytes, others) = (pair.bytes, pair.others);
+    let width = usize::from(pair.depth.bits() / 8);
+    let other_width = usize::from(pair.other.bits() / 8);
     let mut done = 0;
-    while count - done >= 8 {
-        let four = four_samples(depth, u8x16::from_slice(&bytes[done * width..]));
-        let counterpart = four_samples(other, u8x16::from_slice(&others[done * other_width..]));
+    while pair.count - done >= 8 {
+        let four = four_samples(pair.depth, u8x16::from_slice(&bytes[done * width..]));
+        let counterpart = four_samples(
+            pair.other,
+            u8x16::from_slice(&others[done * other_width..]),
+        );
         if !are_equal(four, counterpart) {
             break;
         }
@@ -91,18 +95,14 @@ fn sample_at(depth: Depth, bytes: &[u8], i: usize) -> i32
     }
 }
 
-/// Whether as many samples of two depths are the same at full scale: four at a time as far as that goes, and then one by
-/// one.
+/// Whether the samples of a pair are the same at full scale: four at a time as far as that goes, and then one by one.
 #[inline(always)]
-fn are_same_in(depth: Depth, bytes: &[u8], other: Depth, others: &[u8], count: usize) -> bool
-    requires bytes { length bytes.now ≡ count * (bits_of depth / 8) }
-    requires others { length others.now ≡ count * (bits_of other / 8) }
-    ensures { IsTrue result
-        → full_samples (bits_of depth) count bytes.now ≡ full_samples (bits_of other) count others.now }
+fn are_same_in(pair: &Counterparts) -> bool
+    ensures { IsTrue result → SoundSame pair.now }
 {
-    let done = same_lanes(depth, bytes, other, others, count);
-    for i in done..count {
-        if sample_at(depth, bytes, i) != sample_at(other, others, i) {
+    let done = same_lanes(pair);
+    for i in done..pair.count {
+        if sample_at(pair.depth, pair.bytes, i) != sample_at(pair.other, pair.others, i) {
             return false;
         }
     }
@@ -110,37 +110,58 @@ fn are_same_in(depth: Depth, bytes: &[u8], other: Depth, others: &[u8], count: u
 }
 
 /// The same of a depth and a deeper one. Each pair of them has a separate loop.
-fn are_same_deeper(depth: Depth, bytes: &[u8], deeper: Depth, others: &[u8], count: usize) -> bool
-    requires bytes { length bytes.now ≡ count * (bits_of depth / 8) }
-    requires others { length others.now ≡ count * (bits_of deeper / 8) }
-    ensures { IsTrue result
-        → full_samples (bits_of depth) count bytes.now ≡ full_samples (bits_of deeper) count others.now }
+fn are_same_deeper(pair: &Counterparts) -> bool
+    ensures { IsTrue result → SoundSame pair.now }
 {
-    match (depth, deeper) {
+    let (bytes, others, count) = (pair.bytes, pair.others, pair.count);
+    match (pair.depth, pair.other) {
         (Depth::Sixteen, Depth::TwentyFour) => {
-            are_same_in(Depth::Sixteen, bytes, Depth::TwentyFour, others, count)
+            let (depth, other) = (Depth::Sixteen, Depth::TwentyFour);
+            are_same_in(&Counterparts {
+                depth,
+                bytes,
+                other,
+                others,
+                count,
+            })
         }
         (Depth::Sixteen, Depth::ThirtyTwo) => {
-            are_same_in(Depth::Sixteen, bytes, Depth::ThirtyTwo, others, count)
+            let (depth, other) = (Depth::Sixteen, Depth::ThirtyTwo);
+            are_same_in(&Counterparts {
+                depth,
+                bytes,
+                other,
+                others,
+                count,
+            })
         }
         (Depth::TwentyFour, Depth::ThirtyTwo) => {
-            are_same_in(Depth::TwentyFour, bytes, Depth::ThirtyTwo, others, count)
+            let (depth, other) = (Depth::TwentyFour, Depth::ThirtyTwo);
+            are_same_in(&Counterparts {
+                depth,
+                bytes,
+                other,
+                others,
+                count,
+            })
         }
-        _ => are_same_in(depth, bytes, deeper, others, count),
+        _ => are_same_in(pair),
     }
 }
 
-/// Whether as many samples of two depths are the same at full scale. Nothing is unpacked: the bytes of a sample are the
-/// upper ones of the deeper, above zeros.
-pub fn are_same_at(depth: Depth, bytes: &[u8], other: Depth, others: &[u8], count: usize) -> bool
-    requires bytes { length bytes.now ≡ count * (bits_of depth / 8) }
-    requires others { length others.now ≡ count * (bits_of other / 8) }
-    ensures { IsTrue result
-        → full_samples (bits_of depth) count bytes.now ≡ full_samples (bits_of other) count others.now }
+/// Whether the samples of a pair are the same at full scale. Nothing is unpacked: the bytes of a sample are the upper ones
+/// of the deeper, above zeros.
+pub fn are_same_at(pair: &Counterparts) -> bool
+    ensures { IsTrue result → SoundSame pair.now }
 {
-    if depth.bits() <= other.bits() {
-        are_same_deeper(depth, bytes, other, others, count)
-    } else {
-        are_same_deeper(other, others, depth, bytes, count)
+    if pair.depth.bits() <= pair.other.bits() {
+        return are_same_deeper(pair);
     }
+    are_same_deeper(&Counterparts {
+        depth: pair.other,
+        bytes: pair.others,
+        other: pair.depth,
+        others: pair.bytes,
+        count: pair.count,
+    })
 }

@@ -12,6 +12,7 @@
 
 mod block;
 mod comparing;
+mod counterparts;
 mod counting;
 mod depths;
 mod differing;

@@ -2,7 +2,6 @@
 ghost use Rattle.std.specs.Prelude.{◌≡◌, ◌*◌, ◌<◌, ◌≤◌, ◌↔◌, ℕ, IfErr, IfOk, IsErrOf, IsTrue, length};
 ghost use Rattle.std.specs.List.{All};
 ghost use Rattle.sampletime.specs.TimeCode.{day};
-ghost use Rattle.sound_terms.specs.declared.Depth.TheVariants.{TwentyFour};
 ghost use Rattle.sound_terms.specs.Groups.{sum_of};
 ghost use Rattle.sound_terms.specs.Media.{IsPieceOf};
 ghost use Rattle.sound_terms.specs.Mix.{Reading};
@@ -12,7 +11,7 @@ ghost use Rattle.devices.specs.Frame.{OnlyReads};
 ghost use Rattle.comparison.specs.Alike.{IsCompared};
 ghost use Rattle.comparison.specs.Fault.{FailsAt, IsMemory, IsSource, IsAny, OfEither, OfFirst, OfSecond};
 ghost use Rattle.comparison.specs.Matched.{AreSameFrames, ReadFiles};
-ghost use Rattle.comparison.specs.Sided.{IsSideOf};
+ghost use Rattle.comparison.specs.Sided.{IsSideOf, range_of};
 ghost use Rattle.comparison.specs.Range as range;
 ghost use Rattle.comparison.specs.Range.{HasChannels};
 ghost use Rattle.comparison.specs.Whole.{HasCompared, IsComparison};
@@ -20,7 +19,7 @@ ghost use Rattle.comparison.specs.Whole.{HasCompared, IsComparison};
 use crate::comparing::compare_sides;
 use crate::differing::Difference;
 use crate::matches::Matches;
-use crate::range::{Extent, Selection, compared_in};
+use crate::range::{Region, Selection, compared_in};
 use crate::side::Side;
 use crate::sides::Sides;
 use crate::stored::Stored;
@@ -50,13 +49,11 @@ pub enum Comparison {
     },
 }
 
-/// The plan of an extent of a project.
-fn plan_of(alloc: Global, checked: &Checked, extent: &Extent) -> Result<Plan, SideFault>
-    requires { extent.now.from < extent.now.to }
-    ensures from { IfOk result (λ plan. plan.range.from ≡ extent.now.from) }
-    ensures to { IfOk result (λ plan. plan.range.to ≡ extent.now.to) }
-    ensures same { IfOk result (λ plan. plan.range
-        ≡ record { from = extent.now.from; to = extent.now.to; channels = extent.now.channels; depth = TwentyFour }) }
+/// The plan of a region of a project.
+fn plan_of(alloc: Global, checked: &Checked, region: &Region) -> Result<Plan, SideFault>
+    ensures from { IfOk result (λ plan. plan.range.from ≡ region.now.from) }
+    ensures to { IfOk result (λ plan. plan.range.to ≡ region.now.to) }
+    ensures same { IfOk result (λ plan. plan.range ≡ range_of region.now) }
     ensures inside { IfOk result (λ plan. All (IsPieceOf (sounds_of checked.now.bound)) plan.pieces) }
     ensures mixes { IfOk result (λ plan. (files : Files) (channel time : ℕ)
         → sum_of (reading_of files checked.now.bound) plan.pieces channel time
@@ -69,9 +66,9 @@ fn plan_of(alloc: Global, checked: &Checked, extent: &Extent) -> Result<Plan, Si
     match Plan::new(
         alloc,
         intervals,
-        extent.from,
-        extent.to,
-        extent.channels,
+        region.from,
+        region.to,
+        region.channels,
         Depth::TwentyFour,
     ) {
         Ok(plan) => Ok(plan),
@@ -79,32 +76,31 @@ fn plan_of(alloc: Global, checked: &Checked, extent: &Extent) -> Result<Plan, Si
     }
 }
 
-/// A side of an extent of a project.
-fn side_of<'a>(alloc: Global, checked: &'a Checked, extent: &Extent) -> Result<Side<'a>, SideFault>
-    requires { extent.now.from < extent.now.to }
-    ensures side { IfOk result (IsSideOf checked.now.project checked.now.bound extent.now) }
+/// A side of a region of a project.
+fn side_of<'a>(alloc: Global, checked: &'a Checked, region: &Region) -> Result<Side<'a>, SideFault>
+    ensures side { IfOk result (IsSideOf checked.now.project checked.now.bound region.now) }
     ensures only_memory { IfErr result IsMemory }
 {
-    let plan = plan_of(alloc, checked, extent)?;
+    let plan = plan_of(alloc, checked, region)?;
     let side = Side::new(alloc, plan, checked.bound().sounds())?;
     Ok(side)
 }
 
-/// Both sides of an extent of two projects.
+/// Both sides of a region of two projects.
 pub fn sides_of<'a, 'b>(
     alloc: Global,
     first: &'a Checked,
     second: &'b Checked,
-    extent: &Extent,
+    region: &Region,
 ) -> Result<Sides<'a, 'b>, CompareFault>
-    requires { extent.now.from < extent.now.to }
-    ensures first { IfOk result (λ sides. IsSideOf first.now.project first.now.bound extent.now sides.first) }
-    ensures second { IfOk result (λ sides. IsSideOf second.now.project second.now.bound extent.now sides.second) }
+    ensures first { IfOk result (λ sides. IsSideOf first.now.project first.now.bound region.now sides.first) }
+    ensures second { IfOk result (λ sides. IsSideOf second.now.project second.now.bound region.now
+        sides.second) }
     ensures no_match { IfOk result (λ sides. (reading other : Reading)
         → All (AreSameFrames reading other) sides.stored.matches) }
     ensures only_memory { IfErr result (OfEither IsMemory) }
 {
-    let first = match side_of(alloc, first, extent) {
+    let first = match side_of(alloc, first, region) {
         Ok(side) => side,
         Err(fault) => return Err(CompareFault::First(fault)),
     };
@@ -112,7 +108,7 @@ pub fn sides_of<'a, 'b>(
         Ok(bytes) => bytes,
         Err(fault) => return Err(CompareFault::First(fault)),
     };
-    let second = match side_of(alloc, second, extent) {
+    let second = match side_of(alloc, second, region) {
         Ok(side) => side,
         Err(fault) => return Err(CompareFault::Second(fault)),
     };
@@ -131,27 +127,26 @@ pub fn sides_of<'a, 'b>(
     })
 }
 
-/// Where two projects differ first in an extent.
+/// Where two projects differ first in a region.
 fn compare_in<S: Shelf, T: Shelf, W: Watch>(
     alloc: Global,
     first: &Checked,
     second: &Checked,
-    extent: &Extent,
+    region: &Region,
     first_shelf: &mut S,
     second_shelf: &mut T,
     watch: &mut W,
 ) -> Result<Option<Difference>, CompareFault>
-    requires { extent.now.from < extent.now.to }
     ensures compared { IsTrue (S.honest first_shelf.old) → IsTrue (T.honest second_shelf.old)
         → IfOk result (IsCompared
-        extent.now.from extent.now.to extent.now.channels
+        region.now.from region.now.to region.now.channels
         (project_mix (S.stored first_shelf.old) first.now.project first.now.bound)
         (project_mix (T.stored second_shelf.old) second.now.project second.now.bound)) }
     ensures of_sums { IfErr result (OfEither IsAny) }
     ensures files { ReadFiles S.Shelf T.Shelf first_shelf.old first_shelf.new second_shelf.old second_shelf.new
         (sounds_of first.now.bound) (sounds_of second.now.bound) result }
 {
-    let mut sides = sides_of(alloc, first, second, extent)?;
+    let mut sides = sides_of(alloc, first, second, region)?;
     compare_sides(&mut sides, first_shelf, second_shelf, watch)
 }
 
@@ -190,19 +185,20 @@ pub fn compare_projects<S: Shelf, T: Shelf, W: Watch>(
         (λ fault. OfSecond IsSource fault)
         (λ fault failed. OfSecond (λ of. FailsAt (sounds_of second.now.bound) of failed) fault) }
 {
-    let extent = compared_in(
-        selection,
-        first.project().events(),
-        second.project().events(),
-    );
+    let extent = compared_in(selection, first.project(), second.project());
     if extent.to.get() <= extent.from.get() {
         return Err(CompareFault::EmptyRange);
     }
+    let region = Region {
+        from: extent.from,
+        to: extent.to,
+        channels: extent.channels,
+    };
     match compare_in(
         alloc,
         first,
         second,
-        &extent,
+        &region,
         first_shelf,
         second_shelf,
         watch,

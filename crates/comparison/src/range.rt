@@ -1,10 +1,11 @@
 // Which samples of two projects are compared, on which channels.
-ghost use Rattle.std.specs.Prelude.{◌≡◌, ◌≤◌, ◌++◌, max, min, IsTrue};
+ghost use Rattle.std.specs.Prelude.{◌≡◌, ◌<◌, ◌≤◌, ◌++◌, max, min, IsTrue};
 ghost use Rattle.std.specs.List.{list_all};
 ghost use Rattle.list_terms.specs.Accepted.{greatest_of, least_of};
 ghost use Rattle.list_terms.specs.WholeProject.{is_event};
 ghost use Rattle.comparison.specs.Range.{HasChannels, compared_in};
 
+use adlmodel::Project;
 use sampletime::SampleTime;
 use sound_terms::Event;
 
@@ -39,6 +40,17 @@ pub struct Extent {
     pub from: SampleTime,
     pub to: SampleTime,
     pub channels: u8,
+    ghost some_channels: { 1 ≤ channels },
+    ghost few_channels: { channels ≤ 64 },
+}
+
+/// Some samples: those of an extent that doesn't end where it begins, or before.
+#[derive(Clone, Copy)]
+pub struct Region {
+    pub from: SampleTime,
+    pub to: SampleTime,
+    pub channels: u8,
+    ghost some_time: { from < to },
     ghost some_channels: { 1 ≤ channels },
     ghost few_channels: { channels ≤ 64 },
 }
@@ -81,12 +93,12 @@ fn last_out(events: &[Event]) -> SampleTime
     greatest
 }
 
-/// The last channel on which an event sounds, at least 1.
-fn last_channel(events: &[Event]) -> u8
-    requires { IsTrue (list_all is_event events.now) }
-    ensures value { result ≡ max 1 (greatest_of (λ event. event.dest.last) events.now) }
+/// The last channel on which an event of a project sounds, at least 1.
+fn last_channel(project: &Project) -> u8
+    ensures value { result ≡ max 1 (greatest_of (λ event. event.dest.last) project.now.events) }
     ensures few { result ≤ 64 }
 {
+    let events = project.events();
     let mut greatest = 1;
     for event in events {
         greatest = greatest.max(event.dest.last);
@@ -94,18 +106,19 @@ fn last_channel(events: &[Event]) -> u8
     greatest
 }
 
-/// What is compared of two lists of events.
-pub fn compared_in(selection: &Selection, events: &[Event], others: &[Event]) -> Extent
-    requires channels { HasChannels selection.now }
-    requires whole { IsTrue (list_all is_event events.now) }
-    requires others_whole { IsTrue (list_all is_event others.now) }
-    ensures from { result.from ≡ (compared_in selection.now events.now others.now).from }
-    ensures to { result.to ≡ (compared_in selection.now events.now others.now).to }
-    ensures channels { result.channels ≡ (compared_in selection.now events.now others.now).channels }
+/// What is compared of two projects.
+pub fn compared_in(selection: &Selection, first: &Project, second: &Project) -> Extent
+    requires { HasChannels selection.now }
+    ensures from { result.from ≡ (compared_in selection.now first.now.events second.now.events).from }
+    ensures to { result.to ≡ (compared_in selection.now first.now.events second.now.events).to }
+    ensures channels { result.channels ≡ (compared_in selection.now first.now.events second.now.events).channels }
+    ensures whole { IsTrue (list_all is_event (first.now.events ++ second.now.events)) }
 {
+    let events = first.events();
+    let others = second.events();
     let from = first_in_both(events, others);
     let to = last_out(events).max(last_out(others));
-    let channels = last_channel(events).max(last_channel(others));
+    let channels = last_channel(first).max(last_channel(second));
     Extent {
         from: selection.from.unwrap_or(from),
         to: selection.to.unwrap_or(to),

@@ -9,8 +9,9 @@ ghost use Rattle.sound_terms.specs.Sounds.{SoundFacts, reading_by};
 ghost use Rattle.devices.specs.Frame.{OnlyReads};
 ghost use Rattle.comparison.specs.Fault.{FailsAt, IsSource};
 ghost use Rattle.comparison.specs.Matched.{AreMatches, AreSameFrames, LieInBoth, ReadBoth};
-ghost use Rattle.comparison.specs.Stored.{AddAlike, AreFrames, HoldFrames, IsMatchOf, PlayAlike, SumAlike, full_samples};
+ghost use Rattle.comparison.specs.Stored.{AddAlike, AreFrames, HoldFrames, IsMatchOf, PlayAlike, SoundSame, SumAlike};
 
+use crate::counterparts::Counterparts;
 use crate::depths::are_same_at;
 use crate::matches::{Match, Matches};
 use crate::{CompareFault, SideFault};
@@ -33,12 +34,14 @@ pub struct Stored {
     pub matches: Matches,
 }
 
-/// Whether no two of these bytes differ. A loop that never ends early is made wide.
+/// Whether these bytes are the same. A loop that never ends early is made wide.
 #[inline(always)]
 fn are_same(bytes: &[u8], others: &[u8]) -> bool
-    requires { length bytes.now ≡ length others.now }
     ensures { IsTrue result → bytes.now ≡ others.now }
 {
+    if bytes.len() != others.len() {
+        return false;
+    }
     let mut same = true;
     for k in 0..bytes.len() {
         same &= bytes[k] == others[k];
@@ -78,23 +81,14 @@ fn width_of(depth: Depth) -> usize
     usize::from(depth.bits() / 8)
 }
 
-/// Whether as many samples of two depths, as they are stored, are the same at full scale.
-fn are_counterparts(
-    depth: Depth,
-    bytes: &[u8],
-    other_depth: Depth,
-    others: &[u8],
-    count: usize,
-) -> bool
-    requires bytes { length bytes.now ≡ count * (bits_of depth / 8) }
-    requires others { length others.now ≡ count * (bits_of other_depth / 8) }
-    ensures { IsTrue result
-        → full_samples (bits_of depth) count bytes.now ≡ full_samples (bits_of other_depth) count others.now }
+/// Whether the samples of a pair are the same at full scale.
+fn are_counterparts(pair: &Counterparts) -> bool
+    ensures { IsTrue result → SoundSame pair.now }
 {
-    if depth == other_depth {
-        are_same(bytes, others)
+    if pair.depth == pair.other {
+        are_same(pair.bytes, pair.others)
     } else {
-        are_same_at(depth, bytes, other_depth, others, count)
+        are_same_at(pair)
     }
 }
 
@@ -141,7 +135,13 @@ fn read_match<S: Shelf, T: Shelf>(
         Ok(()) => {}
         Err(fault) => return Err(CompareFault::Second(fault)),
     }
-    Ok(are_counterparts(sound.depth(), bytes, other.depth(), other_bytes, samples))
+    Ok(are_counterparts(&Counterparts {
+        depth: sound.depth(),
+        bytes: &*bytes,
+        other: other.depth(),
+        others: &*other_bytes,
+        count: samples,
+    }))
 }
 
 /// Whether two stretches lie at the same samples of a block and on the same channels, and play channels from the same

@@ -1,6 +1,5 @@
 // At how many samples of a stretch two projects differ, channel by channel.
 ghost use Rattle.std.specs.Prelude.{◌≡◌, ◌+◌, ◌-◌, ◌≤◌, ℕ, max, min, IfErr, IfOk, IsTrue, OnOk, length, slice_index_or};
-ghost use Rattle.sound_terms.specs.declared.Depth.TheVariants.{TwentyFour};
 ghost use Rattle.list_terms.specs.Heard.{project_mix, sounds_of};
 ghost use Rattle.devices.specs.Frame.{OnlyReads};
 ghost use Rattle.comparison.specs.Counted as spec;
@@ -12,7 +11,7 @@ ghost use Rattle.comparison.specs.Range.{HasChannels};
 
 use crate::counting::count_sides;
 use crate::projects::{sides_of, time_of};
-use crate::range::{Extent, Selection, compared_in};
+use crate::range::{Extent, Region, Selection, compared_in};
 use crate::{CompareFault, SideFault};
 use devices::{Shelf, Watch};
 use projectcheck::Checked;
@@ -92,7 +91,12 @@ fn count_in<S: Shelf, T: Shelf, W: Watch>(
     if extent.to.get() <= extent.from.get() {
         return Ok(());
     }
-    let mut sides = sides_of(alloc, first, second, extent)?;
+    let region = Region {
+        from: extent.from,
+        to: extent.to,
+        channels: extent.channels,
+    };
+    let mut sides = sides_of(alloc, first, second, &region)?;
     count_sides(&mut sides, first_shelf, second_shelf, counts, watch)
 }
 
@@ -126,11 +130,7 @@ pub fn differing_in<S: Shelf, T: Shelf, W: Watch>(
         (λ fault. OfSecond IsSource fault)
         (λ fault failed. OfSecond (λ of. FailsAt (sounds_of second.now.bound) of failed) fault) }
 {
-    let extent = compared_in(
-        selection,
-        first.project().events(),
-        second.project().events(),
-    );
+    let extent = compared_in(selection, first.project(), second.project());
     let stretch = stretch_in(&extent, from, frames);
     let Ok(mut counts) = zeros_for(alloc, stretch.channels) else {
         return Err(CompareFault::First(SideFault::Memory));

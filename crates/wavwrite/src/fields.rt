@@ -1,4 +1,4 @@
-// Fields of a file, each put behind the bytes that stand in front of it: little endian numbers, and the head of a chunk.
+// Fields of a file, each put after the bytes before it: little endian numbers, and the head of a chunk.
 ghost use Rattle.std.specs.Prelude.{◌≡◌, ◌≤◌, ◌+◌, ◌++◌, length, take};
 ghost use Rattle.sound_terms.specs.Waves.{u16_bytes, u32_bytes, chunk_head};
 
@@ -15,35 +15,34 @@ pub fn put(out: &mut [u8], at: usize, word: &[u8]) -> usize
     end
 }
 
-/// Puts a number of 16 bits, little endian.
+/// The bytes of a number of 16 bits, little endian.
 #[tactic(auto, unfolding(sound_terms::specs::Waves::u16_bytes))]
-pub fn put_u16(out: &mut [u8], at: usize, number: u16) -> usize
-    requires { at + 2 ≤ length out.old }
-    ensures put { take result out.new ≡ take at out.old ++ u16_bytes number }
-    ensures end { result ≡ at + 2 }
+pub fn u16_bytes(number: u16) -> [u8; 2]
+    ensures { result ≡ u16_bytes number }
 {
-    LittleEndian::write_u16(&mut out[at..], number);
-    at + 2
+    let mut bytes = [0; 2];
+    LittleEndian::write_u16(&mut bytes, number);
+    bytes
 }
 
-/// Puts a number of 32 bits, little endian.
+/// The bytes of a number of 32 bits, little endian.
 #[tactic(auto, unfolding(sound_terms::specs::Waves::u32_bytes))]
-pub fn put_u32(out: &mut [u8], at: usize, number: u32) -> usize
-    requires { at + 4 ≤ length out.old }
-    ensures put { take result out.new ≡ take at out.old ++ u32_bytes number }
-    ensures end { result ≡ at + 4 }
+pub fn u32_bytes(number: u32) -> [u8; 4]
+    ensures { result ≡ u32_bytes number }
 {
-    LittleEndian::write_u32(&mut out[at..], number);
-    at + 4
+    let mut bytes = [0; 4];
+    LittleEndian::write_u32(&mut bytes, number);
+    bytes
 }
 
-/// Puts the head of a chunk: its id, and the size of its contents.
+/// The head of a chunk: its id, and the size of its contents.
 #[tactic(auto, unfolding(sound_terms::specs::Waves::chunk_head))]
-pub fn put_chunk_head(out: &mut [u8], at: usize, id: &[u8; 4], size: u32) -> usize
-    requires { at + 8 ≤ length out.old }
-    ensures put { take result out.new ≡ take at out.old ++ chunk_head id.now size }
-    ensures end { result ≡ at + 8 }
+pub fn chunk_head(id: &[u8; 4], size: u32) -> [u8; 8]
+    ensures { result ≡ chunk_head id.now size }
 {
-    let at = put(out, at, id);
-    put_u32(out, at, size)
+    let size = u32_bytes(size);
+    let mut head = [0; 8];
+    let at = put(&mut head, 0, id);
+    put(&mut head, at, &size);
+    head
 }

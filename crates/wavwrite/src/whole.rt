@@ -6,7 +6,8 @@ ghost use Rattle.sound_terms.specs.SoundFiles.{sound_of};
 ghost use Rattle.sound_terms.specs.Render.{Range, ReadsBack, render_info, rendering_of};
 ghost use Rattle.wavwrite.specs.Info.{Fits, FitsRiff, facts_of};
 
-use crate::chunks::{put_bext, put_data_head, put_form, put_format};
+use crate::chunks::{data_head, form_head, format_chunk, put_bext};
+use crate::fields::put;
 use crate::{Depth, HeaderFault, SoundInfo, SoundInfoRef};
 use std::alloc::Global;
 
@@ -91,10 +92,13 @@ impl<'a> SoundInfoRef<'a> {
         requires length { length out.old ≡ data_place self.now }
         ensures { out.new ≡ header_of self.now }
     {
-        let at = put_form(out, self);
+        let form = form_head(self);
+        let format = format_chunk(self);
+        let head = data_head(self);
+        let at = put(out, 0, &form);
         let at = put_bext(out, at, self);
-        let at = put_format(out, at, self);
-        put_data_head(out, at, self);
+        let at = put(out, at, &format);
+        put(out, at, &head);
     }
 
     /// What a file of this is read as. It does nothing.

@@ -10,11 +10,11 @@ use Rattle.comparison.proofs.depths.are_same_in.Goals as goal
 
 pub loop-i-preserved : goal.loop-i-preserved
 loop-i-preserved c =
-    let bits = bits_of c.args.depth in
-    let other = bits_of c.args.other in
+    let bits = bits_of c.args.pair.now.depth in
+    let other = bits_of c.args.pair.now.other in
     let i = c.loop-i.i in
-    let bytes = c.args.bytes.now in
-    let others = c.args.others.now in
+    let bytes = c.args.pair.now.bytes.now in
+    let others = c.args.pair.now.others.now in
     let sample = c.sample_at.result in
     let counterpart = c.sample_at-in-loop-i.result in
     let fits : SFits w32 sample = search rules in

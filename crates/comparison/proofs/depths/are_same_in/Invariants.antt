@@ -5,4 +5,6 @@ use Rattle.comparison.proofs.depths.are_same_in.Given as goal
 
 -- the samples so far are the same
 abbrev pub invariant-loop-i : goal.invariant-loop-i
-invariant-loop-i l = full_samples (bits_of l.depth) l.i l.bytes ≡ full_samples (bits_of l.other) l.i l.others
+invariant-loop-i l =
+    full_samples (bits_of l.pair.depth) l.i l.pair.bytes.now
+    ≡ full_samples (bits_of l.pair.other) l.i l.pair.others.now

@@ -7,15 +7,15 @@ use Rattle.comparison.proofs.depths.same_lanes.Goals as goal
 
 pub loop-done-preserved : goal.loop-done-preserved
 loop-done-preserved c =
-    let bits = bits_of c.args.depth in
-    let other = bits_of c.args.other in
+    let bits = bits_of c.args.pair.now.depth in
+    let other = bits_of c.args.pair.now.other in
     let done = c.loop-done.done in
-    let bytes = c.args.bytes.now in
-    let others = c.args.others.now in
+    let bytes = c.args.pair.now.bytes.now in
+    let others = c.args.pair.now.others.now in
     let width : c.from-width.result ≡ bits / 8 = search rules in
     let other_width : c.from-other_width.result ≡ other / 8 = search rules in
-    let narrow : bits / 8 ≤ 4 = omega (arith, bits_bounded c.args.depth) in
-    let other_narrow : other / 8 ≤ 4 = omega (arith, bits_bounded c.args.other) in
+    let narrow : bits / 8 ≤ 4 = omega (arith, bits_bounded c.args.pair.now.depth) in
+    let other_narrow : other / 8 ≤ 4 = omega (arith, bits_bounded c.args.pair.now.other) in
     let four : full_samples 32 4 c.four_samples-four.result ≡ full_samples bits 4 (take 16 (drop (done * (bits / 8)) bytes)) =
     c.four_samples-four.ensures ∙ ap (λ n. full_samples bits 4 (take 16 (drop (done * n) bytes))) width in
     let counterpart : full_samples 32 4 c.four_samples-counterpart.result

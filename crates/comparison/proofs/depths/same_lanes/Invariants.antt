@@ -6,9 +6,9 @@ use Rattle.comparison.proofs.depths.same_lanes.Given as goal
 -- the samples so far are the same
 abbrev pub invariant-loop-done : goal.invariant-loop-done
 invariant-loop-done l = record {
-  within : l.done ≤ l.count;
-  same : full_samples (bits_of l.depth) l.done l.bytes ≡ full_samples (bits_of l.other) l.done l.others;
+  within : l.done ≤ l.pair.count;
+  same : full_samples (bits_of l.pair.depth) l.done l.bytes ≡ full_samples (bits_of l.pair.other) l.done l.others;
 }
 
 abbrev pub decreases-loop-done : goal.decreases-loop-done
-decreases-loop-done l = l.count - l.done
+decreases-loop-done l = l.pair.count - l.done

@@ -19,7 +19,7 @@ returns-clause-compared g c = λ honest sure.
     let files = g.S.Shelf.stored c.args.first_shelf.now in
     let stored = g.T.Shelf.stored c.args.second_shelf.now in
     let sides = c.in_ok-sides.sides in
-    let extent = c.args.extent.now in
+    let extent = c.args.region.now in
     let said = subst (λ (r : Range). IfOk c.compare_sides.result
     (IsCompared r.from r.to r.channels (heard sides.first.work files) (heard sides.second.work stored)))
     c.in_ok-sides.ensures.first.range (c.compare_sides.ensures.compared honest sure) in

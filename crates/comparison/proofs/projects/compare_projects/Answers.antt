@@ -1,4 +1,4 @@
-use Rattle.std.proofs.Common.{ℕ, ap, ◌∙◌, sym, subst, arith, rules}
+use Rattle.std.proofs.Common.{ℕ, ap, sym, subst, arith, rules}
 use Rattle.std.proofs.lemmas.Int.{to_z-of_z}
 use mir.Syntax.{w64}
 use mir.Val.{SFits}
@@ -16,16 +16,14 @@ returns-in-Some-clause-compared g c = λ honest sure.
     let second = c.args.second.now in
     let mix = project_mix files first.project first.bound in
     let mixed = project_mix stored second.project second.bound in
-    let one = c.events.result.now in
-    let two = c.events-2.result.now in
-    let events = c.events.ensures.events ∙ ap (λ (p : ListProject). p.events) c.project.ensures.lent in
-    let others = c.events-2.ensures.events ∙ ap (λ (p : ListProject). p.events) c.project-2.ensures.lent in
-    let silent =
-    first_silent files first.project first.bound one two events c.events.ensures.whole c.events-2.ensures.whole in
-    let others_silent =
-    second_silent stored second.project second.bound one two others c.events.ensures.whole c.events-2.ensures.whole in
     let extent = c.compared_in-extent.result in
     let said = c.compared_in-extent.ensures in
+    let one = c.project.result.now.events in
+    let two = c.project-2.result.now.events in
+    let events = ap (λ (p : ListProject). p.events) c.project.ensures.lent in
+    let others = ap (λ (p : ListProject). p.events) c.project-2.ensures.lent in
+    let silent = first_silent files first.project first.bound one two events said.whole in
+    let others_silent = second_silent stored second.project second.bound one two others said.whole in
     let found = c.in_ok-difference.field-0 in
     let compared = c.in_ok-difference.ensures.compared honest sure in
     let differs =
@@ -50,16 +48,14 @@ returns-in-None-clause-compared g c = λ honest sure.
     let second = c.args.second.now in
     let mix = project_mix files first.project first.bound in
     let mixed = project_mix stored second.project second.bound in
-    let one = c.events.result.now in
-    let two = c.events-2.result.now in
-    let events = c.events.ensures.events ∙ ap (λ (p : ListProject). p.events) c.project.ensures.lent in
-    let others = c.events-2.ensures.events ∙ ap (λ (p : ListProject). p.events) c.project-2.ensures.lent in
-    let silent =
-    first_silent files first.project first.bound one two events c.events.ensures.whole c.events-2.ensures.whole in
-    let others_silent =
-    second_silent stored second.project second.bound one two others c.events.ensures.whole c.events-2.ensures.whole in
     let extent = c.compared_in-extent.result in
     let said = c.compared_in-extent.ensures in
+    let one = c.project.result.now.events in
+    let two = c.project-2.result.now.events in
+    let events = ap (λ (p : ListProject). p.events) c.project.ensures.lent in
+    let others = ap (λ (p : ListProject). p.events) c.project-2.ensures.lent in
+    let silent = first_silent files first.project first.bound one two events said.whole in
+    let others_silent = second_silent stored second.project second.bound one two others said.whole in
     found_alike c.args.selection.now one two mix mixed silent others_silent extent.from extent.to extent.channels
     said.from said.to said.channels c.in_ok-difference.field-0 c.in-None.is
     (c.in_ok-difference.ensures.compared honest sure)

@@ -5,7 +5,7 @@ use Rattle.wavwrite.proofs.info_ref.SoundInfoRef.put_header.Goals as goal
 
 pub returns : goal.returns
 returns c =
-    let whole : length c.put_data_head.new.out ≤ c.put_data_head.result = omega arith in
+    let whole : length c.put.new.out ≤ c.put.result = omega arith in
     sym (take_all _ _ whole)
-    ∙ header_put c.args.self.now _ _ _ _ c.put_form-at.ensures.put c.put_bext-at.ensures.put
-    c.put_format-at.ensures.put c.put_data_head.ensures.put
+    ∙ header_put c.args.self.now _ _ _ _ (rw c.form_head-form.ensures at c.put-at.ensures.put) c.put_bext-at.ensures.put
+    (rw c.format_chunk-format.ensures at c.put-at-2.ensures.put) (rw c.data_head-head.ensures at c.put.ensures.put)

@@ -1,0 +1,17 @@
+// Samples of two depths, as they are stored.
+ghost use Rattle.std.specs.Prelude.{◌≡◌, ◌*◌, ◌/◌, length};
+ghost use Rattle.sound_terms.specs.Depth.{bits_of};
+
+use sound_terms::Depth;
+
+/// As many samples of two depths, as they are stored.
+#[derive(Clone, Copy)]
+pub struct Counterparts<'a> {
+    pub depth: Depth,
+    pub bytes: &'a [u8],
+    pub other: Depth,
+    pub others: &'a [u8],
+    pub count: usize,
+    ghost whole: { length bytes.now ≡ count * (bits_of depth / 8) },
+    ghost others_whole: { length others.now ≡ count * (bits_of other / 8) },
+}
