@@ -20,6 +20,11 @@ pub trait Reasons {
         None
     }
 
+    /// The name of the file at which the last failure came; `None` where none came, or no memory was left for it.
+    fn failed_file(&self) -> Option<&str> {
+        None
+    }
+
     /// The names of sources that have another length or time of their last change than when they were first opened, or
     /// are gone. It looks at each of them.
     fn changed(&self, alloc: Global) -> Result<Vec<&str>, AllocError> {

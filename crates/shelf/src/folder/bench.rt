@@ -59,7 +59,7 @@ where
     {
         Ok(FolderBench {
             files: OpenFiles::new(alloc, files, folder, Access::Write(overwrite))?,
-            failures: Failures::NONE,
+            failures: Failures::none(alloc),
         })
     }
 
@@ -79,6 +79,10 @@ where
         let error = self.failures.reason?;
         let has_file = self.files.is_made();
         Some(Reason { error, has_file })
+    }
+
+    fn failed_file(&self) -> Option<&str> {
+        self.failures.file()
     }
 }
 
@@ -112,36 +116,38 @@ where
 
     fn create(&mut self, name: &str) -> Result<(), DeviceFault> {
         let outcome = self.files.create(name);
-        self.failures.counted(outcome)
+        self.failures.counted(name, outcome)
     }
 
     fn append(&mut self, name: &str, bytes: &[u8]) -> Result<(), DeviceFault> {
         let outcome = self.files.append(name, bytes);
-        self.failures.counted(outcome)
+        self.failures.counted(name, outcome)
     }
 
     fn append_zeros(&mut self, name: &str, count: u64) -> Result<(), DeviceFault> {
         let outcome = self.files.append_zeros(name, count);
-        self.failures.counted(outcome)
+        self.failures.counted(name, outcome)
     }
 
     fn write_at(&mut self, name: &str, at: u64, bytes: &[u8]) -> Result<(), DeviceFault> {
         let outcome = self.files.write_at(name, at, bytes);
-        self.failures.counted(outcome)
+        self.failures.counted(name, outcome)
     }
 
     fn length(&mut self, name: &str) -> Result<u64, ShelfFault> {
         let outcome = self.files.length(name);
-        self.failures.counted(outcome)?.ok_or(ShelfFault::NotFound)
+        self.failures
+            .counted(name, outcome)?
+            .ok_or(ShelfFault::NotFound)
     }
 
     fn read_at(&mut self, name: &str, at: u64, buffer: &mut [u8]) -> Result<(), ShelfFault> {
         let outcome = self.files.read_at(name, at, buffer);
-        Ok(self.failures.counted(outcome)?)
+        Ok(self.failures.counted(name, outcome)?)
     }
 
     fn sync(&mut self, name: &str) -> Result<(), DeviceFault> {
         let outcome = self.files.sync(name);
-        self.failures.counted(outcome)
+        self.failures.counted(name, outcome)
     }
 }

@@ -58,7 +58,7 @@ where
     {
         Ok(FolderShelf {
             files: OpenFiles::new(alloc, files, folder, Access::Read)?,
-            failures: Failures::NONE,
+            failures: Failures::none(alloc),
             alloc,
             searches: false,
             below: None,
@@ -102,7 +102,7 @@ where
             return Ok(None);
         }
         let outcome = self.length_of(name);
-        self.failures.counted(outcome)
+        self.failures.counted(name, outcome)
     }
 
     /// The same, where the name is one of a file.
@@ -155,6 +155,10 @@ where
         })
     }
 
+    fn failed_file(&self) -> Option<&str> {
+        self.failures.file()
+    }
+
     fn changed(&self, _: Global) -> Result<Vec<&str>, AllocError> {
         self.files.changed()
     }
@@ -180,6 +184,6 @@ where
 
     fn read_at(&mut self, name: &str, at: u64, buffer: &mut [u8]) -> Result<(), ShelfFault> {
         let outcome = self.files.read_at(name, at, buffer);
-        Ok(self.failures.counted(outcome)?)
+        Ok(self.failures.counted(name, outcome)?)
     }
 }
