@@ -14,10 +14,12 @@ use Rattle.list_terms.specs.declared.Notice.{Notice}
 use Rattle.opening.specs.declared.fault.Fault.{Fault}
 use Rattle.console.specs.Lines.{counted}
 use Rattle.checkreport.specs.Explained.{members_of, value_data}
-use Rattle.checkreport.specs.Parts.{after_commas, beside_text, fault_text, index_text, listed, member_text, notice_text, passed_text, refused_end, refused_front}
-use Rattle.checkreport.specs.Report.{Beside, ExplainedFault, accepted_of, count, count_in, explained_fault, fault_of, faults_of, form, index_data, index_of_file, is_of_index, kind_at, kinds_of, notice_data, passed_data, refused_data, refused_of, text_in}
+use Rattle.checkreport.specs.Parts.{after_commas, beside_text, fault_text, index_text, listed, member_text, notice_text, passed_text, refused_end, refused_front, room_text}
+use Rattle.provenance.specs.Report.{count, form, notice_data}
+use Rattle.checkreport.specs.Report.{Beside, ExplainedFault, accepted_of, count_in, explained_fault, fault_of, faults_of, index_data, index_of_file, is_of_index, kind_at, kinds_of, passed_data, refused_data, refused_of, room_data, text_in}
 use Rattle.checkreport.specs.declared.explained.Member.{Member}
 use Rattle.checkreport.specs.declared.explained.PassedLine.{PassedLine}
+use Rattle.checkreport.specs.declared.explained.Room.{Room}
 
 pub empty : {X : Type 0} (xs : List X) → length xs ≡ 0 → xs ≡ []
 empty [] none = refl
@@ -94,23 +96,34 @@ index_parts notices index facts =
     ++ (counted (codes ",\"frames\":") facts.frames ++ (counted (codes ",\"index\":") index.number
     ++ (codes ",\"notices\":[" ++ text)))))))) text
 
+-- the room of outputs
+pub room_parts : (room : Room)
+    → (codes "{\"media\":" ++ compact_text (count_in room.media))
+    ++ ((codes ",\"rendering\":" ++ compact_text (count_in room.rendering)) ++ codes "}") ≡ room_text room
+unfolding escape_byte room_text
+room_parts room = refl
+
 -- a list that is accepted
 pub accepted_parts : (rate entries : ℕ) (indexes notices : List Data) (beside : Beside)
     → counted (codes "{\"accepted\":true,\"entry_count\":") entries ++ (counted (codes ",\"form\":") form
     ++ (codes ",\"indexes\":["
     ++ (items_text false (items_of indexes) ++ (beside_text beside ++ (codes ",\"notices\":["
     ++ (items_text false (items_of notices) ++ (counted (codes ",\"rate\":") rate ++ codes "}")))))))
-    ≡ compact_text (accepted_of rate entries indexes (text_in beside.media_error) (map passed_data beside.passed) notices)
-unfolding escape_byte beside_text
+    ≡ compact_text (accepted_of rate entries indexes (text_in beside.media_error) (room_data beside.room)
+    (map passed_data beside.passed) notices)
+unfolding escape_byte beside_text room_text
 accepted_parts rate entries indexes notices beside =
     let end = codes ",\"notices\":["
     ++ (items_text false (items_of notices) ++ (counted (codes ",\"rate\":") rate ++ codes "}")) in
     let passed = items_text false (items_of (map passed_data beside.passed)) in
     let media = compact_text (text_in beside.media_error) in
+    let room = compact_text (room_data beside.room) in
     ap (λ (text : List ℕ). counted (codes "{\"accepted\":true,\"entry_count\":") entries
     ++ (counted (codes ",\"form\":") form ++ (codes ",\"indexes\":["
     ++ (items_text false (items_of indexes) ++ (codes ",\"media_error\":" ++ text)))))
-    (append_assoc media (codes ",\"not_honoured\":[" ++ passed) end)
+    (append_assoc media (codes ",\"most_bytes\":" ++ (room ++ (codes ",\"not_honoured\":[" ++ passed))) end
+    ∙ ap (λ (text : List ℕ). media ++ (codes ",\"most_bytes\":" ++ text))
+    (append_assoc room (codes ",\"not_honoured\":[" ++ passed) end))
 
 -- the lines of which something isn't honoured
 pub passed_text_of : (passed : PassedLine) (more : List PassedLine)

@@ -10,9 +10,11 @@ use Rattle.list_terms.specs.declared.Notice.{Notice}
 use Rattle.console.specs.Lines.{counted}
 use Rattle.json.specs.Print.{quoted}
 use Rattle.checkreport.specs.Explained.{explained_data, value_data}
-use Rattle.checkreport.specs.Report.{Beside, ExplainedFault, explained_fault, fault_of, form, index_data, notice_data, passed_data, text_in}
+use Rattle.provenance.specs.Report.{form, notice_data}
+use Rattle.checkreport.specs.Report.{Beside, ExplainedFault, explained_fault, fault_of, index_data, passed_data, room_data, text_in}
 use Rattle.checkreport.specs.declared.explained.Member.{Member}
 use Rattle.checkreport.specs.declared.explained.PassedLine.{PassedLine}
+use Rattle.checkreport.specs.declared.explained.Room.{Room}
 use Rattle.checkreport.specs.declared.refused.ReportedFault.{ReportedFault}
 
 -- texts of values, each after a comma
@@ -42,10 +44,15 @@ member_text member = quoted member.name.now ++ 58 ∷ compact_text (value_data m
 unfoldable pub passed_text : PassedLine → List ℕ
 passed_text passed = compact_text (passed_data passed)
 
+-- the room of the outputs of a project
+unfoldable pub room_text : Room → List ℕ
+room_text room = compact_text (room_data room)
+
 -- what is reported beside a project, up to the end of the array
 unfoldable pub beside_text : Beside → List ℕ
 beside_text beside = codes ",\"media_error\":" ++ (compact_text (text_in beside.media_error)
-    ++ (codes ",\"not_honoured\":[" ++ items_text false (items_of (map passed_data beside.passed))))
+    ++ (codes ",\"most_bytes\":" ++ (room_text beside.room
+    ++ (codes ",\"not_honoured\":[" ++ items_text false (items_of (map passed_data beside.passed))))))
 
 -- a fault that is ready to be printed
 abbrev pub ready_data : ReportedFault → Data

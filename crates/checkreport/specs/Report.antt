@@ -1,7 +1,7 @@
 -- What a check tells a script, as a value of JSON (RFC 8259).
-use Rattle.std.specs.Prelude.{ℕ, ◌==◌, ◌&&◌, nat_le, nat_lt, Bool, true, false, List, [], ◌∷◌, ◌++◌, map, length, Option, None, Some, slice_get, unwrap_or, option_map, string_bytes, if◌then◌else◌, codes}
+use Rattle.std.specs.Prelude.{ℕ, ◌==◌, ◌&&◌, nat_lt, Bool, true, false, List, [], ◌∷◌, ◌++◌, map, length, Option, None, Some, slice_get, unwrap_or, option_map, string_bytes, if◌then◌else◌, codes}
 use Rattle.std.specs.List.{flat_map}
-use Rattle.serde_json.specs.Data.{Data, null, boolean, number, unsigned, string, array, object, member, no_members}
+use Rattle.serde_json.specs.Data.{Data, null, boolean, string, array, object, member, no_members}
 use Rattle.serde_json.specs.View.{items_of}
 use Rattle.sound_terms.specs.declared.BoundIndex.{BoundIndex}
 use Rattle.sound_terms.specs.Depth.{bits_of}
@@ -14,17 +14,9 @@ use Rattle.work_terms.specs.Refusals as refused
 use Rattle.work_terms.specs.Refusals.{Refusal, Where}
 use Rattle.opening.specs.Faults.{refusal_of}
 use Rattle.opening.specs.declared.fault.Fault.{Fault}
+use Rattle.provenance.specs.Report.{count, form, notice_data}
 use Rattle.checkreport.specs.declared.explained.PassedLine.{PassedLine}
-
-abbrev pub count : ℕ → Data
-count n = number (unsigned n)
-
--- a notice, which is of a line or of an index
-abbrev pub notice_data : Notice → Data
-notice_data notice =
-    if nat_le notice.kind 2
-    then object (member (codes "line") (count notice.at) (member (codes "notice") (count notice.kind) no_members))
-    else object (member (codes "index") (count notice.at) (member (codes "notice") (count notice.kind) no_members))
+use Rattle.checkreport.specs.declared.explained.Room.{Room}
 
 -- the numbers of the notices of an index
 abbrev pub is_of_index : ℕ → Notice → Bool
@@ -56,9 +48,9 @@ index_data sounds notices index =
 abbrev pub text_in : Option (List ℕ) → Data
 text_in text = unwrap_or (option_map string text) null
 
--- the version of the form of reports
-abbrev pub form : ℕ
-form = 5
+-- a number, where there is one
+abbrev pub count_in : Option ℕ → Data
+count_in found = unwrap_or (option_map count found) null
 
 -- what of a line isn't honoured
 abbrev pub passed_data : PassedLine → Data
@@ -66,35 +58,39 @@ passed_data passed =
     object (member (codes "line") (count passed.line)
     (member (codes "words") (text_in (option_map string_bytes passed.words)) no_members))
 
--- what is reported beside a project that is accepted: why the folder of its media can't be listed, if it can't, and
--- what of its list isn't honoured
+-- how many bytes the media of a consolidation and a rendering take at most, where that is known
+abbrev pub room_data : Room → Data
+room_data room =
+    object (member (codes "media") (count_in room.media)
+    (member (codes "rendering") (count_in room.rendering) no_members))
+
+-- what is reported beside a project that is accepted: why the folder of its media can't be listed, if it can't, the room
+-- that its outputs take, and what of its list isn't honoured
 pub record Beside : Type 0 where
   pub media_error : Option (List ℕ)
+  pub room : Room
   pub passed : List PassedLine
 
 -- an accepted list of this rate, with so many entries, these indexes and these notices
-abbrev pub accepted_of : (rate entries : ℕ) (indexes : List Data) (media_error : Data) (passed notices : List Data)
-    → Data
-accepted_of rate entries indexes media_error passed notices =
+abbrev pub accepted_of : (rate entries : ℕ) (indexes : List Data) (media_error room : Data)
+    (passed notices : List Data) → Data
+accepted_of rate entries indexes media_error room passed notices =
     object (member (codes "accepted") (boolean true)
     (member (codes "entry_count") (count entries)
     (member (codes "form") (count form)
     (member (codes "indexes") (array (items_of indexes))
     (member (codes "media_error") media_error
+    (member (codes "most_bytes") room
     (member (codes "not_honoured") (array (items_of passed))
     (member (codes "notices") (array (items_of notices))
-    (member (codes "rate") (count rate) no_members))))))))
+    (member (codes "rate") (count rate) no_members)))))))))
 
 -- a project that is accepted, by what it is bound to
 abbrev pub accepted_data : ListProject → Binding → Beside → Data
 accepted_data project binding beside = accepted_of project.rate (length project.events)
     (map (index_data (sounds_of binding) binding.notices) binding.indexes)
-    (text_in beside.media_error) (map passed_data beside.passed)
+    (text_in beside.media_error) (room_data beside.room) (map passed_data beside.passed)
     (map notice_data (project.notices ++ binding.notices))
-
--- a number, where there is one
-abbrev pub count_in : Option ℕ → Data
-count_in found = unwrap_or (option_map count found) null
 
 -- the line, the entry, the index and the file of a place
 abbrev pub line_in : Where → Option ℕ

@@ -5,10 +5,11 @@ ghost use Rattle.serde_json.specs.Written as written;
 ghost use Rattle.serde_json.specs.Written.{compact_text, items_text};
 ghost use Rattle.console.specs.Printing.{Prints};
 ghost use Rattle.checkreport.specs.Report as spec;
-ghost use Rattle.checkreport.specs.Report.{Beside, accepted_data, index_of_file, notice_data};
+ghost use Rattle.provenance.specs.Report.{notice_data};
+ghost use Rattle.checkreport.specs.Report.{Beside, accepted_data, index_of_file};
 ghost use Rattle.checkreport.specs.Parts.{after_commas, beside_text, index_text, listed, notice_text};
 
-use crate::explained::{Explains, put_all_passed};
+use crate::explained::{Explains, put_all_passed, put_room};
 use crate::values::{FORM, put_string, put_text};
 use console::{Console, put_counted};
 use list_terms::Notice;
@@ -37,7 +38,7 @@ pub fn put_report<X: Explains, O: Console>(
     put_counted(out, ",\"form\":", FORM);
     out.put(b",\"indexes\":[");
     put_indexes(out, bound.indexes(), bound.sounds(), bound.notices());
-    put_beside(alloc, explains, out);
+    put_beside(alloc, checked, explains, out);
     out.put(b",\"notices\":[");
     put_notices(out, project.notices(), bound.notices());
     let rate = u64::from(project.rate().frames_per_second());
@@ -45,13 +46,22 @@ pub fn put_report<X: Explains, O: Console>(
     out.put(b"}");
 }
 
-/// Prints why the folder of the media can't be listed, if it can't, and what of the list isn't honoured.
-fn put_beside<X: Explains, O: Console>(alloc: Global, explains: &mut X, out: &mut O)
+/// Prints why the folder of the media can't be listed, if it can't, how much room the outputs take, and what of the list
+/// isn't honoured.
+fn put_beside<X: Explains, O: Console>(
+    alloc: Global,
+    checked: &Checked,
+    explains: &mut X,
+    out: &mut O,
+)
     ensures { (beside : Beside) × Prints O.contents O.failures out.old out.new (beside_text beside) }
 {
     let media_error = explains.media_error(alloc);
     out.put(b",\"media_error\":");
     put_text(out, &media_error);
+    let room = explains.room(alloc, checked);
+    out.put(b",\"most_bytes\":");
+    put_room(out, room);
     out.put(b",\"not_honoured\":[");
     put_all_passed(alloc, explains, out);
 }

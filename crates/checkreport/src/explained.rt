@@ -5,11 +5,12 @@ ghost use Rattle.serde_json.specs.Written.{compact_text, items_text, members_tex
 ghost use Rattle.console.specs.Printing.{Prints};
 ghost use Rattle.checkreport.specs.Explained.{explained_data, members_of, value_data};
 ghost use Rattle.checkreport.specs.Report.{passed_data};
-ghost use Rattle.checkreport.specs.Parts.{after_commas, member_text, passed_text};
+ghost use Rattle.checkreport.specs.Parts.{after_commas, member_text, passed_text, room_text};
 
-use crate::values::{put_string, put_text};
+use crate::values::{put_found, put_string, put_text};
 use console::{Console, put_counted};
 use opening::Fault;
+use projectcheck::Checked;
 use std::alloc::Global;
 
 /// A count or a text, or neither where there is none.
@@ -34,6 +35,14 @@ pub struct PassedLine {
     pub words: Option<String>,
 }
 
+/// How many bytes the media of a consolidation with the default handle and a rendering as a whole take at most; nothing
+/// where that isn't known.
+#[derive(Clone, Copy, Debug, PartialEq, Eq)]
+pub struct Room {
+    pub media: Option<u64>,
+    pub rendering: Option<u64>,
+}
+
 /// What explains the faults of a list beside their numbers and places, and what else is reported of the list. No clause
 /// speaks of what it says.
 pub trait Explains {
@@ -46,6 +55,9 @@ pub trait Explains {
 
     /// Why the folder of the media can't be listed, if it can't.
     fn media_error(&mut self, alloc: Global) -> Option<String>;
+
+    /// How much room the outputs of an accepted list take.
+    fn room(&mut self, alloc: Global, checked: &Checked) -> Room;
 }
 
 /// Prints what explains a fault as an object, or null.
@@ -149,5 +161,14 @@ fn put_passed<O: Console>(out: &mut O, passed: &PassedLine)
     put_counted(out, "{\"line\":", passed.line);
     out.put(b",\"words\":");
     put_text(out, &passed.words);
+    out.put(b"}");
+}
+
+/// Prints how much room outputs take.
+pub fn put_room<O: Console>(out: &mut O, room: Room)
+    ensures { Prints O.contents O.failures out.old out.new (room_text room) }
+{
+    put_found(out, "{\"media\":", room.media);
+    put_found(out, ",\"rendering\":", room.rendering);
     out.put(b"}");
 }

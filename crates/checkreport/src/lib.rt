@@ -7,5 +7,5 @@ mod printed;
 mod refused;
 mod values;
 
-pub use explained::{Explains, Member, PassedLine, Value};
+pub use explained::{Explains, Member, PassedLine, Room, Value};
 pub use printed::{put_accepted, put_no_memory, put_refused, put_unread};

@@ -11,7 +11,7 @@ ghost use Rattle.console.specs.Printing.{Prints};
 use console::{Console, put_counted};
 
 /// The version of the form of reports.
-pub const FORM: u64 = 5;
+pub const FORM: u64 = 6;
 
 /// Prints words, and then a number or null.
 pub fn put_found<O: Console>(out: &mut O, words: &str, found: Option<u64>)

@@ -4,10 +4,10 @@ ghost use Rattle.comparison.specs.Range.{HasChannels};
 ghost use Rattle.consolidate.specs.Comparing.{IsComparing};
 
 use crate::compare_fault::{CompareFault, ListFault};
-use crate::opened::open_list;
 use comparison::{Comparison, Selection, compare_projects};
 use devices::{Shelf, Watch};
 use list_terms::Notice;
+use opening::open_list;
 use sampletime::{Rate, Separators};
 use std::alloc::Global;
 

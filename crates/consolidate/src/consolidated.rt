@@ -13,13 +13,14 @@ ghost use Rattle.consolidate.specs.Outcomes.{AnswersAs};
 
 use crate::Fault;
 use crate::media::execution_of;
-use crate::opened::{Opened, open};
+use crate::opened::open;
 use crate::report::{ReportChoice, report_on};
 use consolidation::{Consolidation, MediaChoice, Sizes};
 use devices::{Bench, Shelf, Unwatched, Watch};
 use execution::ExecutionFault;
 use job_terms::Progress;
 use list_terms::Notice;
+use opening::Opened;
 use passes::Pass;
 use projectcheck::Checked;
 use provenance::ReportOn;

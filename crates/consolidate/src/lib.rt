@@ -18,7 +18,7 @@ mod scheduled;
 mod schedules;
 mod with_report;
 
-pub use checking::check_project;
+pub use checking::{check_opened, check_project};
 pub use choice::{Clipping, RenderChoice, RenderReport};
 pub use clipping::Clips;
 pub use compare_fault::{CompareFault, ListFault};
@@ -30,7 +30,7 @@ pub use fault::{Fault, OutputFile};
 pub use job_terms::{BoardEvent, Progress};
 pub use list_terms::Notice;
 pub use markfile::{MARKS, MarkFault, MarkedFile, SOUND};
-pub use opening::Accepted;
+pub use opening::{Accepted, AcceptedList};
 pub use rendered::{Rendered, RenderedSound, render, render_watched};
 pub use rendering::{Depth, JobLength, Options, Order};
 pub use renderreport::RENDER_REPORT;

@@ -10,11 +10,12 @@ ghost use Rattle.consolidate.specs.Schedules.{IsConsolidationSchedule};
 
 use crate::Fault;
 use crate::media::execution_of;
-use crate::opened::{Opened, open};
+use crate::opened::open;
 use consolidation::{Consolidation, MediaChoice};
 use devices::{Bench, Shelf, Unwatched};
 use execution::ExecutionFault;
 use job_terms::{BoardEvent, Progress};
+use opening::Opened;
 use passes::Pass;
 use projectcheck::Checked;
 use std::alloc::Global;

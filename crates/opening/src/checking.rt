@@ -1,8 +1,10 @@
-// Checks a list without writing anything.
-ghost use Rattle.std.specs.Prelude.{◌≡◌, ◌++◌, IsTrue, IfOk, IfErr};
+// A list that is accepted, and what is reported of it.
+ghost use Rattle.std.specs.Prelude.{◌≡◌, ◌++◌, Ok, IsTrue, IfOk, IfErr, length};
 ghost use Rattle.work_terms.specs.Refusals.{Answers};
-ghost use Rattle.list_terms.specs.Heard.{project_fault};
-ghost use Rattle.opening.specs.Commands.{ReadsSources, RefusesBadText, Reports};
+ghost use Rattle.list_terms.specs.Heard.{IsAccepted, project_fault};
+ghost use Rattle.list_terms.specs.Text.{text_value};
+ghost use Rattle.adlread.specs.Spells.{Spells};
+ghost use Rattle.opening.specs.Commands.{ReadsSources, RefusesBadText};
 ghost use Rattle.opening.specs.Faults.{refusal_of};
 ghost use Rattle.opening.specs.Own.{IsFirst, IsOfOpening};
 
@@ -14,7 +16,7 @@ use list_terms::Notice;
 use projectcheck::Checked;
 use std::alloc::{AllocError, Global};
 
-/// What is told of a list that is accepted: its notices, and how many entries and bound indexes it has.
+/// What is reported of a list that is accepted: its notices, and how many entries and bound indexes it has.
 #[derive(Debug, Drop)]
 pub struct Accepted {
     pub notices: Vec<Notice>,
@@ -22,8 +24,42 @@ pub struct Accepted {
     pub indexes: u32,
 }
 
+/// A project without a fault, and what its user should know of it: the notices of its list, and then those of its files.
+#[derive(Drop)]
+pub struct Opened {
+    pub checked: Checked,
+    pub notices: Vec<Notice>,
+}
+
+/// An accepted list: what is reported of it, and its project.
+#[derive(Drop)]
+pub struct AcceptedList {
+    pub accepted: Accepted,
+    pub checked: Checked,
+}
+
+impl Opened {
+    /// What is reported of the project, beside it.
+    pub fn into_accepted(self) -> AcceptedList
+        ensures same { result.checked ≡ self.checked }
+        ensures notices { result.accepted.notices ≡ self.notices }
+        ensures entries { result.accepted.entries ≡ length self.checked.project.events }
+        ensures indexes { result.accepted.indexes ≡ length self.checked.bound.indexes }
+    {
+        let Opened { checked, notices } = self;
+        let entries = checked.project().events().len() as u32;
+        let indexes = checked.bound().indexes().len() as u32;
+        let accepted = Accepted {
+            notices,
+            entries,
+            indexes,
+        };
+        AcceptedList { accepted, checked }
+    }
+}
+
 /// The notices of a list, and then those of its files.
-pub fn notices_of(alloc: Global, checked: &Checked) -> Result<Vec<Notice>, AllocError>
+fn notices_of(alloc: Global, checked: &Checked) -> Result<Vec<Notice>, AllocError>
     ensures { IfOk result (λ notices. notices.items ≡ checked.now.project.notices ++ checked.now.bound.notices) }
 {
     let mut notices = Vec::from_slice(alloc, checked.project().notices())?;
@@ -31,24 +67,25 @@ pub fn notices_of(alloc: Global, checked: &Checked) -> Result<Vec<Notice>, Alloc
     Ok(notices)
 }
 
-/// Checks a list over the sources of a shelf. Its refusals are those of `open_project`, and 18 where no memory was left
-/// for the notices.
-pub fn check_project<S: Shelf>(alloc: Global, list: &[u8], shelf: &mut S) -> Result<Accepted, Fault>
+/// Opens the project of a list over the sources of a shelf, with its notices. The refusals are those of `open_project`,
+/// and 18 where no memory was left for the notices.
+pub fn open_list<S: Shelf>(alloc: Global, list: &[u8], shelf: &mut S) -> Result<Opened, Fault>
+    ensures accepted { IsTrue (S.honest shelf.old)
+        → IfOk result (λ opened. IsAccepted list.now (S.stored shelf.old) opened.checked.project opened.checked.bound) }
+    ensures spelt { IfOk result (λ opened. text_value list.now ≡ Ok opened.checked.project) }
+    ensures spelled { IfOk result (λ opened. Spells list.now opened.checked.project) }
+    ensures notices { IfOk result (λ opened. opened.notices.items
+        ≡ opened.checked.project.notices ++ opened.checked.bound.notices) }
     ensures refusals { IsTrue (S.honest shelf.old)
         → Answers refusal_of result (project_fault list.now (S.stored shelf.old)) }
-    ensures report { IsTrue (S.honest shelf.old) → IfOk result (Reports list.now (S.stored shelf.old)) }
     ensures bad_text { RefusesBadText list.now result }
     ensures own { IfErr result (IsOfOpening list.now) }
     ensures in_turn { IsTrue (S.honest shelf.old) → IfErr result (IsFirst list.now (S.stored shelf.old)) }
     ensures only_reads { ReadsSources S.Shelf shelf.old shelf.new result }
 {
     let checked = open_project(alloc, list, shelf)?;
-    let Ok(notices) = notices_of(alloc, &checked) else {
-        return Err(Fault::List(AdlFault::Memory));
-    };
-    Ok(Accepted {
-        notices,
-        entries: checked.project().events().len() as u32,
-        indexes: checked.bound().indexes().len() as u32,
-    })
+    match notices_of(alloc, &checked) {
+        Ok(notices) => Ok(Opened { checked, notices }),
+        Err(_) => Err(Fault::List(AdlFault::Memory)),
+    }
 }

@@ -7,7 +7,7 @@ mod fault;
 mod further;
 mod open;
 
-pub use checking::{Accepted, check_project, notices_of};
+pub use checking::{Accepted, AcceptedList, Opened, open_list};
 pub use fault::Fault;
 pub use further::{Further, Untold, further_faults};
 pub use open::open_project;

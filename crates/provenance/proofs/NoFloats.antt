@@ -1,7 +1,7 @@
 -- No report has a float.
-use Rattle.std.proofs.Common.{◌≡◌, ◌∷◌, [], Bool, true, false, List, Option, None, Some, ℕ, map, if◌then◌else◌, refl, subst, sym}
+use Rattle.std.proofs.Common.{◌≡◌, ◌∷◌, ◌++◌, [], Bool, true, false, List, Option, None, Some, ℕ, codes, map, nat_le, if◌then◌else◌, refl, subst, sym}
 use Rattle.std.specs.Str.{is_utf8}
-use Rattle.serde_json.specs.Data.{Data, null, string}
+use Rattle.serde_json.specs.Data.{Data, member, no_members, null, object, string}
 use Rattle.serde_json.specs.View.{items_of}
 use Rattle.serde_json.specs.Written.{compact_text, has_float, items_have_float}
 use Rattle.sound_terms.specs.declared.BoundIndex.{BoundIndex}
@@ -10,9 +10,10 @@ use Rattle.sound_terms.specs.Media.{sound_at}
 use Rattle.sound_terms.specs.Sounds.{SoundFacts}
 use Rattle.list_terms.specs.Heard.{sounds_of}
 use Rattle.list_terms.specs.Project.{Source}
+use Rattle.list_terms.specs.declared.Notice.{Notice}
 use Rattle.provenance.specs.declared.medium.Medium.{Medium}
 use Rattle.provenance.specs.Groups.{Shown, grouped_in}
-use Rattle.provenance.specs.Report.{Told, count, entry_data, given_of, group_data, groups_told, home_source, known_digest, medium_told, news_of, origin_data, text_data, told, told_data}
+use Rattle.provenance.specs.Report.{Told, count, entry_data, given_of, group_data, groups_told, home_source, known_digest, medium_told, news_of, notice_data, origin_data, text_data, told, told_data}
 
 items_without : {X : Type 0} (f : X → Data) → ((x : X) → has_float (f x) ≡ false) → (xs : List X)
     → items_have_float (items_of (map f xs)) ≡ false
@@ -53,6 +54,18 @@ medium_without sources indexes sounds homes medium =
 group_without : (group : Shown) → has_float (group_data group) ≡ false
 group_without group = rw (items_without count (λ n. refl) group.0) refl
 
+notice_without : (notice : Notice) → has_float (notice_data notice) ≡ false
+notice_without notice = by_test (nat_le notice.kind 2) where
+  of_line : Data
+  of_line = object (member (codes "line") (count notice.at) (member (codes "notice") (count notice.kind) no_members))
+
+  of_index : Data
+  of_index = object (member (codes "index") (count notice.at) (member (codes "notice") (count notice.kind) no_members))
+
+  by_test : (is : Bool) → has_float (if is then of_line else of_index) ≡ false
+  by_test true = refl
+  by_test false = refl
+
 report_without : (t : Told) (media : List Medium) → has_float (told_data t media) ≡ false
 report_without t media =
     rw (
@@ -60,6 +73,7 @@ report_without t media =
       items_without group_data group_without (groups_told t),
       items_without (medium_told t.project.sources t.binding.indexes (sounds_of t.binding) t.kept.homes)
           (medium_without t.project.sources t.binding.indexes (sounds_of t.binding) t.kept.homes) media,
+      items_without notice_data notice_without (t.project.notices ++ t.binding.notices),
     ) refl
 
 -- the text of a value that is a report's

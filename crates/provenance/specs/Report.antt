@@ -1,5 +1,5 @@
 -- The report of a consolidation, as a value of JSON (RFC 8259).
-use Rattle.std.specs.Prelude.{◌≡◌, ℕ, ◌+◌, List, [], ◌∷◌, ◌++◌, map, Option, option_and_then, option_map, slice_get, unwrap_or, if◌then◌else◌, codes}
+use Rattle.std.specs.Prelude.{◌≡◌, ℕ, ◌+◌, nat_le, List, [], ◌∷◌, ◌++◌, map, Option, option_and_then, option_map, slice_get, unwrap_or, if◌then◌else◌, codes}
 use Rattle.std.specs.Str.{is_utf8}
 use Rattle.hex.specs.Hex.{encode_lower}
 use Rattle.serde_json.specs.Data.{Data, null, number, unsigned, string, array, object, member, no_members}
@@ -18,6 +18,7 @@ use Rattle.work_terms.specs.Disk.{Files}
 use Rattle.list_terms.specs.Binding.{Binding}
 use Rattle.list_terms.specs.Heard.{sounds_of}
 use Rattle.list_terms.specs.Project.{ListProject, Source}
+use Rattle.list_terms.specs.declared.Notice.{Notice}
 use Rattle.list_terms.specs.Renewed.{media_name}
 use Rattle.mediaset.specs.Runs.{HomedRuns}
 use Rattle.provenance.specs.declared.shared.GroupedEntry.{GroupedEntry}
@@ -32,6 +33,13 @@ use Rattle.provenance.specs.Sums.{sums_of}
 
 abbrev pub count : ℕ → Data
 count n = number (unsigned n)
+
+-- a notice, which is of a line or of an index
+abbrev pub notice_data : Notice → Data
+notice_data notice =
+    if nat_le notice.kind 2
+    then object (member (codes "line") (count notice.at) (member (codes "notice") (count notice.kind) no_members))
+    else object (member (codes "index") (count notice.at) (member (codes "notice") (count notice.kind) no_members))
 
 -- bytes as they stand where they are text (UTF-8); JSON has no others
 abbrev pub text_data : List ℕ → Data
@@ -94,18 +102,30 @@ abbrev pub entry_data : GroupedEntry → Data
 entry_data entry =
     object (member (codes "entry") (count entry.number) (member (codes "group") (count entry.group) no_members))
 
--- a consolidation with this handle by the program that asks for the report, with the digests of the given list and of
--- the new one, whose text this is
-abbrev pub report_data : (handle : ℕ) (asked : AskedReport) (text : List ℕ) (media groups entries : List Data) → Data
-report_data handle asked text media groups entries =
+-- the version of the form of reports
+abbrev pub form : ℕ
+form = 6
+
+-- a consolidation with this handle by the program that asks for the report, with these digests in hexadecimal digits
+abbrev pub consolidation_data : (handle : ℕ) (program version given new : List ℕ)
+    (media groups entries notices : List Data) → Data
+consolidation_data handle program version given new media groups entries notices =
     object (member (codes "entries") (array (items_of entries))
-    (member (codes "given_list_sha256") (digest_data (sha256 asked.list))
+    (member (codes "form") (count form)
+    (member (codes "given_list_sha256") (string given)
     (member (codes "groups") (array (items_of groups))
     (member (codes "handle") (count handle)
     (member (codes "media") (array (items_of media))
-    (member (codes "new_list_sha256") (digest_data (sha256 text))
-    (member (codes "program") (string asked.program)
-    (member (codes "version") (string asked.version) no_members))))))))
+    (member (codes "new_list_sha256") (string new)
+    (member (codes "notices") (array (items_of notices))
+    (member (codes "program") (string program)
+    (member (codes "version") (string version) no_members))))))))))
+
+-- the same with the digests of the given list and of the new one, whose text this is
+abbrev pub report_data : (handle : ℕ) (asked : AskedReport) (text : List ℕ)
+    (media groups entries notices : List Data) → Data
+report_data handle asked text =
+    consolidation_data handle asked.program asked.version (encode_lower (sha256 asked.list)) (encode_lower (sha256 text))
 
 -- what a report is made of: the given project with what it is bound to; the runs that become media; the entries and the
 -- text of the list over them; the handle, and with what the report is asked
@@ -134,6 +154,7 @@ told_data t media = report_data t.handle t.asked t.text
     (map (medium_told t.project.sources t.binding.indexes (sounds_of t.binding) t.kept.homes) media)
     (map group_data (groups_told t))
     (map entry_data (map (grouped_in (groups_told t) (given_of t)) (news_of t)))
+    (map notice_data (t.project.notices ++ t.binding.notices))
 
 -- the value in a line
 abbrev pub json_of : Told → List Medium → List ℕ

@@ -9,6 +9,7 @@ mod hashing;
 mod lines;
 mod media;
 mod medium;
+mod notices;
 mod played;
 mod report;
 mod shared;

@@ -1,5 +1,5 @@
 // The report of a consolidation.
-ghost use Rattle.std.specs.Prelude.{◌≡◌, All, IfOk, IsTrue, map};
+ghost use Rattle.std.specs.Prelude.{◌≡◌, All, IfOk, IsTrue, map, string_bytes};
 ghost use Rattle.serde_json.specs.View.{view};
 ghost use Rattle.sound_terms.specs.Media.{IsRunOf};
 ghost use Rattle.list_terms.specs.Heard.{sounds_of};
@@ -8,11 +8,12 @@ ghost use Rattle.provenance.specs.Asked.{asked_of};
 ghost use Rattle.provenance.specs.Fault.{FailsAt, IsDevice};
 ghost use Rattle.provenance.specs.Media.{IsTellable};
 ghost use Rattle.provenance.specs.Report as spec;
-ghost use Rattle.provenance.specs.Report.{IsReportOf, report_data};
+ghost use Rattle.provenance.specs.Report.{IsReportOf, consolidation_data, report_data};
 
 use crate::entries::{entry_values, group_values};
 use crate::hashing::hashed_media;
 use crate::media::media_values;
+use crate::notices::notice_values;
 use crate::played::{given_entries, new_entries};
 use crate::shared::group_entries;
 use crate::sums::sums_text;
@@ -26,6 +27,9 @@ use sound_terms::Event;
 use sourceindex::Bound;
 use std::alloc::{AllocError, Global};
 
+/// The version of the form of reports.
+const FORM: u32 = 6;
+
 /// The report of a consolidation: where its media come from, a value of JSON (RFC 8259) in a line, and the checksums of
 /// all that it writes, as `sha256sum -c` reads them.
 #[derive(Debug, Drop)]
@@ -34,34 +38,67 @@ pub struct Report {
     pub sums: Vec<u8>,
 }
 
-/// A consolidation with this handle by the program that asks for the report, with the digests of the given list and of
-/// the new one, whose text this is.
-fn report_value(
-    alloc: Global,
-    handle: u64,
-    asked: ReportOn<'_>,
-    text: &[u8],
+/// What is reported of media, of the groups and the new entries that play them, and of notices.
+#[derive(Drop)]
+struct Parts {
     media: Vec<Value>,
     groups: Vec<Value>,
     entries: Vec<Value>,
+    notices: Vec<Value>,
+}
+
+/// A consolidation with this handle by the program that asks for the report, with these digests in hexadecimal digits.
+fn consolidation_value(
+    alloc: Global,
+    handle: u64,
+    asked: ReportOn<'_>,
+    given: String,
+    new: String,
+    parts: Parts,
 ) -> Result<Value, AllocError>
-    ensures { IfOk result (λ value. view value ≡ report_data handle (asked_of asked.entry) text.now
-        (map view media.items) (map view groups.items) (map view entries.items)) }
+    ensures { IfOk result (λ value. view value
+        ≡ consolidation_data handle asked.entry.program.now asked.entry.version.now (string_bytes given) (string_bytes new)
+        (map view parts.media.items) (map view parts.groups.items) (map view parts.entries.items)
+        (map view parts.notices.items)) }
 {
-    let given = hex::encode(alloc, &Sha256::digest(asked.list))?;
-    let new = hex::encode(alloc, &Sha256::digest(text))?;
+    let Parts {
+        media,
+        groups,
+        entries,
+        notices,
+    } = parts;
+    let form = FORM;
     let program = asked.program;
     let version = asked.version;
     json!(in alloc; {
         "entries": entries,
+        "form": form,
         "given_list_sha256": given,
         "groups": groups,
         "handle": handle,
         "media": media,
         "new_list_sha256": new,
+        "notices": notices,
         "program": program,
         "version": version
     })
+}
+
+/// The same, with the digests of the given list and of the new one, whose text this is.
+fn report_value(
+    alloc: Global,
+    handle: u64,
+    asked: ReportOn<'_>,
+    text: &[u8],
+    parts: Parts,
+) -> Result<Value, AllocError>
+    ensures { IfOk result (λ value. view value ≡ report_data handle (asked_of asked.entry) text.now
+        (map view parts.media.items) (map view parts.groups.items) (map view parts.entries.items)
+        (map view parts.notices.items)) }
+{
+    let given = hex::encode(alloc, &Sha256::digest(asked.list))?;
+    let new = hex::encode(alloc, &Sha256::digest(text))?;
+    consolidation_value(alloc, handle, asked, given, new, parts)
 }
 
 /// The text of the report with these media.
@@ -100,7 +137,14 @@ fn json_text(
     let grouped = group_entries(alloc, &given, &entries)?;
     let groups = group_values(alloc, grouped.groups.as_slice())?;
     let entries = entry_values(alloc, &grouped.entries)?;
-    let report = report_value(alloc, handle, asked, text, media, groups, entries)?;
+    let notices = notice_values(alloc, project.notices(), bound.notices())?;
+    let parts = Parts {
+        media,
+        groups,
+        entries,
+        notices,
+    };
+    let report = report_value(alloc, handle, asked, text, parts)?;
     let line = report.to_string(alloc)?;
     let mut json = line.into_bytes();
     json.push(b'\n')?;

@@ -9,6 +9,13 @@ returns g c =
     let C = g.O.Console.contents in
     let F = g.O.Console.failures in
     let passed = c.put_all_passed.ensures in (
-      record { media_error = option_map string_bytes c.media_error-media_error.result; passed = passed.0 },
-      prints_more C F c.put.ensures (prints_more C F c.put_text.ensures (prints_more C F c.put-2.ensures passed.1)),
+      record {
+        media_error = option_map string_bytes c.media_error-media_error.result;
+        room = c.room-room.result;
+        passed = passed.0;
+      },
+      prints_more C F c.put.ensures
+          (prints_more C F c.put_text.ensures
+          (prints_more C F c.put-2.ensures
+          (prints_more C F c.put_room.ensures (prints_more C F c.put-3.ensures passed.1)))),
     )

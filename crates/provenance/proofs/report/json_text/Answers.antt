@@ -5,7 +5,7 @@ use Rattle.list_terms.specs.Heard.{sounds_of}
 use Rattle.provenance.specs.declared.shared.Group.{Group}
 use Rattle.provenance.specs.Asked.{asked_of}
 use Rattle.provenance.specs.Groups.{IsGrouped, grouped_in, seen}
-use Rattle.provenance.specs.Report.{Told, entry_data, given_of, group_data, groups_told, medium_told, news_of, report_data, told_data}
+use Rattle.provenance.specs.Report.{Told, entry_data, given_of, group_data, groups_told, medium_told, news_of, notice_data, report_data, told_data}
 use Rattle.provenance.proofs.NoFloats.{text_of_report}
 use Rattle.provenance.proofs.report.json_text.Goals as goal
 
@@ -35,16 +35,23 @@ returns c =
     ≡ map entry_data (map (grouped_in (groups_told t) (given_of t)) (news_of t)) =
     c.in_ok-entries-2.ensures
     ∙ ap (map entry_data) (c.deref-3.ensures.value ∙ grouped.entries_are) in
+    let notices : map view c.in_ok-notices.notices.items ≡ map notice_data (t.project.notices ++ t.binding.notices) =
+    rw (c.notices.ensures, c.notices-2.ensures) at c.in_ok-notices.ensures in
     let same : view c.in_ok-report.report ≡ told_data t c.args.media.now =
     c.in_ok-report.ensures
     ∙ ap (λ (values : List Data). report_data t.handle t.asked t.text values
-    (map view c.in_ok-groups.groups.items) (map view c.in_ok-entries-2.entries.items)) media
+    (map view c.in_ok-groups.groups.items) (map view c.in_ok-entries-2.entries.items)
+    (map view c.in_ok-notices.notices.items)) media
     ∙ ap (λ (values : List Data). report_data t.handle t.asked t.text
     (map (medium_told t.project.sources t.binding.indexes (sounds_of t.binding) t.kept.homes) c.args.media.now)
-    values (map view c.in_ok-entries-2.entries.items)) groups
+    values (map view c.in_ok-entries-2.entries.items) (map view c.in_ok-notices.notices.items)) groups
     ∙ ap (λ (values : List Data). report_data t.handle t.asked t.text
     (map (medium_told t.project.sources t.binding.indexes (sounds_of t.binding) t.kept.homes) c.args.media.now)
-    (map group_data (groups_told t)) values) entries in
+    (map group_data (groups_told t)) values (map view c.in_ok-notices.notices.items)) entries
+    ∙ ap (λ (values : List Data). report_data t.handle t.asked t.text
+    (map (medium_told t.project.sources t.binding.indexes (sounds_of t.binding) t.kept.homes) c.args.media.now)
+    (map group_data (groups_told t)) (map entry_data (map (grouped_in (groups_told t) (given_of t)) (news_of t)))
+    values) notices in
     let line = text_of_report t c.args.media.now (view c.in_ok-report.report) (string_bytes c.in_ok-line.line) same
     c.in_ok-line.ensures.text in
     c.in_ok-push.ensures.items ∙ ap (λ (bytes : List ℕ). bytes ++ 10 ∷ [])
