@@ -2,6 +2,7 @@
 
 import os
 import random
+import resource
 import shutil
 import struct
 import subprocess
@@ -22,7 +23,9 @@ HEAD = 690
 
 
 class Cost(NamedTuple):
+    """Seconds by the clock and of processors, and the peak of memory."""
     seconds: float
+    processor: float
     kilobytes: int
 
 
@@ -65,16 +68,18 @@ class Bench(NamedTuple):
         places = [text, self.media()] if command == "check" else [text, self.media(), self.out()]
         return [self.program, command, *places, *options]
 
-    def costs_of(self, jobs: dict) -> dict:
+    def costs_of(self, jobs: dict, most_runs: int = MOST_RUNS, long_enough: float = LONG_ENOUGH) -> dict:
         """The best cost of each job, by its name: they take turns, so that all meet the same machine. A job that has
         taken long enough isn't run again."""
         costs = {name: [] for name in jobs}
-        for _ in range(MOST_RUNS):
+        for _ in range(most_runs):
             for name, job in jobs.items():
-                if sum(cost.seconds for cost in costs[name]) < LONG_ENOUGH:
+                if sum(cost.seconds for cost in costs[name]) < long_enough:
                     costs[name].append(self.cost_of(job))
         return {
-            name: Cost(min(cost.seconds for cost in each), max(cost.kilobytes for cost in each))
+            name: Cost(
+                min(cost.seconds for cost in each), min(cost.processor for cost in each),
+                max(cost.kilobytes for cost in each))
             for name, each in costs.items()
         }
 
@@ -83,16 +88,19 @@ class Bench(NamedTuple):
         self.empty_out()
         os.sync()
         peak = self.folder / "peak"
+        used = resource.getrusage(resource.RUSAGE_CHILDREN)
         begin = time.perf_counter()
         done = subprocess.run(
             ["time", "-q", "-f", "%M", "-o", peak, *job.words], stdout=subprocess.DEVNULL, stderr=subprocess.PIPE)
         seconds = time.perf_counter() - begin
+        after = resource.getrusage(resource.RUSAGE_CHILDREN)
+        processor = after.ru_utime - used.ru_utime + after.ru_stime - used.ru_stime
         if done.returncode != job.status:
             told = done.stderr.decode(errors="replace")[-400:]
             sys.exit(f"bench: {' '.join(map(str, job.words[:6]))} .. ends with status {done.returncode}: {told}")
         if job.look:
             job.look(self.out())
-        return Cost(seconds, int(peak.read_text()))
+        return Cost(seconds, processor, int(peak.read_text()))
 
 
 def bytes_read(words: list) -> int:

@@ -129,7 +129,7 @@ Arguments:
   <MEDIA>  The folder of the list's WAVE files
 
 Options:
-      --all     List every fault of a refused list
+      --all     List all further faults of the first one's kind
       --search  Look for missing media by name in the folders below
       --report  Print all that is found as JSON
   -h, --help    Print help
@@ -147,7 +147,7 @@ Arguments:
   <OUT>    The folder to write to: an existing, empty one
 
 Options:
-      --all         List every fault of a refused list
+      --all         List all further faults of the first one's kind
       --search      Look for missing media by name in the folders below
       --handle <N>  Frames kept on each side of what plays [default: 48000]
       --report      Write where the media come from, and checksums
@@ -169,7 +169,7 @@ Arguments:
   <MEDIA2>  The folder of the second list's WAVE files
 
 Options:
-      --all           List every fault of a refused list
+      --all           List all further faults of the first one's kind
       --search        Look for missing media by name in the folders below
       --report        Print all that is found as JSON
       --from <T>      The first sample, hh.mm.ss.ff/rrrr [default: the first in]

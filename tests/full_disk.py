@@ -63,8 +63,9 @@ def check_full(got, written: dict) -> None:
     name = refused_file(got.output)
     for said in (b": the disk is full: No space left on device (os error 28); ", b"; make room, and "):
         same(f"whether it says {said}", said in got.error, True)
-    if not name and "render.wav" in written:
-        same("whether the file of the job is named", b"; unfinished in the output: render.wav and " in got.error, True)
+    if not name:
+        told = rb"; unfinished in the output: render\.wav and " if "render.wav" in written else rb"; the file is: M\d{5}\.wav; "
+        same("whether the file of the job is named", bool(re.search(told, got.error)), True)
     if name != "consolidated.adl":
         same("whether a list is there", "consolidated.adl" in written, False)
 

@@ -103,7 +103,7 @@ def same_bytes(what: str, got: bytes, wanted: bytes) -> None:
 EXPLANATION = r"[^\n]+: [^\n]+; [^\n]+ \(adlcons explain %d\)\n"
 FURTHER = r"%s(?:: [^\n]+)?\n"
 SAVED = r"kept (\d+) of (\d+) bytes of samples; wrote (\d+) bytes in all\n"
-
+ROOM = r"consolidate would write at most (\d+) bytes of media\n(?:render would write (\d+) bytes\n)?"
 
 NOTICE = r"notice %d: [^\n]+ \(adlcons explain notice %d\)\n"
 PASSED_OVER = r"(?:not honoured at line \d+: [^\n]+\n){0,20}(?:and \d+ more lines with what isn't honoured\n)?"
@@ -119,15 +119,17 @@ def same_outcome(
         got: Outcome, status: int, line: str, notices: tuple = (), further: tuple = (), clipped: str = "",
         room: str = "") -> None:
     """Notices and one line on standard output. On standard error one line that explains the refusal, with one for each
-    further fault, and of a full disk what the output takes; or one that tells what a consolidation saved, one for each kind of notice, what isn't honoured, and
-    what of a rendering is clipped."""
+    further fault, and of a full disk what the output takes; or one that says what a consolidation saved, one for each
+    kind of notice, what isn't honoured, what of a rendering is clipped, and of a check how much the outputs would take."""
     same("standard output", got.output.decode(), "".join(f"{each}\n" for each in (*notices, line)))
     if status == 1:
         told = "".join(FURTHER % re.escape(each) for each in further)
         same_shape(f"the explanation of {line}", got.error, EXPLANATION % int(line.split()[1]) + told + room)
     else:
         saved = SAVED if line.startswith("written") else ""
-        same_shape("standard error", got.error, saved + meanings_of(notices) + PASSED_OVER + re.escape(clipped))
+        most = ROOM if line.startswith("accepted") else ""
+        wanted = saved + meanings_of(notices) + PASSED_OVER + re.escape(clipped) + most
+        same_shape("standard error", got.error, wanted)
     same("the status", got.status, status)
 
 

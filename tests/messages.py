@@ -181,8 +181,9 @@ def current_folder(scene: Scene) -> None:
         same_outcome(got._replace(error=got.error[:-len(told)]), 1, "refused 21 at index 1 file A.wav")
     (scene.folder / "A.wav").write_bytes(wave())
     accepted = "accepted 1 entries 1 indexes"
+    room = b"consolidate would write at most 1390 bytes of media\nrender would write 747 bytes\n"
     for media, said in (("", told), (".", b"")):
-        same("a check", scene.run("check", LIST, media), Outcome(0, f"{accepted}\n".encode(), said))
+        same("a check", scene.run("check", LIST, media), Outcome(0, f"{accepted}\n".encode(), room + said))
     same("both of a comparison", scene.run("compare", LIST, "", LIST, ""), Outcome(0, b"same 4 frames 1 channels\n", 2 * told))
 
 

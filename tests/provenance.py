@@ -14,7 +14,7 @@ from harness import LIST, MEDIA, OUT, Mismatch, Scene, Skipped, Suite, same, sam
 from model.commands import medium_name
 from model.groups import runs_of, standard_groups
 from random_projects import Dice
-from reports import SCHEMA, measured, within_memory
+from reports import FORM, SCHEMA, measured, notice_told, within_memory
 from tables import EMPTY_LIST, FIRST_LIST, wave
 
 REPORT = "consolidated.json"
@@ -110,7 +110,8 @@ def wanted_report(text: bytes, media: dict, handle: int, version: str, files: di
                               digest(media[run.name]) if digests else None)
                   for number, run in enumerate(runs, 1)],
         "entries": new, "groups": groups, "handle": handle, "given_list_sha256": digest(text),
-        "new_list_sha256": digest(files[NEW_LIST]), "program": "adlcons", "version": version,
+        "new_list_sha256": digest(files[NEW_LIST]), "program": "adlcons", "version": version, "form": FORM,
+        "notices": [notice_told(notice) for notice in (*project.notices, *bound.notices)],
     }
 
 

@@ -2,6 +2,7 @@
 
 import json
 import os
+import re
 import subprocess
 import sys
 import tempfile
@@ -11,7 +12,7 @@ from urllib.parse import quote
 
 import model
 from examples import EXAMPLES, made_media, text_of
-from harness import LIST, MEDIA, Mismatch, Scene, Skipped, Suite, same
+from harness import LIST, MEDIA, ROOM, Mismatch, Scene, Skipped, Suite, same, words_of
 from model.binding import bind, faults_of_entries, faults_of_files
 from model.refusal import Refused
 from tables import FIRST_LIST, bext_chunk, data_chunk, format_chunk, riff_file, wave
@@ -21,7 +22,7 @@ PARTS = ("line", "entry", "index", "file")
 MEMBERS = (
     "after", "before", "bits", "cause", "channels", "column", "file", "frames", "index", "meaning", "near", "rate",
     "remedy", "tag", "text", "word")
-FORM = 5
+FORM = 6
 MOST_EXPLAINED = 1000
 MOST_MEMORY = 200_000_000
 
@@ -96,10 +97,31 @@ def unexplained(report: dict) -> dict:
     return {**report, "faults": faults}
 
 
+def written(scene: Scene, command: str) -> int:
+    """How many bytes a command writes over the scene's list, the new list aside."""
+    same("the status", scene.run(*words_of(command)).status, 0)
+    files = scene.files()
+    scene.empty_out()
+    return sum(len(content) for name, content in files.items() if name != "consolidated.adl")
+
+
+def with_room(scene: Scene, report: dict) -> dict:
+    """A report without the room of the outputs, which is at least what they take, and of a rendering just that; standard
+    error says the same."""
+    room = report.pop("most_bytes")
+    said = re.search(ROOM, scene.run("check", LIST, MEDIA).error.decode())
+    same("what standard error says", said.groups(), tuple(room[name] and f"{room[name]}" for name in ("media", "rendering")))
+    if written(scene, "consolidate") > room["media"]:
+        raise Mismatch(f"the media take more than {room}")
+    if report["entry_count"] > 0:
+        same("what a rendering takes", room["rendering"], written(scene, "render"))
+    return report
+
+
 def accepted(text: bytes, media: dict):
     def body(scene: Scene) -> None:
         scene.put(text, media)
-        same("the report", reported(scene, 0), accepted_report(text, media))
+        same("the report", with_room(scene, reported(scene, 0)), accepted_report(text, media))
     return body
 
 
@@ -224,6 +246,7 @@ def base_past_the_day(scene: Scene) -> None:
     text = model.list_text([model.source_line(1, "A.wav", b"_")], [entry(1, 1, 0, 0)])
     scene.put(text, media)
     report = reported(scene, 0)
+    report.pop("most_bytes")
     same("the report", report, accepted_report(text, media))
     same("the base", report["indexes"][0]["base"], first)
 
@@ -284,10 +307,10 @@ def long_lists() -> dict:
         return FIRST_LIST[:place] + line * count + FIRST_LIST[place:]
 
     return {
-        "notices": (with_lines(sources, b"x\n", 5_000_000), 0, 5_000_002),
+        "notices": (with_lines(sources, b"x\n", 5_000_000), 0, 5_000_003),
         "brackets": (with_lines(entries, b"(\n", 5_000_000), 1, 5_000_001 + MOST_EXPLAINED),
         "gains": (with_lines(entries, b"(Gain) 1\n", 1_100_000), 1, 1_100_001 + MOST_EXPLAINED),
-        "mutes": (with_lines(tracks, b"<TRACKLIST>\n" + MUTE * 65_000 + b"</TRACKLIST>\n", 1), 0, 65_002),
+        "mutes": (with_lines(tracks, b"<TRACKLIST>\n" + MUTE * 65_000 + b"</TRACKLIST>\n", 1), 0, 65_003),
     }
 
 

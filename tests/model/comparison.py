@@ -98,14 +98,14 @@ def report(first: Side, second: Side, options: Options = STANDARD) -> dict:
     found = first_difference(one, other, part)
     if found is None:
         return {
-            "same": True, "form": 5, "frames": part.frames(), "channels": part.channels, "first": side_reported(one),
+            "same": True, "form": 6, "frames": part.frames(), "channels": part.channels, "first": side_reported(one),
             "second": side_reported(other)}
     sides = [
         side_reported(side, entries=sounding(side[0], found), sum=total)
         for side, total in zip((one, other), found.sums)]
     time = time_text(found.time, one[0].separators, one[0].rate).decode()
     return {
-        "same": False, "form": 5, "difference": {"at": found.time, "channel": found.channel, "time": time},
+        "same": False, "form": 6, "difference": {"at": found.time, "channel": found.channel, "time": time},
         "differing": {"samples": list(found.counts), "complete": is_whole(found, part)},
         "same_before": found.time - part.begin, "first": sides[0], "second": sides[1]}
 

@@ -1,16 +1,15 @@
 // What surrounds the samples of a rendering that is gone on with: its head, and the byte that pads it.
 use crate::asides::listed;
-use adlmodel::{Event, Project};
+use answers::rendering_info;
 use commandline::{Chosen, Request};
 use console::Console;
 use consolidate::{MARKS, SOUND};
 use explanations::PrintedName;
-use sampletime::{Rate, SampleTime, parse_time};
 use std::alloc::Global;
 use std::fs;
 use std::fs::{File, Files, OpenFile};
 use std::os::unix::fs::FileExt;
-use wavwrite::{Bext, SoundInfo, data_length, fits, header};
+use wavwrite::{data_length, fits, header};
 
 /// How many bytes marks have before that of the first block.
 const FRONT: u64 = 44;
@@ -47,7 +46,7 @@ where
     R::File: FileExt,
 {
     let project = adlread::read(rt.alloc(), list).ok()?;
-    let info = info_of(rt.alloc(), &project, chosen)?;
+    let info = rendering_info(rt.alloc(), &project, chosen)?;
     if !fits(&info) || !has_marks(rt, out) {
         return None;
     }
@@ -65,61 +64,6 @@ where
         return Some(end);
     }
     None
-}
-
-/// What the head of the rendering tells.
-pub fn info_of(alloc: Global, project: &Project, chosen: Chosen<'_>) -> Option<SoundInfo> {
-    let events = project.events();
-    let from = time_or(chosen.from, project.rate(), first_in(events))?;
-    let to = time_or(chosen.to, project.rate(), last_out(events))?;
-    let frames = to.get().checked_sub(from.get())?;
-    let channels = match chosen.channels {
-        Some(channels) => channels,
-        None => last_channel(events),
-    };
-    let bext = Bext {
-        text: [0; 338],
-        time_reference: from.get(),
-    };
-    SoundInfo::new(channels, chosen.depth, frames, bext, Vec::new(alloc))
-}
-
-/// The time that a text spells, or this one where there is no text.
-fn time_or(text: Option<&str>, rate: Rate, otherwise: SampleTime) -> Option<SampleTime> {
-    match text {
-        None => Some(otherwise),
-        Some(text) => Some(parse_time(text.as_bytes(), rate)?.0),
-    }
-}
-
-/// The time at which the first entry begins; 0 without an entry.
-fn first_in(events: &[Event]) -> SampleTime {
-    let Some((first, others)) = events.split_first() else {
-        return SampleTime::ZERO;
-    };
-    let mut least = first.dest_in;
-    for event in others {
-        least = least.min(event.dest_in);
-    }
-    least
-}
-
-/// The time at which the last entry has ended; 0 without an entry.
-fn last_out(events: &[Event]) -> SampleTime {
-    let mut greatest = SampleTime::ZERO;
-    for event in events {
-        greatest = greatest.max(event.dest_out);
-    }
-    greatest
-}
-
-/// The last channel of an entry, at least 1.
-fn last_channel(events: &[Event]) -> u8 {
-    let mut greatest = 1;
-    for event in events {
-        greatest = greatest.max(event.dest.last);
-    }
-    greatest
 }
 
 /// Whether the marks in this folder are started.

@@ -4,13 +4,13 @@ ghost use Rattle.comparison.specs.Range.{HasChannels};
 use crate::asides::Asides;
 use crate::difference::BothLists;
 use crate::meter::Meter;
+use crate::room::last_out;
 use comparison::{DifferingCounts, differing_in};
 use console::Console;
 use consolidate::Selection;
 use explanations::DifferingSamples;
 use opening::open_project;
 use sampletime::SampleTime;
-use sound_terms::Event;
 use std::alloc::Global;
 
 /// So many samples from the first difference on are looked at, at most: an hour.
@@ -107,13 +107,4 @@ pub fn count_from<M: Meter, A: Asides, B: Asides>(
         counts: counts.ok()?,
         is_part: end.get() > at.get().saturating_add(MOST_SAMPLES),
     })
-}
-
-/// The time at which the last of these entries ends.
-fn last_out(events: &[Event]) -> SampleTime {
-    let mut last = SampleTime::ZERO;
-    for event in events {
-        last = last.max(event.dest_out);
-    }
-    last
 }

@@ -12,6 +12,7 @@ use crate::chosen::part_of;
 use crate::refusal::refuse_on;
 use crate::report::tell_changed;
 use crate::requests::refuse_time;
+use crate::room::{report_room, room_of};
 use adlmodel::{Project, place_of};
 use adlread::{rate_of, read};
 use commandline::Drawn;
@@ -25,7 +26,7 @@ use sourceindex::bind;
 use std::alloc::{AllocError, Global};
 use std::collections::BTreeMap;
 
-/// Draws what the words choose of the list of this path with handles of so many frames, as SVG on `out`, and answers 0;
+/// Draws what the words choose of the list of this path with handles of so many frames, as SVG on `out`, and answers 0, with how much the outputs of the list would take on `err`;
 /// or draws what can be drawn of a list that is refused at its files or entries, prints on `err` why it is refused, and
 /// answers 1. A list of which nothing lies between the times that are chosen is refused too. Where a time can't be read
 /// the answer is 2, and that is told on `err`.
@@ -75,6 +76,7 @@ fn draw<S: Shelf + Reasons, O: Console, E: Console, A: Asides>(
         Ok(checked) => match Picture::of(alloc, &checked, name, handle) {
             Ok(picture) => {
                 out.print(picture.of_part(part));
+                report_room(room_of(alloc, &checked, handle), err);
                 return 0;
             }
             Err(fault) => Fault::Runs(fault),

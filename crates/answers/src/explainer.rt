@@ -1,12 +1,14 @@
 // What a report says of each fault beside its number and its place, and of the list.
 use crate::asides::Asides;
+use crate::room::{DEFAULT_HANDLE, room_of};
 use crate::second_look::SecondLook;
-use checkreport::{Explains, Member, PassedLine, Value};
+use checkreport::{Explains, Member, PassedLine, Room, Value};
 use explanations::{
     Explanation, FoundFormat, FurtherExplanation, LineAtFault, ListLines, Look, Outside,
     PassedLines, PlayedFile, Shown,
 };
 use opening::Fault;
+use projectcheck::Checked;
 use std::alloc::Global;
 use std::fmt::Display;
 use std::str;
@@ -63,6 +65,10 @@ impl<A: Asides> Explains for Explainer<'_, A> {
 
     fn media_error(&mut self, alloc: Global) -> Option<String> {
         self.asides.media_error(alloc)
+    }
+
+    fn room(&mut self, alloc: Global, checked: &Checked) -> Room {
+        room_of(alloc, checked, DEFAULT_HANDLE)
     }
 }
 

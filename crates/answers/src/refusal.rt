@@ -21,6 +21,7 @@ use consolidate::{
 };
 use explanations::{Explanation, Look};
 use list_terms::Location;
+use shelf::Reasons;
 use std::alloc::Global;
 
 /// Prints the line of a refusal of this list on `out` and its explanation on `err`, with what a second look at the media
@@ -72,6 +73,15 @@ fn tell_explanation<E: Console, A: Asides>(
 ) {
     let look = look_at(alloc, list, fault, asides);
     err.print_line(explanation.with_look(&look));
+}
+
+/// The file at which a store failed last, where a job was given up after failures; nothing where no memory is left for its
+/// name.
+pub fn given_up_at<S: Reasons>(alloc: Global, fault: &Fault, store: &S) -> Option<String> {
+    match fault {
+        Fault::GivenUp { .. } => String::from_str(alloc, store.failed_file()?).ok(),
+        _ => None,
+    }
 }
 
 /// What a second look at the media finds about a fault of a command over this list.

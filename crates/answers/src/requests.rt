@@ -30,17 +30,18 @@ use crate::check_report::answer_report;
 use crate::chosen::{BadTime, options_of, tell_bad_time};
 use crate::drawing::answer_picture;
 use crate::meter::Meter;
-use crate::refusal::refuse;
+use crate::refusal::{given_up_at, refuse};
 use crate::report::{tell_changed, tell_clipping, tell_done, tell_meanings};
+use crate::room::{DEFAULT_HANDLE, report_room, room_of};
 use adlread::rate_of;
 use clap::Error;
 use clap::error::ErrorKind;
 use commandline::{MediaReport, Request, VERSION};
 use console::{Console, Counts};
 use consolidate::{
-    Fault, JobLength, RenderChoice, RenderReport, RenderedSound, ReportChoice, ResumedSound,
-    check_project, consolidate_watched, render_reported, render_watched, resume_reported,
-    resume_watched,
+    AcceptedList, Fault, JobLength, RenderChoice, RenderReport, RenderedSound, ReportChoice,
+    ResumedSound, check_opened, consolidate_watched, render_reported, render_watched,
+    resume_reported, resume_watched,
 };
 use devices::Watch;
 use explanations::{Explanation, PrintedLines, Rendering, Saved, meanings_of, notice_meanings_of};
@@ -194,8 +195,8 @@ pub fn answer_request<
     }
 }
 
-/// Checks the list, and prints what came of it. Behind a refusal its further faults are looked for, and printed on
-/// `err`.
+/// Checks the list, and prints what came of it; on `err`, how much its outputs would take. After a refusal its further
+/// faults are looked for, and printed on `err`.
 fn answer_check<S: Shelf + Reasons, O: Console, E: Console, A: Asides>(
     alloc: Global,
     list: &[u8],
@@ -208,10 +209,10 @@ fn answer_check<S: Shelf + Reasons, O: Console, E: Console, A: Asides>(
         accepted_lines O.Console out.old out.new result }
     ensures statuses { result ≤ 1 }
 {
-    let outcome = check_project(alloc, list, shelf);
+    let outcome = check_opened(alloc, list, shelf);
     tell_changed(alloc, shelf, err);
     match outcome {
-        Ok(accepted) => {
+        Ok(AcceptedList { accepted, checked }) => {
             let words = Counts {
                 before: "accepted ",
                 between: " entries ",
@@ -226,6 +227,7 @@ fn answer_check<S: Shelf + Reasons, O: Console, E: Console, A: Asides>(
                 u64::from(accepted.indexes),
             );
             tell_meanings(notices, list, err);
+            report_room(room_of(alloc, &checked, DEFAULT_HANDLE), err);
             DONE
         }
         Err(fault) => {
@@ -335,8 +337,9 @@ fn answer_render<
             DONE
         }
         Err(fault) => {
+            let failed = given_up_at(alloc, &fault, shelf);
             let explanation = Explanation::of(&fault, list, shelf.reason(), bench.reason());
-            let explanation = explanation.of_rendering();
+            let explanation = explanation.of_rendering().with_file(failed.as_deref());
             refuse(alloc, list, &fault, explanation, asides, out, err);
             REFUSED
         }
@@ -389,8 +392,9 @@ fn answer_resume<
             DONE
         }
         Err(fault) => {
+            let failed = given_up_at(alloc, &fault, shelf);
             let explanation = Explanation::of(&fault, list, shelf.reason(), bench.reason());
-            let explanation = explanation.of_rendering();
+            let explanation = explanation.of_rendering().with_file(failed.as_deref());
             refuse(alloc, list, &fault, explanation, asides, out, err);
             REFUSED
         }
@@ -463,7 +467,9 @@ fn answer_consolidate<
             DONE
         }
         Err(fault) => {
+            let failed = given_up_at(alloc, &fault, shelf).or(given_up_at(alloc, &fault, bench));
             let explanation = Explanation::of(&fault, list, shelf.reason(), bench.reason());
+            let explanation = explanation.with_file(failed.as_deref());
             refuse(alloc, list, &fault, explanation, asides, out, err);
             REFUSED
         }

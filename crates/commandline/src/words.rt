@@ -207,7 +207,7 @@ fn over_media<'a>(
     let command = with_place(alloc, command, "LIST", list)?;
     let media = "The folder of the list's WAVE files";
     let command = with_place(alloc, command, "MEDIA", media)?;
-    let all = "List every fault of a refused list";
+    let all = "List all further faults of the first one's kind";
     let command = with_flag(alloc, command, "all", all)?;
     let search = "Look for missing media by name in the folders below";
     with_flag(alloc, command, "search", search)

@@ -38,7 +38,7 @@ impl fmt::Display for ComparisonReport<'_> {
                 let notices = self.compared.first_notices.as_slice();
                 f.write_str(",\"first\":{")?;
                 fmt_side(&sounding(self.events, at, channel), notices, first, f)?;
-                f.write_str(",\"form\":5,\"same\":false,\"same_before\":")?;
+                f.write_str(",\"form\":6,\"same\":false,\"same_before\":")?;
                 self.fmt_same_before(at, f)?;
                 let notices = self.compared.second_notices.as_slice();
                 f.write_str(",\"second\":{")?;
@@ -66,7 +66,7 @@ impl ComparisonReport<'_> {
         write!(f, "{channels}")?;
         f.write_str(",\"first\":{")?;
         fmt_notices(self.compared.first_notices.as_slice(), f)?;
-        f.write_str("},\"form\":5,\"frames\":")?;
+        f.write_str("},\"form\":6,\"frames\":")?;
         write!(f, "{frames}")?;
         f.write_str(",\"same\":true,\"second\":{")?;
         fmt_notices(self.compared.second_notices.as_slice(), f)?;

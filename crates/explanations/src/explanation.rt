@@ -118,6 +118,17 @@ impl<'a> Explanation<'a> {
         }
     }
 
+    /// The same, with the file at which it came, where that is known.
+    pub fn with_file(self, file: Option<&'a str>) -> Explanation<'a> {
+        Explanation {
+            findings: Findings {
+                file: file.or(self.findings.file),
+                ..self.findings
+            },
+            ..self
+        }
+    }
+
     /// The same, with what else was found of the folder of the output.
     pub fn with_folder(self, folder: FoundFolder) -> Explanation<'a> {
         Explanation {

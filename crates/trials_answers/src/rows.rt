@@ -172,7 +172,9 @@ fn fades_as_long_as_their_entry_are_accepted(rt: HostRuntime) -> Result<(), Fail
         shelf,
         &mut bench,
     );
-    require(&rt, &answered, 0, "accepted 1 entries 1 indexes\n", "")
+    let room =
+        "consolidate would write at most 1406 bytes of media\nrender would write 765 bytes\n";
+    require(&rt, &answered, 0, "accepted 1 entries 1 indexes\n", room)
 }
 
 #[test]

@@ -100,7 +100,8 @@ const ASKED: ReportChoice<'static> = ReportChoice {
 };
 
 /// The report, in which the SHA-256 of the media, of their source and of both lists are those of another program.
-const REPORT: &[u8] = b"{\"entries\":[{\"entry\":1,\"group\":0},{\"entry\":2,\"group\":0}],\
+const REPORT: &[u8] =
+    b"{\"entries\":[{\"entry\":1,\"group\":0},{\"entry\":2,\"group\":0}],\"form\":6,\
 \"given_list_sha256\":\"b58928c762d83f96f5d166d1012337a63e022741b949beca6d2555c0955e3f1a\",\
 \"groups\":[{\"given\":[1],\"more\":0}],\"handle\":0,\
 \"media\":[{\"base\":0,\"channels\":2,\"depth\":16,\"file\":\"M00001.wav\",\"frames\":4,\
@@ -112,7 +113,7 @@ const REPORT: &[u8] = b"{\"entries\":[{\"entry\":1,\"group\":0},{\"entry\":2,\"g
 \"source\":{\"file\":\"A.wav\",\"first\":8,\"identifier\":\"_\",\"index\":1,\
 \"sha256\":\"65ff694fd8eb4f15e72c67a4da08f8a5f451343afc2fad0ac92a9f20cdf7a0a8\",\"url\":\"URL:file://localhost/A.wav\"}}],\
 \"new_list_sha256\":\"4691bb81a5d74d115e04cb7c0977f93e64725e1ee50e4cec69e7d525ddca8832\",\
-\"program\":\"trials\",\"version\":\"1.2\"}
+\"notices\":[],\"program\":\"trials\",\"version\":\"1.2\"}
 ";
 
 /// The checksums of all that, as `sha256sum` prints them.
@@ -120,7 +121,7 @@ const SUMS: &[u8] = b"\
 c375e3651a9458f0dc99102df3b6a7d54a9b733b3ace72081d2010a3b508a958  M00001.wav
 8e81d770610a480fd7fd16e43074903a8adff6822f43a41b24f881b00da2d3ec  M00002.wav
 4691bb81a5d74d115e04cb7c0977f93e64725e1ee50e4cec69e7d525ddca8832  consolidated.adl
-571c2ad114829ef53a289167ba8ffc9b7f085e961fbe9ecda47f135c2b3a9eed  consolidated.json
+ad7cd4dc63045e1eb48187baa070b7a40c575e1ff72f03bdd5f6c13f4277c95c  consolidated.json
 ";
 
 /// All files that these works write.

@@ -1,0 +1,165 @@
+// How many bytes the outputs of a list take.
+use adlmodel::{Event, Project};
+use checkreport::Room;
+use commandline::Chosen;
+use console::Console;
+use interval::from_checked;
+use job_terms::Order;
+use mediaset::Runs;
+use projectcheck::Checked;
+use sampletime::{Rate, SampleTime, parse_time};
+use sound_terms::Depth;
+use sourceindex::Bound;
+use std::alloc::Global;
+use wavread::Sound;
+use wavwrite::{Bext, SoundInfo, data_length, fits, header};
+
+/// The handle of a consolidation that asks for none, in frames.
+pub const DEFAULT_HANDLE: u64 = 48_000;
+
+/// How many bytes a medium has before its samples, its CodingHistory aside, and the byte that may pad that.
+const HEAD: u64 = 691;
+
+/// How many bytes marks have before those of the blocks, and how many frames a block has.
+const FRONT: u64 = 44;
+
+const BLOCK: u64 = 4096;
+
+/// How much the media of an accepted list with this handle take at most, and its rendering as a whole.
+pub fn room_of(alloc: Global, checked: &Checked, handle: u64) -> Room {
+    let whole = Chosen {
+        from: None,
+        to: None,
+        channels: None,
+        depth: Depth::TwentyFour,
+        order: Order::ByTime,
+        report: false,
+    };
+    Room {
+        media: media_size(alloc, checked, handle),
+        rendering: rendering_size(alloc, checked.project(), whole),
+    }
+}
+
+/// Prints how much that is, as far as it is known.
+pub fn report_room<E: Console>(room: Room, err: &mut E) {
+    if let Some(media) = room.media {
+        err.print_line(format_args!("consolidate would write at most {media} bytes of media"));
+    }
+    if let Some(rendering) = room.rendering {
+        err.print_line(format_args!("render would write {rendering} bytes"));
+    }
+}
+
+/// How many bytes the rendering of a list that was chosen so takes, with its marks.
+pub fn rendering_size(alloc: Global, project: &Project, chosen: Chosen<'_>) -> Option<u64> {
+    let info = rendering_info(alloc, project, chosen)?;
+    if info.frames() == 0 || !fits(&info) {
+        return None;
+    }
+    let head = header(alloc, &info).ok()?;
+    let samples = data_length(&info);
+    let sound = (head.len() as u64)
+        .saturating_add(samples)
+        .saturating_add(samples % 2);
+    let marks = FRONT.saturating_add(info.frames().saturating_add(BLOCK - 1) / BLOCK);
+    Some(sound.saturating_add(marks))
+}
+
+/// How many bytes the media of a list with this handle take at most: those that are kept where nothing is silent, and for
+/// each entry the head of one more, since an entry that is silent between its fades may be in two.
+pub fn media_size(alloc: Global, checked: &Checked, handle: u64) -> Option<u64> {
+    let bound = checked.bound();
+    let intervals = from_checked(alloc, checked).ok()?;
+    let homes = bound.homes(alloc).ok()?;
+    let runs = Runs::kept(alloc, &intervals, homes, handle).ok()?;
+    let mut size: u64 = 0;
+    for run in runs.as_slice() {
+        let sound = bound.sounds().get(run.file as usize)?;
+        size = size.saturating_add(medium_size(sound, run.length));
+    }
+    for event in checked.project().events() {
+        size = size.saturating_add(head_size(bound, event.index));
+    }
+    Some(size)
+}
+
+/// How many bytes a medium of so many frames of this file takes at most.
+fn medium_size(sound: &Sound, frames: u64) -> u64 {
+    let bits = u64::from(sound.channels()).saturating_mul(u64::from(sound.depth().bits()));
+    let samples = frames.saturating_mul(bits / 8);
+    medium_head(sound)
+        .saturating_add(samples)
+        .saturating_add(samples % 2)
+}
+
+/// How many bytes it takes before its samples.
+fn medium_head(sound: &Sound) -> u64 {
+    HEAD.saturating_add(sound.history().len() as u64)
+}
+
+/// How many bytes a medium of the file of this index takes before its samples; none where there is no such index.
+fn head_size(bound: &Bound, index: u32) -> u64 {
+    let Some(index) = bound.index(index) else {
+        return 0;
+    };
+    match bound.sounds().get(index.file as usize) {
+        Some(sound) => medium_head(sound),
+        None => 0,
+    }
+}
+
+/// What the head of a rendering that was chosen so tells; nothing where a time can't be read.
+pub fn rendering_info(alloc: Global, project: &Project, chosen: Chosen<'_>) -> Option<SoundInfo> {
+    let events = project.events();
+    let from = time_or(chosen.from, project.rate(), first_in(events))?;
+    let to = time_or(chosen.to, project.rate(), last_out(events))?;
+    let frames = to.get().checked_sub(from.get())?;
+    let channels = match chosen.channels {
+        Some(channels) => channels,
+        None => last_channel(events),
+    };
+    let bext = Bext {
+        text: [0; 338],
+        time_reference: from.get(),
+    };
+    SoundInfo::new(channels, chosen.depth, frames, bext, Vec::new(alloc))
+}
+
+/// The time that a text spells, or this one where there is no text.
+fn time_or(text: Option<&str>, rate: Rate, otherwise: SampleTime) -> Option<SampleTime> {
+    match text {
+        None => Some(otherwise),
+        Some(text) => Some(parse_time(text.as_bytes(), rate)?.0),
+    }
+}
+
+/// The time at which the first entry begins; 0 without an entry.
+fn first_in(events: &[Event]) -> SampleTime {
+    let Some((first, others)) = events.split_first() else {
+        return SampleTime::ZERO;
+    };
+    let mut least = first.dest_in;
+    for event in others {
+        least = least.min(event.dest_in);
+    }
+    least
+}
+
+/// The time at which the last entry has ended; 0 without an entry.
+pub fn last_out(events: &[Event]) -> SampleTime {
+    let mut greatest = SampleTime::ZERO;
+    for event in events {
+        greatest = greatest.max(event.dest_out);
+    }
+    greatest
+}
+
+/// The last channel of an entry, at least 1.
+fn last_channel(events: &[Event]) -> u8 {
+    let mut greatest = 1;
+    for event in events {
+        greatest = greatest.max(event.dest.last);
+    }
+    greatest
+}
