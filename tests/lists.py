@@ -201,6 +201,16 @@ def system(line: bytes) -> bytes:
     return FIRST_LIST.replace(b"<ADL>\n", b"<ADL>\n<SYSTEM>\n%s\n</SYSTEM>\n" % line)
 
 
+def further_in_front(scene: Scene) -> None:
+    """A line that can't be cut, before the rate: the list is read at 25, and what is told behind its fault at 30. So a
+    time that 30 hasn't is told although it stands in front."""
+    entry = ENTRY.replace(b"01.00.00.00/0004", b"01.00.00.00/1700")
+    sequence = (line.replace(b"25", b"30") for line in LINES[1:5])
+    text = b"\n".join((LINES[0], LINES[8], entry, b'(Rem) "', LINES[10], *sequence, *LINES[5:8], LINES[11]))
+    same("what the model tells", model.answer("check", text, MEDIA).further, ("also 06 at line 3 entry 1",))
+    expect_refused(scene, text, MEDIA, "refused 02 at line 4 entry 1")
+
+
 def cut_short(scene: Scene) -> None:
     """A list that ends early is 3 at its last line, wherever it ends between two lines."""
     lines = FIRST_LIST.splitlines(keepends=True)
@@ -421,6 +431,7 @@ def run(suite: Suite) -> None:
     for name, url in URLS.items():
         suite.case(f"url accepted: {name}", accepted(FIRST_LIST.replace(b"URL:file://localhost/A.wav", url)))
     suite.case("a second reader", second_reader_differs)
+    suite.case("a further fault in front of the first", further_in_front)
     suite.case("a list that is cut short", cut_short)
     suite.case("a list of each length", each_prefix)
     suite.case("what has to be there", needed_lines)

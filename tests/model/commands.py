@@ -214,19 +214,18 @@ def line_at_fault(refusal: Refused) -> Optional[int]:
 
 
 def further_lines(text: bytes, first: Refused) -> list:
-    """The faults of the list without the lines at fault before, as long as these are faults of lines alone: 21. Behind
-    the first one times have the rate of the list without its lines at fault."""
+    """The faults of the list without the lines at fault before, as long as these are faults of lines alone: 21. Times
+    have the rate of the list without its lines at fault."""
     rate = rate_beside_faults(lines_of(text))
-    faults, line, last = [first], line_at_fault(first), 0
+    faults, line = [first], line_at_fault(first)
     while len(faults) <= MOST_FURTHER + 1 and line is not None:
-        text, last = without_line(text, line), max(line, last)
+        text = without_line(text, line)
         try:
             read_list(text, rate)
             break
         except Refused as refusal:
             line = line_at_fault(refusal)
-            if line is None or line > last:
-                faults.append(refusal)
+            faults.append(refusal)
     return faults[1:]
 
 

@@ -4,6 +4,8 @@ pub mod EventLines
 pub mod FieldLaws
 pub mod Finished
 pub mod Fits
+pub mod FurtherFaults
+pub mod FurtherLaws
 pub mod HeaderSoFar
 pub mod KeptLines
 pub mod LineLaws

@@ -171,6 +171,11 @@ reached tokens = elim tokens.last [ None ↦ first_span tokens.at tokens.rest.no
 abbrev pub next_from : Tokens → Span
 next_from tokens = next_span (line_length tokens) tokens.rest.now
 
+-- the next token was asked for, in a line that is as long as before
+pub record StepsOver (old new : Tokens) : Type 0 where
+  pub span : reached new ≡ next_from old
+  pub long : line_length new ≡ line_length old
+
 abbrev pub end_from : (TokenText → Bool) → Tokens → Span
 end_from test tokens = end_span test (line_length tokens) (length tokens.rest.now) tokens.rest.now
 

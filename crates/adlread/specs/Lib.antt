@@ -5,6 +5,9 @@ pub mod Fault
 pub mod FaultSpans
 pub mod FaultSpanVectors
 pub mod Flags
+pub mod Further
+pub mod FurtherLines
+pub mod FurtherVectors
 pub mod HeaderSoFar
 pub mod LineGrammar
 pub mod Outline

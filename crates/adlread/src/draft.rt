@@ -1,5 +1,5 @@
 // What was read of a list so far.
-ghost use Rattle.std.specs.Prelude.{◌≡◌, ◌&&◌, ℕ, Err, IfOk, IfSome, IsTrue, MatchOption, None, Ok, is_some, length, option_map};
+ghost use Rattle.std.specs.Prelude.{◌≡◌, ◌&&◌, ℕ, Err, IfOk, IfSome, IsTrue, MatchOption, None, Ok, OnErr, is_some, length, option_map};
 ghost use Rattle.sampletime.specs.FrameRate.{frames_per_second};
 ghost use Rattle.list_terms.specs.Text as text;
 ghost use Rattle.list_terms.specs.Text.{nothing_read};
@@ -78,6 +78,7 @@ impl<'a> Draft<'a> {
         rate: Rate,
     ) -> Result<(), AdlFault>
         ensures exact { Reads (λ _. context_of self.new) result (text.with_line (frames_per_second rate) (context_of self.old) number line.now) }
+        ensures stays { OnErr result (context_of self.new ≡ context_of self.old) }
         ensures span { IsAt (fault_span (frames_per_second rate) (context_of self.old) line.now) result }
     {
         match self.stage {
@@ -99,6 +100,7 @@ impl<'a> Draft<'a> {
     #[tactic(auto, unfolding(list_terms::specs::Text::before_list))]
     fn before_list(&mut self, line: &[u8], number: u64) -> Result<(), AdlFault>
         ensures exact { Reads (λ _. context_of self.new) result (text.before_list (context_of self.old) number (trimmed line.now)) }
+        ensures stays { OnErr result (context_of self.new ≡ context_of self.old) }
         ensures span { IsAt (first_of_line line.now) result }
     {
         let tag = trimmed(line);
@@ -116,6 +118,7 @@ impl<'a> Draft<'a> {
     #[tactic(auto, unfolding(list_terms::specs::Text::outside))]
     fn outside(&mut self, alloc: Global, line: &'a [u8], number: u64) -> Result<(), AdlFault>
         ensures exact { Reads (λ _. context_of self.new) result (text.outside (context_of self.old) number (trimmed line.now)) }
+        ensures stays { OnErr result (context_of self.new ≡ context_of self.old) }
         ensures span { IsAt (first_of_line line.now) result }
     {
         let tag = trimmed(line);
@@ -142,6 +145,7 @@ impl<'a> Draft<'a> {
         number: u64,
     ) -> Result<(), AdlFault>
         ensures exact { Reads (λ _. context_of self.new) result (text.opened (context_of self.old) number name.now) }
+        ensures stays { OnErr result (context_of self.new ≡ context_of self.old) }
         ensures span { IsAt (first_of_line line.now) result }
     {
         let section = section_of(name);
@@ -175,6 +179,7 @@ impl<'a> Draft<'a> {
     fn begin(&mut self, alloc: Global, section: Section, number: u64) -> Result<(), AdlFault>
         ensures exact { Reads (λ _. context_of self.new) result
             (Ok (text.with_section (context_of self.old) number section)) }
+        ensures stays { OnErr result (context_of self.new ≡ context_of self.old) }
         ensures span { (span : Span) → IsAt span result }
     {
         match section {
@@ -193,6 +198,7 @@ impl<'a> Draft<'a> {
     /// Adds a notice of this kind at a line.
     fn note(&mut self, kind: u8, line: u64) -> Result<(), AdlFault>
         ensures exact { Reads (λ _. context_of self.new) result (Ok (text.with_notice (context_of self.old) kind line)) }
+        ensures stays { OnErr result (context_of self.new ≡ context_of self.old) }
         ensures span { (span : Span) → IsAt span result }
     {
         self.notices.push(Notice { kind, at: line })?;
@@ -211,6 +217,7 @@ impl<'a> Draft<'a> {
     ) -> Result<(), AdlFault>
         ensures exact { Reads (λ _. context_of self.new) result
             (text.in_section (frames_per_second rate) (context_of self.old) number line.now section) }
+        ensures stays { OnErr result (context_of self.new ≡ context_of self.old) }
         ensures span { IsAt (section_span (frames_per_second rate) (context_of self.old) line.now section) result }
     {
         match section {
@@ -238,6 +245,7 @@ impl<'a> Draft<'a> {
     ) -> Result<(), AdlFault>
         ensures exact { Reads (λ _. context_of self.new) result
             (text.in_header (frames_per_second rate) (context_of self.old) number line.now section) }
+        ensures stays { OnErr result (context_of self.new ≡ context_of self.old) }
         ensures span { IsAt (header_span (frames_per_second rate) (header_so_far self.old.header) section
             (length line.now) (first_of_line line.now) line.now) result }
     {
@@ -259,6 +267,7 @@ impl<'a> Draft<'a> {
     ) -> Result<(), AdlFault>
         ensures exact { Reads (λ _. context_of self.new) result
             (text.in_source_index (frames_per_second rate) (context_of self.old) number line.now) }
+        ensures stays { OnErr result (context_of self.new ≡ context_of self.old) }
         ensures span { IsAt (index_line_span (frames_per_second rate) self.old.index.sources line.now) result }
     {
         if is_tag(line) {
@@ -287,6 +296,7 @@ impl<'a> Draft<'a> {
     ) -> Result<(), AdlFault>
         ensures exact { Reads (λ _. context_of self.new) result
             (text.index_line (frames_per_second rate) (context_of self.old) line tokens.old.rest.now) }
+        ensures stays { OnErr result (context_of self.new ≡ context_of self.old) }
         ensures span { IsAt (form_from (Then Number (index_fields (frames_per_second rate) self.old.index.sources))
             tokens.old) result }
     {
@@ -310,6 +320,7 @@ impl<'a> Draft<'a> {
     fn dropped_line(&mut self, tokens: &mut Tokens<'_>, line: u64) -> Result<(), AdlFault>
         ensures exact { Reads (λ _. context_of self.new) result
             (text.dropped_line (context_of self.old) line tokens.old.rest.now) }
+        ensures stays { OnErr result (context_of self.new ≡ context_of self.old) }
         ensures span { IsAt (end_from any tokens.old) result }
     {
         located(end_line(tokens), Location::Line { line }, reached(tokens))?;
@@ -321,6 +332,7 @@ impl<'a> Draft<'a> {
     fn in_event_list(&mut self, line: &[u8], number: u64, rate: Rate) -> Result<(), AdlFault>
         ensures exact { Reads (λ _. context_of self.new) result
             (text.in_event_list (frames_per_second rate) (context_of self.old) number line.now) }
+        ensures stays { OnErr result (context_of self.new ≡ context_of self.old) }
         ensures span { IsAt (event_line_span (frames_per_second rate) (entries_of self.old.events) line.now) result }
     {
         if is_tag(line) {
@@ -344,6 +356,7 @@ impl<'a> Draft<'a> {
     fn entry_line(&mut self, tokens: &mut Tokens<'_>, line: u64, rate: Rate) -> Result<(), AdlFault>
         ensures exact { Reads (λ _. context_of self.new) result
             (text.entry_line (frames_per_second rate) (context_of self.old) line tokens.old.rest.now) }
+        ensures stays { OnErr result (context_of self.new ≡ context_of self.old) }
         ensures span { IsAt (form_from (Then Number (entry_fields (frames_per_second rate) (entries_of self.old.events)))
             tokens.old) result }
     {

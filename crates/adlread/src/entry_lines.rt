@@ -7,12 +7,13 @@ ghost use Rattle.list_terms.specs.Forms.{reads, value_at};
 ghost use Rattle.list_terms.specs.declared.TextFault.TheVariants.{Unsupported, WrongSequence};
 ghost use Rattle.list_terms.specs.EntryLines as spec;
 ghost use Rattle.list_terms.specs.Names.{place_of_url};
-ghost use Rattle.list_terms.specs.WholeProject.{are_channels, is_event, is_number, is_source};
+ghost use Rattle.list_terms.specs.WholeProject.{is_event, is_number, is_source};
 ghost use Rattle.sampletime.specs.FrameRate.{frames_per_second};
 ghost use Rattle.sampletime.specs.TimeCode.{day};
 ghost use Rattle.adltoken.specs.Views.{token_view};
 ghost use Rattle.adlread.specs.Fault.{Says};
-ghost use Rattle.adlread.specs.FaultSpans.{OnText, form_from, line_from, line_length, next_from, reached};
+ghost use Rattle.adlread.specs.FaultSpans.{OnText, StepsOver, form_from, line_from, reached};
+ghost use Rattle.adlread.specs.FurtherLines.{HasNumberOf, StaysWhole};
 
 use crate::fault::LineFault;
 use crate::fields::{
@@ -56,8 +57,7 @@ pub fn source_fields(
 fn url_field<'a>(alloc: Global, tokens: &mut Tokens<'a>) -> Result<&'a [u8], LineFault>
     ensures value { Says (λ url. (url.now, tokens.new.rest.now)) result (value_at form.Url tokens.old.rest.now) }
     ensures location { IfOk result (λ url. IsTrue (is_some (place_of_url url.now))) }
-    ensures span { reached tokens.new ≡ next_from tokens.old }
-    ensures long { line_length tokens.new ≡ line_length tokens.old }
+    ensures steps { StepsOver tokens.old tokens.new }
 {
     let token = field(tokens)?;
     let location = place_of(alloc, token.content)?;
@@ -110,11 +110,9 @@ pub fn event_fields(
 
 /// Whether two runs have as many channels.
 fn has_width(source: Channels, dest: Channels) -> bool
-    requires source { IsTrue (are_channels source) }
-    requires dest { IsTrue (are_channels dest) }
     ensures { result ≡ spec.has_width source dest }
 {
-    source.last - source.first == dest.last - dest.first
+    source.last.saturating_sub(source.first) == dest.last.saturating_sub(dest.first)
 }
 
 const NO_FADE: Fade = Fade {
@@ -126,8 +124,7 @@ const NO_FADE: Fade = Fade {
 fn cut_field(tokens: &mut Tokens<'_>) -> Result<(), TextFault>
     ensures exact { ok_map (λ _. (tt, tokens.new.rest.now)) result
         ≡ value_at (form.Passes spec.is_cut Unsupported) tokens.old.rest.now }
-    ensures span { reached tokens.new ≡ next_from tokens.old }
-    ensures long { line_length tokens.new ≡ line_length tokens.old }
+    ensures steps { StepsOver tokens.old tokens.new }
 {
     let token = field(tokens)?;
     if token.content == b"I".as_slice() {
@@ -158,8 +155,7 @@ fn fade_fields(tokens: &mut Tokens<'_>, rate: Rate) -> Result<SampleTime, TextFa
 fn linear_field(tokens: &mut Tokens<'_>) -> Result<(), TextFault>
     ensures exact { ok_map (λ _. (tt, tokens.new.rest.now)) result
         ≡ value_at (form.Passes spec.is_linear Unsupported) tokens.old.rest.now }
-    ensures span { reached tokens.new ≡ next_from tokens.old }
-    ensures long { line_length tokens.new ≡ line_length tokens.old }
+    ensures steps { StepsOver tokens.old tokens.new }
 {
     let token = field(tokens)?;
     if is_same_name(token.content, b"LIN") {
@@ -179,8 +175,8 @@ pub fn entry_with(
 ) -> Result<OpenEntry, TextFault>
     ensures value { result
         ≡ reads (spec.entry_with (frames_per_second rate) entry (token_view token.now)) tokens.old.rest.now }
-    ensures number { IfOk result (λ new. new.event.number ≡ entry.event.number) }
-    ensures whole { IsTrue (is_event entry.event) → IfOk result (λ new. IsTrue (is_event new.event)) }
+    ensures number { IfOk result (HasNumberOf entry) }
+    ensures whole { StaysWhole entry result }
     ensures span { OnErr result (reached tokens.new
         ≡ form_from (spec.entry_with (frames_per_second rate) entry (token_view token.now)) tokens.old) }
 {
@@ -203,8 +199,8 @@ pub fn entry_with(
 #[tactic(auto, using(list_terms::specs::FormLaws::reads_mapped, crate::proofs::SpanLaws::span_mapped), unfolding(list_terms::specs::Forms::reads, crate::specs::FaultSpans::form_span))]
 fn with_rise(entry: OpenEntry, tokens: &mut Tokens<'_>, rate: Rate) -> Result<OpenEntry, TextFault>
     ensures value { result ≡ reads (spec.told_rise (frames_per_second rate) entry) tokens.old.rest.now }
-    ensures number { IfOk result (λ new. new.event.number ≡ entry.event.number) }
-    ensures whole { IsTrue (is_event entry.event) → IfOk result (λ new. IsTrue (is_event new.event)) }
+    ensures number { IfOk result (HasNumberOf entry) }
+    ensures whole { StaysWhole entry result }
     ensures span { OnErr result (reached tokens.new
         ≡ form_from (spec.told_rise (frames_per_second rate) entry) tokens.old) }
 {
@@ -222,8 +218,8 @@ fn with_rise(entry: OpenEntry, tokens: &mut Tokens<'_>, rate: Rate) -> Result<Op
 #[tactic(auto, using(list_terms::specs::FormLaws::reads_mapped, crate::proofs::SpanLaws::span_mapped), unfolding(list_terms::specs::Forms::reads, crate::specs::FaultSpans::form_span))]
 fn with_fall(entry: OpenEntry, tokens: &mut Tokens<'_>, rate: Rate) -> Result<OpenEntry, TextFault>
     ensures value { result ≡ reads (spec.told_fall (frames_per_second rate) entry) tokens.old.rest.now }
-    ensures number { IfOk result (λ new. new.event.number ≡ entry.event.number) }
-    ensures whole { IsTrue (is_event entry.event) → IfOk result (λ new. IsTrue (is_event new.event)) }
+    ensures number { IfOk result (HasNumberOf entry) }
+    ensures whole { StaysWhole entry result }
     ensures span { OnErr result (reached tokens.new
         ≡ form_from (spec.told_fall (frames_per_second rate) entry) tokens.old) }
 {
@@ -277,8 +273,7 @@ pub fn sequence_line(rates: Rates, tokens: &mut Tokens<'_>, rate: Rate) -> Resul
 fn sample_rate_field(tokens: &mut Tokens<'_>) -> Result<(), TextFault>
     ensures exact { ok_map (λ _. (tt, tokens.new.rest.now)) result
         ≡ value_at (form.Passes spec.is_48000 WrongSequence) tokens.old.rest.now }
-    ensures span { reached tokens.new ≡ next_from tokens.old }
-    ensures long { line_length tokens.new ≡ line_length tokens.old }
+    ensures steps { StepsOver tokens.old tokens.new }
 {
     let token = field(tokens)?;
     if is_same_name(token.content, b"S48000") || token.content == b"48000".as_slice() {
@@ -293,8 +288,7 @@ fn sample_rate_field(tokens: &mut Tokens<'_>) -> Result<(), TextFault>
 fn frame_rate_field(tokens: &mut Tokens<'_>, rate: Rate) -> Result<(), TextFault>
     ensures exact { ok_map (λ _. (tt, tokens.new.rest.now)) result
         ≡ value_at (form.Passes (spec.tells_rate (frames_per_second rate)) WrongSequence) tokens.old.rest.now }
-    ensures span { reached tokens.new ≡ next_from tokens.old }
-    ensures long { line_length tokens.new ≡ line_length tokens.old }
+    ensures steps { StepsOver tokens.old tokens.new }
 {
     let token = field(tokens)?;
     if tells_rate(token.content, rate) {

@@ -1,31 +1,39 @@
-// The faults of the text of a list, one after another.
-ghost use Rattle.std.specs.Prelude.{◌≡◌};
+// The further faults of the text of a list, behind its first one.
+ghost use Rattle.std.specs.Prelude.{◌≡◌, ◌+◌, ◌∷◌, ◌||◌, ℕ, Bool, Err, IfOk, IfSome, List, false, true};
+ghost use Rattle.sampletime.specs.FrameRate.{frames_per_second};
+ghost use Rattle.work_terms.specs.Refusals.{Refusal};
+ghost use Rattle.list_terms.specs.Lines.{lines_of};
+ghost use Rattle.list_terms.specs.Text.{nothing_passed, with_line};
+ghost use Rattle.list_terms.specs.Text as text;
+ghost use Rattle.adlread.specs.Context.{context_of};
+ghost use Rattle.adlread.specs.Fault.{Reads};
+ghost use Rattle.adlread.specs.Further.{AreFaults, AreFurther, IsFirstOf, IsLeft, IsNext, is_of_one_line, left, rate_beside};
+ghost use Rattle.adlread.specs.Further as spec;
+ghost use Rattle.adlread.specs.declared.fault.AdlFault.TheVariants.{Memory};
 
 use crate::draft::Draft;
 use crate::fault::{AdlFault, at_line, first_in};
 use crate::fields::is_keyword;
 use crate::header::is_tag;
 use crate::outline::{Outline, UNTOLD};
-use crate::rate::{has_rate_keyword, rate_of};
 use adltoken::{Lines, Tokens};
 use list_terms::{Location, TextFault};
 use sampletime::Rate;
 use std::alloc::{AllocError, Global};
 
-/// The faults of the text of a list, in one reading of it: the first one is that of [`crate::read`], and each further
-/// one is the first that is left where the lines told before it are emptied, and with the line of an entry those of the
-/// entry; behind the first one times are read at the rate that the list has without its lines at fault. They end behind
-/// a fault of a section, of a header or of a rate, since what stands behind that can't be told.
+/// The faults of the text of a list behind its first one, in one reading of it: each is the first one of the text in
+/// which the lines at fault before it are emptied, and with the line of an entry those of the entry. Times are read at
+/// the rate that the list has where lines that can't stand where they stand are left out. They end behind a fault of a
+/// section, of the header or of a rate, since what stands behind that can't be judged.
 #[derive(Drop)]
 pub struct Faults<'a> {
-    text: &'a [u8],
     draft: Draft<'a>,
     lines: Lines<'a>,
     /// The line that was read last.
     last: &'a [u8],
-    /// The rate of frames of the list, and behind its first fault of the list without its lines at fault.
+    /// The line of the first fault.
+    first: u64,
     rate: Rate,
-    is_behind_first: bool,
     /// The lines that are read belong to an entry whose own line is at fault.
     is_in_faulty_entry: bool,
     is_over: bool,
@@ -34,63 +42,42 @@ pub struct Faults<'a> {
 }
 
 impl<'a> Faults<'a> {
-    /// The faults of this text.
-    pub fn new(alloc: Global, text: &'a [u8]) -> Result<Self, AllocError> {
-        Faults::at_rate(alloc, text, rate_of(text))
-    }
-
-    /// The faults of this text behind its first one, which [`crate::read`] told. The line of that one isn't read again,
-    /// and where it ends them no line is.
-    pub fn after(alloc: Global, text: &'a [u8], first: AdlFault) -> Result<Self, AllocError> {
-        if is_of_its_own(first) {
-            let mut faults = Faults::new(alloc, text)?;
-            faults.go_behind(alloc, first);
-            return Ok(faults);
-        }
-        let mut none = Faults::at_rate(alloc, text, UNTOLD)?;
-        none.cut_short();
-        Ok(none)
-    }
-
-    /// The faults of this text, whose times are read at this rate up to the first one.
-    fn at_rate(alloc: Global, text: &'a [u8], rate: Rate) -> Result<Self, AllocError> {
+    /// The faults of this text behind this one, which [`crate::read`] gave as its first. Where it ends them no line is
+    /// read.
+    pub fn after(alloc: Global, text: &'a [u8], first: AdlFault) -> Result<Self, AllocError>
+        ensures further { IfOk result (λ faults. (rest : List Refusal) × (complete : Bool)
+            × AreFurther text.now first rest complete × IsLeft faults rest complete) }
+    {
+        let is_over = !is_of_its_own(first);
+        let rate = if is_over {
+            UNTOLD
+        } else {
+            rate_beside_faults(text)
+        };
+        let draft = Draft::new(alloc)?;
         Ok(Faults {
-            text,
-            draft: Draft::new(alloc)?,
+            draft,
             lines: Lines::new(text),
             last: &[],
+            first: first.line(),
             rate,
-            is_behind_first: false,
             is_in_faulty_entry: false,
-            is_over: false,
-            is_cut_short: false,
+            is_over,
+            is_cut_short: is_over,
         })
     }
 
-    /// Reads the lines in front of that of the first fault, none of which is at fault, and passes over that one: a line at
-    /// fault adds nothing to what was read.
-    fn go_behind(&mut self, alloc: Global, first: AdlFault) {
-        'lines: while let Some(line) = self.lines.next_line() {
-            self.last = line;
-            if self.lines.number() == first.line() {
-                let _ = self.reported(Some(first), line);
-                return;
-            }
-            if self.fault_of(alloc, line).is_some() {
-                // None of these lines is at fault, so no memory was left.
-                break;
-            }
-        }
-        self.cut_short();
-    }
-
     /// They end here, although there may be more.
-    fn cut_short(&mut self) {
+    fn cut_short(&mut self)
+        ensures over { self.new.is_over ≡ true }
+        ensures cut { self.new.is_cut_short ≡ true }
+        ensures lines { self.new.lines ≡ self.old.lines }
+    {
         self.is_over = true;
         self.is_cut_short = true;
     }
 
-    /// Whether they have ended although there may be more than were given: behind a fault of a section, of a header or
+    /// Whether they have ended although there may be more than were given: behind a fault of a section, of the header or
     /// of a rate, and for want of memory.
     pub fn is_cut_short(&self) -> bool
         ensures { result ≡ self.now.is_cut_short }
@@ -99,7 +86,10 @@ impl<'a> Faults<'a> {
     }
 
     /// The next fault; `None` behind the last one, and where no memory was left.
-    pub fn next_fault(&mut self, alloc: Global) -> Option<AdlFault> {
+    pub fn next_fault(&mut self, alloc: Global) -> Option<AdlFault>
+        ensures further { (faults : List Refusal) (complete : Bool) → IsLeft self.old faults complete
+            → IsNext result faults complete self.new }
+    {
         if self.is_over {
             return None;
         }
@@ -107,7 +97,7 @@ impl<'a> Faults<'a> {
             self.last = line;
             let fault = self.fault_of(alloc, line);
             if fault.is_some() || self.is_over {
-                return self.reported(fault, line);
+                return fault;
             }
         }
         self.cut_short();
@@ -115,57 +105,79 @@ impl<'a> Faults<'a> {
         Some(at_line(TextFault::SectionMismatch, number, first_in(self.last)))
     }
 
-    /// Reads a line, unless it belongs to an entry at fault. With `</ADL>` the list is over, and what it lacks is told.
+    /// Reads what is left of the line that was taken last. With `</ADL>` the list is over, and what it lacks is told.
     fn fault_of(&mut self, alloc: Global, line: &'a [u8]) -> Option<AdlFault>
-        ensures { self.new.lines ≡ self.old.lines }
+        ensures next { (before : ℕ) (further : List Refusal) (complete : Bool) → self.old.is_over ≡ false
+            → before + 1 ≡ self.old.lines.number
+            → AreFaults (frames_per_second self.old.rate) (context_of self.old.draft) before
+            (left self.old.first self.old.is_in_faulty_entry before (line.now ∷ self.old.lines.lines)) further complete
+            → IsFirstOf result further complete self.new }
+        ensures lines { self.new.lines ≡ self.old.lines }
     {
-        let is_left_out = self.is_in_faulty_entry && !is_tag(line) && !opens_entry(line);
-        self.is_in_faulty_entry = is_left_out;
-        if is_left_out {
-            return None;
-        }
         let number = self.lines.number();
+        let line = left_of(line, number, self.first, &mut self.is_in_faulty_entry);
         if let Err(fault) = self.draft.add(alloc, line, number, self.rate) {
-            return Some(fault);
+            return self.passed(alloc, line, number, fault);
         }
         if !self.draft.is_behind() {
             return None;
         }
+        let missing = self.draft.missing(line, number);
         self.is_over = true;
-        self.draft.missing(line, number)
+        self.is_cut_short = missing.is_some();
+        missing
     }
 
-    /// A fault that this line has, if it has one. What stands behind it can be told where it is a fault of a line of its
-    /// own.
-    fn reported(&mut self, fault: Option<AdlFault>, line: &[u8]) -> Option<AdlFault> {
-        let fault = fault?;
-        if is_of_its_own(fault) {
-            self.is_in_faulty_entry = opens_entry(line);
-            self.go_behind_first();
-        } else {
+    /// Passes over a line that is at fault, if it is one that can be emptied, and gives its fault.
+    fn passed(
+        &mut self,
+        alloc: Global,
+        line: &'a [u8],
+        number: u64,
+        fault: AdlFault,
+    ) -> Option<AdlFault>
+        ensures next { (before : ℕ) (further : List Refusal) (complete : Bool) → self.old.is_over ≡ false
+            → before + 1 ≡ number → number ≡ self.old.lines.number
+            → Reads {X = Unit {0}} (λ _. context_of self.old.draft) (Err fault)
+            (with_line (frames_per_second self.old.rate) (context_of self.old.draft) number line.now)
+            → AreFaults (frames_per_second self.old.rate) (context_of self.old.draft) before
+            (line.now ∷ left self.old.first self.old.is_in_faulty_entry number self.old.lines.lines) further complete
+            → IsFirstOf result further complete self.new }
+        ensures lines { self.new.lines ≡ self.old.lines }
+    {
+        if !is_of_its_own(fault) {
+            self.cut_short();
+            return unless_memory(fault);
+        }
+        self.is_in_faulty_entry |= opens_entry(line);
+        if let Err(_) = self.draft.add(alloc, &[], number, self.rate) {
+            // An empty line is never at fault here, so no memory was left.
             self.cut_short();
         }
-        if is_of_memory(fault) {
-            None
-        } else {
-            Some(fault)
-        }
-    }
-
-    /// Takes the rate of frames that the list has without its lines at fault, behind the first one of them.
-    fn go_behind_first(&mut self) {
-        if !self.is_behind_first {
-            self.rate = rate_beside_faults(self.text);
-            self.is_behind_first = true;
-        }
+        Some(fault)
     }
 }
 
-/// The rate of frames of a list of which lines may be at fault: as [`crate::rate_of`] says it of the list without them.
-fn rate_beside_faults(text: &[u8]) -> Rate {
-    if !has_rate_keyword(text) {
-        return UNTOLD;
+/// What is left of a line: nothing of that of the first fault, nor of the lines of an entry at fault.
+fn left_of<'a>(line: &'a [u8], number: u64, first: u64, is_in_faulty_entry: &mut bool) -> &'a [u8]
+    ensures { (before : ℕ) (lines : List (List ℕ)) → before + 1 ≡ number
+        → left first is_in_faulty_entry.old before (line.now ∷ lines)
+        ≡ result.now ∷ left first is_in_faulty_entry.new number lines }
+{
+    if number == first {
+        *is_in_faulty_entry |= opens_entry(line);
+        return &[];
     }
+    *is_in_faulty_entry &= !ends_entry(line);
+    if *is_in_faulty_entry { &[] } else { line }
+}
+
+/// The rate of frames of a list of which lines may be at fault: as [`crate::rate_of`] says it of the list without those
+/// that can't stand where they stand.
+#[tactic(auto, unfolding(crate::specs::Further::rate_beside))]
+fn rate_beside_faults(text: &[u8]) -> Rate
+    ensures { frames_per_second result ≡ rate_beside nothing_passed (lines_of text.now) }
+{
     let mut outline = Outline::new();
     let mut lines = Lines::new(text);
     'lines: while let Some(line) = lines.next_line() {
@@ -179,16 +191,20 @@ fn rate_beside_faults(text: &[u8]) -> Rate {
     UNTOLD
 }
 
-/// Whether no memory was left.
-fn is_of_memory(fault: AdlFault) -> bool {
+/// The fault, unless no memory was left.
+fn unless_memory(fault: AdlFault) -> Option<AdlFault>
+    ensures { IfSome result (λ told. (told ≡ fault) × (fault ≡ Memory → ⊥)) }
+{
     match fault {
-        AdlFault::Memory => true,
-        AdlFault::Text { .. } => false,
+        AdlFault::Memory => None,
+        AdlFault::Text { .. } => Some(fault),
     }
 }
 
-/// Whether what stands behind the line at fault can be told without that line.
-fn is_of_its_own(fault: AdlFault) -> bool {
+/// Whether what stands behind the line at fault can be judged without that line.
+fn is_of_its_own(fault: AdlFault) -> bool
+    ensures { result ≡ is_of_one_line fault }
+{
     let AdlFault::Text {
         fault,
         location,
@@ -205,7 +221,9 @@ fn is_of_its_own(fault: AdlFault) -> bool {
 
 /// Whether the fault is one of a line alone where it names neither an entry nor an index: what can't be honoured, a
 /// line of no entry, and a line of an entry or an index whose own number is bad.
-fn is_of_any_line(fault: TextFault) -> bool {
+fn is_of_any_line(fault: TextFault) -> bool
+    ensures { result ≡ spec.is_of_any_line fault }
+{
     match fault {
         TextFault::Unsupported | TextFault::BadNumber | TextFault::Unplaced => true,
         _ => false,
@@ -213,7 +231,9 @@ fn is_of_any_line(fault: TextFault) -> bool {
 }
 
 /// Whether the fault is one of a line alone, and not of its section.
-fn is_of_a_line(fault: TextFault) -> bool {
+fn is_of_a_line(fault: TextFault) -> bool
+    ensures { result ≡ spec.is_of_a_line fault }
+{
     match fault {
         TextFault::SectionMismatch
         | TextFault::MissingSection
@@ -225,8 +245,17 @@ fn is_of_a_line(fault: TextFault) -> bool {
     }
 }
 
+/// Whether no line from this one on belongs to the entry before it.
+fn ends_entry(line: &[u8]) -> bool
+    ensures { result ≡ (text.is_tag line.now || spec.opens_entry line.now) }
+{
+    is_tag(line) || opens_entry(line)
+}
+
 /// Whether the line is that of an entry.
-fn opens_entry(line: &[u8]) -> bool {
+fn opens_entry(line: &[u8]) -> bool
+    ensures { result ≡ spec.opens_entry line.now }
+{
     match Tokens::new(line).cut_next() {
         Ok(Some(token)) => is_keyword(b"Entry", &token),
         _ => false,

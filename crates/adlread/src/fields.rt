@@ -11,7 +11,7 @@ ghost use Rattle.list_terms.specs.WholeProject.{are_channels, is_number, is_time
 ghost use Rattle.sampletime.specs.FrameRate.{frames_per_second};
 ghost use Rattle.sampletime.specs.TimeCode.{day};
 ghost use Rattle.adltoken.specs.Views.{token_view};
-ghost use Rattle.adlread.specs.FaultSpans.{end_from, line_length, next_from, reached};
+ghost use Rattle.adlread.specs.FaultSpans.{StepsOver, end_from, reached};
 
 use crate::numbers::{channels_of, number_up_to};
 use crate::reader::cut_next;
@@ -34,8 +34,7 @@ pub fn is_keyword(name: &[u8], token: &Token<'_>) -> bool
 pub fn field<'a>(tokens: &mut Tokens<'a>) -> Result<Token<'a>, TextFault>
     ensures exact { ok_map (λ token. (token_view token, tokens.new.rest.now)) result ≡ spec.field tokens.old.rest.now }
     ensures whole { IfOk result (λ token. token.text.now ≡ token_text (token_view token)) }
-    ensures span { reached tokens.new ≡ next_from tokens.old }
-    ensures long { line_length tokens.new ≡ line_length tokens.old }
+    ensures steps { StepsOver tokens.old tokens.new }
 {
     match cut_next(tokens)? {
         Some(token) => Ok(token),
@@ -47,8 +46,7 @@ pub fn field<'a>(tokens: &mut Tokens<'a>) -> Result<Token<'a>, TextFault>
 #[tactic(auto, unfolding(list_terms::specs::Forms::value_at))]
 pub fn keyword_field(name: &[u8], tokens: &mut Tokens<'_>) -> Result<(), TextFault>
     ensures exact { ok_map (λ _. (tt, tokens.new.rest.now)) result ≡ value_at (keyword name.now) tokens.old.rest.now }
-    ensures span { reached tokens.new ≡ next_from tokens.old }
-    ensures long { line_length tokens.new ≡ line_length tokens.old }
+    ensures steps { StepsOver tokens.old tokens.new }
 {
     let token = field(tokens)?;
     if is_keyword(name, &token) {
@@ -63,8 +61,7 @@ pub fn keyword_field(name: &[u8], tokens: &mut Tokens<'_>) -> Result<(), TextFau
 pub fn number_field(tokens: &mut Tokens<'_>) -> Result<u32, TextFault>
     ensures exact { ok_map (λ number. (number, tokens.new.rest.now)) result ≡ value_at form.Number tokens.old.rest.now }
     ensures range { IfOk result (λ number. IsTrue (is_number number)) }
-    ensures span { reached tokens.new ≡ next_from tokens.old }
-    ensures long { line_length tokens.new ≡ line_length tokens.old }
+    ensures steps { StepsOver tokens.old tokens.new }
 {
     let token = field(tokens)?;
     number_up_to(32_767, token.content).ok_or(TextFault::BadNumber)
@@ -76,8 +73,7 @@ pub fn channels_field(tokens: &mut Tokens<'_>) -> Result<Channels, TextFault>
     ensures exact { ok_map (λ channels. (channels, tokens.new.rest.now)) result
         ≡ value_at form.Run tokens.old.rest.now }
     ensures range { IfOk result (λ channels. IsTrue (are_channels channels)) }
-    ensures span { reached tokens.new ≡ next_from tokens.old }
-    ensures long { line_length tokens.new ≡ line_length tokens.old }
+    ensures steps { StepsOver tokens.old tokens.new }
 {
     let token = field(tokens)?;
     channels_of(token.content).ok_or(TextFault::BadChannels)
@@ -92,8 +88,7 @@ pub fn time_field(
     ensures exact { ok_map (λ time. ((time.0, time.1), tokens.new.rest.now)) result
         ≡ value_at (form.Time (frames_per_second rate)) tokens.old.rest.now }
     ensures in_day { IfOk result (λ time. time.0 ≤ day) }
-    ensures span { reached tokens.new ≡ next_from tokens.old }
-    ensures long { line_length tokens.new ≡ line_length tokens.old }
+    ensures steps { StepsOver tokens.old tokens.new }
 {
     let token = field(tokens)?;
     parse_time(token.content, rate).ok_or(TextFault::BadTime)
@@ -108,8 +103,7 @@ pub fn optional_time_field(
     ensures exact { ok_map (λ time. (time, tokens.new.rest.now)) result
         ≡ value_at (form.MayTime (frames_per_second rate)) tokens.old.rest.now }
     ensures in_day { IfOk result (λ time. IsTrue (is_time_of_day time)) }
-    ensures span { reached tokens.new ≡ next_from tokens.old }
-    ensures long { line_length tokens.new ≡ line_length tokens.old }
+    ensures steps { StepsOver tokens.old tokens.new }
 {
     let token = field(tokens)?;
     optional_time(token.content, rate)
@@ -134,8 +128,7 @@ fn optional_time(text: &[u8], rate: Rate) -> Result<Option<SampleTime>, TextFaul
 #[tactic(auto, unfolding(list_terms::specs::Forms::value_at))]
 pub fn identifier_field<'a>(tokens: &mut Tokens<'a>) -> Result<&'a [u8], TextFault>
     ensures exact { ok_map (λ text. (text.now, tokens.new.rest.now)) result ≡ value_at form.Identifier tokens.old.rest.now }
-    ensures span { reached tokens.new ≡ next_from tokens.old }
-    ensures long { line_length tokens.new ≡ line_length tokens.old }
+    ensures steps { StepsOver tokens.old tokens.new }
 {
     let token = field(tokens)?;
     Ok(token.text)

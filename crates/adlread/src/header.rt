@@ -60,6 +60,7 @@ impl HeaderSoFar {
         ensures exact { Says (λ _. header_so_far self.new) result
             (kept_line (header_so_far self.old) section tokens.old.rest.now
             (rates_with (frames_per_second rate) section self.old.rates tokens.old.rest.now)) }
+        ensures stays { OnErr result (header_so_far self.new ≡ header_so_far self.old) }
         ensures span { OnText result (reached tokens.new
             ≡ header_span (frames_per_second rate) (header_so_far self.old) section (line_length tokens.old)
             (reached tokens.old) tokens.old.rest.now) }
@@ -123,7 +124,8 @@ fn keep_line(
     line: &[u8],
     header: &mut Header,
 ) -> Result<(), AllocError>
-    ensures { OnOk result (header_view header.new ≡ keep section line.now (header_view header.old)) }
+    ensures kept { OnOk result (header_view header.new ≡ keep section line.now (header_view header.old)) }
+    ensures stays { OnErr result (header_view header.new ≡ header_view header.old) }
 {
     match section {
         Section::Version => push_line(alloc, line, &mut header.version),
@@ -139,7 +141,8 @@ fn keep_line(
 
 /// Adds a line to a section that is there.
 fn push_line(alloc: Global, line: &[u8], lines: &mut Option<KeptLines>) -> Result<(), AllocError>
-    ensures { OnOk result (lines.new ≡ with_text line.now lines.old) }
+    ensures pushed { OnOk result (lines.new ≡ with_text line.now lines.old) }
+    ensures stays { OnErr result (lines.new ≡ lines.old) }
 {
     match lines {
         Some(lines) => lines.push(alloc, line),

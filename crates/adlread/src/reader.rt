@@ -4,7 +4,7 @@ ghost use Rattle.list_terms.specs.Steps.{ok_map};
 ghost use Rattle.list_terms.specs.Tokens as spec;
 ghost use Rattle.list_terms.specs.Tokens.{token_text};
 ghost use Rattle.adltoken.specs.Views.{token_view};
-ghost use Rattle.adlread.specs.FaultSpans.{first_of_line, line_length, next_from};
+ghost use Rattle.adlread.specs.FaultSpans.{StepsOver, first_of_line, line_length};
 ghost use Rattle.adlread.specs.FaultSpans as spans;
 
 use adltoken::{Span, TextFault, Token, Tokens};
@@ -28,8 +28,7 @@ pub fn cut_next<'a>(tokens: &mut Tokens<'a>) -> Result<Option<Token<'a>>, TextFa
     ensures shorter { IfOk result (λ next. IfSome next (λ token.
         length tokens.new.rest.now < length tokens.old.rest.now)) }
     ensures whole { IfOk result (λ next. IfSome next (λ token. token.text.now ≡ token_text (token_view token))) }
-    ensures span { spans.reached tokens.new ≡ next_from tokens.old }
-    ensures long { line_length tokens.new ≡ line_length tokens.old }
+    ensures steps { StepsOver tokens.old tokens.new }
 {
     tokens.cut_next()
 }

@@ -48,6 +48,7 @@ impl SourceIndex {
         requires { IsTrue (is_number number) }
         ensures exact { Says (λ _. self.new.sources) result
             (source_with (frames_per_second rate) self.old.sources number tokens.old.rest.now) }
+        ensures stays { OnErr result (self.new.sources ≡ self.old.sources) }
         ensures span { OnText result (reached tokens.new
             ≡ form_from (index_fields (frames_per_second rate) self.old.sources number) tokens.old) }
     {
@@ -90,7 +91,8 @@ impl EventList {
 
     /// Puts the last entry behind those before it, so that it has no further line.
     pub fn close(&mut self) -> Result<(), AllocError>
-        ensures { OnOk result (entries_of self.new ≡ closed_entries (entries_of self.old)) }
+        ensures closed { OnOk result (entries_of self.new ≡ closed_entries (entries_of self.old)) }
+        ensures stays { OnErr result (entries_of self.new ≡ entries_of self.old) }
     {
         if let Some(entry) = self.entry {
             self.events.push(entry.event)?;
@@ -105,6 +107,7 @@ impl EventList {
         requires { IsTrue (is_number number) }
         ensures exact { Says (λ _. entries_of self.new) result
             (entry_of (frames_per_second rate) (entries_of self.old) number tokens.old.rest.now) }
+        ensures stays { OnErr result (entries_of self.new ≡ entries_of self.old) }
         ensures span { OnText result (reached tokens.new
             ≡ form_from (entry_fields (frames_per_second rate) (entries_of self.old) number) tokens.old) }
     {
@@ -133,6 +136,7 @@ impl EventList {
     ) -> Result<(), TextFault>
         ensures exact { ok_map (λ _. entries_of self.new) result
             ≡ further_line (frames_per_second rate) (entries_of self.old) (token_view token.now) tokens.old.rest.now }
+        ensures stays { OnErr result (entries_of self.new ≡ entries_of self.old) }
         ensures span { OnErr result (reached tokens.new
             ≡ further_span (frames_per_second rate) self.old.entry (token_view token.now) (line_length tokens.old)
             (reached tokens.old) tokens.old.rest.now) }

@@ -18,7 +18,7 @@ loop-preserved c =
     record {
       left = IsLeft-next any (line_length c.args.tokens.now) c.args.tokens.now.rest.now c.loop.tokens.rest.now
           c.cut_next.new.tokens.rest.now (token_view c.in-Some.field-0) c.loop.invariant.left at refl shorter;
-      long = c.cut_next.ensures.long ∙ c.loop.invariant.long;
+      long = c.cut_next.ensures.steps.long ∙ c.loop.invariant.long;
     }
 
 pub returns-in_err-cut_next : goal.returns-in_err-cut_next
@@ -29,6 +29,6 @@ returns-in_err-cut_next c =
     c.in_err-cut_next.field-0.0 c.loop.invariant.left at in
     record {
       exact = rw e.fault_is (search rules);
-      span = on_err c.from_residual.result (c.cut_next.ensures.span
+      span = on_err c.from_residual.result (c.cut_next.ensures.steps.span
           ∙ ap (λ n. next_span n c.loop.tokens.rest.now) c.loop.invariant.long ∙ sym e.span_is);
     }

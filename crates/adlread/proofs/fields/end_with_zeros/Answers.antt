@@ -22,7 +22,7 @@ loop-token-preserved c =
       left = IsLeft-next (λ t. spec.is_zero t.content) (line_length c.args.tokens.now) c.args.tokens.now.rest.now
           c.loop-token.tokens.rest.now c.cut_next.new.tokens.rest.now (token_view c.in-Some.token)
           c.loop-token.invariant.left at zero shorter;
-      long = c.cut_next.ensures.long ∙ c.loop-token.invariant.long;
+      long = c.cut_next.ensures.steps.long ∙ c.loop-token.invariant.long;
     }
 
 pub returns-in_err-token : goal.returns-in_err-token
@@ -32,7 +32,7 @@ returns-in_err-token c =
     c.loop-token.tokens.rest.now c.in_err-token.field-0.0 c.loop-token.invariant.left at in
     record {
       exact = rw e.fault_is (search rules);
-      span = on_err c.from_residual.result (c.cut_next.ensures.span
+      span = on_err c.from_residual.result (c.cut_next.ensures.steps.span
           ∙ ap (λ n. next_span n c.loop-token.tokens.rest.now) c.loop-token.invariant.long ∙ sym e.span_is);
     }
 
@@ -47,6 +47,6 @@ returns-then-not-is_zero c =
     c.loop-token.invariant.left at other shorter in
     record {
       exact = sym e.fault_is;
-      span = c.cut_next.ensures.span ∙ ap (λ n. next_span n c.loop-token.tokens.rest.now) c.loop-token.invariant.long
+      span = c.cut_next.ensures.steps.span ∙ ap (λ n. next_span n c.loop-token.tokens.rest.now) c.loop-token.invariant.long
           ∙ sym e.span_is;
     }
