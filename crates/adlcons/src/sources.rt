@@ -102,6 +102,10 @@ where
         self.shelf.reason()
     }
 
+    fn failed_file(&self) -> Option<&str> {
+        self.shelf.failed_file()
+    }
+
     fn changed(&self, alloc: Global) -> Result<Vec<&str>, AllocError> {
         self.line.end_reads();
         self.shelf.changed(alloc)

@@ -1,4 +1,7 @@
 // Checks a list without writing anything.
+ghost use Rattle.std.specs.Prelude.{IfOk, IsTrue};
+ghost use Rattle.adlread.specs.Spells.{Spells};
+ghost use Rattle.list_terms.specs.Heard.{IsAccepted};
 ghost use Rattle.list_terms.specs.Steps.{ok_map};
 ghost use Rattle.consolidate.specs.Commands.{IsChecking};
 
@@ -23,7 +26,10 @@ pub fn check_opened<S: Shelf>(
     list: &[u8],
     shelf: &mut S,
 ) -> Result<AcceptedList, Fault>
-    ensures { IsChecking S.Shelf list.now shelf.old shelf.new (ok_map (λ list. list.accepted) result) }
+    ensures checking { IsChecking S.Shelf list.now shelf.old shelf.new (ok_map (λ list. list.accepted) result) }
+    ensures spelled { IfOk result (λ opened. Spells list.now opened.checked.project) }
+    ensures project { IsTrue (S.honest shelf.old)
+        → IfOk result (λ opened. IsAccepted list.now (S.stored shelf.old) opened.checked.project opened.checked.bound) }
 {
     Ok(open(alloc, list, shelf)?.into_accepted())
 }
